@@ -4,7 +4,7 @@
 
 use asm::assemble;
 use checked::Checked;
-use drawn::Drawing;
+use drawn::{Drawing, add_picture};
 use interleave::parse::parse_schedule;
 use std::alloc::Global;
 use std::fs::{self, Files};
@@ -57,6 +57,6 @@ fn drawn_run(alloc: Global, text: &[u8], events: &[u8]) -> io::Result<String> {
         }
     }
     let mut picture = String::new(alloc);
-    drawing.add_picture(&mut picture)?;
+    add_picture(&mut picture, &drawing)?;
     Ok(picture)
 }

@@ -1,9 +1,9 @@
 //! Where things stand in a picture: the lanes from left to right, the rows from top to bottom.
 
-use crate::drawing::{Drawing, Spot};
-use crate::lane::{Lane, Post};
 use crate::lines::count_lines;
 use crate::svg::{Point, at};
+use drawn_parts::drawing::{Drawing, Spot};
+use drawn_parts::lane::{Lane, Post};
 use std::alloc::AllocError;
 
 /// The margin round the picture.
@@ -97,7 +97,7 @@ impl Layout {
     fn place_rows(&mut self, drawing: &Drawing) -> Result<(), AllocError> {
         let mut top = self.head.saturating_add(4);
         for (number, row) in drawing.rows.iter().enumerate() {
-            if drawing.is_behind_band(number) {
+            if drawing.is_behind_gap(number) {
                 self.band = Some(top);
                 top = top.saturating_add(BAND);
             }
@@ -109,7 +109,7 @@ impl Layout {
             self.band = Some(top);
             top = top.saturating_add(BAND);
         }
-        self.bottom = top.saturating_add(4);
+        self.bottom = top.saturating_add(10);
         Ok(())
     }
 

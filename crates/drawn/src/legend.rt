@@ -1,12 +1,12 @@
 //! What the lines, shades and signs of a picture mean.
 
-use crate::follow::Hold;
-use crate::lane::State;
 use crate::layout::MARGIN;
 use crate::picture::add_sign;
-use crate::sign::Sign;
 use crate::style::{class_of_hold, class_of_state};
 use crate::svg::{Point, add_line, add_rectangle, add_shape, add_text, at};
+use drawn_parts::follow::Hold;
+use drawn_parts::lane::State;
+use drawn_parts::sign::Sign;
 use std::alloc::AllocError;
 
 /// The height of an item, and how many stand in a column.

@@ -7,18 +7,13 @@
 //! connector by which it came there.
 #![tactic(auto)]
 
-mod drawing;
 mod escape;
-mod follow;
-mod interest;
-mod lane;
 mod layout;
 mod legend;
 mod lines;
 mod picture;
-mod rows;
-mod sign;
 mod style;
 mod svg;
 
-pub use drawing::Drawing;
+pub use drawn_parts::drawing::Drawing;
+pub use picture::add_picture;

@@ -1,15 +1,15 @@
 //! The picture of a run.
 
-use crate::drawing::{Drawing, MOST_ROWS, Move, Row, Stand};
-use crate::lane::{Lane, Post, Span, State};
 use crate::layout::{LINE, Layout, MARGIN, NAME, PLACE, WORDS};
 use crate::legend::{add_legend, height_of_legend};
 use crate::lines::{Lines, MOST_LINES};
-use crate::sign::Sign;
 use crate::style::{STYLE, class_of_hold, class_of_state};
 use crate::svg::{
     Point, add_circle, add_line, add_rectangle, add_shape, add_text, add_upward, at,
 };
+use drawn_parts::drawing::{Drawing, MOST_ROWS, Move, Row, Stand};
+use drawn_parts::lane::{Lane, Post, Span, State};
+use drawn_parts::sign::Sign;
 use std::alloc::AllocError;
 
 /// The second line of what is said at the top of the events that are folded.
@@ -23,237 +23,234 @@ struct Begun {
     row: usize,
 }
 
-impl Drawing {
-    /// Whether a row stands behind the band for events that there was no room for: that of what
-    /// stops the run.
-    pub(crate) fn is_behind_band(&self, row: usize) -> bool {
-        self.left_out > 0 && row == MOST_ROWS - 1
+/// Adds the whole picture.
+///
+/// # Errors
+///
+/// When memory runs out.
+pub fn add_picture(words: &mut String, drawing: &Drawing) -> Result<(), AllocError> {
+    let layout = Layout::of(drawing)?;
+    open(words, drawing, &layout)?;
+    add_head(words, drawing, &layout)?;
+    add_stripes(words, drawing, &layout)?;
+    add_lanes(words, drawing, &layout)?;
+    add_spans(words, drawing, &layout, true)?;
+    add_spans(words, drawing, &layout, false)?;
+    add_moves(words, drawing, &layout)?;
+    for (number, row) in drawing.rows.iter().enumerate() {
+        add_sign_of(words, drawing, &layout, number, row)?;
+        add_row(words, &layout, number, row)?;
     }
+    add_band(words, drawing, &layout)?;
+    add_foot(words, drawing, &layout)?;
+    words.push_str("</svg>\n")
+}
 
-    /// Adds the whole picture.
-    ///
-    /// # Errors
-    ///
-    /// When memory runs out.
-    pub fn add_picture(&self, words: &mut String) -> Result<(), AllocError> {
-        let layout = Layout::of(self)?;
-        self.open(words, &layout)?;
-        self.add_ground(words, &layout)?;
-        self.add_head(words, &layout)?;
-        self.add_spans(words, &layout)?;
-        self.add_moves(words, &layout)?;
-        for (number, row) in self.rows.iter().enumerate() {
-            self.add_sign_of(words, &layout, number, row)?;
-            add_row(words, &layout, number, row)?;
+/// Opens the picture, with its size, its title and its style.
+fn open(words: &mut String, drawing: &Drawing, layout: &Layout) -> Result<(), AllocError> {
+    let width = layout.width;
+    let height = layout.bottom.saturating_add(height_of_legend()).saturating_add(40);
+    words.push_str("<?xml version=\"1.0\" encoding=\"UTF-8\"?>\n")?;
+    write!(
+        words,
+        "<svg xmlns=\"http://www.w3.org/2000/svg\" width=\"{width}\" height=\"{height}\" "
+    )?;
+    write!(words, "viewBox=\"0 0 {width} {height}\">\n<title>")?;
+    add_title(words, drawing)?;
+    words.push_str("</title>\n")?;
+    words.push_str(STYLE)?;
+    add_rectangle(words, "paper", at(0, 0), width, height)
+}
+
+/// Adds the words of the title.
+fn add_title(words: &mut String, drawing: &Drawing) -> Result<(), AllocError> {
+    let threads = drawing.threads;
+    let events = drawing.events;
+    let end = if threads == 1 { "" } else { "s" };
+    write!(words, "A run of {events} events on {threads} thread{end}")
+}
+
+/// Adds the shade of every other row.
+fn add_stripes(words: &mut String, drawing: &Drawing, layout: &Layout) -> Result<(), AllocError> {
+    let width = layout.width.saturating_sub(MARGIN);
+    for (number, _row) in drawing.rows.iter().enumerate() {
+        if number % 2 == 0 {
+            let corner = at(MARGIN / 2, layout.top(number).saturating_sub(2));
+            add_rectangle(words, "zebra", corner, width, layout.height(number))?;
         }
-        self.add_band(words, &layout)?;
-        self.add_foot(words, &layout)?;
-        words.push_str("</svg>\n")
     }
+    Ok(())
+}
 
-    /// Opens the picture, with its size, its title and its style.
-    fn open(&self, words: &mut String, layout: &Layout) -> Result<(), AllocError> {
-        let width = layout.width;
-        let height = layout.bottom.saturating_add(height_of_legend()).saturating_add(40);
-        words.push_str("<?xml version=\"1.0\" encoding=\"UTF-8\"?>\n")?;
-        write!(
-            words,
-            "<svg xmlns=\"http://www.w3.org/2000/svg\" width=\"{width}\" height=\"{height}\" "
-        )?;
-        write!(words, "viewBox=\"0 0 {width} {height}\">\n<title>")?;
-        self.add_title(words)?;
-        words.push_str("</title>\n")?;
-        words.push_str(STYLE)?;
-        add_rectangle(words, "paper", at(0, 0), width, height)
+/// Adds the lanes and their names.
+fn add_lanes(words: &mut String, drawing: &Drawing, layout: &Layout) -> Result<(), AllocError> {
+    for (number, lane) in drawing.lanes.iter().enumerate() {
+        add_lane(words, layout, number, lane)?;
     }
+    Ok(())
+}
 
-    /// Adds the words of the title.
-    fn add_title(&self, words: &mut String) -> Result<(), AllocError> {
-        let threads = self.threads;
-        let events = self.events;
-        let end = if threads == 1 { "" } else { "s" };
-        write!(words, "A run of {events} events on {threads} thread{end}")
-    }
+/// Adds the words at the top, and the names of the columns.
+fn add_head(words: &mut String, drawing: &Drawing, layout: &Layout) -> Result<(), AllocError> {
+    let mut title = String::new(drawing.alloc);
+    add_title(&mut title, drawing)?;
+    add_text(words, "title", at(MARGIN, 26), title.as_bytes())?;
+    let drawn = drawing.rows.len();
+    let folded = drawing.events.saturating_sub(drawn as u64);
+    let mut note = String::new(drawing.alloc);
+    write!(
+        note,
+        "Time goes downwards. {drawn} of the events are drawn, at most {MOST_ROWS}. "
+    )?;
+    write!(note, "{folded} are folded: they step in registers or cells,")?;
+    add_text(words, "small", at(MARGIN, 43), note.as_bytes())?;
+    add_text(words, "small", at(MARGIN, 56), FOLDED)?;
+    let line = layout.head.saturating_sub(6);
+    add_text(words, "small end", at(layout.folds, line), b"event")?;
+    add_text(words, "small", at(layout.place, line), b"where (line)")?;
+    add_text(words, "small", at(layout.words, line), b"what happens")?;
+    add_line(
+        words,
+        "rule",
+        at(MARGIN / 2, layout.head),
+        at(layout.width.saturating_sub(MARGIN / 2), layout.head),
+    )
+}
 
-    /// Adds what stands behind all: every other row, and the lanes.
-    fn add_ground(&self, words: &mut String, layout: &Layout) -> Result<(), AllocError> {
-        let width = layout.width.saturating_sub(MARGIN);
-        for (number, _row) in self.rows.iter().enumerate() {
-            if number % 2 == 0 {
-                let corner = at(MARGIN / 2, layout.top(number).saturating_sub(2));
-                add_rectangle(words, "zebra", corner, width, layout.height(number))?;
-            }
+/// Adds what lasts from row to row: that threads have frames, or all else.
+fn add_spans(
+    words: &mut String,
+    drawing: &Drawing,
+    layout: &Layout,
+    busy: bool,
+) -> Result<(), AllocError> {
+    for span in drawing.spans.iter() {
+        if matches!(span.state, State::Busy) == busy {
+            add_span(words, layout, *span)?;
         }
-        for (number, lane) in self.lanes.iter().enumerate() {
-            add_lane(words, layout, number, lane)?;
-        }
-        Ok(())
     }
+    Ok(())
+}
 
-    /// Adds the words at the top, and the names of the columns.
-    fn add_head(&self, words: &mut String, layout: &Layout) -> Result<(), AllocError> {
-        let mut title = String::new(self.alloc);
-        self.add_title(&mut title)?;
-        add_text(words, "title", at(MARGIN, 26), title.as_bytes())?;
-        let drawn = self.rows.len();
-        let folded = self.events.saturating_sub(drawn as u64);
-        let mut note = String::new(self.alloc);
-        write!(
-            note,
-            "Time goes downwards. {drawn} of the events are drawn, at most {MOST_ROWS}. "
-        )?;
-        write!(note, "{folded} are folded: they step in registers or cells,")?;
-        add_text(words, "small", at(MARGIN, 43), note.as_bytes())?;
-        add_text(words, "small", at(MARGIN, 56), FOLDED)?;
-        let line = layout.head.saturating_sub(6);
-        add_text(words, "small end", at(layout.folds, line), b"event")?;
-        add_text(words, "small", at(layout.place, line), b"where (line)")?;
-        add_text(words, "small", at(layout.words, line), b"what happens")?;
-        add_line(
-            words,
-            "rule",
-            at(MARGIN / 2, layout.head),
-            at(layout.width.saturating_sub(MARGIN / 2), layout.head),
-        )
-    }
-
-    /// Adds what lasts from row to row.
-    fn add_spans(&self, words: &mut String, layout: &Layout) -> Result<(), AllocError> {
-        for span in self.spans.iter() {
-            if matches!(span.state, State::Busy) {
-                add_span(words, layout, *span)?;
-            }
+/// Adds the lines of the packets.
+fn add_moves(words: &mut String, drawing: &Drawing, layout: &Layout) -> Result<(), AllocError> {
+    let mut begun: Vec<Option<Begun>> = Vec::new(drawing.alloc);
+    for step in drawing.moves.iter() {
+        if step.packet >= begun.len() {
+            begun.push(None)?;
         }
-        for span in self.spans.iter() {
-            if !matches!(span.state, State::Busy) {
-                add_span(words, layout, *span)?;
-            }
+        let before = begun.get(step.packet).copied().flatten();
+        add_move(words, drawing, layout, *step, before)?;
+        if let Some(line) = begun.get_mut(step.packet) {
+            *line = begun_at(*step);
         }
-        Ok(())
     }
+    for line in begun.iter() {
+        add_open_end(words, drawing, layout, *line)?;
+    }
+    Ok(())
+}
 
-    /// Adds the lines of the packets.
-    fn add_moves(&self, words: &mut String, layout: &Layout) -> Result<(), AllocError> {
-        let mut begun: Vec<Option<Begun>> = Vec::new(self.alloc);
-        for step in self.moves.iter() {
-            if step.packet >= begun.len() {
-                begun.push(None)?;
-            }
-            let before = match begun.get(step.packet) {
-                Some(before) => *before,
-                None => None,
-            };
-            self.add_move(words, layout, *step, before)?;
-            if let Some(line) = begun.get_mut(step.packet) {
-                *line = begun_at(*step);
-            }
-        }
-        for line in begun.iter() {
-            if let Some(line) = line {
-                self.add_open_end(words, layout, *line)?;
-            }
-        }
-        Ok(())
+/// Adds the line of a packet up to where it goes, and the connector to its new lane.
+fn add_move(
+    words: &mut String,
+    drawing: &Drawing,
+    layout: &Layout,
+    step: Move,
+    before: Option<Begun>,
+) -> Result<(), AllocError> {
+    let y = layout.middle(step.row);
+    if let Some(before) = before {
+        let x = line_of(drawing, layout, before.stand);
+        let class = class_of_hold(before.stand.hold);
+        add_line(words, class, at(x, layout.middle(before.row)), at(x, y))?;
     }
+    let Some(stand) = step.to else {
+        return Ok(());
+    };
+    let x = line_of(drawing, layout, stand);
+    match before {
+        Some(before) if before.stand.lane == stand.lane => return Ok(()),
+        Some(before) => add_connector(words, line_of(drawing, layout, before.stand), at(x, y))?,
+        None => {}
+    }
+    let mut number = String::new(drawing.alloc);
+    write!(number, "{}", step.packet)?;
+    let start = at(x.saturating_add(5), y.saturating_add(10));
+    add_text(words, "packet", start, number.as_bytes())
+}
 
-    /// Adds the line of a packet up to where it goes, and the connector to its new lane.
-    fn add_move(
-        &self,
-        words: &mut String,
-        layout: &Layout,
-        step: Move,
-        before: Option<Begun>,
-    ) -> Result<(), AllocError> {
-        let y = layout.middle(step.row);
-        if let Some(before) = before {
-            let x = self.line_of(layout, before.stand);
-            let class = class_of_hold(before.stand.hold);
-            add_line(words, class, at(x, layout.middle(before.row)), at(x, y))?;
-        }
-        let Some(stand) = step.to else {
-            return Ok(());
-        };
-        let x = self.line_of(layout, stand);
-        match before {
-            Some(before) if before.stand.lane == stand.lane => return Ok(()),
-            Some(before) => add_connector(words, self.line_of(layout, before.stand), at(x, y))?,
-            None => {}
-        }
-        let mut number = String::new(self.alloc);
-        write!(number, "{}", step.packet)?;
-        let start = at(x.saturating_add(5), y.saturating_add(10));
-        add_text(words, "packet", start, number.as_bytes())
-    }
+/// Adds the line of a packet that goes on where the picture ends, if there is one.
+fn add_open_end(
+    words: &mut String,
+    drawing: &Drawing,
+    layout: &Layout,
+    line: Option<Begun>,
+) -> Result<(), AllocError> {
+    let Some(line) = line else {
+        return Ok(());
+    };
+    let x = line_of(drawing, layout, line.stand);
+    let class = class_of_hold(line.stand.hold);
+    let end = layout.end().saturating_sub(5);
+    add_line(words, class, at(x, layout.middle(line.row)), at(x, end))?;
+    add_shape(words, "black", at(x, end), "m-3-3h6l-3 7z")
+}
 
-    /// Adds the line of a packet that goes on where the picture ends.
-    fn add_open_end(
-        &self,
-        words: &mut String,
-        layout: &Layout,
-        line: Begun,
-    ) -> Result<(), AllocError> {
-        let x = self.line_of(layout, line.stand);
-        let class = class_of_hold(line.stand.hold);
-        let end = layout.end().saturating_sub(5);
-        add_line(words, class, at(x, layout.middle(line.row)), at(x, end))?;
-        add_shape(words, "black", at(x, end), "m-3-3h6l-3 7z")
-    }
+/// Where the line of a packet is.
+fn line_of(drawing: &Drawing, layout: &Layout, stand: Stand) -> u32 {
+    layout.track(drawing.lanes.as_slice(), stand.lane, stand.track)
+}
 
-    /// Where the line of a packet is.
-    fn line_of(&self, layout: &Layout, stand: Stand) -> u32 {
-        layout.track(self.lanes.as_slice(), stand.lane, stand.track)
+/// Adds the sign of a row, and where that is on a packet's line, that the thread acts.
+fn add_sign_of(
+    words: &mut String,
+    drawing: &Drawing,
+    layout: &Layout,
+    number: usize,
+    row: &Row,
+) -> Result<(), AllocError> {
+    let Some(spot) = row.spot else {
+        return Ok(());
+    };
+    if let (Some(lane), Some(_)) = (row.acts, spot.track) {
+        let x = layout.left(lane).saturating_add(8);
+        add_sign(words, Sign::Acts, at(x, layout.middle(number)))?;
     }
+    add_sign(words, row.sign, layout.spot(drawing.lanes.as_slice(), number, spot))
+}
 
-    /// Adds the sign of a row, and where that is on a packet's line, that the thread acts.
-    fn add_sign_of(
-        &self,
-        words: &mut String,
-        layout: &Layout,
-        number: usize,
-        row: &Row,
-    ) -> Result<(), AllocError> {
-        let Some(spot) = row.spot else {
-            return Ok(());
-        };
-        if let (Some(lane), Some(_)) = (row.acts, spot.track) {
-            let x = layout.left(lane).saturating_add(8);
-            add_sign(words, Sign::Acts, at(x, layout.middle(number)))?;
-        }
-        add_sign(words, row.sign, layout.spot(self.lanes.as_slice(), number, spot))
-    }
+/// Adds the band that stands for events that there was no room for.
+fn add_band(words: &mut String, drawing: &Drawing, layout: &Layout) -> Result<(), AllocError> {
+    let Some(top) = layout.band else {
+        return Ok(());
+    };
+    let width = layout.width.saturating_sub(MARGIN);
+    add_rectangle(words, "queued", at(MARGIN / 2, top.saturating_add(2)), width, 18)?;
+    let mut note = String::new(drawing.alloc);
+    let left_out = drawing.left_out;
+    write!(
+        note,
+        "Here {left_out} more events of interest are folded: {MOST_ROWS} are drawn at most."
+    )?;
+    add_text(words, "", at(MARGIN, top.saturating_add(15)), note.as_bytes())
+}
 
-    /// Adds the band that stands for events that there was no room for.
-    fn add_band(&self, words: &mut String, layout: &Layout) -> Result<(), AllocError> {
-        let Some(top) = layout.band else {
-            return Ok(());
-        };
-        let width = layout.width.saturating_sub(MARGIN);
-        add_rectangle(words, "queued", at(MARGIN / 2, top.saturating_add(2)), width, 18)?;
-        let mut note = String::new(self.alloc);
-        let left_out = self.left_out;
-        write!(
-            note,
-            "Here {left_out} more events of interest are folded: {MOST_ROWS} are drawn at most."
-        )?;
-        add_text(words, "", at(MARGIN, top.saturating_add(15)), note.as_bytes())
+/// Adds what stands below the rows: how many events are folded there, and the legend.
+fn add_foot(words: &mut String, drawing: &Drawing, layout: &Layout) -> Result<(), AllocError> {
+    let top = layout.bottom;
+    add_line(
+        words,
+        "rule",
+        at(MARGIN / 2, top),
+        at(layout.width.saturating_sub(MARGIN / 2), top),
+    )?;
+    if drawing.folded > 0 {
+        let mut note = String::new(drawing.alloc);
+        write!(note, "+{} events are folded behind the last row.", drawing.folded)?;
+        add_text(words, "small", at(MARGIN, top.saturating_add(15)), note.as_bytes())?;
     }
-
-    /// Adds what stands below the rows: how many events are folded there, and the legend.
-    fn add_foot(&self, words: &mut String, layout: &Layout) -> Result<(), AllocError> {
-        let top = layout.bottom;
-        add_line(
-            words,
-            "rule",
-            at(MARGIN / 2, top),
-            at(layout.width.saturating_sub(MARGIN / 2), top),
-        )?;
-        if self.folded > 0 {
-            let mut note = String::new(self.alloc);
-            write!(note, "+{} events are folded behind the last row.", self.folded)?;
-            add_text(words, "small", at(MARGIN, top.saturating_add(15)), note.as_bytes())?;
-        }
-        add_legend(words, top.saturating_add(22))
-    }
+    add_legend(words, top.saturating_add(22))
 }
 
 /// Where the line begins that a move draws next.

@@ -1,8 +1,8 @@
 //! What the elements of a picture look like. What differs in colour differs in its dashes, its
 //! width or its lightness too, so that it can be told apart in grey.
 
-use crate::follow::Hold;
-use crate::lane::State;
+use drawn_parts::follow::Hold;
+use drawn_parts::lane::State;
 
 /// The style sheet, and the hatching of waits.
 pub(crate) const STYLE: &str = "<style>\
@@ -22,7 +22,7 @@ fill:#111}\n\
 .life{stroke:#999;stroke-dasharray:1 3;fill:none}\n\
 .busy{fill:#fff;stroke:#666}\n\
 .waits{fill:url(#hatching);stroke:#444}\n\
-.owns{fill:#444}\n\
+.owns{fill:#ddd;stroke:#222}\n\
 .queued{fill:#bbb;stroke:#444}\n\
 .routine{stroke:#0b3c8c;stroke-width:3;fill:none}\n\
 .manager{stroke:#e08214;stroke-width:4;stroke-dasharray:7 3;fill:none}\n\

@@ -8,7 +8,7 @@ use told::{Acting, Moment};
 /// Whether an event is drawn: what begins, ends, moves a packet, marks it, completes it or cancels
 /// it, what takes or frees a lock, the first turn of a wait, and what stops the run. Told by the
 /// moment before it, its reply, whether its thread waited before, and the thread's top frame after.
-pub(crate) fn is_of_interest(
+pub fn is_of_interest(
     moment: &Moment,
     reply: &Reply,
     waited: bool,

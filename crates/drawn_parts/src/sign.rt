@@ -8,7 +8,7 @@ use told::{Acting, Moment};
 
 /// The sign of an event in its row.
 #[derive(Clone, Copy, PartialEq, Eq)]
-pub(crate) enum Sign {
+pub enum Sign {
     /// A frame acts, and nothing more is to be shown.
     Acts,
     /// IoMarkIrpPending.
@@ -35,7 +35,7 @@ pub(crate) enum Sign {
 
 impl Sign {
     /// Whether it stands on the line of the packet that the event is about.
-    pub(crate) fn is_on_line(self) -> bool {
+    pub fn is_on_line(self) -> bool {
         matches!(
             self,
             Sign::Mark
@@ -49,7 +49,7 @@ impl Sign {
 }
 
 /// The sign of an event, by the moment before it and its reply.
-pub(crate) fn sign_of(event: &Event, moment: &Moment, reply: &Reply) -> Sign {
+pub fn sign_of(event: &Event, moment: &Moment, reply: &Reply) -> Sign {
     match *reply {
         Reply::Bug(_) | Reply::Wrong(_) => Sign::Stop,
         Reply::Refused => Sign::Refused,

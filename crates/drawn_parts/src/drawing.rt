@@ -16,43 +16,43 @@ use std::alloc::{AllocError, Global};
 use told::{Acting, Book, Moment, thread_of};
 
 /// Events that are drawn, at most. The last of them is kept for what stops the run.
-pub(crate) const MOST_ROWS: usize = 500;
+pub const MOST_ROWS: usize = 500;
 
 /// Where a packet's line is, and what holds the packet.
 #[derive(Clone, Copy)]
-pub(crate) struct Stand {
-    pub(crate) lane: usize,
-    pub(crate) track: usize,
-    pub(crate) hold: Hold,
+pub struct Stand {
+    pub lane: usize,
+    pub track: usize,
+    pub hold: Hold,
 }
 
 /// In a row a packet's line goes somewhere, or ends where the packet tops out.
 #[derive(Clone, Copy)]
-pub(crate) struct Move {
-    pub(crate) packet: usize,
-    pub(crate) row: usize,
-    pub(crate) to: Option<Stand>,
+pub struct Move {
+    pub packet: usize,
+    pub row: usize,
+    pub to: Option<Stand>,
 }
 
 /// Where a sign stands: on the line in a track of a lane, or at the lane's left.
 #[derive(Clone, Copy)]
-pub(crate) struct Spot {
-    pub(crate) lane: usize,
-    pub(crate) track: Option<usize>,
+pub struct Spot {
+    pub lane: usize,
+    pub track: Option<usize>,
 }
 
 /// The row of an event.
 #[derive(Drop)]
-pub(crate) struct Row {
-    pub(crate) number: u64,
+pub struct Row {
+    pub number: u64,
     /// How many events are folded between it and the row before.
-    pub(crate) folded: u64,
+    pub folded: u64,
     /// The lane of what acts.
-    pub(crate) acts: Option<usize>,
-    pub(crate) sign: Sign,
-    pub(crate) spot: Option<Spot>,
-    pub(crate) place: String,
-    pub(crate) words: String,
+    pub acts: Option<usize>,
+    pub sign: Sign,
+    pub spot: Option<Spot>,
+    pub place: String,
+    pub words: String,
 }
 
 /// An event, as it is seen.
@@ -69,22 +69,22 @@ struct Seen<'a> {
 /// A run that is drawn while it goes. Its memory is bounded by what is drawn.
 #[derive(Drop)]
 pub struct Drawing {
-    pub(crate) alloc: Global,
-    pub(crate) threads: usize,
-    pub(crate) lanes: Vec<Lane>,
-    pub(crate) rows: Vec<Row>,
-    pub(crate) moves: Vec<Move>,
-    pub(crate) spans: Vec<Span>,
+    pub alloc: Global,
+    pub threads: usize,
+    pub lanes: Vec<Lane>,
+    pub rows: Vec<Row>,
+    pub moves: Vec<Move>,
+    pub spans: Vec<Span>,
     /// Where the lines of packets are, by the packets' numbers.
     stands: Vec<Option<Stand>>,
     /// Which threads wait.
     waiting: Vec<bool>,
     /// How many events there were.
-    pub(crate) events: u64,
+    pub events: u64,
     /// How many are folded behind the last row.
-    pub(crate) folded: u64,
+    pub folded: u64,
     /// How many would have been drawn, had there been room.
-    pub(crate) left_out: u64,
+    pub left_out: u64,
 }
 
 impl Drawing {
@@ -160,6 +160,12 @@ impl Drawing {
         self.add_row(book, number, seen, stands)
     }
 
+    /// Whether a row stands behind the events that there was no room for: that of what stops the
+    /// run.
+    pub fn is_behind_gap(&self, row: usize) -> bool {
+        self.left_out > 0 && row == MOST_ROWS - 1
+    }
+
     /// Whether an event of interest is drawn: as long as there is room, and what stops the run in
     /// any case.
     fn has_room(&self, reply: &Reply) -> bool {
@@ -202,6 +208,7 @@ impl Drawing {
             seen.machine,
             seen.top,
         )?;
+        self.add_lost(&mut words)?;
         let acts = self.lane_of(post_of(seen.event));
         let sign = sign_of(seen.event, seen.moment, seen.reply);
         self.rows.push(Row {
@@ -214,6 +221,16 @@ impl Drawing {
             words,
         })?;
         self.folded = 0;
+        Ok(())
+    }
+
+    /// Adds the packets that nobody has any more from the next row on.
+    fn add_lost(&self, words: &mut String) -> Result<(), AllocError> {
+        for step in self.moves.iter() {
+            if step.row == self.rows.len() && is_lost(step.to) {
+                write!(words, "; nobody has packet {}", step.packet)?;
+            }
+        }
         Ok(())
     }
 
@@ -441,6 +458,17 @@ impl Drawing {
             _ => Ok(()),
         }
     }
+}
+
+/// Whether a packet's line goes to nobody.
+fn is_lost(to: Option<Stand>) -> bool {
+    matches!(
+        to,
+        Some(Stand {
+            hold: Hold::Nobody,
+            ..
+        })
+    )
 }
 
 /// The top frame of an event's thread.

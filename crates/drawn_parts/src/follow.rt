@@ -11,7 +11,7 @@ use told::Acting;
 
 /// What holds a packet.
 #[derive(Clone, Copy, PartialEq, Eq)]
-pub(crate) enum Hold {
+pub enum Hold {
     /// A routine that runs.
     Routine,
     /// The I/O manager, which completes it.
@@ -27,14 +27,14 @@ pub(crate) enum Hold {
 
 /// Where a packet is, and what holds it there.
 #[derive(Clone, Copy)]
-pub(crate) struct Stay {
-    pub(crate) post: Post,
-    pub(crate) hold: Hold,
+pub struct Stay {
+    pub post: Post,
+    pub hold: Hold,
 }
 
 impl Stay {
     /// In a list of a device, or with nobody.
-    pub(crate) fn at(post: Post) -> Stay {
+    pub fn at(post: Post) -> Stay {
         let hold = match post {
             Post::Thread(_) => Hold::Routine,
             Post::Queue(_, _) => Hold::Queue,
@@ -46,7 +46,7 @@ impl Stay {
     }
 
     /// With a thread, on which the I/O manager completes it.
-    pub(crate) fn completing(thread: u8) -> Stay {
+    pub fn completing(thread: u8) -> Stay {
         Stay {
             post: Post::Thread(thread),
             hold: Hold::Manager,
@@ -56,7 +56,7 @@ impl Stay {
 
 /// Where a packet goes in the step of a frame of a thread that is about it, by the machine after
 /// it. None where it stays where it is.
-pub(crate) fn goes_to(machine: &Checked, thread: u8, acting: &Acting, n: u64) -> Option<Stay> {
+pub fn goes_to(machine: &Checked, thread: u8, acting: &Acting, n: u64) -> Option<Stay> {
     match acting.frame {
         FrameView::Walk(_) => stay_on_top(machine, thread, n),
         FrameView::Cancel(_) => None,
@@ -94,7 +94,7 @@ fn started_at(machine: &Checked, device: u8, n: u64) -> Post {
 }
 
 /// The top frame of a thread.
-pub(crate) fn top_of(machine: &Checked, thread: u8) -> Option<FrameView> {
+pub fn top_of(machine: &Checked, thread: u8) -> Option<FrameView> {
     machine.thread(thread)?.top
 }
 
@@ -109,7 +109,7 @@ fn stay_on_top(machine: &Checked, thread: u8, n: u64) -> Option<Stay> {
 
 /// Whether IoCancelIrp has called a cancel routine in a step of a frame of a thread, by the machine
 /// after it.
-pub(crate) fn calls_cancel_routine(machine: &Checked, thread: u8, frame: FrameView) -> bool {
+pub fn calls_cancel_routine(machine: &Checked, thread: u8, frame: FrameView) -> bool {
     match frame {
         FrameView::Cancel(canceller) => {
             matches!(canceller.next, CancelStep::Exchange)
@@ -128,7 +128,7 @@ fn is_packet(value: Value, n: u64) -> bool {
 }
 
 /// What a thread has of a packet that was with it: the frame that stands highest and names it.
-pub(crate) fn stay_with(machine: &Checked, thread: u8, n: u64) -> Option<Stay> {
+pub fn stay_with(machine: &Checked, thread: u8, n: u64) -> Option<Stay> {
     let frames = machine.threads().get(thread as usize)?.frames();
     let mut found = None;
     for frame in frames {
@@ -149,7 +149,7 @@ pub(crate) fn stay_with(machine: &Checked, thread: u8, n: u64) -> Option<Stay> {
 }
 
 /// What has a packet that its thread has no more: the place that names it, a list before a thread.
-pub(crate) fn stay_elsewhere(
+pub fn stay_elsewhere(
     alloc: Global,
     machine: &Checked,
     n: u64,

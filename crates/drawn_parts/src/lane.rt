@@ -5,11 +5,11 @@ use std::alloc::{AllocError, Global};
 use told::Book;
 
 /// Packets that a lane shows side by side, at most. Further ones share its last track.
-pub(crate) const TRACKS: usize = 8;
+pub const TRACKS: usize = 8;
 
 /// What a lane is for.
 #[derive(Clone, Copy, PartialEq, Eq)]
-pub(crate) enum Post {
+pub enum Post {
     Thread(u8),
     /// A device itself: whether its DPC is queued.
     Device(u8),
@@ -23,7 +23,7 @@ pub(crate) enum Post {
 
 /// What lasts from one row to another in a lane.
 #[derive(Clone, Copy, PartialEq, Eq)]
-pub(crate) enum State {
+pub enum State {
     /// The thread has frames.
     Busy,
     /// It waits for a lock.
@@ -36,32 +36,32 @@ pub(crate) enum State {
 
 /// A state of a lane, from a row to another one.
 #[derive(Clone, Copy)]
-pub(crate) struct Span {
-    pub(crate) lane: usize,
-    pub(crate) state: State,
-    pub(crate) from: usize,
+pub struct Span {
+    pub lane: usize,
+    pub state: State,
+    pub from: usize,
     /// None where it lasts to the end of the picture.
-    pub(crate) to: Option<usize>,
+    pub to: Option<usize>,
 }
 
 /// A lane.
 #[derive(Drop)]
-pub(crate) struct Lane {
-    pub(crate) post: Post,
-    pub(crate) name: String,
+pub struct Lane {
+    pub post: Post,
+    pub name: String,
     /// How many packets are in each of its tracks.
     tracks: Vec<u32>,
 }
 
 impl Lane {
     /// How many tracks it needs.
-    pub(crate) fn tracks(&self) -> usize {
+    pub fn tracks(&self) -> usize {
         self.tracks.len()
     }
 
     /// Puts a packet into the first free track, and answers which that is. Where none is free the
     /// packet shares the last one.
-    pub(crate) fn enter(&mut self) -> Result<usize, AllocError> {
+    pub fn enter(&mut self) -> Result<usize, AllocError> {
         let free = self.tracks.iter().position(|packets| *packets == 0);
         let track = match free {
             Some(track) => track,
@@ -78,7 +78,7 @@ impl Lane {
     }
 
     /// Takes a packet out of a track.
-    pub(crate) fn leave(&mut self, track: usize) {
+    pub fn leave(&mut self, track: usize) {
         if let Some(packets) = self.tracks.get_mut(track) {
             *packets = packets.saturating_sub(1);
         }
@@ -102,7 +102,7 @@ fn add_lane(
 
 /// The lanes of a machine: those of its threads, of its devices with their lists, and the last for
 /// packets that nobody has.
-pub(crate) fn lanes_of(
+pub fn lanes_of(
     alloc: Global,
     machine: &Checked,
     book: &Book<'_>,

@@ -9,7 +9,7 @@ use told::{Acting, Book, Moment, add_change};
 
 /// Adds where the frame stands that acts: its routine and the line of its instruction, or what the
 /// I/O manager does. Where a routine begins in the event, its name.
-pub(crate) fn add_place(
+pub fn add_place(
     words: &mut String,
     book: &Book<'_>,
     event: &Event,
@@ -53,7 +53,7 @@ fn add_frame(words: &mut String, book: &Book<'_>, frame: FrameView) -> Result<()
 }
 
 /// Adds what an event changed.
-pub(crate) fn add_words(
+pub fn add_words(
     words: &mut String,
     book: &Book<'_>,
     event: &Event,
