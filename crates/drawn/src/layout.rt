@@ -19,11 +19,11 @@ const TRACK: u32 = 22;
 /// What a lane has at the left of its first track: of a thread, and else.
 const LEFT: u32 = 20;
 const LIST_LEFT: u32 = 10;
-/// Letters of a place and of a line of words.
-pub(crate) const PLACE: usize = 18;
+/// Letters of a line of words, at most.
 pub(crate) const WORDS: usize = 60;
-/// Letters of a lane's name, at most.
-pub(crate) const NAME: usize = 40;
+/// Letters of a lane's name and of a place, at least and at most: a name of the set has 32 at most.
+const SHORT: usize = 12;
+const LONG: usize = 66;
 /// The width that the words at the top and the legend need.
 const NARROWEST: u32 = 680;
 /// The height of the words at the top.
@@ -87,7 +87,7 @@ impl Layout {
         }
         self.lefts.push(left)?;
         self.place = left.saturating_add(10);
-        self.words = self.place.saturating_add(width_of_letters(PLACE as u32));
+        self.words = self.place.saturating_add(width_of_letters(longest_place(drawing)));
         let width = self.words.saturating_add(width_of_letters(WORDS as u32));
         self.width = width.saturating_add(MARGIN).max(NARROWEST);
         Ok(())
@@ -201,11 +201,20 @@ fn width_of(lane: &Lane) -> u32 {
 
 /// Where the names of the lanes end, below the words at the top.
 fn head_of(drawing: &Drawing) -> u32 {
-    let mut longest = 8;
+    let mut longest = SHORT;
     for lane in drawing.lanes.iter() {
-        longest = lane.name.len().min(NAME).max(longest);
+        longest = longest.max(lane.name.len());
     }
-    (TITLE + 10).saturating_add(width_of_letters(longest.min(NAME) as u32))
+    (TITLE + 10).saturating_add(width_of_letters(longest.min(LONG) as u32))
+}
+
+/// How many letters the longest place has, and one more.
+fn longest_place(drawing: &Drawing) -> u32 {
+    let mut longest = SHORT;
+    for row in drawing.rows.iter() {
+        longest = longest.max(row.place.len());
+    }
+    longest.min(LONG) as u32 + 1
 }
 
 /// How many decimal digits a number has.

@@ -1,6 +1,6 @@
 //! The picture of a run.
 
-use crate::layout::{LINE, Layout, MARGIN, NAME, PLACE, WORDS};
+use crate::layout::{LINE, Layout, MARGIN, WORDS};
 use crate::legend::{add_legend, height_of_legend};
 use crate::lines::{Lines, MOST_LINES};
 use crate::style::{STYLE, class_of_hold, class_of_state};
@@ -277,10 +277,8 @@ fn add_lane(
     }
     let (left, end) = (layout.left(number), layout.end());
     let middle = left.saturating_add(if matches!(lane.post, Post::Thread(_)) { 8 } else { 10 });
-    let name = lane.name.as_bytes();
-    let name = name.get(..NAME).unwrap_or(name);
     let foot = layout.head.saturating_sub(6);
-    add_upward(words, "", at(middle.saturating_add(4), foot), name)?;
+    add_upward(words, "", at(middle.saturating_add(4), foot), lane.name.as_bytes())?;
     add_line(words, "side", at(left, layout.head), at(left, end))?;
     let right = left.saturating_add(width);
     add_line(words, "side", at(right, layout.head), at(right, end))?;
@@ -357,9 +355,7 @@ fn add_row(
 ) -> Result<(), AllocError> {
     let line = layout.top(number).saturating_add(11);
     add_number(words, layout, line, row)?;
-    let place = row.place.as_bytes();
-    let place = place.get(..PLACE - 1).unwrap_or(place);
-    add_text(words, "place", at(layout.place, line), place)?;
+    add_text(words, "place", at(layout.place, line), row.place.as_bytes())?;
     let class = if row.sign == Sign::Stop { "bad" } else { "" };
     let mut lines = Lines::of(row.words.as_bytes());
     let mut y = line;
