@@ -18,11 +18,13 @@ const ROOM: u32 = 7;
 const TRACK: u32 = 22;
 /// What a lane has at the left of its first track: of a thread, and else.
 const LEFT: u32 = 20;
+
 const LIST_LEFT: u32 = 10;
 /// Letters of a line of words, at most.
 pub(crate) const WORDS: usize = 60;
 /// Letters of a lane's name and of a place, at least and at most: a name of the set has 32 at most.
 const SHORT: usize = 12;
+
 const LONG: usize = 66;
 /// The width that the words at the top and the legend need.
 const NARROWEST: u32 = 680;
@@ -87,7 +89,9 @@ impl Layout {
         }
         self.lefts.push(left)?;
         self.place = left.saturating_add(10);
-        self.words = self.place.saturating_add(width_of_letters(longest_place(drawing)));
+        self.words = self
+            .place
+            .saturating_add(width_of_letters(longest_place(drawing)));
         let width = self.words.saturating_add(width_of_letters(WORDS as u32));
         self.width = width.saturating_add(MARGIN).max(NARROWEST);
         Ok(())
@@ -103,7 +107,9 @@ impl Layout {
             }
             self.tops.push(top)?;
             let lines = count_lines(row.words.as_bytes(), WORDS);
-            top = top.saturating_add(lines.saturating_mul(LINE)).saturating_add(ROOM);
+            top = top
+                .saturating_add(lines.saturating_mul(LINE))
+                .saturating_add(ROOM);
         }
         if drawing.left_out > 0 && self.band.is_none() {
             self.band = Some(top);
@@ -153,19 +159,24 @@ impl Layout {
 
     /// How wide a lane is.
     pub(crate) fn lane_width(&self, lane: usize) -> u32 {
-        self.left(lane.saturating_add(1)).saturating_sub(self.left(lane))
+        self.left(lane.saturating_add(1))
+            .saturating_sub(self.left(lane))
     }
 
     /// Where the line of a track of a lane is.
     pub(crate) fn track(&self, lanes: &[Lane], lane: usize, track: usize) -> u32 {
         let left = match lanes.get(lane) {
-            Some(Lane {
-                post: Post::Thread(_),
-                ..
-            }) => LEFT,
+            Some(
+                Lane {
+                    post: Post::Thread(_),
+                    ..
+                },
+            ) => LEFT,
             _ => LIST_LEFT,
         };
-        self.left(lane).saturating_add(left).saturating_add(tracks_width(track))
+        self.left(lane)
+            .saturating_add(left)
+            .saturating_add(tracks_width(track))
     }
 
     /// Where a sign stands in a row.

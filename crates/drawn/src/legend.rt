@@ -11,6 +11,7 @@ use std::alloc::AllocError;
 
 /// The height of an item, and how many stand in a column.
 const ITEM: u32 = 17;
+
 const ITEMS: u32 = 8;
 /// Where the words of an item begin.
 const SAMPLE: u32 = 42;
@@ -32,57 +33,49 @@ pub(crate) fn height_of_legend() -> u32 {
     ITEM * ITEMS
 }
 
+/// An item, by its number: what is shown of it, and its words. The first column has what holds a
+/// packet, the second one what lasts and what happens to locks, the third one what happens to
+/// packets.
+fn item_of(number: u32) -> (Sample, &'static str) {
+    match number {
+        0 => (Sample::Line(Hold::Routine), "packet, held by a routine"),
+        1 => (Sample::Line(Hold::Manager), "completed by I/O manager"),
+        2 => (Sample::Line(Hold::Queue), "in a queue"),
+        3 => (Sample::Line(Hold::Start), "in a StartIo list"),
+        4 => (Sample::Line(Hold::Slot), "in a current slot"),
+        5 => (Sample::Line(Hold::Nobody), "held by nobody"),
+        6 => (Sample::Open, "lives on at the end"),
+        7 => (Sample::Sign(Sign::TopsOut), "tops out"),
+        8 => (Sample::Lasts(State::Busy), "thread with frames"),
+        9 => (Sample::Lasts(State::Waits), "waits for a lock"),
+        10 => (Sample::Lasts(State::Owns), "owns a lock"),
+        11 => (Sample::Lasts(State::Queued), "the DPC is queued"),
+        12 => (Sample::Sign(Sign::Acquire), "lock acquired"),
+        13 => (Sample::Sign(Sign::Release), "lock released"),
+        14 => (Sample::Sign(Sign::Interrupt), "interrupt"),
+        15 => (Sample::Sign(Sign::Acts), "other step of a thread"),
+        16 => (Sample::Sign(Sign::Mark), "IoMarkIrpPending"),
+        17 => (Sample::Sign(Sign::Complete), "IoCompleteRequest"),
+        18 => (Sample::Sign(Sign::Arm), "cancel routine set"),
+        19 => (Sample::Sign(Sign::Disarm), "cancel routine cleared"),
+        20 => (Sample::Sign(Sign::Cancel), "IoCancelIrp"),
+        21 => (Sample::Sign(Sign::Flag), "Irp->Cancel set"),
+        22 => (Sample::Sign(Sign::Refused), "event refused"),
+        _ => (Sample::Sign(Sign::Stop), "bug check, the run stops"),
+    }
+}
+
 /// Adds the legend, from a height on.
 pub(crate) fn add_legend(words: &mut String, top: u32) -> Result<(), AllocError> {
-    add_lines(words, top)?;
-    add_signs(words, top)?;
-    add_more_signs(words, top)
-}
-
-/// Adds the first column: what holds a packet.
-fn add_lines(words: &mut String, top: u32) -> Result<(), AllocError> {
-    add_item(words, top, 0, Sample::Line(Hold::Routine), "packet, held by a routine")?;
-    add_item(words, top, 1, Sample::Line(Hold::Manager), "completed by I/O manager")?;
-    add_item(words, top, 2, Sample::Line(Hold::Queue), "in a queue")?;
-    add_item(words, top, 3, Sample::Line(Hold::Start), "in a StartIo list")?;
-    add_item(words, top, 4, Sample::Line(Hold::Slot), "in a current slot")?;
-    add_item(words, top, 5, Sample::Line(Hold::Nobody), "held by nobody")?;
-    add_item(words, top, 6, Sample::Open, "lives on at the end")?;
-    add_item(words, top, 7, Sample::Sign(Sign::TopsOut), "tops out")
-}
-
-/// Adds the second one: what lasts, and what happens to locks.
-fn add_signs(words: &mut String, top: u32) -> Result<(), AllocError> {
-    add_item(words, top, 8, Sample::Lasts(State::Busy), "thread with frames")?;
-    add_item(words, top, 9, Sample::Lasts(State::Waits), "waits for a lock")?;
-    add_item(words, top, 10, Sample::Lasts(State::Owns), "owns a lock")?;
-    add_item(words, top, 11, Sample::Lasts(State::Queued), "the DPC is queued")?;
-    add_item(words, top, 12, Sample::Sign(Sign::Acquire), "lock acquired")?;
-    add_item(words, top, 13, Sample::Sign(Sign::Release), "lock released")?;
-    add_item(words, top, 14, Sample::Sign(Sign::Interrupt), "interrupt")?;
-    add_item(words, top, 15, Sample::Sign(Sign::Acts), "other step of a thread")
-}
-
-/// Adds the third one: what happens to packets.
-fn add_more_signs(words: &mut String, top: u32) -> Result<(), AllocError> {
-    add_item(words, top, 16, Sample::Sign(Sign::Mark), "IoMarkIrpPending")?;
-    add_item(words, top, 17, Sample::Sign(Sign::Complete), "IoCompleteRequest")?;
-    add_item(words, top, 18, Sample::Sign(Sign::Arm), "cancel routine set")?;
-    add_item(words, top, 19, Sample::Sign(Sign::Disarm), "cancel routine cleared")?;
-    add_item(words, top, 20, Sample::Sign(Sign::Cancel), "IoCancelIrp")?;
-    add_item(words, top, 21, Sample::Sign(Sign::Flag), "Irp->Cancel set")?;
-    add_item(words, top, 22, Sample::Sign(Sign::Refused), "event refused")?;
-    add_item(words, top, 23, Sample::Sign(Sign::Stop), "bug check, the run stops")
+    for number in 0..ITEMS * 3 {
+        add_item(words, top, number)?;
+    }
+    Ok(())
 }
 
 /// Adds an item, by its number.
-fn add_item(
-    words: &mut String,
-    top: u32,
-    number: u32,
-    sample: Sample,
-    text: &str,
-) -> Result<(), AllocError> {
+fn add_item(words: &mut String, top: u32, number: u32) -> Result<(), AllocError> {
+    let (sample, text) = item_of(number);
     let x = MARGIN.saturating_add((number / ITEMS).saturating_mul(COLUMN));
     let y = top.saturating_add((number % ITEMS) * ITEM);
     add_sample(words, sample, at(x, y))?;

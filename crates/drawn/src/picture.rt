@@ -4,9 +4,7 @@ use crate::layout::{LINE, Layout, MARGIN, WORDS};
 use crate::legend::{add_legend, height_of_legend};
 use crate::lines::{Lines, MOST_LINES};
 use crate::style::{STYLE, class_of_hold, class_of_state};
-use crate::svg::{
-    Point, add_circle, add_line, add_rectangle, add_shape, add_text, add_upward, at,
-};
+use crate::svg::{Point, add_circle, add_line, add_rectangle, add_shape, add_text, add_upward, at};
 use drawn_parts::drawing::{Drawing, MOST_ROWS, Move, Row, Stand};
 use drawn_parts::lane::{Lane, Post, Span, State};
 use drawn_parts::sign::Sign;
@@ -49,7 +47,10 @@ pub fn add_picture(words: &mut String, drawing: &Drawing) -> Result<(), AllocErr
 /// Opens the picture, with its size, its title and its style.
 fn open(words: &mut String, drawing: &Drawing, layout: &Layout) -> Result<(), AllocError> {
     let width = layout.width;
-    let height = layout.bottom.saturating_add(height_of_legend()).saturating_add(40);
+    let height = layout
+        .bottom
+        .saturating_add(height_of_legend())
+        .saturating_add(40);
     words.push_str("<?xml version=\"1.0\" encoding=\"UTF-8\"?>\n")?;
     write!(
         words,
@@ -102,7 +103,10 @@ fn add_head(words: &mut String, drawing: &Drawing, layout: &Layout) -> Result<()
         note,
         "Time goes downwards. {drawn} of the events are drawn, at most {MOST_ROWS}. "
     )?;
-    write!(note, "{folded} are folded: they step in registers or cells,")?;
+    write!(
+        note,
+        "{folded} are folded: they step in registers or cells,"
+    )?;
     add_text(words, "small", at(MARGIN, 43), note.as_bytes())?;
     add_text(words, "small", at(MARGIN, 56), FOLDED)?;
     let line = layout.head.saturating_sub(6);
@@ -217,7 +221,11 @@ fn add_sign_of(
         let x = layout.left(lane).saturating_add(8);
         add_sign(words, Sign::Acts, at(x, layout.middle(number)))?;
     }
-    add_sign(words, row.sign, layout.spot(drawing.lanes.as_slice(), number, spot))
+    add_sign(
+        words,
+        row.sign,
+        layout.spot(drawing.lanes.as_slice(), number, spot),
+    )
 }
 
 /// Adds the band that stands for events that there was no room for.
@@ -226,14 +234,25 @@ fn add_band(words: &mut String, drawing: &Drawing, layout: &Layout) -> Result<()
         return Ok(());
     };
     let width = layout.width.saturating_sub(MARGIN);
-    add_rectangle(words, "queued", at(MARGIN / 2, top.saturating_add(2)), width, 18)?;
+    add_rectangle(
+        words,
+        "queued",
+        at(MARGIN / 2, top.saturating_add(2)),
+        width,
+        18,
+    )?;
     let mut note = String::new(drawing.alloc);
     let left_out = drawing.left_out;
     write!(
         note,
         "Here {left_out} more events of interest are folded: {MOST_ROWS} are drawn at most."
     )?;
-    add_text(words, "", at(MARGIN, top.saturating_add(15)), note.as_bytes())
+    add_text(
+        words,
+        "",
+        at(MARGIN, top.saturating_add(15)),
+        note.as_bytes(),
+    )
 }
 
 /// Adds what stands below the rows: how many events are folded there, and the legend.
@@ -247,8 +266,17 @@ fn add_foot(words: &mut String, drawing: &Drawing, layout: &Layout) -> Result<()
     )?;
     if drawing.folded > 0 {
         let mut note = String::new(drawing.alloc);
-        write!(note, "+{} events are folded behind the last row.", drawing.folded)?;
-        add_text(words, "small", at(MARGIN, top.saturating_add(15)), note.as_bytes())?;
+        write!(
+            note,
+            "+{} events are folded behind the last row.",
+            drawing.folded
+        )?;
+        add_text(
+            words,
+            "small",
+            at(MARGIN, top.saturating_add(15)),
+            note.as_bytes(),
+        )?;
     }
     add_legend(words, top.saturating_add(22))
 }
@@ -276,16 +304,23 @@ fn add_lane(
         return Ok(());
     }
     let (left, end) = (layout.left(number), layout.end());
-    let middle = left.saturating_add(if matches!(lane.post, Post::Thread(_)) { 8 } else { 10 });
+    let middle = left.saturating_add(if matches!(lane.post, Post::Thread(_)) {
+        8
+    } else {
+        10
+    });
     let foot = layout.head.saturating_sub(6);
-    add_upward(words, "", at(middle.saturating_add(4), foot), lane.name.as_bytes())?;
+    add_upward(
+        words,
+        "",
+        at(middle.saturating_add(4), foot),
+        lane.name.as_bytes(),
+    )?;
     add_line(words, "side", at(left, layout.head), at(left, end))?;
     let right = left.saturating_add(width);
     add_line(words, "side", at(right, layout.head), at(right, end))?;
     match lane.post {
-        Post::Thread(_) => {
-            add_line(words, "life", at(middle, layout.head), at(middle, end))
-        }
+        Post::Thread(_) => { add_line(words, "life", at(middle, layout.head), at(middle, end)) }
         _ => Ok(()),
     }
 }
@@ -305,13 +340,23 @@ fn add_span(words: &mut String, layout: &Layout, span: Span) -> Result<(), Alloc
         State::Owns => (left.saturating_add(width).saturating_sub(8), 4),
         State::Queued => (left.saturating_add(7), 6),
     };
-    add_rectangle(words, class_of_state(span.state), at(corner, top), width, height)
+    add_rectangle(
+        words,
+        class_of_state(span.state),
+        at(corner, top),
+        width,
+        height,
+    )
 }
 
 /// Adds a connector, with a point at its end.
 fn add_connector(words: &mut String, from: u32, to: Point) -> Result<(), AllocError> {
     add_line(words, "goes", at(from, to.y), to)?;
-    let point = if from < to.x { "m0 0l-7-3v6z" } else { "m0 0l7-3v6z" };
+    let point = if from < to.x {
+        "m0 0l-7-3v6z"
+    } else {
+        "m0 0l7-3v6z"
+    };
     add_shape(words, "black", to, point)
 }
 
@@ -369,18 +414,21 @@ fn add_row(
 }
 
 /// Adds the number of a row, and how many events are folded before it.
-fn add_number(
-    words: &mut String,
-    layout: &Layout,
-    line: u32,
-    row: &Row,
-) -> Result<(), AllocError> {
+fn add_number(words: &mut String, layout: &Layout, line: u32, row: &Row) -> Result<(), AllocError> {
     let x = layout.numbers;
-    write!(words, "<text class=\"end\" x=\"{x}\" y=\"{line}\">{}</text>\n", row.number)?;
+    write!(
+        words,
+        "<text class=\"end\" x=\"{x}\" y=\"{line}\">{}</text>\n",
+        row.number
+    )?;
     if row.folded > 0 {
         let x = layout.folds;
         let line = line.saturating_sub(8);
-        write!(words, "<text class=\"fold\" x=\"{x}\" y=\"{line}\">+{}</text>\n", row.folded)?;
+        write!(
+            words,
+            "<text class=\"fold\" x=\"{x}\" y=\"{line}\">+{}</text>\n",
+            row.folded
+        )?;
     }
     Ok(())
 }

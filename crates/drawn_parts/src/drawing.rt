@@ -1,8 +1,6 @@
 //! A run as it is drawn: rows, and what goes on in the lanes from row to row.
 
-use crate::follow::{
-    Hold, Stay, calls_cancel_routine, goes_to, stay_elsewhere, stay_with, top_of,
-};
+use crate::follow::{Hold, Stay, calls_cancel_routine, goes_to, stay_elsewhere, stay_with, top_of};
 use crate::interest::is_of_interest;
 use crate::lane::{Lane, Post, Span, State, lanes_of};
 use crate::rows::{add_place, add_words};
@@ -93,11 +91,7 @@ impl Drawing {
     /// # Errors
     ///
     /// When memory runs out.
-    pub fn begin(
-        alloc: Global,
-        machine: &Checked,
-        book: &Book<'_>,
-    ) -> Result<Drawing, AllocError> {
+    pub fn begin(alloc: Global, machine: &Checked, book: &Book<'_>) -> Result<Drawing, AllocError> {
         let threads = machine.threads().len();
         Ok(Drawing {
             alloc,
@@ -435,10 +429,9 @@ impl Drawing {
     /// A state of a lane begins or ends in the next row, unless it is so already.
     fn turn(&mut self, lane: usize, state: State, on: bool) -> Result<(), AllocError> {
         let row = self.rows.len();
-        let lasts = self
-            .spans
-            .iter()
-            .position(|span| span.lane == lane && span.state == state && span.to.is_none());
+        let lasts = self.spans.iter().position(|span| span.lane == lane
+            && span.state == state
+            && span.to.is_none());
         match lasts {
             Some(place) if !on => {
                 if let Some(span) = self.spans.get_mut(place) {

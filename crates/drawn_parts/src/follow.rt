@@ -149,11 +149,7 @@ pub fn stay_with(machine: &Checked, thread: u8, n: u64) -> Option<Stay> {
 }
 
 /// What has a packet that its thread has no more: the place that names it, a list before a thread.
-pub fn stay_elsewhere(
-    alloc: Global,
-    machine: &Checked,
-    n: u64,
-) -> Result<Stay, AllocError> {
+pub fn stay_elsewhere(alloc: Global, machine: &Checked, n: u64) -> Result<Stay, AllocError> {
     let mut found = Stay::at(Post::Nobody);
     let sites = sites_of(alloc, machine, n)?;
     for site in sites.iter() {

@@ -155,12 +155,7 @@ fn add_device(
 }
 
 /// The name of a device, and words behind it.
-fn name_of(
-    alloc: Global,
-    book: &Book<'_>,
-    device: u8,
-    behind: &str,
-) -> Result<String, AllocError> {
+fn name_of(alloc: Global, book: &Book<'_>, device: u8, behind: &str) -> Result<String, AllocError> {
     let mut name = String::new(alloc);
     book.add_device(&mut name, device)?;
     name.push_str(behind)?;

@@ -21,9 +21,13 @@ pub fn add_place(
         None => match (event, top) {
             (
                 Event::Issue { .. } | Event::Dpc { .. } | Event::StartIo { .. },
-                Some(FrameView::Routine {
-                    driver, routine, ..
-                }),
+                Some(
+                    FrameView::Routine {
+                        driver,
+                        routine,
+                        ..
+                    },
+                ),
             ) => book.add_routine(words, driver, routine),
             (Event::Cancel { .. }, _) => words.push_str("IoCancelIrp"),
             (Event::Interrupt { .. }, _) => words.push_str("interrupt"),
@@ -77,10 +81,12 @@ pub fn add_words(
 
 /// Adds that a routine returns, where the step is that of its `ret`.
 fn add_return(words: &mut String, moment: &Moment) -> Result<(), AllocError> {
-    if let Some(Acting {
-        instruction: Some(Instr::Ret(form)),
-        ..
-    }) = moment.acting
+    if let Some(
+        Acting {
+            instruction: Some(Instr::Ret(form)),
+            ..
+        },
+    ) = moment.acting
     {
         words.push_str(match form {
             Return::Void => "returns",
@@ -99,9 +105,13 @@ fn add_called(
 ) -> Result<(), AllocError> {
     let (
         Some(how),
-        Some(FrameView::Routine {
-            driver, routine, ..
-        }),
+        Some(
+            FrameView::Routine {
+                driver,
+                routine,
+                ..
+            },
+        ),
     ) = (how_called(acting), top)
     else {
         return Ok(());

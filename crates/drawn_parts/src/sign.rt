@@ -38,12 +38,7 @@ impl Sign {
     pub fn is_on_line(self) -> bool {
         matches!(
             self,
-            Sign::Mark
-                | Sign::Complete
-                | Sign::TopsOut
-                | Sign::Flag
-                | Sign::Arm
-                | Sign::Disarm
+            Sign::Mark | Sign::Complete | Sign::TopsOut | Sign::Flag | Sign::Arm | Sign::Disarm
         )
     }
 }
