@@ -31,7 +31,7 @@ const NARROWEST: u32 = 680;
 /// The height of the words at the top.
 const TITLE: u32 = 66;
 /// The height of the band that stands for what is folded where there is no more room.
-const BAND: u32 = 24;
+const BAND: u32 = 30;
 
 /// Where things stand.
 #[derive(Drop)]

@@ -6,7 +6,7 @@ use crate::lines::{Lines, MOST_LINES};
 use crate::style::{STYLE, class_of_hold, class_of_state};
 use crate::svg::{Point, add_circle, add_line, add_rectangle, add_shape, add_text, add_upward, at};
 use drawn_parts::drawing::{Drawing, MOST_ROWS, Move, Row, Stand};
-use drawn_parts::lane::{Lane, Post, Span, State};
+use drawn_parts::lane::{Lane, Post, Span, State, TRACKS};
 use drawn_parts::sign::Sign;
 use std::alloc::AllocError;
 
@@ -255,30 +255,31 @@ fn add_band(words: &mut String, drawing: &Drawing, layout: &Layout) -> Result<()
     )
 }
 
-/// Adds what stands below the rows: how many events are folded there, and the legend.
+/// Adds what stands below the rows: a note where there is something to say, and the legend.
 fn add_foot(words: &mut String, drawing: &Drawing, layout: &Layout) -> Result<(), AllocError> {
     let top = layout.bottom;
-    add_line(
-        words,
-        "rule",
-        at(MARGIN / 2, top),
-        at(layout.width.saturating_sub(MARGIN / 2), top),
-    )?;
+    let right = layout.width.saturating_sub(MARGIN / 2);
+    add_line(words, "rule", at(MARGIN / 2, top), at(right, top))?;
+    let mut note = String::new(drawing.alloc);
+    add_note(&mut note, drawing)?;
+    let start = at(MARGIN, top.saturating_add(15));
+    add_text(words, "small", start, note.as_bytes())?;
+    add_legend(words, top.saturating_add(22))
+}
+
+/// Adds how many events are folded behind the last row, and that packets share a line if they do.
+fn add_note(words: &mut String, drawing: &Drawing) -> Result<(), AllocError> {
     if drawing.folded > 0 {
-        let mut note = String::new(drawing.alloc);
+        let folded = drawing.folded;
+        write!(words, "+{folded} events are folded behind the last row. ")?;
+    }
+    if drawing.lanes.iter().any(|lane| lane.is_crowded()) {
         write!(
-            note,
-            "+{} events are folded behind the last row.",
-            drawing.folded
-        )?;
-        add_text(
             words,
-            "small",
-            at(MARGIN, top.saturating_add(15)),
-            note.as_bytes(),
+            "A lane has {TRACKS} lines at most: all further packets share the last."
         )?;
     }
-    add_legend(words, top.saturating_add(22))
+    Ok(())
 }
 
 /// Where the line begins that a move draws next.

@@ -51,12 +51,19 @@ pub struct Lane {
     pub name: String,
     /// How many packets are in each of its tracks.
     tracks: Vec<u32>,
+    /// Whether packets ever shared the last one.
+    crowded: bool,
 }
 
 impl Lane {
     /// How many tracks it needs.
     pub fn tracks(&self) -> usize {
         self.tracks.len()
+    }
+
+    /// Whether packets ever shared its last track.
+    pub fn is_crowded(&self) -> bool {
+        self.crowded
     }
 
     /// Puts a packet into the first free track, and answers which that is. Where none is free the
@@ -69,7 +76,10 @@ impl Lane {
                 self.tracks.push(0)?;
                 self.tracks.len().saturating_sub(1)
             }
-            None => TRACKS - 1,
+            None => {
+                self.crowded = true;
+                TRACKS - 1
+            }
         };
         if let Some(packets) = self.tracks.get_mut(track) {
             *packets = packets.saturating_add(1);
@@ -96,6 +106,7 @@ fn add_lane(
         post,
         name,
         tracks: Vec::new(alloc),
+        crowded: false,
     })?;
     Ok(())
 }
