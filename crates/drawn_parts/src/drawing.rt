@@ -473,7 +473,10 @@ fn top_after(machine: &Checked, event: &Event) -> Option<FrameView> {
 fn packet_of(moment: &Moment, reply: &Reply) -> Option<u64> {
     match *reply {
         Reply::Topped { packet, .. } => Some(packet),
-        _ => moment.acting?.packet,
+        _ => match moment.acting {
+            Some(acting) => acting.packet,
+            None => None,
+        },
     }
 }
 
