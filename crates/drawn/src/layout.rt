@@ -219,9 +219,9 @@ fn head_of(drawing: &Drawing) -> u32 {
     (TITLE + 10).saturating_add(width_of_letters(longest.min(LONG) as u32))
 }
 
-/// How many letters the longest place has, and one more.
+/// How many letters the longest place has, and one more; the name of the column has its room too.
 fn longest_place(drawing: &Drawing) -> u32 {
-    let mut longest = SHORT;
+    let mut longest = SHORT + 2;
     for row in drawing.rows.iter() {
         longest = longest.max(row.place.len());
     }
