@@ -24,7 +24,7 @@ pub record Drawing (set : Set) (threads : ℕ) (events : List Event) (m : Machin
 pub drawing_first : (m : Machine) (threads : ℕ) (events : List Event)
     → ShowsWhole m threads [] → Drawing m.set threads events m events
 drawing_first m threads events shows =
-    record { past = []; same = refl; shows = shows; last = refl; }
+    record { past = []; same = refl; shows = shows; last = refl }
 
 module _ (set : Set) (threads : ℕ) (events : List Event) (m n : Machine) (e : Event)
     (rest : List Event) (reply : Reply) (d : Drawing set threads events m (e ∷ rest))
@@ -76,7 +76,7 @@ run_drawn set threads events stopped picture last =
           (sym last);
     }
   where
-  same : (b : Bool) → ended (if b || false then Stopped else Complete) picture
-      ≡ ended (if b then Stopped else Complete) picture
-  same true = refl
-  same false = refl
+    same : (b : Bool) → ended (if b || false then Stopped else Complete) picture
+        ≡ ended (if b then Stopped else Complete) picture
+    same true = refl
+    same false = refl

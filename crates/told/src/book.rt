@@ -118,12 +118,7 @@ impl<'a> Book<'a> {
     /// # Errors
     ///
     /// When memory runs out.
-    pub fn add_queue(
-        &self,
-        words: &mut String,
-        driver: u8,
-        queue: u8,
-    ) -> Result<(), AllocError> {
+    pub fn add_queue(&self, words: &mut String, driver: u8, queue: u8) -> Result<(), AllocError> {
         let page = self.drivers.get(driver as usize);
         match page.and_then(|page| page.queues.get(queue as usize)) {
             Some(name) => add_bytes(words, name.bytes()),
