@@ -5,7 +5,7 @@ use Rattle.clap.specs.Words.{Text, subcommand_of, takes}
 use Rattle.drvhost_parts.specs.Answer.{Answer}
 use Rattle.drvhost_parts.specs.Device.{Bytes, Closed, Holds, IsSuppliedAs, MayBeClosed, Supply, Unknown}
 use Rattle.drvhost_parts.specs.Ends.{Answers, Ends, HoldsRun, IsCheckOf, IsExplainedOf, IsHostOf, IsListOf, IsRewriteOf, IsTraceOf, OutOfMemory, ReadFailed, Rightly, WriteFailed}
-use Rattle.drvhost_parts.specs.Told.{IsTellOf}
+use Rattle.drvhost_parts.specs.Told.{IsDrawOf, IsTellOf}
 use Rattle.drvhost_parts.specs.declared.tell.Detail.{Detail}
 use Rattle.drvhost_parts.specs.declared.verification.Verification.{Verification}
 use Rattle.command_line.specs.declared.job.Job.{Job}
@@ -14,7 +14,7 @@ use Rattle.command_line.specs.declared.job.JobFault.TheVariants.{Memory, Usage}
 use Rattle.command_line.specs.CommandLine.{Names, job_fault_status, job_fault_told, program, text_told}
 use Rattle.command_line.specs.Files.{supply_of}
 use Rattle.command_line.specs.declared.answer.Way.{Way}
-use Rattle.command_line.specs.declared.answer.Way.TheVariants.{BySchedule, InWords, ByWorkers}
+use Rattle.command_line.specs.declared.answer.Way.TheVariants.{BySchedule, InWords, AsPicture, ByWorkers}
 use Rattle.command_line.specs.Program.{IsAnswerTo, IsQuietly, IsRunBy}
 
 -- where more answers are right
@@ -130,6 +130,13 @@ tell_known v d known supply schedule other h e answer (bytes, holds, right) =
     let P : Supply → Type 0 = λ s. IsTellOf v d known s answer in
     subst P e (bytes, holds_known known supply bytes h holds, right)
 
+draw_known : (v : Verification) (known supply schedule other : Supply)
+    → IsSuppliedAs known supply → other ≡ schedule → (answer : Answer)
+    → IsDrawOf v supply other answer → IsDrawOf v known schedule answer
+draw_known v known supply schedule other h e answer (bytes, holds, right) =
+    let P : Supply → Type 0 = λ s. IsDrawOf v known s answer in
+    subst P e (bytes, holds_known known supply bytes h holds, right)
+
 host_known : (workers : ℕ) (known supply script other : Supply)
     → IsSuppliedAs known supply → other ≡ script → (answer : Answer)
     → IsHostOf workers supply other answer → IsHostOf workers known script answer
@@ -144,6 +151,8 @@ way_known (BySchedule v) known supply input other h e answer right =
     trace_known v known supply input other h e answer right
 way_known (InWords v d) known supply input other h e answer right =
     tell_known v d known supply input other h e answer right
+way_known (AsPicture v) known supply input other h e answer right =
+    draw_known v known supply input other h e answer right
 way_known (ByWorkers workers) known supply input other h e answer right =
     host_known workers known supply input other h e answer right
 

@@ -7,7 +7,7 @@ use Rattle.interleave.specs.Line.{number_within}
 use Rattle.model.specs.Words.{rule_word}
 use Rattle.model.specs.declared.limits.TheConstants.{MAX_THREADS}
 use Rattle.command_line.specs.declared.job.Job.{Job}
-use Rattle.command_line.specs.declared.job.Job.TheVariants.{Check, Explain, ExplainRule, List as ListJob, Rewrite, Version, Trace, Tell, Host}
+use Rattle.command_line.specs.declared.job.Job.TheVariants.{Check, Explain, ExplainRule, List as ListJob, Rewrite, Version, Trace, Tell, Draw, Host}
 use Rattle.command_line.specs.declared.job.JobFault.{JobFault}
 use Rattle.command_line.specs.declared.job.JobFault.TheVariants.{Usage, Memory}
 use Rattle.drvhost_parts.specs.declared.explaining.Extent.{Extent}
@@ -82,6 +82,12 @@ tell_command =
     (file_argument (codes "SCHEDULE"))) unchecked_flag)
     quiet_flag
 
+-- `draw FILE SCHEDULE [--unchecked]`
+abbrev pub draw_command : App
+draw_command =
+    with_rule (with_rule (with_rule (new_app (codes "draw")) (file_argument (codes "FILE")))
+    (file_argument (codes "SCHEDULE"))) unchecked_flag
+
 -- `--workers N`, which has to be there
 abbrev pub workers_option : Rule
 workers_option =
@@ -115,7 +121,8 @@ unrun_program =
 
 abbrev pub unthreaded_program : App
 unthreaded_program =
-    with_subcommand (with_subcommand unrun_program trace_command.top) tell_command.top
+    with_subcommand (with_subcommand (with_subcommand unrun_program trace_command.top)
+    tell_command.top) draw_command.top
 
 abbrev pub judging_program : App
 judging_program = with_subcommand unthreaded_program host_command.top
@@ -171,6 +178,10 @@ NamesTask found (Tell set schedule verification detail) =
     × (first_of (codes "SCHEDULE") found.1 ≡ Some schedule.now)
     × IsFlag (first_of (codes "unchecked") found.1) verification
     × IsDetail (first_of (codes "quiet") found.1) detail
+NamesTask found (Draw set schedule verification) =
+    (found.0 ≡ codes "draw") × (first_of (codes "FILE") found.1 ≡ Some set.now)
+    × (first_of (codes "SCHEDULE") found.1 ≡ Some schedule.now)
+    × IsFlag (first_of (codes "unchecked") found.1) verification
 NamesTask found (Host set script workers) =
     (found.0 ≡ codes "host") × (first_of (codes "FILE") found.1 ≡ Some set.now)
     × (first_of (codes "SCRIPT") found.1 ≡ Some script.now)

@@ -10,11 +10,11 @@ use Rattle.drvhost_parts.specs.Device.{MayBeClosed, Supply}
 use Rattle.drvhost_parts.specs.declared.verification.Verification.{Verification}
 use Rattle.drvhost_parts.specs.declared.verification.Verification.TheVariants.{Required}
 use Rattle.drvhost_parts.specs.Ends.{HoldsRun, IsCheckOf, IsExplainedOf, IsHostOf, IsListOf, IsRewriteOf, IsTraceOf}
-use Rattle.drvhost_parts.specs.Told.{IsTellOf}
+use Rattle.drvhost_parts.specs.Told.{IsDrawOf, IsTellOf}
 use Rattle.command_line.specs.declared.answer.Way.{Way}
-use Rattle.command_line.specs.declared.answer.Way.TheVariants.{BySchedule, InWords, ByWorkers}
+use Rattle.command_line.specs.declared.answer.Way.TheVariants.{BySchedule, InWords, AsPicture, ByWorkers}
 use Rattle.command_line.specs.declared.job.Job.{Job}
-use Rattle.command_line.specs.declared.job.Job.TheVariants.{Check, Explain, ExplainRule, List as ListJob, Rewrite, Version, Trace, Tell, Host}
+use Rattle.command_line.specs.declared.job.Job.TheVariants.{Check, Explain, ExplainRule, List as ListJob, Rewrite, Version, Trace, Tell, Draw, Host}
 use Rattle.command_line.specs.CommandLine.{Names, program, usage}
 use Rattle.command_line.specs.Files.{Has}
 
@@ -23,12 +23,14 @@ abbrev pub IsRunBy : Way → Supply → Supply → Answer → Type 0
 IsRunBy (BySchedule verification) set schedule answer = IsTraceOf verification set schedule answer
 IsRunBy (InWords verification detail) set schedule answer =
     IsTellOf verification detail set schedule answer
+IsRunBy (AsPicture verification) set schedule answer = IsDrawOf verification set schedule answer
 IsRunBy (ByWorkers workers) set script answer = IsHostOf workers set script answer
 
 -- whether the set has to be accepted
 abbrev pub verification_of : Way → Verification
 verification_of (BySchedule verification) = verification
 verification_of (InWords verification detail) = verification
+verification_of (AsPicture verification) = verification
 verification_of (ByWorkers workers) = Required
 
 -- what is right for what the file of a name has, or where it can't be opened: its name is told
@@ -53,6 +55,8 @@ IsJobOf supply (Trace set schedule verification) answer =
     IsTraceOf verification (supply set.now) (supply schedule.now) answer
 IsJobOf supply (Tell set schedule verification detail) answer =
     IsTellOf verification detail (supply set.now) (supply schedule.now) answer
+IsJobOf supply (Draw set schedule verification) answer =
+    IsDrawOf verification (supply set.now) (supply schedule.now) answer
 IsJobOf supply (Host set script workers) answer =
     IsHostOf workers (supply set.now) (supply script.now) answer
 
@@ -72,6 +76,8 @@ Opens supply Version count = count ≡ 0
 Opens supply (Trace set schedule verification) count =
     OpensToTrace verification (supply set.now) count
 Opens supply (Tell set schedule verification detail) count =
+    OpensToTrace verification (supply set.now) count
+Opens supply (Draw set schedule verification) count =
     OpensToTrace verification (supply set.now) count
 Opens supply (Host set script workers) count = OpensToTrace Required (supply set.now) count
 
@@ -156,6 +162,8 @@ JobStores Version before after old new status = LeavesFiles before after old new
 JobStores (Trace set schedule verification) before after old new status =
     LeavesFiles before after old new
 JobStores (Tell set schedule verification detail) before after old new status =
+    LeavesFiles before after old new
+JobStores (Draw set schedule verification) before after old new status =
     LeavesFiles before after old new
 JobStores (Host set script workers) before after old new status = LeavesFiles before after old new
 

@@ -10,6 +10,7 @@ use crate::job::{Job, JobFault, Workers, refuse_unknown_words, refuse_words};
 use drvhost_parts::check::check;
 use drvhost_parts::device::{Sink, Source};
 use drvhost_parts::explaining::{Extent, explain};
+use drvhost_parts::draw::draw;
 use drvhost_parts::host::host;
 use drvhost_parts::list::list;
 use drvhost_parts::rewriting::rewrite;
@@ -168,6 +169,14 @@ fn perform<F: Files, O: Sink, E: Sink, R: Threads + Wait + Sync>(
             let way = Way::InWords(verification, detail);
             run_files(rt, alloc, set, schedule, way, files, out, err)
         }
+        Job::Draw {
+            set,
+            schedule,
+            verification,
+        } => {
+            let way = Way::AsPicture(verification);
+            run_files(rt, alloc, set, schedule, way, files, out, err)
+        }
         Job::Host {
             set,
             script,
@@ -321,6 +330,8 @@ pub(crate) enum Way {
     BySchedule(Verification),
     /// By the events of a schedule, and it is told in words.
     InWords(Verification, Detail),
+    /// By the events of a schedule, and it is drawn.
+    AsPicture(Verification),
     /// By workers that serve the commands of a script.
     ByWorkers(Workers),
 }
@@ -401,6 +412,7 @@ fn run<S: Source, P: Source, O: Sink, E: Sink, R: Threads + Wait + Sync>(
         Way::InWords(verification, detail) => {
             tell(alloc, set, input, verification, detail, out, err)
         }
+        Way::AsPicture(verification) => draw(alloc, set, input, verification, out, err),
         Way::ByWorkers(workers) => {
             let count = workers.count();
             host(rt, alloc, set, input, count, &Open, out, err)

@@ -6,7 +6,7 @@ ghost use Rattle.clap.specs.declared.builder.command.Command.TheViews.{out-Comma
 ghost use Rattle.drvhost_parts.specs.Device.{CanCount, Says};
 ghost use Rattle.interleave.specs.Line.{number_within};
 ghost use Rattle.model.specs.declared.limits.TheConstants.{MAX_THREADS};
-ghost use Rattle.command_line.specs.CommandLine.{all_flag, check_command, explain_command, file_argument, host_command, job_fault_status, job_fault_told, judging_program, list_command, program, program_of_files, quiet_flag, reading_program, rewrite_command, rule_option, tell_command, text_told, trace_command, unchecked_flag, unrun_program, unthreaded_program, usage, version_command, workers_option, IsDetail, IsExtent, IsFlag, Names, NamesTask};
+ghost use Rattle.command_line.specs.CommandLine.{all_flag, check_command, draw_command, explain_command, file_argument, host_command, job_fault_status, job_fault_told, judging_program, list_command, program, program_of_files, quiet_flag, reading_program, rewrite_command, rule_option, tell_command, text_told, trace_command, unchecked_flag, unrun_program, unthreaded_program, usage, version_command, workers_option, IsDetail, IsExtent, IsFlag, Names, NamesTask};
 
 use clap::builder::ValueParser;
 use clap::error::ErrorKind;
@@ -78,6 +78,12 @@ pub enum Job<'a> {
         schedule: &'a str,
         verification: Verification,
         detail: Detail,
+    },
+    /// `draw FILE SCHEDULE [--unchecked]`
+    Draw {
+        set: &'a str,
+        schedule: &'a str,
+        verification: Verification,
     },
     /// `host FILE SCRIPT --workers N`
     Host {
@@ -273,8 +279,9 @@ fn unthreaded_program<'a>(alloc: Global) -> Result<Command<'a>, AllocError>
 {
     let trace = trace_command(alloc)?;
     let tell = tell_command(alloc)?;
+    let draw = draw_command(alloc)?;
     let program = unrun_program(alloc)?;
-    program.subcommand(trace)?.subcommand(tell)
+    program.subcommand(trace)?.subcommand(tell)?.subcommand(draw)
 }
 
 /// The part of that which runs nothing.
@@ -363,6 +370,18 @@ fn tell_command<'a>(alloc: Global) -> Result<Command<'a>, AllocError>
         "Runs a driver set by a schedule, and tells in words what happens and what is left",
     );
     command.arg(set)?.arg(schedule)?.arg(unchecked)?.arg(quiet)
+}
+
+fn draw_command<'a>(alloc: Global) -> Result<Command<'a>, AllocError>
+    ensures app { IfOk result (λ command. app_of command ≡ draw_command) }
+    ensures local { IfOk result (λ command. (fields_of command).has_globals ≡ false) }
+{
+    let set = file(alloc, "FILE", SET);
+    let schedule = file(alloc, "SCHEDULE", "The threads and the events");
+    let unchecked = unchecked_flag(alloc);
+    let command = Command::new(alloc, "draw")
+        .about("Runs a driver set by a schedule, and writes the run as an SVG picture");
+    command.arg(set)?.arg(schedule)?.arg(unchecked)
 }
 
 fn host_command<'a>(alloc: Global) -> Result<Command<'a>, AllocError>
@@ -456,6 +475,7 @@ fn named<'a>(matches: &ArgMatches<'a>) -> Option<Job<'a>>
         "explain" => explain_named(inner),
         "trace" => trace_named(inner),
         "tell" => tell_named(inner),
+        "draw" => draw_named(inner),
         "host" => host_named(inner),
         "list" => list_named(inner),
         "rewrite" => rewrite_named(inner),
@@ -560,6 +580,21 @@ fn tell_named<'a>(matches: &ArgMatches<'a>) -> Option<Job<'a>>
         schedule,
         verification,
         detail,
+    })
+}
+
+fn draw_named<'a>(matches: &ArgMatches<'a>) -> Option<Job<'a>>
+    ensures some { IfSome result (NamesTask (codes "draw", rows_of (found_of matches.now))) }
+    ensures none { IfNone result
+        ((job : Job) → NamesTask (codes "draw", rows_of (found_of matches.now)) job → ⊥) }
+{
+    let set = argument(matches, "FILE")?;
+    let schedule = argument(matches, "SCHEDULE")?;
+    let verification = flagged(matches);
+    Some(Job::Draw {
+        set,
+        schedule,
+        verification,
     })
 }
 

@@ -87,6 +87,19 @@ returns-in-Tell-clause-stores g c =
 pub returns-in-Tell-clause-opened : goal.returns-in-Tell-clause-opened
 returns-in-Tell-clause-opened g c = rw c.in-Tell.is c.run_files-in-Tell.ensures.opened
 
+pub returns-in-Draw-clause-answers : goal.returns-in-Draw-clause-answers
+returns-in-Draw-clause-answers g c =
+    rw c.in-Draw.is
+    (answers_beside _ _ _ _ _ _ _ _ _ _ _ c.run_files-in-Draw.ensures.answers c.run_files-in-Draw.ensures.unwritten)
+
+pub returns-in-Draw-clause-stores : goal.returns-in-Draw-clause-stores
+returns-in-Draw-clause-stores g c =
+    rw c.in-Draw.is
+    (record { supply = c.run_files-in-Draw.ensures.supply; none = c.run_files-in-Draw.ensures.created })
+
+pub returns-in-Draw-clause-opened : goal.returns-in-Draw-clause-opened
+returns-in-Draw-clause-opened g c = rw c.in-Draw.is c.run_files-in-Draw.ensures.opened
+
 pub returns-in-Host-clause-answers : goal.returns-in-Host-clause-answers
 returns-in-Host-clause-answers g c =
     rw c.in-Host.is
