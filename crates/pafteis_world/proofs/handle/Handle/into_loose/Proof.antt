@@ -27,7 +27,6 @@ use Rattle.core.proofs.cell.Inside.{Good, one}
 use Rattle.core.proofs.option.Made.{Some-of, none_of}
 use Rattle.core.specs.declared.option.Option.{Option}
 use Rattle.core.specs.declared.option.Option.TheVariants.{None, Some}
-use Rattle.libc.specs.Heap.{chunk}
 use Rattle.std.proofs.raw_atomic.Walks.{proved_at, leaves}
 use Rattle.std.proofs.Common.{IsSome, IfSome}
 use Rattle.std_alloc.proofs.ResultValues.{and_tt}
@@ -36,7 +35,7 @@ use Rattle.machine.specs.contracts.world.World as world
 use Rattle.std.specs.contracts.alloc.Global as heap
 use Rattle.std.proofs.alloc.Global.TheLaws as heap_laws
 use Rattle.std.specs.contracts.impls.GlobalAllocator.TheImpl.{ghosts}
-use Rattle.pafteis_world.specs.Held.{holds}
+use Rattle.pafteis_world.specs.Held.{holds, the_heap}
 use Rattle.pafteis_world.proofs.LooseValues.{Loose, both, loose_good, loose_in}
 use Rattle.pafteis_world.specs.contracts.handle.Handle as h
 use Rattle.pafteis_world.specs.contracts.handle.Handle.into_loose as f
@@ -77,7 +76,7 @@ into_loose_spec 𝓤 𝓛 𝓜 𝓡 wired =
     elim (cases_Bool d.live) [
       | inl e ↦
           rewrite ! 0 (λ (b : Bool). ‵ (holds b d.at d.world)) e refl $
-          in_a_block ! d.at (λ p. box_owns (λ type at. chunk type at) R p d.world) (fst∗ 𝓤 (never 𝓤) (sem 𝓛 (chunk (bare (lone R.mir)) null_ptr))) (λ b o at.
+          in_a_block ! d.at (λ p. box_owns (ghosts.dealloc_token the_heap) R p d.world) (fst∗ 𝓤 (never 𝓤) (sem 𝓛 (ghosts.dealloc_token the_heap (bare (lone R.mir)) null_ptr))) (λ b o at.
           let w : Val = word true (block_ptr b o) in let made : Val = both (vptr b o) n in let typed = loose_good R Z LZ ghosts b o n hv.2 in
           let r : L.Denot = record { at = block_ptr b o; alloc = a; value = d.world } in let v : Val = live 1 (vcons made vnil) in
           let good : Good (layout Out) v = (and_tt _ typed.0, (record { fits = lit< tt }, (typed.1, tt))) in
