@@ -94,7 +94,7 @@ fn told_of<R: Threads + Wait + Sync>(
 #[test]
 fn wrong_words(rt: HostRuntime) {
     let alloc = rt.alloc();
-    let all: [&[&str]; 21] = [
+    let all: [&[&str]; 22] = [
         &[],
         &["drvhost", "explain", "--all"],
         &["drvhost", "explain", "--rule"],
@@ -106,6 +106,7 @@ fn wrong_words(rt: HostRuntime) {
         &["drvhost", "check", "good.drv", "good.sched"],
         &["drvhost", "list"],
         &["drvhost", "tell", "good.drv"],
+        &["drvhost", "draw", "good.drv", "good.sched", "--quiet"],
         &["drvhost", "trace", "good.drv", "good.sched", "--quiet"],
         &["drvhost", "rewrite"],
         &["drvhost", "rewrite", "good.drv"],

@@ -57,6 +57,8 @@ fn tasks(rt: HostRuntime) -> Result<(), Fail> {
     assert!(rt; is_to_tell(&job, Verification::Required, Detail::Quiet));
     let job = Job::of(alloc, &["tell", "--unchecked", "a", "b", "--quiet"])?;
     assert!(rt; is_to_tell(&job, Verification::Skipped, Detail::Quiet));
+    let job = Job::of(alloc, &["draw", "--unchecked", "a", "b"])?;
+    assert!(rt; is_to_draw(&job, Verification::Skipped));
     Ok(())
 }
 
@@ -69,6 +71,18 @@ fn is_to_tell(job: &Job<'_>, run: Verification, told: Detail) -> bool {
             verification,
             detail,
         } => set == "a" && schedule == "b" && verification == run && detail == told,
+        _ => false,
+    }
+}
+
+/// Whether a job is to draw a run of the set of a file by the schedule of another one so.
+fn is_to_draw(job: &Job<'_>, run: Verification) -> bool {
+    match *job {
+        Job::Draw {
+            set,
+            schedule,
+            verification,
+        } => set == "a" && schedule == "b" && verification == run,
         _ => false,
     }
 }
