@@ -11,7 +11,7 @@ use drvhost_parts::verification::Verification;
 use model::memory::OutOfMemory;
 use pafteis_parts::answers;
 use pafteis_parts::delivery::deliver;
-use pafteis_parts::told::Told;
+use pafteis_parts::returned::Told;
 use pafteis_values::rule::rule_of;
 use pafteis_values::verdict::VerdictValue;
 use pafteis_world::admitting::judge;

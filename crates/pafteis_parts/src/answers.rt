@@ -5,7 +5,7 @@ ghost use Rattle.drvhost_parts.specs.Answer.{IsRuleExplained, IsVersion};
 ghost use Rattle.drvhost_parts.specs.Device.{Bytes};
 ghost use Rattle.drvhost_parts.specs.Ends.{IsCheckOf, IsExplainedOf, IsListOf, IsRewriteOf, IsTraceOf};
 
-use crate::told::{Told, collected};
+use crate::returned::{Told, collected};
 use drvhost_parts::device::{Reader, Source, Writer};
 use drvhost_parts::explaining::Extent;
 use drvhost_parts::verification::Verification;

@@ -6,7 +6,7 @@ use model::abs::Rule;
 use model::memory::OutOfMemory;
 use pafteis_parts::answers::{check, explain, explain_rule, list, rewrite, trace, version};
 use pafteis_parts::delivery::deliver;
-use pafteis_parts::told::Told;
+use pafteis_parts::returned::Told;
 
 /// A driver that completes each read at once, and a device of it.
 const ECHO: &[u8] =
