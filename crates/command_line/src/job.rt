@@ -281,7 +281,10 @@ fn unthreaded_program<'a>(alloc: Global) -> Result<Command<'a>, AllocError>
     let tell = tell_command(alloc)?;
     let draw = draw_command(alloc)?;
     let program = unrun_program(alloc)?;
-    program.subcommand(trace)?.subcommand(tell)?.subcommand(draw)
+    program
+        .subcommand(trace)?
+        .subcommand(tell)?
+        .subcommand(draw)
 }
 
 /// The part of that which runs nothing.
@@ -379,8 +382,9 @@ fn draw_command<'a>(alloc: Global) -> Result<Command<'a>, AllocError>
     let set = file(alloc, "FILE", SET);
     let schedule = file(alloc, "SCHEDULE", "The threads and the events");
     let unchecked = unchecked_flag(alloc);
-    let command = Command::new(alloc, "draw")
-        .about("Runs a driver set by a schedule, and writes the run as an SVG picture");
+    let command = Command::new(alloc, "draw").about(
+        "Runs a driver set by a schedule, and writes the run as an SVG picture",
+    );
     command.arg(set)?.arg(schedule)?.arg(unchecked)
 }
 
