@@ -3,10 +3,11 @@ use Rattle.std.specs.Prelude.{ℕ, ◌≡◌, ◌≢◌, List, Option, Some}
 use Rattle.drvhost_parts.specs.Answer.{Answer}
 
 -- nothing failed and memory was found, and the answer is what was written
-pub record Collects (exit unread unwritten : ℕ) (written : Option (List ℕ)) (untold : ℕ)
+pub record Collects (exit unread unscheduled unwritten : ℕ) (written : Option (List ℕ)) (untold : ℕ)
     (errors : Option (List ℕ)) (answer : Answer) : Type 0 where
   pub found : exit ≢ 3
   pub read : unread ≡ 0
+  pub scheduled : unscheduled ≡ 0
   pub wrote : unwritten ≡ 0
   pub told : untold ≡ 0
   pub status : answer.status ≡ exit

@@ -21,7 +21,7 @@ pub fn check(alloc: Global, set: &[u8]) -> Result<Told, OutOfMemory>
     let mut output = Writer::new(Vec::new(alloc));
     let mut errors = Writer::new(Vec::new(alloc));
     let exit = drvhost_parts::check::check(alloc, &mut source, &mut output, &mut errors);
-    collected(exit, source.failures(), output, errors)
+    collected(exit, source.failures(), 0, output, errors)
 }
 
 /// The same, explained in words.
@@ -38,7 +38,7 @@ pub fn explain(alloc: Global, extent: Extent, set: &[u8]) -> Result<Told, OutOfM
         &mut output,
         &mut errors,
     );
-    collected(exit, source.failures(), output, errors)
+    collected(exit, source.failures(), 0, output, errors)
 }
 
 /// A rule in words.
@@ -48,7 +48,7 @@ pub fn explain_rule(alloc: Global, rule: Rule) -> Result<Told, OutOfMemory>
     let mut output = Writer::new(Vec::new(alloc));
     let mut errors = Writer::new(Vec::new(alloc));
     let exit = drvhost_parts::rule::explain_rule(alloc, rule, &mut output, &mut errors);
-    collected(exit, 0, output, errors)
+    collected(exit, 0, 0, output, errors)
 }
 
 /// The trace of a set by a schedule.
@@ -72,8 +72,7 @@ pub fn trace(
         &mut output,
         &mut errors,
     );
-    let unread = source.failures().max(events.failures());
-    collected(exit, unread, output, errors)
+    collected(exit, source.failures(), events.failures(), output, errors)
 }
 
 /// The listing of a set.
@@ -84,7 +83,7 @@ pub fn list(alloc: Global, set: &[u8]) -> Result<Told, OutOfMemory>
     let mut output = Writer::new(Vec::new(alloc));
     let mut errors = Writer::new(Vec::new(alloc));
     let exit = drvhost_parts::list::list(alloc, &mut source, &mut output, &mut errors);
-    collected(exit, source.failures(), output, errors)
+    collected(exit, source.failures(), 0, output, errors)
 }
 
 /// The image of a set, in the second edition.
@@ -95,7 +94,7 @@ pub fn rewrite(alloc: Global, set: &[u8]) -> Result<Told, OutOfMemory>
     let mut output = Writer::new(Vec::new(alloc));
     let mut errors = Writer::new(Vec::new(alloc));
     let exit = drvhost_parts::rewriting::rewrite(alloc, &mut source, &mut output, &mut errors);
-    collected(exit, source.failures(), output, errors)
+    collected(exit, source.failures(), 0, output, errors)
 }
 
 /// The name and the version of the program.
@@ -105,5 +104,5 @@ pub fn version(alloc: Global) -> Result<Told, OutOfMemory>
     let mut output = Writer::new(Vec::new(alloc));
     let mut errors = Writer::new(Vec::new(alloc));
     let exit = drvhost_parts::version::version(&mut output, &mut errors);
-    collected(exit, 0, output, errors)
+    collected(exit, 0, 0, output, errors)
 }

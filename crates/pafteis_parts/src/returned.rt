@@ -48,19 +48,23 @@ impl Told {
 }
 
 /// What a call answered with this exit status, which wrote to writers in memory, and so many of
-/// whose reads of bytes in memory failed. None where something failed: what fails in memory is a
+/// whose reads of the set and of the schedule in memory failed. None where something failed: what fails in memory is a
 /// growth alone.
 pub(crate) fn collected(
     exit: u8,
     unread: u64,
+    unscheduled: u64,
     output: Writer<Vec<u8>>,
     errors: Writer<Vec<u8>>,
 ) -> Result<Told, OutOfMemory>
-    ensures { IfOk result (Collects exit unread
+    ensures { IfOk result (Collects exit unread unscheduled
         (⟦<Writer<Vec<u8>> as Sink>⟧.failures output) (⟦<Writer<Vec<u8>> as Sink>⟧.contents output)
         (⟦<Writer<Vec<u8>> as Sink>⟧.failures errors) (⟦<Writer<Vec<u8>> as Sink>⟧.contents errors)) }
 {
-    if exit == NO_MEMORY || unread > 0 || output.failures() > 0 || errors.failures() > 0 {
+    if exit == NO_MEMORY || unread > 0 || unscheduled > 0 {
+        return Err(OutOfMemory);
+    }
+    if output.failures() > 0 || errors.failures() > 0 {
         return Err(OutOfMemory);
     }
     Ok(Told {
