@@ -145,7 +145,13 @@ within next previous h n w = by (cases_lt (after next n) (length next))
         absurd (omega (arith, same, w, p))
 
 pub turned : (next previous : List ℕ) → AreInverse next previous → AreInverse previous next
-turned next previous h = record { count = sym h.count; back = h.forth; forth = h.back }
+turned next previous h =
+    record {
+      fits = rw h.count h.fits;
+      count = sym h.count;
+      back = h.forth;
+      forth = h.back;
+    }
 
 pub within_back : (next previous : List ℕ) → AreInverse next previous → (n : ℕ)
     → n < length next → after previous n < length next
@@ -178,6 +184,7 @@ module _ (next previous : List ℕ) (h : AreInverse next previous) (s : ℕ) (w 
         (set (set previous (f s) (g s)) s s)
     inverse_left =
         record {
+          fits = rw (count_kept next (g s) (f s) s s) h.fits;
           count = count_kept previous (f s) (g s) s s ∙ h.count
               ∙ sym (count_kept next (g s) (f s) s s);
           back = λ n. previous_left _
@@ -213,6 +220,7 @@ module _ (next previous : List ℕ) (h : AreInverse next previous) (s : ℕ) (w 
           (set (set previous z s) s (g z))
       inverse_joined =
           record {
+            fits = rw (count_kept next (g z) s s z) h.fits;
             count = count_kept previous z s s (g z) ∙ h.count
                 ∙ sym (count_kept next (g z) s s z);
             back = λ n. previous_joined _

@@ -127,7 +127,7 @@ no_list (suc n) zero = refl
 no_list (suc n) (suc k) = no_list n k
 
 pub new_linked : (nodes : List ℕ) (slots lists : ℕ) → AreAlone (slots + lists) nodes
-    → slots + lists < 2 ^ 64
+    → slots + lists < 2 ^ 32
     → AreLinked nodes (replicate slots None) (replicate lists nothing_in)
 new_linked nodes slots lists alone fits =
     record {
@@ -141,13 +141,13 @@ new_linked nodes slots lists alone fits =
     }
 
 pub new_sound : (nodes : List ℕ) (list_of : List (Option ℕ)) (slots lists : ℕ)
-    → list_of ≡ replicate slots None → AreAlone (slots + lists) nodes → slots + lists < 2 ^ 64
+    → list_of ≡ replicate slots None → AreAlone (slots + lists) nodes → slots + lists < 2 ^ 32
     → AreLinked nodes list_of (lists_shown nodes list_of)
 new_sound nodes list_of slots lists e alone fits =
     rw e (sound _ _ _ (new_linked nodes slots lists alone fits))
 
 pub new_seen : (nodes : List ℕ) (list_of : List (Option ℕ)) (slots lists : ℕ)
-    → list_of ≡ replicate slots None → AreAlone (slots + lists) nodes → slots + lists < 2 ^ 64
+    → list_of ≡ replicate slots None → AreAlone (slots + lists) nodes → slots + lists < 2 ^ 32
     → seen nodes list_of ≡ record { slots = slots; lists = replicate lists nothing_in }
 new_seen nodes list_of slots lists e alone fits =
     rw e (sees _ _ _ (new_linked nodes slots lists alone fits) slots

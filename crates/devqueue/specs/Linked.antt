@@ -39,7 +39,7 @@ IsOnce (n ∷ entries) = (is_linked entries n ≡ false) × IsOnce entries
 pub record AreLinked (nodes : List ℕ) (list_of : List (Option ℕ)) (lists : List (List ℕ))
     : Type 0 where
   pub count : length nodes ≡ length list_of + length lists
-  pub fits : length nodes < 2 ^ 64
+  pub fits : length nodes < 2 ^ 32
   pub free : (slot : ℕ) → slice_index_or list_of slot None ≡ None → slot < length list_of
       → after nodes slot ≡ slot
   pub paths : (list : ℕ) → list < length lists

@@ -1,5 +1,5 @@
 -- Nodes in rings: a list that has for each node the one after it in its ring.
-use Rattle.std.specs.Prelude.{◌≡◌, ℕ, List, length, nat_eq, slice_index_or, if◌then◌else◌}
+use Rattle.std.specs.Prelude.{◌≡◌, ◌<◌, ◌^◌, ℕ, List, length, nat_eq, slice_index_or, if◌then◌else◌}
 
 -- the node after a node
 abbrev pub after : List ℕ → ℕ → ℕ
@@ -30,8 +30,9 @@ pub record AreAlone (many : ℕ) (rings : List ℕ) : Type 0 where
   pub count : length rings ≡ many
   pub nodes : (n : ℕ) → after rings n ≡ n
 
--- one list leads back from where the other leads
+-- one list leads back from where the other leads, and there are less than 2^32 nodes
 pub record AreInverse (next previous : List ℕ) : Type 0 where
+  pub fits : length next < 2 ^ 32
   pub count : length previous ≡ length next
   pub back : (n : ℕ) → after previous (after next n) ≡ n
   pub forth : (n : ℕ) → after next (after previous n) ≡ n

@@ -2,7 +2,7 @@
 
 ghost use Rattle.std.specs.Prelude.{◌≡◌, ◌+◌, ◌<◌, ◌^◌, ℕ, [], IfOk, IfSome, IsTrue, None, Some, false, length, replicate, slice_get, true};
 ghost use Rattle.model.specs.Queues.{head_of, inserted, is_linked, unlinked, without_head};
-ghost use Rattle.devqueue.specs.Linked.{IsOnce};
+ghost use Rattle.devqueue.specs.Linked.{IsOnce, is_list};
 ghost use Rattle.devqueue.specs.Lists.{entries_of, is_free, with_entries};
 
 use crate::rings::Rings;
@@ -15,7 +15,7 @@ use std::marker::Model;
 #[derive(Drop)]
 pub struct Links {
     rings: Rings,
-    list_of: Vec<Option<usize>>,
+    list_of: Vec<Option<u32>>,
 }
 
 impl Model for Links {
@@ -35,16 +35,17 @@ impl Model for Links {
 }
 
 /// For so many slots, that each is in no list.
-fn in_no_list(alloc: Global, slots: usize) -> Result<Vec<Option<usize>>, AllocError>
+fn in_no_list(alloc: Global, slots: usize) -> Result<Vec<Option<u32>>, AllocError>
     ensures { IfOk result (λ list_of. list_of.items ≡ replicate slots None) }
 {
     Ok(vec![in alloc; None; slots]?)
 }
 
 impl Links {
-    /// So many lists, all empty, for so many slots. An error where memory is refused.
+    /// So many lists, all empty, for so many slots, less than 2^32 together. An error where memory
+    /// is refused.
     pub fn new(alloc: Global, slots: usize, lists: usize) -> Result<Links, AllocError>
-        requires { slots + lists < 2 ^ 64 }
+        requires { slots + lists < 2 ^ 32 }
         ensures { IfOk result (λ links. links
             ≡ record { slots = slots; lists = replicate lists [] }) }
     {
@@ -52,6 +53,17 @@ impl Links {
             rings: Rings::new(alloc, slots + lists)?,
             list_of: in_no_list(alloc, slots)?,
         })
+    }
+
+    /// The list that a slot is in.
+    fn list_of(&self, slot: usize) -> Option<usize>
+        ensures { (list : ℕ)
+            → is_linked (entries_of self.now list) slot ≡ is_list list result }
+    {
+        match self.list_of.get(slot) {
+            Some(Some(list)) => Some(*list as usize),
+            _ => None,
+        }
     }
 
     /// Whether a slot is in no list.
@@ -108,7 +120,7 @@ impl Links {
             self.new ≡ with_entries self.old list (inserted entries slot) }
     {
         self.rings.join(slot, self.list_of.len() + list);
-        self.list_of[slot] = Some(list);
+        self.list_of[slot] = Some(list as u32);
     }
 
     /// A slot leaves the list that it is in, which no code needs to know.
@@ -146,7 +158,7 @@ impl Links {
             ≡ with_entries self.old list (unlinked (entries_of self.old list) slot) }
         ensures free { IsTrue result → IsTrue (is_free self.new slot) }
     {
-        if self.list_of.get(slot).copied() != Some(Some(list)) {
+        if self.list_of(slot) != Some(list) {
             return false;
         }
         self.leave(list, slot);

@@ -1,17 +1,18 @@
 //! Nodes in rings.
 
-ghost use Rattle.std.specs.Prelude.{◌≡◌, ◌<◌, IfOk, length};
+ghost use Rattle.std.specs.Prelude.{◌≡◌, ◌<◌, ◌^◌, IfOk, length};
 ghost use Rattle.devqueue.specs.Rings.{after, AreAlone, HasJoined, HasLeft};
 
 use std::alloc::{AllocError, Global};
 use std::marker::Model;
 
 /// Nodes, numbered from 0, each of which stands in one ring: it has a next and a previous one, or
-/// is alone and has itself for both. No call but `new` needs memory, and none searches.
+/// is alone and has itself for both. No call but `new` needs memory, and none searches. There are
+/// less than 2^32, and their numbers are kept in 32 bits, so that more of them lie in a cache.
 #[derive(Drop)]
 pub struct Rings {
-    next: Vec<usize>,
-    previous: Vec<usize>,
+    next: Vec<u32>,
+    previous: Vec<u32>,
 }
 
 impl Model for Rings {
@@ -25,13 +26,22 @@ impl Model for Rings {
     ghost invariant = { λ r. AreInverse r.next.items r.previous.items };
 }
 
+/// A number in 32 bits.
+fn narrow(node: usize) -> u32
+    requires { node < 2 ^ 32 }
+    ensures { result ≡ node }
+{
+    node as u32
+}
+
 /// The numbers below a count, each at its place.
-fn alone(alloc: Global, count: usize) -> Result<Vec<usize>, AllocError>
+fn alone(alloc: Global, count: usize) -> Result<Vec<u32>, AllocError>
+    requires { count < 2 ^ 32 }
     ensures { IfOk result (λ nodes. AreAlone count nodes.items) }
 {
     let mut nodes = Vec::with_capacity(alloc, count)?;
     for node in 0..count {
-        nodes.push(node)?;
+        nodes.push(narrow(node))?;
     }
     Ok(nodes)
 }
@@ -39,6 +49,7 @@ fn alone(alloc: Global, count: usize) -> Result<Vec<usize>, AllocError>
 impl Rings {
     /// So many nodes, each alone. An error where memory for them is refused.
     pub fn new(alloc: Global, count: usize) -> Result<Rings, AllocError>
+        requires { count < 2 ^ 32 }
         ensures { IfOk result (λ rings. AreAlone count rings) }
     {
         Ok(Rings {
@@ -52,7 +63,7 @@ impl Rings {
         requires { node < length self.now }
         ensures { result ≡ after self.now node }
     {
-        self.next[node]
+        self.next[node] as usize
     }
 
     /// A node leaves its ring, and is alone.
@@ -62,10 +73,11 @@ impl Rings {
     {
         let next = self.next[node];
         let previous = self.previous[node];
-        self.next[previous] = next;
-        self.previous[next] = previous;
-        self.next[node] = node;
-        self.previous[node] = node;
+        let alone = narrow(node);
+        self.next[previous as usize] = next;
+        self.previous[next as usize] = previous;
+        self.next[node] = alone;
+        self.previous[node] = alone;
     }
 
     /// A node that is alone goes into the ring of another one, before it.
@@ -76,9 +88,10 @@ impl Rings {
         ensures { HasJoined self.old node place self.new }
     {
         let previous = self.previous[place];
-        self.next[previous] = node;
-        self.previous[place] = node;
-        self.next[node] = place;
+        let joined = narrow(node);
+        self.next[previous as usize] = joined;
+        self.previous[place] = joined;
+        self.next[node] = narrow(place);
         self.previous[node] = previous;
     }
 }

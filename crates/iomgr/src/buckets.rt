@@ -17,7 +17,7 @@ use std::alloc::{AllocError, Global};
 
 /// So many empty buckets for as many slots. An error where memory for them is refused.
 pub fn empty_buckets(alloc: Global, count: usize) -> Result<Links, AllocError>
-    requires { count < 2 ^ 32 }
+    requires { count < 2 ^ 31 }
     ensures { IfOk result (AreEmpty count) }
 {
     Links::new(alloc, count, count)

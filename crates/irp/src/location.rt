@@ -9,12 +9,13 @@ use model::status::Major;
 use model::world::Completion;
 use std::marker::Model;
 
-/// An I/O stack location (IO_STACK_LOCATION): what the driver of its device is asked to do.
+/// An I/O stack location (IO_STACK_LOCATION): what the driver of its device is asked to do. Its
+/// fields stand in the order in which they take 16 bytes.
 #[derive(Default, Drop)]
 pub struct Location {
+    argument: u64,
     /// None while nothing was asked here.
     major: Option<Major>,
-    argument: u64,
     device: u8,
     control: Control,
     /// What runs when completion leaves this location; the driver above set it.

@@ -14,18 +14,21 @@ use std::marker::Model;
 use std::mem;
 
 /// A live packet (IRP): one that was issued and has not topped out.
+///
+/// Fields lie as they are declared: what each event reads stands together, before the locations, so
+/// that it shares a cache line with the first two of them.
 #[derive(Drop)]
 pub struct Packet {
     number: u64,
-    depth: u8,
-    /// All its locations, that of the top driver first.
-    stack: ArrayVec<Location, MAX_STACK>,
-    status: Status,
     info: u64,
+    depth: u8,
+    status: Status,
     completing: bool,
     pending_returned: bool,
     cancel: bool,
     armer: Option<Armer>,
+    /// All its locations, that of the top driver first.
+    stack: ArrayVec<Location, MAX_STACK>,
 }
 
 impl Model for Packet {

@@ -23,7 +23,7 @@ invariant_of-self c =
     (rw c.self.invariant.count v) c.index-previous.ensures in
     let alone : after next c.args.node ≡ c.args.node = rw c.self.view_is c.requires.alone in
     let apart : c.args.node ≢ c.args.place = λ e. omega (arith, c.requires.place.1) in
-    rw p
+    rw (p, c.narrow-joined.ensures, c.narrow.ensures)
     (inverse_joined next previous c.self.invariant c.args.node w c.args.place v alone apart)
 
 pub returns : goal.returns
@@ -36,5 +36,5 @@ returns c =
     (rw c.self.invariant.count v) c.index-previous.ensures in
     let alone : after next c.args.node ≡ c.args.node = rw c.self.view_is c.requires.alone in
     let apart : c.args.node ≢ c.args.place = λ e. omega (arith, c.requires.place.1) in
-    rw (← c.self.view_is, p)
+    rw (← c.self.view_is, p, c.narrow-joined.ensures, c.narrow.ensures)
     (has_joined next previous c.self.invariant c.args.node w c.args.place v alone apart)

@@ -30,7 +30,8 @@ invariant_of-self c =
     let p = read_after previous c.args.node c.index-previous.result.now
     (rw c.self.invariant.count w) c.index-previous.ensures in
     let q = read_after next c.args.node c.index-next.result.now w c.index-next.ensures in
-    rw (p, q) (inverse_left next previous c.self.invariant c.args.node w)
+    rw (p, q, c.narrow-alone.ensures)
+    (inverse_left next previous c.self.invariant c.args.node w)
 
 pub returns : goal.returns
 returns c =
@@ -40,4 +41,5 @@ returns c =
     let p = read_after previous c.args.node c.index-previous.result.now
     (rw c.self.invariant.count w) c.index-previous.ensures in
     let q = read_after next c.args.node c.index-next.result.now w c.index-next.ensures in
-    rw (← c.self.view_is, p, q) (has_left next previous c.self.invariant c.args.node w)
+    rw (← c.self.view_is, p, q, c.narrow-alone.ensures)
+    (has_left next previous c.self.invariant c.args.node w)
