@@ -1,3 +1,10 @@
+pub mod Acting
 pub mod Agreement
+pub mod Disagreeing
 pub mod Holding
+pub mod Knowing
+pub mod Noted
+pub mod Noting
 pub mod Refusals
+pub mod Rows
+pub mod Settling
