@@ -1,6 +1,6 @@
 -- The notes that disagree are those of the uses that do.
-use Rattle.std.proofs.Common.{◌≡◌, ◌∙◌, ℕ, zero, suc, ◌+◌, List, [], ◌∷◌, ◌++◌, Bool, true, false, Option, None, Some, refl, sym, ap, drop, append_assoc}
-use Rattle.std.specs.Prelude.{◌&&◌, ◌||◌, not, slice_get, if◌then◌else◌}
+use Rattle.std.proofs.Common.{◌≡◌, ◌∙◌, ℕ, zero, suc, ◌+◌, List, [], ◌∷◌, ◌++◌, Bool, true, false, Option, None, Some, refl, sym, ap, drop, append_assoc, arith}
+use Rattle.std.specs.Prelude.{◌&&◌, ◌||◌, not, option_to_list, slice_get, if◌then◌else◌}
 use Rattle.std.specs.List.{list_any}
 use Rattle.std.proofs.Math.Seq.{drop-nil}
 use Rattle.model.specs.declared.status.Status.{Status}
@@ -20,26 +20,36 @@ use Rattle.audit.proofs.Noting.{Numbered}
 
 -- note by note
 one_more : (b : Bool) (u : Serving) (rest : List Serving)
-    → (if b then u ∷ rest else rest) ≡ (if b then u ∷ [] else []) ++ rest
+    → (if b then u ∷ rest else rest) ≡ option_to_list (if b then Some u else None) ++ rest
 one_more true u rest = refl
 one_more false u rest = refl
 
 step : (notes : List Note) (p v : ℕ)
     → disagreeing_from v (drop p notes)
-    ≡ disagreeing_at v (slice_get notes p) ++ disagreeing_from (v + 1) (drop (suc p) notes)
+    ≡ option_to_list (disagreeing_at v (slice_get notes p)) ++ disagreeing_from (v + 1) (drop (suc p) notes)
 step [] p v = rw (drop-nil {A = Note} p) refl
 step (note ∷ notes) zero v =
     one_more (note_disagrees note) (use_numbered note v) (disagreeing_from (v + 1) notes)
 step (note ∷ notes) (suc p) v = step notes p v
 
-pub disagreeing_on : (notes : List Note) (found : List Serving) (p : ℕ)
+disagreeing_on : (notes : List Note) (found : List Serving) (p : ℕ)
     → found ++ disagreeing_from p (drop p notes)
-    ≡ (found ++ disagreeing_at p (slice_get notes p))
+    ≡ (found ++ option_to_list (disagreeing_at p (slice_get notes p)))
     ++ disagreeing_from (p + 1) (drop (suc p) notes)
 disagreeing_on notes found p =
     ap (λ (rest : List Serving). found ++ rest) (step notes p p)
-    ∙ sym (append_assoc found (disagreeing_at p (slice_get notes p))
+    ∙ sym (append_assoc found (option_to_list (disagreeing_at p (slice_get notes p)))
     (disagreeing_from (p + 1) (drop (suc p) notes)))
+
+pub disagreeing_next : (notes : List Note) (found : List Serving) (p : ℕ)
+    → found ++ disagreeing_from p (drop p notes)
+    ≡ (found ++ option_to_list (disagreeing_at p (slice_get notes p)))
+    ++ disagreeing_from (p + 1) (drop (p + 1) notes)
+disagreeing_next notes found p =
+    let next : suc p ≡ p + 1 = omega arith in
+    disagreeing_on notes found p
+    ∙ ap (λ (k : ℕ). (found ++ option_to_list (disagreeing_at p (slice_get notes p)))
+    ++ disagreeing_from (p + 1) (drop k notes)) next
 
 -- what a note says of its use
 pending_first : (low some other high : Bool)

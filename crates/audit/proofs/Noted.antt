@@ -431,6 +431,27 @@ noted_tells set w e u reply l m notes threads events u_is reply_is w_is tells =
     (subst (λ (x : UseStep). NotesOn set w (thread_of e) x (step set r e).reply l m) u_is
     (subst (λ (x : Reply). NotesOn set w (thread_of e) u x l m) reply_is notes))))
 
+-- by what the ledger does
+module _ (set : Set) (w : World) (e : Event) (u : UseStep) (reply : Reply) (l m : LedgerState) where
+  pub noted_none : thread_of e ≡ None → TellsOn set w e u reply l l
+  noted_none is =
+      noted_tells set w e u reply l l
+      (subst (λ (o : Option ℕ). NotesOn set w o u reply l l) (sym is) refl)
+
+  pub noted_unchanged : (t : ℕ) → thread_of e ≡ Some t → says_unchanged reply ≡ true
+      → TellsOn set w e u reply l l
+  noted_unchanged t is says =
+      noted_tells set w e u reply l l
+      (subst (λ (o : Option ℕ). NotesOn set w o u reply l l) (sym is)
+      (subst (λ (b : Bool). NotesIf set w t u b l l) (sym says) refl))
+
+  pub noted_on : (t : ℕ) → thread_of e ≡ Some t → says_unchanged reply ≡ false
+      → Notes set w t u l m → TellsOn set w e u reply l m
+  noted_on t is says notes =
+      noted_tells set w e u reply l m
+      (subst (λ (o : Option ℕ). NotesOn set w o u reply l m) (sym is)
+      (subst (λ (b : Bool). NotesIf set w t u b l m) (sym says) notes))
+
 -- before the first event
 empty_rows : (threads : ℕ) → replicate threads [] ≡ rows_of (replicate threads [])
 empty_rows zero = refl

@@ -5,7 +5,7 @@ use Rattle.std.proofs.lemmas.List.{append-nil, drop_all}
 use Rattle.model.specs.declared.world.Frame.{Frame}
 use Rattle.model.specs.Set.{Set}
 use Rattle.audit.specs.declared.ledger.Server.{Server}
-use Rattle.audit.specs.Ledger.{new_server, settled, settled_as, settled_at, stays}
+use Rattle.audit.specs.Ledger.{new_server, settled, settled_as, settled_at, settled_place, stays}
 use Rattle.audit.specs.Uses.{UsesState}
 
 module _ (set : Set) (l : UsesState) where
@@ -25,7 +25,7 @@ module _ (set : Set) (l : UsesState) where
   one_long true server new servers = omega arith
   one_long false server new servers = omega arith
 
-  pub reaches_on : (servers : List Server) (k : ℕ) (f : Frame) → k ≤ length servers
+  reaches_on : (servers : List Server) (k : ℕ) (f : Frame) → k ≤ length servers
       → suc k ≤ length (settled_at set l servers k f (slice_get servers k))
   reaches_on [] zero f h = omega arith
   reaches_on [] (suc k) f h = absurd (omega (arith, h))
@@ -43,7 +43,7 @@ module _ (set : Set) (l : UsesState) where
   first_place true server new servers frames = refl
   first_place false server new servers frames = refl
 
-  pub settled_on : (servers : List Server) (frames : List Frame) (k : ℕ) (f : Frame)
+  settled_on : (servers : List Server) (frames : List Frame) (k : ℕ) (f : Frame)
       → slice_get frames k ≡ Some f → k ≤ length servers
       → take k servers ++ settled set l (drop k servers) (drop k frames)
       ≡ take (suc k) (settled_at set l servers k f (slice_get servers k))
@@ -60,6 +60,36 @@ module _ (set : Set) (l : UsesState) where
       rw (at_later server servers k f (slice_get servers k))
       (ap (λ (xs : List Server). server ∷ xs)
       (settled_on servers frames k f there (omega (arith, h))))
+
+  -- a frame stands at each place
+  frame_there : (frames : List Frame) (k : ℕ) → k < length frames → (f : Frame)
+      × (slice_get frames k ≡ Some f)
+  frame_there [] k h = absurd (omega (arith, h))
+  frame_there (f ∷ frames) zero h = (f, refl)
+  frame_there (f ∷ frames) (suc k) h = frame_there frames k (omega (arith, h))
+
+  pub reaches_next : (servers : List Server) (frames : List Frame) (k : ℕ) → k < length frames
+      → k ≤ length servers
+      → k + 1 ≤ length (settled_place set l servers k (slice_get frames k))
+  reaches_next servers frames k within h =
+      let there = frame_there frames k within in
+      let more : suc k ≤ length (settled_at set l servers k there.0 (slice_get servers k)) =
+      reaches_on servers k there.0 h in
+      rw there.1 (omega (arith, more))
+
+  pub settled_next : (servers : List Server) (frames : List Frame) (k : ℕ) → k < length frames
+      → k ≤ length servers
+      → take k servers ++ settled set l (drop k servers) (drop k frames)
+      ≡ take (k + 1) (settled_place set l servers k (slice_get frames k))
+      ++ settled set l (drop (k + 1) (settled_place set l servers k (slice_get frames k)))
+      (drop (k + 1) frames)
+  settled_next servers frames k within h =
+      let there = frame_there frames k within in
+      let next : suc k ≡ k + 1 = omega arith in
+      let after : List Server = settled_at set l servers k there.0 (slice_get servers k) in
+      rw there.1
+      (settled_on servers frames k there.0 there.1 h
+      ∙ ap (λ (j : ℕ). take j after ++ settled set l (drop j after) (drop j frames)) next)
 
   pub settled_all : (servers others : List Server) (frames : List Frame)
       → settled set l servers frames

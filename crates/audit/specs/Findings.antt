@@ -1,13 +1,16 @@
--- All that an audit finds amiss: packets that are lost, locks that are left behind, and threads that
--- wait in a ring.
+-- All that an audit finds amiss: packets that are lost, locks that are left behind, threads that wait
+-- in a ring, and uses of stack locations that were returned from otherwise than they were marked.
 use Rattle.std.specs.Prelude.{ℕ, ◌≡◌, ◌++◌, ◌&&◌, not, zero, suc, Bool, List, [], ◌∷◌, length, nat_eq, if◌then◌else◌}
 use Rattle.model.specs.declared.limits.TheConstants.{MAX_THREADS}
 use Rattle.model.specs.Set.{Set}
+use Rattle.model.specs.Trace.{Entry, Serving}
 use Rattle.model.specs.World.{World}
 use Rattle.audit.specs.declared.findings.Findings.{Findings}
 use Rattle.audit.specs.declared.left.LeftLock.{LeftLock}
+use Rattle.audit.specs.Ledger.{Disagreeing, LedgerState, NoneIfAccepted}
 use Rattle.audit.specs.Left.{left_locks}
 use Rattle.audit.specs.Naming.{lost_packets}
+use Rattle.audit.specs.Pending.{disagreeing, uses_of}
 use Rattle.audit.specs.Ring.{is_in_ring}
 
 -- a thread, if it waits in a ring; those of so many; and all of them: no run has more threads
@@ -22,17 +25,22 @@ abbrev pub ringed_threads : Set → World → List ℕ
 ringed_threads set w = rings_below set w MAX_THREADS
 
 -- one of these lists isn't empty
-abbrev pub any_of : List ℕ → List LeftLock → List ℕ → Bool
-any_of lost left ringed =
-    not (nat_eq (length lost) 0 && nat_eq (length left) 0 && nat_eq (length ringed) 0)
+abbrev pub any_of : List ℕ → List LeftLock → List ℕ → List Serving → Bool
+any_of lost left ringed disagreeing =
+    not (nat_eq (length lost) 0 && nat_eq (length left) 0 && nat_eq (length ringed) 0
+    && nat_eq (length disagreeing) 0)
 
--- something is amiss
-abbrev pub has_findings : Set → World → Bool
-has_findings set w =
+-- something is amiss, in a world and the trace that led to it
+abbrev pub has_findings : Set → World → List Entry → Bool
+has_findings set w past =
     any_of (lost_packets w) (left_locks w (length set.devices)) (ringed_threads set w)
+    (disagreeing past (uses_of past))
 
--- these are all that there is to find
-pub record AreFindings (set : Set) (w : World) (found : Findings) : Type 0 where
+-- these are all that there is to find, in a world and in the runs that a ledger tells; and no use
+-- disagrees, if one of those is of an accepted set
+pub record AreFindings (set : Set) (w : World) (l : LedgerState) (found : Findings) : Type 0 where
   pub lost : found.lost.items ≡ lost_packets w
   pub left : found.left.items ≡ left_locks w (length set.devices)
   pub ringed : found.ringed.items ≡ ringed_threads set w
+  pub disagreeing : Disagreeing l found.disagreeing.items
+  pub accepted : NoneIfAccepted l found.disagreeing.items

@@ -106,6 +106,10 @@ settled_at set l servers k f None = servers ++ new_server set l f ∷ []
 settled_at set l servers k f (Some server) =
     if stays server f then servers else slice_set servers k (new_server set l f)
 
+abbrev pub settled_place : Set → UsesState → List Server → ℕ → Option Frame → List Server
+settled_place set l servers k None = servers
+settled_place set l servers k (Some f) = settled_at set l servers k f (slice_get servers k)
+
 -- a thread's frames stand as in a world
 abbrev pub row_settled : Set → World → UsesState → ℕ → List (List Server)
     → Option (List Server) → List (List Server)

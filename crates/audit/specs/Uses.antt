@@ -119,7 +119,7 @@ disagreeing_from v (note ∷ notes) =
     else disagreeing_from (v + 1) notes
 
 -- one of them, if there is one of this number
-abbrev pub disagreeing_at : ℕ → Option Note → List Serving
-disagreeing_at v None = []
+abbrev pub disagreeing_at : ℕ → Option Note → Option Serving
+disagreeing_at v None = None
 disagreeing_at v (Some note) =
-    if note_disagrees note then use_numbered note v ∷ [] else []
+    if note_disagrees note then Some (use_numbered note v) else None

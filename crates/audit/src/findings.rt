@@ -3,14 +3,16 @@
 ghost use Rattle.std.specs.Prelude.{◌≡◌, ◌++◌, IfOk, OnOk};
 ghost use Rattle.audit.specs.Findings.{AreFindings, any_of, ring_at, ringed_threads};
 
+use crate::ledger::Ledger;
 use crate::left::{LeftLock, left_locks};
 use crate::naming::lost_packets;
 use crate::ring::is_in_ring;
+use crate::uses::LocationUse;
 use checked::Checked;
 use model::limits::MAX_THREADS;
 use std::alloc::{AllocError, Global};
 
-/// What is amiss in a machine's world.
+/// What is amiss in a machine's world, and in the run that led to it.
 #[derive(Drop)]
 pub struct Findings {
     /// The live packets that no place names.
@@ -19,29 +21,36 @@ pub struct Findings {
     pub left: Vec<LeftLock>,
     /// The threads that wait in a ring.
     pub ringed: Vec<u8>,
+    /// The uses of stack locations that were returned from otherwise than they were marked.
+    pub disagreeing: Vec<LocationUse>,
 }
 
 impl Findings {
-    /// All that there is to find.
+    /// All that there is to find, in a machine and in the ledger of its run.
     ///
     /// # Errors
     ///
     /// When memory runs out.
-    pub fn of(alloc: Global, machine: &Checked) -> Result<Findings, AllocError>
-        ensures { IfOk result (AreFindings machine.now.set machine.now.world) }
+    pub fn of(alloc: Global, machine: &Checked, ledger: &Ledger) -> Result<Findings, AllocError>
+        ensures { IfOk result (AreFindings machine.now.set machine.now.world ledger.now) }
     {
         Ok(Findings {
             lost: lost_packets(alloc, machine)?,
             left: left_locks(alloc, machine)?,
             ringed: ringed_threads(alloc, machine)?,
+            disagreeing: ledger.disagreeing(alloc)?,
         })
     }
 
     /// Whether anything is amiss.
     pub fn any(&self) -> bool
-        ensures { result ≡ any_of self.now.lost.items self.now.left.items self.now.ringed.items }
+        ensures { result ≡ any_of self.now.lost.items self.now.left.items self.now.ringed.items
+            self.now.disagreeing.items }
     {
-        !(self.lost.is_empty() && self.left.is_empty() && self.ringed.is_empty())
+        !(self.lost.is_empty()
+            && self.left.is_empty()
+            && self.ringed.is_empty()
+            && self.disagreeing.is_empty())
     }
 }
 

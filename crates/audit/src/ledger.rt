@@ -1,8 +1,8 @@
 //! What is carried along a run for its audit.
 
-ghost use Rattle.std.specs.Prelude.{◌≡◌, ◌++◌, [], IfOk, OnOk, length, replicate, slice_get};
+ghost use Rattle.std.specs.Prelude.{◌≡◌, ◌++◌, [], IfOk, OnOk, length, option_to_list, replicate, slice_get};
 ghost use Rattle.model.specs.Run.{frames_on, thread_of};
-ghost use Rattle.audit.specs.Ledger.{new_server, of_server, served_as, settled, settled_at, stays};
+ghost use Rattle.audit.specs.Ledger.{new_server, of_server, served_as, settled, settled_at, settled_place, stays};
 ghost use Rattle.audit.specs.Uses.{disagreeing_at, disagreeing_from};
 ghost use Rattle.run_laws.specs.Waits.{says_unchanged};
 
@@ -120,12 +120,29 @@ impl Row {
         Ok(())
     }
 
+    /// The frame of a place among these stands there.
+    fn settle_place(
+        &mut self,
+        set: &DriverSet,
+        uses: &Uses,
+        frames: &[Frame],
+        place: usize,
+    ) -> Result<(), AllocError>
+        ensures { OnOk result (self.new
+            ≡ settled_place set.now uses.now self.old place (slice_get frames.now place)) }
+    {
+        match frames.get(place) {
+            Some(frame) => self.settle_at(set, uses, place, frame),
+            None => Ok(()),
+        }
+    }
+
     /// These frames stand.
     fn settle(&mut self, set: &DriverSet, uses: &Uses, frames: &[Frame]) -> Result<(), AllocError>
         ensures { OnOk result (self.new ≡ settled set.now uses.now self.old frames.now) }
     {
         for place in 0..frames.len() {
-            self.settle_at(set, uses, place, &frames[place])?;
+            self.settle_place(set, uses, frames, place)?;
         }
         self.servers.truncate(frames.len());
         Ok(())
@@ -192,20 +209,29 @@ fn idle_rows(alloc: Global, threads: u8) -> Result<Vec<Row>, AllocError>
     Ok(rows)
 }
 
+/// The use of a number, if it disagrees.
+fn disagreeing_at(notes: &[Note], number: u64) -> Option<LocationUse>
+    ensures { result ≡ disagreeing_at number (slice_get notes.now number) }
+{
+    let note = notes.get(number as usize)?;
+    if note.disagrees() {
+        Some(LocationUse::of(note.packet, number))
+    } else {
+        None
+    }
+}
+
 /// Adds the use of a number, if it disagrees.
 fn add_disagreeing(
     found: &mut Vec<LocationUse>,
     notes: &[Note],
     number: u64,
 ) -> Result<(), AllocError>
-    ensures { OnOk result (found.new.items
-        ≡ found.old.items ++ disagreeing_at number (slice_get notes.now number)) }
+    ensures { OnOk result (found.new.items ≡ found.old.items
+        ++ option_to_list (disagreeing_at number (slice_get notes.now number))) }
 {
-    let Some(note) = notes.get(number as usize) else {
-        return Ok(());
-    };
-    if note.disagrees() {
-        found.push(LocationUse::of(note.packet, number))?;
+    if let Some(location_use) = disagreeing_at(notes, number) {
+        found.push(location_use)?;
     }
     Ok(())
 }
@@ -333,7 +359,8 @@ impl Ledger {
         if says_unchanged(reply) {
             return Ok(());
         }
-        self.note_on(alloc, step, thread, machine)
+        self.note_on(alloc, step, thread, machine)?;
+        Ok(())
     }
 
     /// What is known of a use.
@@ -352,6 +379,7 @@ impl Ledger {
         ensures accepted { IfOk result (λ found. NoneIfAccepted self.now found.items) }
     {
         pending_returns_agree();
-        disagreeing_of(alloc, self.known.notes())
+        let found = disagreeing_of(alloc, self.known.notes())?;
+        Ok(found)
     }
 }

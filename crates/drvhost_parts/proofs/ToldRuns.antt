@@ -5,7 +5,9 @@ use Rattle.std.specs.List.{list_any}
 use Rattle.std.specs.Prelude.{codes}
 use Rattle.std.specs.Io.KnownBytes.{Appends}
 use Rattle.audit.specs.declared.findings.Findings.{Findings}
+use Rattle.audit.specs.Acts.{use_step}
 use Rattle.audit.specs.Findings.{AreFindings, any_of, has_findings}
+use Rattle.audit.specs.Ledger.{LedgerState, Tells as TellsRun, TellsOn}
 use Rattle.audit.specs.Left.{left_locks}
 use Rattle.audit.specs.Naming.{lost_packets}
 use Rattle.interleave.specs.declared.schedule.Schedule.{Schedule}
@@ -33,17 +35,18 @@ use Rattle.drvhost_parts.specs.Device.{Supply, TakesBeginning}
 use Rattle.drvhost_parts.specs.declared.verification.Verification.{Verification}
 use Rattle.drvhost_parts.specs.Ends.{HoldsRun}
 use Rattle.drvhost_parts.specs.Fault.{Goes, ReadsSchedule, ReadsSet}
-use Rattle.drvhost_parts.specs.Told.{HasTold, IsRunShown, IsRunTold, IsScheduleShown, IsShownRunOf, IsTold, Tells, is_left_out, replies_by, reply_head, run_to_end, told_end, told_line, world_by}
+use Rattle.drvhost_parts.specs.Told.{HasTold, IsRunShown, IsRunTold, IsScheduleShown, IsShownRunOf, IsTold, Tells, is_left_out, past_by, replies_by, reply_head, run_to_end, told_end, told_line, world_by}
 use Rattle.drvhost_parts.proofs.Following.{run_more}
 use Rattle.drvhost_parts.proofs.Writing.{keeps_same}
 
 -- a machine shows a run of which these events are still to come: what is told of their replies
 -- behind a text tells the whole run
 pub record Telling (detail : Detail) (set : Set) (threads : ℕ) (events : List Event) (m : Machine)
-    (number : ℕ) (rest : List Event) (text : List ℕ) : Type 0 where
+    (ledger : LedgerState) (number : ℕ) (rest : List Event) (text : List ℕ) : Type 0 where
   pub past : List Event
   pub same : m.set ≡ set
   pub shows : ShowsWhole m threads past
+  pub tells : TellsRun (run set threads past) ledger
   pub told : (later : List ℕ)
       → IsTold detail number (replies set (run set threads past) rest) later
       → IsTold detail 0 (replies_by set threads events) (text ++ later)
@@ -52,13 +55,16 @@ pub record Telling (detail : Detail) (set : Set) (threads : ℕ) (events : List 
   pub ends : run_to_end set (begun set threads) events
       ≡ run_to_end set (run set threads past) rest
 
-pub telling_first : (detail : Detail) (m : Machine) (threads : ℕ) (events : List Event)
-    → ShowsWhole m threads [] → Telling detail m.set threads events m 0 events []
-telling_first detail m threads events shows =
+pub telling_first : (detail : Detail) (m : Machine) (l : LedgerState) (threads : ℕ)
+    (events : List Event)
+    → ShowsWhole m threads [] → TellsRun (begun m.set threads) l
+    → Telling detail m.set threads events m l 0 events []
+telling_first detail m l threads events shows tells =
     record {
       past = [];
       same = refl;
       shows = shows;
+      tells = tells;
       told = λ later h. h;
       last = refl;
       ends = refl;
@@ -88,14 +94,30 @@ module _ (set : Set) (threads : ℕ) (past : List Event) (e : Event) (rest : Lis
       (sym (run_more set (begun set threads) past e))
 
 module _ (detail : Detail) (set : Set) (threads : ℕ) (events : List Event) (m n : Machine)
-    (number : ℕ) (e : Event) (rest : List Event) (text more words : List ℕ) (reply : Reply)
-    (t : Telling detail set threads events m number (e ∷ rest) text)
+    (l k : LedgerState) (number : ℕ) (e : Event) (rest : List Event) (text more words : List ℕ)
+    (reply : Reply)
+    (t : Telling detail set threads events m l number (e ∷ rest) text)
     (ran : AppliesWhole m e n reply)
+    (noted : TellsOn n.set n.world e (use_step m.set m.world e) reply l k)
     (is : more ≡ text ++ told_line detail number reply words) where
   replied : reply ≡ reply_to set threads t.past e
   replied =
       subst (λ (s : Set). reply ≡ reply_to s threads t.past e) t.same
       (ran.replies threads t.past t.shows)
+
+  -- the ledger tells the run with the event added
+  noted_on : TellsRun (run set threads (t.past ++ e ∷ [])) k
+  noted_on =
+      let same : n.set ≡ set = ran.set ∙ t.same in
+      let shows : ShowsWhole n threads (t.past ++ e ∷ []) = ran.shows threads t.past t.shows in
+      let before : use_step m.set m.world e ≡ use_step set (run set threads t.past).world e =
+      ap (λ (w : World). use_step m.set w e) t.shows.world
+      ∙ ap (λ (s : Set). use_step s (run s threads t.past).world e) t.same in
+      let after : n.world ≡ (run set threads (t.past ++ e ∷ [])).world =
+      shows.world ∙ ap (λ (s : Set). (run s threads (t.past ++ e ∷ [])).world) same in
+      let on : TellsOn set n.world e (use_step m.set m.world e) reply l k =
+      subst (λ (s : Set). TellsOn s n.world e (use_step m.set m.world e) reply l k) same noted in
+      on threads t.past before replied after t.tells
 
   told_behind : (tail : List Reply)
       → replies set (run set threads t.past) (e ∷ rest) ≡ reply ∷ tail → (later : List ℕ)
@@ -111,7 +133,7 @@ module _ (detail : Detail) (set : Set) (threads : ℕ) (events : List Event) (m 
 
   -- the run goes on
   pub telling_on : is_last reply ≡ false
-      → Telling detail set threads events n (number + 1) rest more
+      → Telling detail set threads events n k (number + 1) rest more
   telling_on goes =
       let past = t.past ++ e ∷ [] in
       let tail = replies set (run set threads past) rest in
@@ -122,6 +144,7 @@ module _ (detail : Detail) (set : Set) (threads : ℕ) (events : List Event) (m 
         past = past;
         same = ran.set ∙ t.same;
         shows = ran.shows threads t.past t.shows;
+        tells = noted_on;
         told = told_behind tail are;
         last = t.last ∙ ap (λ x. list_any is_last x) are
             ∙ ap (λ (b : Bool). b || list_any is_last tail) goes;
@@ -132,7 +155,7 @@ module _ (detail : Detail) (set : Set) (threads : ℕ) (events : List Event) (m 
 
   -- or ends with it
   pub told_last : is_last reply ≡ true
-      → HasTold detail set threads events n.set n.world true more
+      → HasTold detail set threads events n.set n.world k true more
   told_last ends =
       let past = t.past ++ e ∷ [] in
       let tail = replies set (run set threads past) rest in
@@ -152,6 +175,9 @@ module _ (detail : Detail) (set : Set) (threads : ℕ) (events : List Event) (m 
         last = t.last ∙ ap (λ x. list_any is_last x) are ∙ ap (λ (b : Bool). b || false) ends;
         left = shows.world ∙ ap (λ (s : Set). (run s threads past).world) same
             ∙ ap (λ (r : Run). r.world) (sym end);
+        reached = past;
+        ends = sym end;
+        tells = noted_on;
       }
 
 -- a line is told of an event
@@ -177,9 +203,10 @@ nothing_told detail number reply text left = (
 
 -- no event is left
 pub told_all : (detail : Detail) (set : Set) (threads : ℕ) (events : List Event) (m : Machine)
-    (number : ℕ) (text : List ℕ) → Telling detail set threads events m number [] text
-    → HasTold detail set threads events m.set m.world false text
-told_all detail set threads events m number text t =
+    (l : LedgerState) (number : ℕ) (text : List ℕ)
+    → Telling detail set threads events m l number [] text
+    → HasTold detail set threads events m.set m.world l false text
+told_all detail set threads events m l number text t =
     let Q : List ℕ → Type 0 = λ x. IsTold detail 0 (replies_by set threads events) x in
     record {
       same = t.same;
@@ -187,27 +214,37 @@ told_all detail set threads events m number text t =
       last = t.last;
       left = t.shows.world ∙ ap (λ (s : Set). (run s threads t.past).world) t.same
           ∙ ap (λ (r : Run). r.world) (sym t.ends);
+      reached = t.past;
+      ends = sym t.ends;
+      tells = t.tells;
     }
 
 -- what was found is all that there is
-all_found : (set : Set) (w : World) (found : Findings) → AreFindings set w found
-    → any_of found.lost.items found.left.items found.ringed.items ≡ has_findings set w
-all_found set w found are = rw (are.lost, are.left, are.ringed) refl
+all_found : (set : Set) (w : World) (l : LedgerState) (found : Findings) (threads : ℕ)
+    (events : List Event) → AreFindings set w l found → TellsRun (run set threads events) l
+    → any_of found.lost.items found.left.items found.ringed.items found.disagreeing.items
+    ≡ has_findings set w (run set threads events).past
+all_found set w l found threads events are tells =
+    rw (are.lost, are.left, are.ringed, are.disagreeing set threads events tells) refl
 
 -- the events are told, and the audit behind them
 pub run_told : (detail : Detail) (set : Set) (threads : ℕ) (events : List Event) (after : Set)
-    (world : World) (stopped amiss : Bool) (text words : List ℕ) (found : Findings)
-    → HasTold detail set threads events after world stopped text
-    → AreFindings after world found
-    → amiss ≡ any_of found.lost.items found.left.items found.ringed.items
+    (world : World) (l : LedgerState) (stopped amiss : Bool) (text words : List ℕ)
+    (found : Findings)
+    → HasTold detail set threads events after world l stopped text
+    → AreFindings after world l found
+    → amiss ≡ any_of found.lost.items found.left.items found.ringed.items found.disagreeing.items
     → IsRunTold detail set threads events
     (ended (if stopped || amiss then Stopped else Complete)
     (text ++ (codes "\naudit\n" ++ words)))
-run_told detail set threads events after world stopped amiss text words found h are any =
+run_told detail set threads events after world l stopped amiss text words found h are any =
     let all = text ++ (codes "\naudit\n" ++ words) in
-    let same : amiss ≡ has_findings set (world_by set threads events) =
-    any ∙ all_found after world found are ∙ ap (λ (s : Set). has_findings s world) h.same
-    ∙ ap (λ (w : World). has_findings set w) h.left in
+    let found_in : AreFindings set world l found =
+    subst (λ (s : Set). AreFindings s world l found) h.same are in
+    let same : amiss ≡ has_findings set (world_by set threads events) (past_by set threads events) =
+    any ∙ all_found set world l found threads h.reached found_in h.tells
+    ∙ ap (λ (w : World). has_findings set w (run set threads h.reached).past) h.left
+    ∙ ap (λ (r : Run). has_findings set (world_by set threads events) r.past) h.ends in
     record {
       lines = text;
       words = words;

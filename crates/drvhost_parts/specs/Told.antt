@@ -3,14 +3,16 @@
 use Rattle.std.specs.Prelude.{ℕ, ⊤, ◌≡◌, ◌+◌, ◌-◌, ◌++◌, ◌||◌, Bool, true, false, if◌then◌else◌, List, [], ◌∷◌, codes, length, take, Result, Ok, Err}
 use Rattle.std.specs.List.{list_any}
 use Rattle.audit.specs.Findings.{has_findings}
+use Rattle.audit.specs.Ledger.{LedgerState, Tells as TellsRun}
 use Rattle.interleave.specs.declared.schedule.Schedule.{Schedule}
 use Rattle.interleave.specs.declared.schedule.ScheduleFault.{ScheduleFault}
 use Rattle.interleave.specs.Listing.{schedule_in}
 use Rattle.model.specs.declared.event.Event.{Event}
 use Rattle.model.specs.declared.event.Reply.{Reply}
 use Rattle.model.specs.declared.event.Reply.TheVariants.{Started, Stepped, Finished, Topped, Waited, Idle, Refused, Bug, Wrong}
-use Rattle.model.specs.Run.{Run, begun, step}
+use Rattle.model.specs.Run.{Run, begun, run, step}
 use Rattle.model.specs.Set.{Set}
+use Rattle.model.specs.Trace.{Entry}
 use Rattle.model.specs.World.{World}
 use Rattle.report.specs.Fault.{schedule_fault_line}
 use Rattle.report.specs.Reply.{reply_line}
@@ -78,11 +80,16 @@ replies_by set threads events = replies set (begun set threads) events
 abbrev pub world_by : Set → ℕ → List Event → World
 world_by set threads events = (run_to_end set (begun set threads) events).world
 
+-- and the trace
+abbrev pub past_by : Set → ℕ → List Event → List Entry
+past_by set threads events = (run_to_end set (begun set threads) events).past
+
 -- how a run that is told ends: stopped also where its audit finds anything amiss
 abbrev pub told_end : Set → ℕ → List Event → End
 told_end set threads events =
     if list_any is_last (replies_by set threads events)
-    || has_findings set (world_by set threads events) then Stopped else Complete
+    || has_findings set (world_by set threads events) (past_by set threads events)
+    then Stopped else Complete
 
 -- a run by a schedule is told: the lines of its events, and then some words on its audit
 pub record IsRunTold (detail : Detail) (set : Set) (threads : ℕ) (events : List Event)
@@ -144,10 +151,14 @@ Tells Right (Err (Image fault)) = ⊥
 Tells Right (Err (OfScript fault)) = ⊥
 
 -- the events of a run over so many threads were told: what they left in a machine's set and world,
--- whether one of them stopped the run, and the text
+-- a ledger that tells the run up to the last of them that was told, whether that one stopped the run,
+-- and the text
 pub record HasTold (detail : Detail) (set : Set) (threads : ℕ) (events : List Event) (after : Set)
-    (world : World) (stopped : Bool) (text : List ℕ) : Type 0 where
+    (world : World) (ledger : LedgerState) (stopped : Bool) (text : List ℕ) : Type 0 where
   pub same : after ≡ set
   pub told : IsTold detail 0 (replies_by set threads events) text
   pub last : list_any is_last (replies_by set threads events) ≡ stopped
   pub left : world ≡ world_by set threads events
+  pub reached : List Event
+  pub ends : run set threads reached ≡ run_to_end set (begun set threads) events
+  pub tells : TellsRun (run set threads reached) ledger

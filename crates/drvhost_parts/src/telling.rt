@@ -1,8 +1,11 @@
 //! Runs that are told in words.
 
 ghost use Rattle.std.specs.Prelude.{◌≡◌, ◌+◌, ◌++◌, ◌∷◌, ◌<◌, ◌≤◌, ◌^◌, ◌||◌, List, ℕ, [], IfOk, IfSome, MatchOption, OnOk, codes, if◌then◌else◌};
+ghost use Rattle.audit.specs.Acts.{use_step};
+ghost use Rattle.audit.specs.Ledger.{Tells as TellsRun, TellsOn};
 ghost use Rattle.interleave.specs.Listing.{IsWithinLimits};
 ghost use Rattle.model.specs.Machine.{AppliesWhole, ShowsWhole};
+ghost use Rattle.model.specs.Run.{begun};
 ghost use Rattle.drvhost_parts.specs.Answer.{ended};
 ghost use Rattle.drvhost_parts.specs.Repeats.{awaited};
 ghost use Rattle.drvhost_parts.specs.Told.{HasTold, IsRunTold, is_left_out, reply_head, told_line};
@@ -10,7 +13,9 @@ ghost use Rattle.drvhost_parts.specs.Told.{HasTold, IsRunTold, is_left_out, repl
 use crate::fault::End;
 use crate::follow::{is_last, next_run, next_single, rest_of};
 use crate::tell::Detail;
+use audit::acts::use_step;
 use audit::findings::Findings;
+use audit::ledger::Ledger;
 use checked::Checked;
 use interleave::events::Upcoming;
 use interleave::read::Repeated;
@@ -31,6 +36,15 @@ pub(crate) struct Told {
     pub(crate) end: End,
 }
 
+/// What is carried along a run that is told.
+#[derive(Drop)]
+struct Carried<'a> {
+    alloc: Global,
+    teller: Teller<'a>,
+    /// What its audit goes by beside the machine that ran.
+    ledger: Ledger,
+}
+
 /// Tells the run of a machine by a schedule, up to an event that stops it, and its audit: with the
 /// names and the lines of a text that names its set.
 pub(crate) fn tell_run(
@@ -46,12 +60,16 @@ pub(crate) fn tell_run(
     ensures { IfOk result (λ told. IsRunTold detail machine.old.set schedule.now.threads
         schedule.now.events (ended told.end told.text.items)) }
 {
-    let mut teller = Teller::of(alloc, source)?;
+    let mut carried = Carried {
+        alloc,
+        teller: Teller::of(alloc, source)?,
+        ledger: Ledger::new(alloc, schedule.threads)?,
+    };
     let mut text = Vec::new(alloc);
-    let stopped = tell_events(&mut teller, machine, schedule, detail, lines, &mut text)?;
-    let found = Findings::of(alloc, machine)?;
-    teller.tell_audit(alloc, machine, &found)?;
-    add_audit(teller.words(), &mut text)?;
+    let stopped = tell_events(&mut carried, machine, schedule, detail, lines, &mut text)?;
+    let found = Findings::of(alloc, machine, &carried.ledger)?;
+    carried.teller.tell_audit(alloc, machine, &found, &carried.ledger)?;
+    add_audit(carried.teller.words(), &mut text)?;
     Ok(Told {
         text,
         end: end_of(stopped, found.any()),
@@ -71,7 +89,7 @@ pub(crate) fn end_of(stopped: bool, amiss: bool) -> End
 
 /// Tells the events of a schedule, up to one that stops the run, and answers whether one did.
 fn tell_events(
-    teller: &mut Teller<'_>,
+    carried: &mut Carried<'_>,
     machine: &mut Checked,
     schedule: &Schedule,
     detail: Detail,
@@ -80,16 +98,18 @@ fn tell_events(
 ) -> Result<bool, AllocError>
     requires begun { ShowsWhole machine.old schedule.now.threads [] }
     requires limits { IsWithinLimits schedule.now }
+    requires ledger { TellsRun (begun machine.old.set schedule.now.threads) carried.old.ledger }
     requires empty { text.old.items ≡ [] }
     ensures { IfOk result (λ stopped. HasTold detail machine.old.set schedule.now.threads
-        schedule.now.events machine.new.set machine.new.world stopped text.new.items) }
+        schedule.now.events machine.new.set machine.new.world carried.new.ledger stopped
+        text.new.items) }
 {
     let mut number = EventNumber::first();
     let mut upcoming = schedule.events.upcoming();
     let mut rest = None;
     while let Some(next) = next_event(rest, &mut upcoming) {
         let reply = tell_event(
-            teller,
+            carried,
             machine,
             &mut number,
             &next.event,
@@ -131,7 +151,7 @@ pub(crate) fn next_event(rest: Option<Repeated>, upcoming: &mut Upcoming<'_>) ->
 
 /// Runs an event, and adds what is told of it.
 fn tell_event(
-    teller: &mut Teller<'_>,
+    carried: &mut Carried<'_>,
     machine: &mut Checked,
     number: &mut EventNumber,
     event: &Event,
@@ -142,17 +162,23 @@ fn tell_event(
     requires { number.old + 1 < 2 ^ 64 }
     ensures number { OnOk result (number.new ≡ number.old + 1) }
     ensures applied { IfOk result (λ reply. AppliesWhole machine.old event.now machine.new reply) }
+    ensures noted { IfOk result (λ reply. TellsOn machine.new.set machine.new.world event.now
+        (use_step machine.old.set machine.old.world event.now) reply carried.old.ledger
+        carried.new.ledger) }
     ensures told { IfOk result (λ reply. (words : List ℕ) × (text.new.items
         ≡ text.old.items ++ told_line detail number.old reply words)) }
 {
     let moment = Moment::before(machine, event);
+    let step = use_step(machine, event);
     let reply = machine.apply(event);
-    teller.note(&moment, &reply)?;
+    carried.ledger.note(carried.alloc, step, event, &reply, machine)?;
+    carried.teller.note(&moment, step, event, &reply, machine)?;
     let happened = Happened {
         event: *event,
         moment,
         reply,
     };
+    let teller = &mut carried.teller;
     add_event(teller, machine, number, &happened, detail, lines, text)?;
     number.advance();
     Ok(reply)

@@ -1,15 +1,18 @@
 //! What the audit of a run says, in words.
 
 use crate::book::Book;
+use crate::disagreement::{Place, add_note, add_place, opened_place};
 use crate::line::Moment;
 use crate::words::{add_lock, reason_words, status_name};
+use audit::acts::UseStep;
 use audit::findings::Findings;
+use audit::ledger::Ledger;
 use audit::refusal::Reason;
 use audit::ring::waits_for;
 use audit::sites::{Site, sites_of};
 use checked::Checked;
 use irp::Packet;
-use model::event::Reply;
+use model::event::{Event, Reply};
 use model::history::TopOut;
 use model::set::QueueName;
 use std::alloc::{AllocError, Global};
@@ -28,6 +31,8 @@ pub(crate) struct Audited {
     events: u64,
     topped: Vec<TopOut>,
     refused: Vec<Refused>,
+    /// The locations of which uses were opened, by the numbers of the uses.
+    opened: Vec<Option<Place>>,
 }
 
 impl Audited {
@@ -37,11 +42,38 @@ impl Audited {
             events: 0,
             topped: Vec::new(alloc),
             refused: Vec::new(alloc),
+            opened: Vec::new(alloc),
         }
     }
 
-    /// Notes the reply to the next event.
-    pub(crate) fn note(&mut self, moment: &Moment, reply: &Reply) -> Result<(), AllocError> {
+    /// Notes the location of which the next event opens a use, if it does.
+    fn note_opened(
+        &mut self,
+        moment: &Moment,
+        step: UseStep,
+        event: &Event,
+        reply: &Reply,
+        machine: &Checked,
+    ) -> Result<(), AllocError> {
+        if matches!(step, UseStep::Issue(_) | UseStep::Call(_))
+            && !matches!(reply, Reply::Waited | Reply::Idle | Reply::Refused)
+        {
+            self.opened
+                .push(opened_place(step, event, moment, machine))?;
+        }
+        Ok(())
+    }
+
+    /// Notes the next event.
+    pub(crate) fn note(
+        &mut self,
+        moment: &Moment,
+        step: UseStep,
+        event: &Event,
+        reply: &Reply,
+        machine: &Checked,
+    ) -> Result<(), AllocError> {
+        self.note_opened(moment, step, event, reply, machine)?;
         let number = self.events;
         self.events = number.wrapping_add(1);
         match *reply {
@@ -73,6 +105,7 @@ pub(crate) fn add_audit(
     machine: &Checked,
     audited: &Audited,
     found: &Findings,
+    ledger: &Ledger,
 ) -> Result<(), AllocError> {
     add_topped(words, audited)?;
     for number in 0..machine.shared().issued() {
@@ -81,6 +114,7 @@ pub(crate) fn add_audit(
         }
     }
     add_findings(words, book, machine, found)?;
+    add_disagreeing(words, book, audited, found, ledger)?;
     add_refused(words, audited)?;
     if machine.stopped() {
         return words.push_str("the run was stopped by a bug check or a wrong operand\n");
@@ -126,6 +160,27 @@ fn add_findings(
         write!(words, "thread {thread} waits in a ring")?;
         if let Some(owner) = waits_for(machine, *thread) {
             write!(words, ", for thread {owner}")?;
+        }
+        words.push_str("\n")?;
+    }
+    Ok(())
+}
+
+/// Adds the uses of stack locations that were returned from otherwise than they were marked.
+fn add_disagreeing(
+    words: &mut String,
+    book: &Book<'_>,
+    audited: &Audited,
+    found: &Findings,
+    ledger: &Ledger,
+) -> Result<(), AllocError> {
+    for location_use in found.disagreeing.iter() {
+        write!(words, "packet {}", location_use.packet())?;
+        if let Some(Some(place)) = audited.opened.get(location_use.number() as usize) {
+            add_place(words, book, *place)?;
+        }
+        if let Some(note) = ledger.note_of(*location_use) {
+            add_note(words, &note)?;
         }
         words.push_str("\n")?;
     }

@@ -7,6 +7,7 @@ mod audited;
 mod book;
 mod change;
 mod columns;
+mod disagreement;
 mod line;
 mod teller;
 mod words;

@@ -4,7 +4,9 @@ use crate::audited::{Audited, add_audit};
 use crate::book::Book;
 use crate::change::add_change;
 use crate::line::{Moment, add_event};
+use audit::acts::UseStep;
 use audit::findings::Findings;
+use audit::ledger::Ledger;
 use checked::Checked;
 use model::event::{Event, Reply};
 use std::alloc::{AllocError, Global};
@@ -35,13 +37,21 @@ impl<'a> Teller<'a> {
         })
     }
 
-    /// Notes the reply to the next event.
+    /// Notes the next event, by what it was before, what it does to uses of stack locations, the
+    /// reply to it, and the machine after it.
     ///
     /// # Errors
     ///
     /// When memory runs out.
-    pub fn note(&mut self, moment: &Moment, reply: &Reply) -> Result<(), AllocError> {
-        self.audited.note(moment, reply)
+    pub fn note(
+        &mut self,
+        moment: &Moment,
+        step: UseStep,
+        event: &Event,
+        reply: &Reply,
+        machine: &Checked,
+    ) -> Result<(), AllocError> {
+        self.audited.note(moment, step, event, reply, machine)
     }
 
     /// Makes the words that stand behind an event's number and its reply, which are so many bytes:
@@ -73,7 +83,7 @@ impl<'a> Teller<'a> {
         )
     }
 
-    /// Makes the words of the audit, by what was found in the machine after the run.
+    /// Makes the words of the audit, by what was found in the machine and the ledger after the run.
     ///
     /// # Errors
     ///
@@ -83,6 +93,7 @@ impl<'a> Teller<'a> {
         alloc: Global,
         machine: &Checked,
         found: &Findings,
+        ledger: &Ledger,
     ) -> Result<(), AllocError> {
         self.words.clear();
         add_audit(
@@ -92,6 +103,7 @@ impl<'a> Teller<'a> {
             machine,
             &self.audited,
             found,
+            ledger,
         )
     }
 

@@ -9,15 +9,16 @@ loop-next-init c =
       some = tt;
       telling =
           rw (c.first-number.ensures, c.upcoming-upcoming.ensures, c.requires.empty)
-          (telling_first c.args.detail c.args.machine.now c.args.schedule.now.threads
-          c.args.schedule.now.events c.requires.begun);
+          (telling_first c.args.detail c.args.machine.now c.args.carried.now.ledger
+          c.args.schedule.now.threads c.args.schedule.now.events c.requires.begun
+          c.requires.ledger);
     }
 
 pub returns-then-is_last : goal.returns-then-is_last
 returns-then-is_last c =
-    told_last _ _ _ _ _ _ _ _ _ _ _ _ _
+    told_last _ _ _ _ _ _ _ _ _ _ _ _ _ _ _
     (rw c.in-Some.ensures.next at c.loop-next.invariant.telling)
-    c.in_ok-reply.ensures.applied c.in_ok-reply.ensures.told.1
+    c.in_ok-reply.ensures.applied c.in_ok-reply.ensures.noted c.in_ok-reply.ensures.told.1
     (sym c.is_last.ensures ∙ c.if-is_last.true)
 
 pub loop-next-preserved : goal.loop-next-preserved
@@ -32,13 +33,13 @@ loop-next-preserved c =
       some = c.in-Some.ensures.some;
       telling =
           rw c.in_ok-reply.ensures.number
-          (telling_on _ _ _ _ _ _ _ _ _ _ _ _ _
+          (telling_on _ _ _ _ _ _ _ _ _ _ _ _ _ _ _
           (rw c.in-Some.ensures.next at c.loop-next.invariant.telling)
-          c.in_ok-reply.ensures.applied c.in_ok-reply.ensures.told.1
+          c.in_ok-reply.ensures.applied c.in_ok-reply.ensures.noted c.in_ok-reply.ensures.told.1
           (sym c.is_last.ensures ∙ c.if-is_last.false));
     }
 
 pub returns : goal.returns
 returns c =
-    told_all _ _ _ _ _ _ _
+    told_all _ _ _ _ _ _ _ _
     (rw c.in_default.ensures.next at c.loop-next.invariant.telling)

@@ -5,10 +5,8 @@ use Rattle.audit.proofs.ledger.Row.settle.Given as goal
 abbrev pub invariant-loop-place : goal.invariant-loop-place
 invariant-loop-place l =
     record {
-      within : l.place ≤ length l.self-inside.servers.items;
+      within : l.place ≤ length l.self;
       settled :
-          settled l.set l.uses l.initial.self-inside.servers.items l.frames
-          ≡ take l.place l.self-inside.servers.items
-          ++ settled l.set l.uses (drop l.place l.self-inside.servers.items)
-          (drop l.place l.frames);
+          settled l.set l.uses l.initial.self l.frames
+          ≡ take l.place l.self ++ settled l.set l.uses (drop l.place l.self) (drop l.place l.frames);
     }

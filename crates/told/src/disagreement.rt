@@ -1,0 +1,70 @@
+//! What the audit says of uses of stack locations, in words.
+
+use crate::book::Book;
+use crate::line::Moment;
+use crate::words::status_name;
+use audit::acts::UseStep;
+use audit::uses::Note;
+use checked::Checked;
+use model::event::Event;
+use model::view::{FrameView, PacketView};
+use std::alloc::AllocError;
+
+/// A stack location: the device that is asked there, and its number; the first is the top driver's.
+#[derive(Clone, Copy)]
+pub(crate) struct Place {
+    device: u8,
+    number: u8,
+}
+
+/// The location that a routine's `call` made current, which stands as it was before.
+fn called_place(moment: &Moment, machine: &Checked) -> Option<Place> {
+    let FrameView::Routine { device, .. } = moment.acting?.frame else {
+        return None;
+    };
+    let PacketView::Live(packet) = moment.packet? else {
+        return None;
+    };
+    Some(Place {
+        device: machine.set().lower(device)?,
+        number: packet.depth.saturating_add(1),
+    })
+}
+
+/// The location of which an event opened a use, if it is known.
+pub(crate) fn opened_place(
+    step: UseStep,
+    event: &Event,
+    moment: &Moment,
+    machine: &Checked,
+) -> Option<Place> {
+    match (step, *event) {
+        (UseStep::Issue(_), Event::Issue { device, .. }) => Some(Place { device, number: 1 }),
+        (UseStep::Call(_), _) => called_place(moment, machine),
+        _ => None,
+    }
+}
+
+/// Adds a location.
+pub(crate) fn add_place(
+    words: &mut String,
+    book: &Book<'_>,
+    place: Place,
+) -> Result<(), AllocError> {
+    write!(words, ", location {} of ", place.number)?;
+    book.add_device(words, place.device)
+}
+
+/// Adds what a use's note says that disagrees.
+pub(crate) fn add_note(words: &mut String, note: &Note) -> Result<(), AllocError> {
+    if note.returned_pending && note.left_unmarked {
+        words.push_str(": STATUS_PENDING was returned, and completion left it unmarked")?;
+    }
+    match note.returned_other {
+        Some(status) if note.left_marked => {
+            let name = status_name(status);
+            write!(words, ": {name} was returned, and completion left it marked")
+        }
+        _ => Ok(()),
+    }
+}
