@@ -253,9 +253,9 @@ module _ (actor : Actor) where
       record {
         counted = h;
         knows = record {
-              notes = ap (λ (x : UsesState). x.notes) is ∙ know.notes;
-              stacks = λ n. ap (λ (x : UsesState). stack_at x n) is ∙ know.stacks n;
-            };
+          notes = ap (λ (x : UsesState). x.notes) is ∙ know.notes;
+          stacks = λ n. ap (λ (x : UsesState). stack_at x n) is ∙ know.stacks n;
+        };
       }
   known_all past (Issues n stack ∷ actions) l m served h know (next, does, rest) =
       let on = known_next past (Issues n stack) l next served h know does in

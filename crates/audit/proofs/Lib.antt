@@ -1,8 +1,10 @@
 pub mod Acting
 pub mod Agreement
 pub mod Disagreeing
+pub mod Found
 pub mod Holding
 pub mod Knowing
+pub mod Leaving
 pub mod Noted
 pub mod Noting
 pub mod Refusals

@@ -148,29 +148,29 @@ module _ (set : Set) (r : Run) (t : ℕ) (tagged : Tagged r) where
         record {
           counted = later_counted;
           fits = λ k row is. elim (cases_eq t k) [
-                | inl same ↦
-                    let at : slice_get (slice_set r.tags t new_row) t ≡ Some row =
-                    subst (λ (j : ℕ). slice_get (slice_set r.tags t new_row) j ≡ Some row)
-                    (sym same) is in
-                    let gives = put_gives r.tags t row new_row at in
-                    subst (λ (j : ℕ). Fits (frames_on c.world j) row) same
-                    (here_fits row gives.1.0 gives.0 gives.1.1)
-                | inr apart ↦
-                    subst (λ (frames : List Frame). Fits frames row)
-                    (sym (others_stand set r.world t c happens k apart))
-                    (tagged.fits k row (sym (set_other r.tags t k new_row apart) ∙ is))
-              ];
+            | inl same ↦
+                let at : slice_get (slice_set r.tags t new_row) t ≡ Some row =
+                subst (λ (j : ℕ). slice_get (slice_set r.tags t new_row) j ≡ Some row)
+                (sym same) is in
+                let gives = put_gives r.tags t row new_row at in
+                subst (λ (j : ℕ). Fits (frames_on c.world j) row) same
+                (here_fits row gives.1.0 gives.0 gives.1.1)
+            | inr apart ↦
+                subst (λ (frames : List Frame). Fits frames row)
+                (sym (others_stand set r.world t c happens k apart))
+                (tagged.fits k row (sym (set_other r.tags t k new_row apart) ∙ is))
+          ];
           opened = λ k row is. elim (cases_eq t k) [
-                | inl same ↦
-                    let at : slice_get (slice_set r.tags t new_row) t ≡ Some row =
-                    subst (λ (j : ℕ). slice_get (slice_set r.tags t new_row) j ≡ Some row)
-                    (sym same) is in
-                    let gives = put_gives r.tags t row new_row at in
-                    here_opened row gives.1.0 gives.0 gives.1.1
-                | inr apart ↦
-                    all_later (uses_opened r.past) (uses_opened (past_with r t c)) row later_more
-                    (tagged.opened k row (sym (set_other r.tags t k new_row apart) ∙ is))
-              ];
+            | inl same ↦
+                let at : slice_get (slice_set r.tags t new_row) t ≡ Some row =
+                subst (λ (j : ℕ). slice_get (slice_set r.tags t new_row) j ≡ Some row)
+                (sym same) is in
+                let gives = put_gives r.tags t row new_row at in
+                here_opened row gives.1.0 gives.0 gives.1.1
+            | inr apart ↦
+                all_later (uses_opened r.past) (uses_opened (past_with r t c)) row later_more
+                (tagged.opened k row (sym (set_other r.tags t k new_row apart) ∙ is))
+          ];
         }
 
     tagged_stops : (reply : Reply) → Tagged (stops r (past_with r t c) reply).run
@@ -231,187 +231,187 @@ module _ (set : Set) where
 -- a thread's row after an event
 module _ (set : Set) (r : Run) (t : ℕ) (tagged : Tagged r) (l m : LedgerState) (tells : Tells r l)
   where
-  served_same : served_on l.rows t ≡ served_by (actor_on r t).tag
-  served_same =
-      ap (λ rows. served_on rows t) tells.rows ∙ served_there r.tags t (slice_get r.tags t) refl
+    served_same : served_on l.rows t ≡ served_by (actor_on r t).tag
+    served_same =
+        ap (λ rows. served_on rows t) tells.rows ∙ served_there r.tags t (slice_get r.tags t) refl
 
-  -- where the run goes on
-  rows_go : (past : List Entry) (w : World) (o : Option (List Tag)) → slice_get r.tags t ≡ o
-      → Knows past m.uses → m.rows ≡ row_settled set w m.uses t l.rows (slice_get l.rows t)
-      → m.rows ≡ rows_of (slice_set r.tags t
-      (tags_after set past r.activations (frames_on r.world t) (tags_on r t) (frames_on w t)))
-  rows_go past w None there know is =
-      let gone : slice_get l.rows t ≡ None =
-      ap (λ rows. slice_get rows t) tells.rows ∙ rows_none r.tags t there in
-      is ∙ ap (λ o. row_settled set w m.uses t l.rows o) gone ∙ tells.rows
-      ∙ sym (ap (λ rows. rows_of rows) (set_past r.tags t _ there))
-  rows_go past w (Some row) there know is =
-      let found : slice_get l.rows t ≡ Some (servers_of row) =
-      ap (λ rows. slice_get rows t) tells.rows ∙ rows_get r.tags t row there in
-      let own : tags_on r t ≡ row = row_there r.tags t row [] there in
-      is ∙ ap (λ o. row_settled set w m.uses t l.rows o) found
-      ∙ ap (λ servers. slice_set l.rows t servers)
-      (after_stands set past m.uses know r.activations (frames_on r.world t) row (frames_on w t)
-      (tagged.fits t row there))
-      ∙ ap (λ rows. slice_set rows t (servers_of
-      (tags_after set past r.activations (frames_on r.world t) row (frames_on w t)))) tells.rows
-      ∙ sym (rows_set r.tags t
-      (tags_after set past r.activations (frames_on r.world t) row (frames_on w t)))
-      ∙ ap (λ (tags : List Tag). rows_of (slice_set r.tags t
-      (tags_after set past r.activations (frames_on r.world t) tags (frames_on w t)))) (sym own)
+    -- where the run goes on
+    rows_go : (past : List Entry) (w : World) (o : Option (List Tag)) → slice_get r.tags t ≡ o
+        → Knows past m.uses → m.rows ≡ row_settled set w m.uses t l.rows (slice_get l.rows t)
+        → m.rows ≡ rows_of (slice_set r.tags t
+        (tags_after set past r.activations (frames_on r.world t) (tags_on r t) (frames_on w t)))
+    rows_go past w None there know is =
+        let gone : slice_get l.rows t ≡ None =
+        ap (λ rows. slice_get rows t) tells.rows ∙ rows_none r.tags t there in
+        is ∙ ap (λ o. row_settled set w m.uses t l.rows o) gone ∙ tells.rows
+        ∙ sym (ap (λ rows. rows_of rows) (set_past r.tags t _ there))
+    rows_go past w (Some row) there know is =
+        let found : slice_get l.rows t ≡ Some (servers_of row) =
+        ap (λ rows. slice_get rows t) tells.rows ∙ rows_get r.tags t row there in
+        let own : tags_on r t ≡ row = row_there r.tags t row [] there in
+        is ∙ ap (λ o. row_settled set w m.uses t l.rows o) found
+        ∙ ap (λ servers. slice_set l.rows t servers)
+        (after_stands set past m.uses know r.activations (frames_on r.world t) row (frames_on w t)
+        (tagged.fits t row there))
+        ∙ ap (λ rows. slice_set rows t (servers_of
+        (tags_after set past r.activations (frames_on r.world t) row (frames_on w t)))) tells.rows
+        ∙ sym (rows_set r.tags t
+        (tags_after set past r.activations (frames_on r.world t) row (frames_on w t)))
+        ∙ ap (λ (tags : List Tag). rows_of (slice_set r.tags t
+        (tags_after set past r.activations (frames_on r.world t) tags (frames_on w t)))) (sym own)
 
-  -- where the frames stay
-  row_kept : (o : Option (List Tag)) → slice_get r.tags t ≡ o
-      → row_settled set r.world m.uses t l.rows (slice_get l.rows t) ≡ l.rows
-  row_kept None there =
-      let gone : slice_get l.rows t ≡ None =
-      ap (λ rows. slice_get rows t) tells.rows ∙ rows_none r.tags t there in
-      ap (λ o. row_settled set r.world m.uses t l.rows o) gone
-  row_kept (Some row) there =
-      let found : slice_get l.rows t ≡ Some (servers_of row) =
-      ap (λ rows. slice_get rows t) tells.rows ∙ rows_get r.tags t row there in
-      ap (λ o. row_settled set r.world m.uses t l.rows o) found
-      ∙ ap (λ servers. slice_set l.rows t servers)
-      (settled_same set m.uses (frames_on r.world t) row (tagged.fits t row there))
-      ∙ set_back l.rows t (servers_of row) found
+    -- where the frames stay
+    row_kept : (o : Option (List Tag)) → slice_get r.tags t ≡ o
+        → row_settled set r.world m.uses t l.rows (slice_get l.rows t) ≡ l.rows
+    row_kept None there =
+        let gone : slice_get l.rows t ≡ None =
+        ap (λ rows. slice_get rows t) tells.rows ∙ rows_none r.tags t there in
+        ap (λ o. row_settled set r.world m.uses t l.rows o) gone
+    row_kept (Some row) there =
+        let found : slice_get l.rows t ≡ Some (servers_of row) =
+        ap (λ rows. slice_get rows t) tells.rows ∙ rows_get r.tags t row there in
+        ap (λ o. row_settled set r.world m.uses t l.rows o) found
+        ∙ ap (λ servers. slice_set l.rows t servers)
+        (settled_same set m.uses (frames_on r.world t) row (tagged.fits t row there))
+        ∙ set_back l.rows t (servers_of row) found
 
-  -- what is known of the uses
-  uses_known : (c : Change) (actions : List Action) → uses_in c.actions ≡ actions
-      → DoesAll (served_on l.rows t) actions l.uses m.uses
-      → KnownOn (past_with r t c) m.uses
-  uses_known c actions is does =
-      known_all (actor_on r t) r.past c.actions l.uses m.uses (actor_served set r t tagged)
-      tagged.counted tells.knows
-      (subst (λ (serving : Option Serving). DoesAll serving (uses_in c.actions) l.uses m.uses)
-      served_same
-      (subst (λ (xs : List Action). DoesAll (served_on l.rows t) xs l.uses m.uses) (sym is) does))
+    -- what is known of the uses
+    uses_known : (c : Change) (actions : List Action) → uses_in c.actions ≡ actions
+        → DoesAll (served_on l.rows t) actions l.uses m.uses
+        → KnownOn (past_with r t c) m.uses
+    uses_known c actions is does =
+        known_all (actor_on r t) r.past c.actions l.uses m.uses (actor_served set r t tagged)
+        tagged.counted tells.knows
+        (subst (λ (serving : Option Serving). DoesAll serving (uses_in c.actions) l.uses m.uses)
+        served_same
+        (subst (λ (xs : List Action). DoesAll (served_on l.rows t) xs l.uses m.uses) (sym is) does))
 
-  -- the run goes on
-  tells_goes : (c : Change) (actions : List Action) → uses_in c.actions ≡ actions
-      → DoesAll (served_on l.rows t) actions l.uses m.uses
-      → m.rows ≡ row_settled set c.world m.uses t l.rows (slice_get l.rows t)
-      → Tells (goes set r t (past_with r t c) c).run m
-  tells_goes c actions is does rows =
-      let known : KnownOn (past_with r t c) m.uses = uses_known c actions is does in
-      record {
-        knows = known.knows;
-        rows = rows_go (past_with r t c) c.world (slice_get r.tags t) refl known.knows rows;
-      }
+    -- the run goes on
+    tells_goes : (c : Change) (actions : List Action) → uses_in c.actions ≡ actions
+        → DoesAll (served_on l.rows t) actions l.uses m.uses
+        → m.rows ≡ row_settled set c.world m.uses t l.rows (slice_get l.rows t)
+        → Tells (goes set r t (past_with r t c) c).run m
+    tells_goes c actions is does rows =
+        let known : KnownOn (past_with r t c) m.uses = uses_known c actions is does in
+        record {
+          knows = known.knows;
+          rows = rows_go (past_with r t c) c.world (slice_get r.tags t) refl known.knows rows;
+        }
 
-  -- it stops
-  tells_stops : (c : Change) (actions : List Action) (reply : Reply) → uses_in c.actions ≡ actions
-      → DoesAll (served_on l.rows t) actions l.uses m.uses
-      → m.rows ≡ row_settled set r.world m.uses t l.rows (slice_get l.rows t)
-      → Tells (stops r (past_with r t c) reply).run m
-  tells_stops c actions reply is does rows =
-      let known : KnownOn (past_with r t c) m.uses = uses_known c actions is does in
-      record {
-        knows = known.knows;
-        rows = rows ∙ row_kept (slice_get r.tags t) refl ∙ tells.rows;
-      }
+    -- it stops
+    tells_stops : (c : Change) (actions : List Action) (reply : Reply) → uses_in c.actions ≡ actions
+        → DoesAll (served_on l.rows t) actions l.uses m.uses
+        → m.rows ≡ row_settled set r.world m.uses t l.rows (slice_get l.rows t)
+        → Tells (stops r (past_with r t c) reply).run m
+    tells_stops c actions reply is does rows =
+        let known : KnownOn (past_with r t c) m.uses = uses_known c actions is does in
+        record {
+          knows = known.knows;
+          rows = rows ∙ row_kept (slice_get r.tags t) refl ∙ tells.rows;
+        }
 
-  -- nothing changes
-  tells_still : (c : Change) → m ≡ l → c.actions ≡ [] → c.world ≡ r.world
-      → Tells (goes set r t (past_with r t c) c).run m
-  tells_still c same none world =
-      tells_goes c [] (ap (λ (xs : List Action). uses_in xs) none)
-      (ap (λ (x : LedgerState). x.uses) same)
-      (ap (λ (x : LedgerState). x.rows) same
-      ∙ sym (row_kept (slice_get r.tags t) refl)
-      ∙ ap (λ (w : World). row_settled set w m.uses t l.rows (slice_get l.rows t)) (sym world))
+    -- nothing changes
+    tells_still : (c : Change) → m ≡ l → c.actions ≡ [] → c.world ≡ r.world
+        → Tells (goes set r t (past_with r t c) c).run m
+    tells_still c same none world =
+        tells_goes c [] (ap (λ (xs : List Action). uses_in xs) none)
+        (ap (λ (x : LedgerState). x.uses) same)
+        (ap (λ (x : LedgerState). x.rows) same
+        ∙ sym (row_kept (slice_get r.tags t) refl)
+        ∙ ap (λ (w : World). row_settled set w m.uses t l.rows (slice_get l.rows t)) (sym world))
 
 -- an event of a run
 module _ (set : Set) (r : Run) (e : Event) (tagged : Tagged r) (l m : LedgerState) (tells : Tells r l)
   where
-  abbrev change : Change
-  change = effect set r.world e
+    abbrev change : Change
+    change = effect set r.world e
 
-  abbrev does_step : UseStep
-  does_step = use_step set r.world e
+    abbrev does_step : UseStep
+    does_step = use_step set r.world e
 
-  tells_on_going : (t : ℕ) (b : Bool) → thread_of e ≡ Some t → says_unchanged change.reply ≡ b
-      → Happens set r.world t change → (b ≡ true → change.world ≡ r.world)
-      → NotesIf set change.world t does_step b l m
-      → Tells (goes set r t (past_with r t change) change).run m
-  tells_on_going t true is says happens stays notes =
-      tells_still set r t tagged l m tells change notes
-      (silent_event set r.world t change happens says) (stays refl)
-  tells_on_going t false is says happens stays notes =
-      elim (told_by set r.world t e is) [
-        | inl told ↦
-            tells_goes set r t tagged l m tells change (actions_of does_step) told notes.uses
-            notes.rows
-        | inr none ↦ let no : true ≡ false = rw none.1 at says in cc
-      ]
+    tells_on_going : (t : ℕ) (b : Bool) → thread_of e ≡ Some t → says_unchanged change.reply ≡ b
+        → Happens set r.world t change → (b ≡ true → change.world ≡ r.world)
+        → NotesIf set change.world t does_step b l m
+        → Tells (goes set r t (past_with r t change) change).run m
+    tells_on_going t true is says happens stays notes =
+        tells_still set r t tagged l m tells change notes
+        (silent_event set r.world t change happens says) (stays refl)
+    tells_on_going t false is says happens stays notes =
+        elim (told_by set r.world t e is) [
+          | inl told ↦
+              tells_goes set r t tagged l m tells change (actions_of does_step) told notes.uses
+              notes.rows
+          | inr none ↦ let no : true ≡ false = rw none.1 at says in cc
+        ]
 
-  tells_on_stop : (t : ℕ) (reply : Reply) → thread_of e ≡ Some t
-      → ((change.actions ≡ []) → change.reply ≡ Refused → ⊥)
-      → Notes set r.world t does_step l m
-      → Tells (stops r (past_with r t change) reply).run m
-  tells_on_stop t reply is never notes =
-      elim (told_by set r.world t e is) [
-        | inl told ↦
-            tells_stops set r t tagged l m tells change (actions_of does_step) reply told notes.uses
-            notes.rows
-        | inr none ↦ absurd (never none.0 none.1)
-      ]
+    tells_on_stop : (t : ℕ) (reply : Reply) → thread_of e ≡ Some t
+        → ((change.actions ≡ []) → change.reply ≡ Refused → ⊥)
+        → Notes set r.world t does_step l m
+        → Tells (stops r (past_with r t change) reply).run m
+    tells_on_stop t reply is never notes =
+        elim (told_by set r.world t e is) [
+          | inl told ↦
+              tells_stops set r t tagged l m tells change (actions_of does_step) reply told notes.uses
+              notes.rows
+          | inr none ↦ absurd (never none.0 none.1)
+        ]
 
-  no_fault : (t : ℕ) (bug : Bug) → fault_with r t change ≡ Some bug → change.actions ≡ [] → ⊥
-  no_fault t bug fault none =
-      let no : None ≡ Some bug =
-      sym (ap (λ (xs : List Action). first_fault r.past (actor_on r t) xs) none) ∙ fault in
-      cc
+    no_fault : (t : ℕ) (bug : Bug) → fault_with r t change ≡ Some bug → change.actions ≡ [] → ⊥
+    no_fault t bug fault none =
+        let no : None ≡ Some bug =
+        sym (ap (λ (xs : List Action). first_fault r.past (actor_on r t) xs) none) ∙ fault in
+        cc
 
-  no_wrong : (place : Place) → change.reply ≡ Wrong place → change.reply ≡ Refused → ⊥
-  no_wrong place wrong is = let no : Refused ≡ Wrong place = sym is ∙ wrong in cc
+    no_wrong : (place : Place) → change.reply ≡ Wrong place → change.reply ≡ Refused → ⊥
+    no_wrong place wrong is = let no : Refused ≡ Wrong place = sym is ∙ wrong in cc
 
-  same_tells : m ≡ l → Tells r m
-  same_tells same =
-      record {
-        knows = record {
-              notes = ap (λ (x : LedgerState). x.uses.notes) same ∙ tells.knows.notes;
-              stacks = λ n.
-                  ap (λ (x : LedgerState). stack_at x.uses n) same ∙ tells.knows.stacks n;
-            };
-        rows = ap (λ (x : LedgerState). x.rows) same ∙ tells.rows;
-      }
+    same_tells : m ≡ l → Tells r m
+    same_tells same =
+        record {
+          knows = record {
+            notes = ap (λ (x : LedgerState). x.uses.notes) same ∙ tells.knows.notes;
+            stacks = λ n.
+                ap (λ (x : LedgerState). stack_at x.uses n) same ∙ tells.knows.stacks n;
+          };
+          rows = ap (λ (x : LedgerState). x.rows) same ∙ tells.rows;
+        }
 
-  tells_answered : (t : ℕ) (a : Answered) → thread_of e ≡ Some t → Happens set r.world t change
-      → Answers set r t change a
-      → (says_unchanged a.reply ≡ true → a.run.world ≡ r.world)
-      → NotesIf set a.run.world t does_step (says_unchanged a.reply) l m → Tells a.run m
-  tells_answered t a is happens (refuses_stopped on) stays notes = same_tells notes
-  tells_answered t a is happens (refuses_over on quiet over) stays notes = same_tells notes
-  tells_answered t a is happens (goes_on_with on quiet within) stays notes =
-      tells_on_going t (says_unchanged change.reply) is refl happens stays notes
-  tells_answered t a is happens (stops_for bug on fault) stays notes =
-      tells_on_stop t (BugCheckReply bug) is (λ none refused. no_fault t bug fault none) notes
-  tells_answered t a is happens (stops_wrong place on wrong) stays notes =
-      tells_on_stop t (Wrong place) is (λ none refused. no_wrong place wrong refused) notes
+    tells_answered : (t : ℕ) (a : Answered) → thread_of e ≡ Some t → Happens set r.world t change
+        → Answers set r t change a
+        → (says_unchanged a.reply ≡ true → a.run.world ≡ r.world)
+        → NotesIf set a.run.world t does_step (says_unchanged a.reply) l m → Tells a.run m
+    tells_answered t a is happens (refuses_stopped on) stays notes = same_tells notes
+    tells_answered t a is happens (refuses_over on quiet over) stays notes = same_tells notes
+    tells_answered t a is happens (goes_on_with on quiet within) stays notes =
+        tells_on_going t (says_unchanged change.reply) is refl happens stays notes
+    tells_answered t a is happens (stops_for bug on fault) stays notes =
+        tells_on_stop t (BugCheckReply bug) is (λ none refused. no_fault t bug fault none) notes
+    tells_answered t a is happens (stops_wrong place on wrong) stays notes =
+        tells_on_stop t (Wrong place) is (λ none refused. no_wrong place wrong refused) notes
 
-  tells_sets : (c : Change) (stopped : Bool) → Sets set r.world c → m ≡ l
-      → Tells (if stopped then refused r else set_in r c).run m
-  tells_sets c true of same = same_tells same
-  tells_sets c false (sets_nothing reply right) same =
-      let told : Tells r m = same_tells same in
-      record { knows = told.knows; rows = told.rows }
-  tells_sets c false (queues d) same =
-      let told : Tells r m = same_tells same in
-      record { knows = told.knows; rows = told.rows }
+    tells_sets : (c : Change) (stopped : Bool) → Sets set r.world c → m ≡ l
+        → Tells (if stopped then refused r else set_in r c).run m
+    tells_sets c true of same = same_tells same
+    tells_sets c false (sets_nothing reply right) same =
+        let told : Tells r m = same_tells same in
+        record { knows = told.knows; rows = told.rows }
+    tells_sets c false (queues d) same =
+        let told : Tells r m = same_tells same in
+        record { knows = told.knows; rows = told.rows }
 
-  tells_concerned : Concerns set r.world e
-      → (says_unchanged (step set r e).reply ≡ true → (step set r e).run.world ≡ r.world)
-      → NotesOn set (step set r e).run.world (thread_of e) does_step (step set r e).reply l m
-      → Tells (step set r e).run m
-  tells_concerned (a_thread t is happens) stays notes =
-      tells_answered t (step set r e) is happens (answers set r t e is) stays
-      (subst (λ (o : Option ℕ). NotesOn set (step set r e).run.world o does_step
-      (step set r e).reply l m) is notes)
-  tells_concerned (no_thread is of) stays notes =
-      subst (λ (a : Answered). Tells a.run m) (sym (answers_none set r e is))
-      (tells_sets change r.stopped of
-      (subst (λ (o : Option ℕ). NotesOn set (step set r e).run.world o does_step
-      (step set r e).reply l m) is notes))
+    tells_concerned : Concerns set r.world e
+        → (says_unchanged (step set r e).reply ≡ true → (step set r e).run.world ≡ r.world)
+        → NotesOn set (step set r e).run.world (thread_of e) does_step (step set r e).reply l m
+        → Tells (step set r e).run m
+    tells_concerned (a_thread t is happens) stays notes =
+        tells_answered t (step set r e) is happens (answers set r t e is) stays
+        (subst (λ (o : Option ℕ). NotesOn set (step set r e).run.world o does_step
+        (step set r e).reply l m) is notes)
+    tells_concerned (no_thread is of) stays notes =
+        subst (λ (a : Answered). Tells a.run m) (sym (answers_none set r e is))
+        (tells_sets change r.stopped of
+        (subst (λ (o : Option ℕ). NotesOn set (step set r e).run.world o does_step
+        (step set r e).reply l m) is notes))
 
 pub noted_tells : (set : Set) (w : World) (e : Event) (u : UseStep) (reply : Reply)
     (l m : LedgerState)
@@ -463,8 +463,8 @@ pub tells_begun : (set : Set) (threads : ℕ) (l : LedgerState)
 tells_begun set threads l uses rows =
     record {
       knows = record {
-            notes = ap (λ (x : UsesState). x.notes) uses;
-            stacks = λ n. ap (λ (x : UsesState). stack_at x n) uses;
-          };
+        notes = ap (λ (x : UsesState). x.notes) uses;
+        stacks = λ n. ap (λ (x : UsesState). stack_at x n) uses;
+      };
       rows = rows ∙ empty_rows threads;
     }

@@ -2,8 +2,12 @@
 -- in a ring, and uses of stack locations that were returned from otherwise than they were marked.
 use Rattle.std.specs.Prelude.{ℕ, ◌≡◌, ◌++◌, ◌&&◌, not, zero, suc, Bool, List, [], ◌∷◌, length, nat_eq, if◌then◌else◌}
 use Rattle.model.specs.declared.limits.TheConstants.{MAX_THREADS}
+use Rattle.model.specs.declared.event.Event.{Event}
+use Rattle.model.specs.Run.{run}
 use Rattle.model.specs.Set.{Set}
+use Rattle.model.specs.Sound.{IsSound}
 use Rattle.model.specs.Trace.{Entry, Serving}
+use Rattle.model.specs.Typable.{IsTypable}
 use Rattle.model.specs.World.{World}
 use Rattle.audit.specs.declared.findings.Findings.{Findings}
 use Rattle.audit.specs.declared.left.LeftLock.{LeftLock}
@@ -36,11 +40,21 @@ has_findings set w past =
     any_of (lost_packets w) (left_locks w (length set.devices)) (ringed_threads set w)
     (disagreeing past (uses_of past))
 
--- these are all that there is to find, in a world and in the runs that a ledger tells; and no use
--- disagrees, if one of those is of an accepted set
+-- a world is that of a run of an accepted set
+pub record IsOfAccepted (set : Set) (w : World) : Type 0 where
+  pub typable : IsTypable set
+  pub sound : IsSound set
+  pub threads : ℕ
+  pub events : List Event
+  pub of : w ≡ (run set threads events).world
+
+-- these are all that there is to find, in a world and in the runs that a ledger tells; where the set
+-- is accepted no packet is lost, no lock is left behind and no use disagrees
 pub record AreFindings (set : Set) (w : World) (l : LedgerState) (found : Findings) : Type 0 where
   pub lost : found.lost.items ≡ lost_packets w
   pub left : found.left.items ≡ left_locks w (length set.devices)
   pub ringed : found.ringed.items ≡ ringed_threads set w
   pub disagreeing : Disagreeing l found.disagreeing.items
-  pub accepted : NoneIfAccepted l found.disagreeing.items
+  pub none_lost : IsOfAccepted set w → found.lost.items ≡ []
+  pub none_left : IsOfAccepted set w → found.left.items ≡ []
+  pub none_disagree : NoneIfAccepted l found.disagreeing.items

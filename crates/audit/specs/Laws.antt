@@ -1,5 +1,5 @@
 -- Laws of the audit.
-use Rattle.std.specs.Prelude.{ℕ, ◌≡◌, ◌↔◌, List, [], IsSome}
+use Rattle.std.specs.Prelude.{ℕ, ◌≡◌, ◌↔◌, List, [], length, IsSome}
 use Rattle.model.specs.declared.event.Event.{Event}
 use Rattle.model.specs.declared.event.Event.TheVariants.{Issue, Cancel as CancelEvent, Interrupt, Dpc as DpcEvent, StartIo as StartIoEvent}
 use Rattle.model.specs.declared.event.Reply.TheVariants.{Refused}
@@ -10,6 +10,7 @@ use Rattle.model.specs.Set.{Set}
 use Rattle.model.specs.Sound.{IsSound}
 use Rattle.model.specs.Typable.{IsTypable}
 use Rattle.model.specs.World.{World}
+use Rattle.audit.specs.Left.{left_locks}
 use Rattle.audit.specs.Naming.{lost_packets}
 use Rattle.audit.specs.Refusal.{why_refused}
 
@@ -18,6 +19,12 @@ abbrev pub AcceptedRunsLoseNoPacket : Type 0
 AcceptedRunsLoseNoPacket =
     (set : Set) → IsTypable set → IsSound set → (threads : ℕ) (events : List Event)
     → lost_packets (run set threads events).world ≡ []
+
+-- nor leaves a lock behind: no idle thread owns one
+abbrev pub AcceptedRunsLeaveNoLock : Type 0
+AcceptedRunsLeaveNoLock =
+    (set : Set) → IsTypable set → IsSound set → (threads : ℕ) (events : List Event)
+    → left_locks (run set threads events).world (length set.devices) ≡ []
 
 -- an event is refused exactly where there is a reason
 abbrev pub HasReason : Set → World → Event → Type 0

@@ -3,6 +3,7 @@
 ghost use Rattle.std.specs.Prelude.{◌≡◌, ◌++◌, IfOk, OnOk};
 ghost use Rattle.audit.specs.Findings.{AreFindings, any_of, ring_at, ringed_threads};
 
+use crate::laws::{accepted_runs_leave_no_lock, accepted_runs_lose_no_packet};
 use crate::ledger::Ledger;
 use crate::left::{LeftLock, left_locks};
 use crate::naming::lost_packets;
@@ -34,11 +35,17 @@ impl Findings {
     pub fn of(alloc: Global, machine: &Checked, ledger: &Ledger) -> Result<Findings, AllocError>
         ensures { IfOk result (AreFindings machine.now.set machine.now.world ledger.now) }
     {
+        accepted_runs_lose_no_packet();
+        accepted_runs_leave_no_lock();
+        let lost = lost_packets(alloc, machine)?;
+        let left = left_locks(alloc, machine)?;
+        let ringed = ringed_threads(alloc, machine)?;
+        let disagreeing = ledger.disagreeing(alloc)?;
         Ok(Findings {
-            lost: lost_packets(alloc, machine)?,
-            left: left_locks(alloc, machine)?,
-            ringed: ringed_threads(alloc, machine)?,
-            disagreeing: ledger.disagreeing(alloc)?,
+            lost,
+            left,
+            ringed,
+            disagreeing,
         })
     }
 

@@ -1,6 +1,6 @@
 //! Laws of the audit. Nothing runs here.
 
-ghost use Rattle.audit.specs.Laws.{AcceptedRunsLoseNoPacket, RefusalsHaveReasons};
+ghost use Rattle.audit.specs.Laws.{AcceptedRunsLeaveNoLock, AcceptedRunsLoseNoPacket, RefusalsHaveReasons};
 ghost use Rattle.audit.specs.Pending.{AcceptedRunsShowNoDisagreement, AgreementTells};
 
 use run_laws::{packets_have_one_holder, pending_returns_agree};
@@ -11,6 +11,11 @@ pub fn accepted_runs_lose_no_packet()
 {
     packets_have_one_holder();
 }
+
+/// No run of an accepted set leaves a lock behind: no idle thread owns one.
+pub fn accepted_runs_leave_no_lock()
+    ensures { AcceptedRunsLeaveNoLock }
+{}
 
 /// An event that is no step of a thread is refused, in any world, exactly where there is a reason.
 pub fn refusals_have_reasons()

@@ -365,7 +365,10 @@ impl Ledger {
 
     /// What is known of a use.
     pub fn note_of(&self, location_use: LocationUse) -> Option<Note> {
-        self.known.notes().get(location_use.number() as usize).copied()
+        self.known
+            .notes()
+            .get(location_use.number() as usize)
+            .copied()
     }
 
     /// The uses that were returned from otherwise than they were marked when completion left them,

@@ -289,7 +289,11 @@ impl Uses {
         ensures { result ≡ note_of_packet packet (slice_get self.now.notes number) }
     {
         let note = *self.note_list.get(number as usize)?;
-        if packet == note.packet { Some(note) } else { None }
+        if packet == note.packet {
+            Some(note)
+        } else {
+            None
+        }
     }
 
     /// The current location of a packet is marked.

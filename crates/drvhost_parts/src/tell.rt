@@ -24,7 +24,8 @@ pub enum Detail {
 /// line of the trace with words behind it, and then an audit of what the run has left. Where
 /// verification is required, a refused set isn't run, and what is written is the line of its
 /// refusal. The answer is the exit status: that of the trace, but 1 also where the audit finds a
-/// packet that no place names, a lock that an idle thread owns, or threads that wait in a ring.
+/// packet that no place names, a lock that an idle thread owns, threads that wait in a ring, or a
+/// stack location that was returned from otherwise than it was marked.
 /// Faults are told on the error writer, in the order of the trace. Nothing is written before the
 /// whole text stands in memory.
 pub fn tell<S: Source, P: Source, O: Sink, E: Sink>(

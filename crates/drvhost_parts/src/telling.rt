@@ -68,7 +68,9 @@ pub(crate) fn tell_run(
     let mut text = Vec::new(alloc);
     let stopped = tell_events(&mut carried, machine, schedule, detail, lines, &mut text)?;
     let found = Findings::of(alloc, machine, &carried.ledger)?;
-    carried.teller.tell_audit(alloc, machine, &found, &carried.ledger)?;
+    carried
+        .teller
+        .tell_audit(alloc, machine, &found, &carried.ledger)?;
     add_audit(carried.teller.words(), &mut text)?;
     Ok(Told {
         text,
@@ -171,7 +173,9 @@ fn tell_event(
     let moment = Moment::before(machine, event);
     let step = use_step(machine, event);
     let reply = machine.apply(event);
-    carried.ledger.note(carried.alloc, step, event, &reply, machine)?;
+    carried
+        .ledger
+        .note(carried.alloc, step, event, &reply, machine)?;
     carried.teller.note(&moment, step, event, &reply, machine)?;
     let happened = Happened {
         event: *event,

@@ -63,7 +63,10 @@ pub(crate) fn add_note(words: &mut String, note: &Note) -> Result<(), AllocError
     match note.returned_other {
         Some(status) if note.left_marked => {
             let name = status_name(status);
-            write!(words, ": {name} was returned, and completion left it marked")
+            write!(
+                words,
+                ": {name} was returned, and completion left it marked"
+            )
         }
         _ => Ok(()),
     }
