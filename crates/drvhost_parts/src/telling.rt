@@ -1,14 +1,14 @@
 //! Runs that are told in words.
 
-ghost use Rattle.std.specs.Prelude.{◌≡◌, ◌+◌, ◌++◌, ◌∷◌, ◌<◌, ◌≤◌, ◌^◌, ◌||◌, List, ℕ, [], IfOk, IfSome, MatchOption, OnOk, codes, if◌then◌else◌};
+ghost use Rattle.std.specs.Prelude.{◌≡◌, ◌+◌, ◌++◌, ◌∷◌, ◌<◌, ◌≤◌, ◌^◌, ◌||◌, List, ℕ, [], IfOk, IfSome, MatchOption, OnOk, codes, if◌then◌else◌, replicate};
 ghost use Rattle.interleave.specs.Listing.{IsWithinLimits};
 ghost use Rattle.model.specs.Machine.{AppliesWhole, ShowsWhole};
 ghost use Rattle.drvhost_parts.specs.Answer.{ended};
 ghost use Rattle.drvhost_parts.specs.Repeats.{awaited};
-ghost use Rattle.drvhost_parts.specs.Told.{HasTold, IsRunTold, is_left_out, reply_head, told_line};
+ghost use Rattle.drvhost_parts.specs.Told.{HasTold, IsRunTold, IsTold, happens_again, is_left_out, left_again, reply_head, times_again, told_line};
 
 use crate::fault::End;
-use crate::follow::{is_last, next_run, next_single, rest_of};
+use crate::follow::{is_last, next_run, rest_of};
 use crate::tell::Detail;
 use audit::findings::Findings;
 use checked::Checked;
@@ -18,6 +18,7 @@ use interleave::schedule::Schedule;
 use model::event::{Event, Reply};
 use report::event_number::EventNumber;
 use report::lines::Lines;
+use run_laws::waiting_changes_nothing;
 use std::alloc::{AllocError, Global};
 use told::{Moment, Teller};
 
@@ -84,11 +85,12 @@ fn tell_events(
     ensures { IfOk result (λ stopped. HasTold detail machine.old.set schedule.now.threads
         schedule.now.events machine.new.set machine.new.world stopped text.new.items) }
 {
+    waiting_changes_nothing();
     let mut number = EventNumber::first();
     let mut upcoming = schedule.events.upcoming();
     let mut rest = None;
     while let Some(next) = next_event(rest, &mut upcoming) {
-        let reply = tell_event(
+        let happened = tell_event(
             teller,
             machine,
             &mut number,
@@ -97,10 +99,19 @@ fn tell_events(
             lines,
             text,
         )?;
-        if is_last(&reply) {
+        if is_last(&happened.reply) {
             return Ok(true);
         }
-        rest = next.rest;
+        rest = tell_rest(
+            teller,
+            machine,
+            &mut number,
+            &happened,
+            next.rest,
+            detail,
+            lines,
+            text,
+        )?;
     }
     Ok(false)
 }
@@ -118,9 +129,12 @@ pub(crate) fn next_event(rest: Option<Repeated>, upcoming: &mut Upcoming<'_>) ->
     ensures next { MatchOption result (awaited rest upcoming.old ≡ []) (λ next.
         awaited rest upcoming.old ≡ next.event ∷ awaited next.rest upcoming.new) }
     ensures some { IfSome result (λ next. IfSome next.rest (λ run. 1 ≤ run.count)) }
+    ensures equal { IfSome result (λ next. IfSome next.rest (λ run. run.event ≡ next.event)) }
 {
-    if let Some(event) = next_single(&rest, upcoming) {
-        return Some(Next { event, rest });
+    if rest.is_none() {
+        if let Some(event) = upcoming.next_single() {
+            return Some(Next { event, rest: None });
+        }
     }
     let Repeated { event, count } = next_run(rest, upcoming)?;
     Some(Next {
@@ -138,12 +152,13 @@ fn tell_event(
     detail: Detail,
     lines: &mut Lines,
     text: &mut Vec<u8>,
-) -> Result<Reply, AllocError>
+) -> Result<Happened, AllocError>
     requires { number.old + 1 < 2 ^ 64 }
     ensures number { OnOk result (number.new ≡ number.old + 1) }
-    ensures applied { IfOk result (λ reply. AppliesWhole machine.old event.now machine.new reply) }
-    ensures told { IfOk result (λ reply. (words : List ℕ) × (text.new.items
-        ≡ text.old.items ++ told_line detail number.old reply words)) }
+    ensures applied { IfOk result (λ happened.
+        AppliesWhole machine.old event.now machine.new happened.reply) }
+    ensures told { IfOk result (λ happened. (words : List ℕ) × (text.new.items
+        ≡ text.old.items ++ told_line detail number.old happened.reply words)) }
 {
     let moment = Moment::before(machine, event);
     let reply = machine.apply(event);
@@ -153,9 +168,9 @@ fn tell_event(
         moment,
         reply,
     };
-    add_event(teller, machine, number, &happened, detail, lines, text)?;
+    add_event(teller, machine, number, &happened, Turn::First, detail, lines, text)?;
     number.advance();
-    Ok(reply)
+    Ok(happened)
 }
 
 /// An event that has happened, and what is told of it as it was before.
@@ -166,12 +181,74 @@ struct Happened {
     reply: Reply,
 }
 
+/// Whether an event is told for the first time, or again as it was told last.
+#[derive(Clone, Copy)]
+enum Turn {
+    First,
+    Again,
+}
+
+/// Tells what is left of a run of equal events behind one that happened, if that waited or found
+/// nothing to do, so that the others do the same. Answers what is left to be run.
+fn tell_rest(
+    teller: &mut Teller<'_>,
+    machine: &Checked,
+    number: &mut EventNumber,
+    happened: &Happened,
+    rest: Option<Repeated>,
+    detail: Detail,
+    lines: &mut Lines,
+    text: &mut Vec<u8>,
+) -> Result<Option<Repeated>, AllocError>
+    requires { number.old + times_again happened.now.reply rest < 2 ^ 64 }
+    ensures number { OnOk result
+        (number.new ≡ number.old + times_again happened.now.reply rest) }
+    ensures left { IfOk result (λ left. left ≡ left_again happened.now.reply rest) }
+    ensures told { OnOk result ((added : List ℕ) × (text.new.items ≡ text.old.items ++ added)
+        × IsTold detail number.old
+        (replicate (times_again happened.now.reply rest) happened.now.reply) added) }
+{
+    let Some(Repeated { event: _, count }) = rest else {
+        return Ok(rest);
+    };
+    if !happens_again(&happened.reply) {
+        return Ok(rest);
+    }
+    tell_again(teller, machine, number, happened, count, detail, lines, text)?;
+    Ok(None)
+}
+
+/// Tells an event that happened so many times more.
+fn tell_again(
+    teller: &mut Teller<'_>,
+    machine: &Checked,
+    number: &mut EventNumber,
+    happened: &Happened,
+    count: usize,
+    detail: Detail,
+    lines: &mut Lines,
+    text: &mut Vec<u8>,
+) -> Result<(), AllocError>
+    requires { number.old + count < 2 ^ 64 }
+    ensures number { OnOk result (number.new ≡ number.old + count) }
+    ensures told { OnOk result ((added : List ℕ) × (text.new.items ≡ text.old.items ++ added)
+        × IsTold detail number.old (replicate count happened.now.reply) added) }
+{
+    teller.pass(count as u64);
+    for _ in 0..count {
+        add_event(teller, machine, number, happened, Turn::Again, detail, lines, text)?;
+        number.advance();
+    }
+    Ok(())
+}
+
 /// Adds what is told of an event: a line, unless it is left out.
 fn add_event(
     teller: &mut Teller<'_>,
     machine: &Checked,
     number: &mut EventNumber,
     happened: &Happened,
+    turn: Turn,
     detail: Detail,
     lines: &mut Lines,
     text: &mut Vec<u8>,
@@ -184,16 +261,25 @@ fn add_event(
         return Ok(());
     }
     let head = head_of(number, &happened.reply, lines);
-    let moment = &happened.moment;
-    teller.tell(
-        head.len(),
-        &happened.event,
-        moment,
-        &happened.reply,
-        machine,
-    )?;
+    make_words(teller, machine, happened, turn, head.len())?;
     add_line(head, teller.words(), text)?;
     Ok(())
+}
+
+/// Makes the words of an event behind so many bytes: those that were made last, where it is told
+/// again behind as many.
+fn make_words(
+    teller: &mut Teller<'_>,
+    machine: &Checked,
+    happened: &Happened,
+    turn: Turn,
+    head: usize,
+) -> Result<(), AllocError> {
+    if matches!(turn, Turn::Again) && teller.is_behind(head) {
+        return Ok(());
+    }
+    let moment = &happened.moment;
+    teller.tell(head, &happened.event, moment, &happened.reply, machine)
 }
 
 /// The line of the trace for an event, without its end.
@@ -236,4 +322,11 @@ fn is_left_out(detail: Detail, reply: &Reply) -> bool
         Detail::Whole => false,
         Detail::Quiet => matches!(reply, Reply::Stepped | Reply::Idle),
     }
+}
+
+/// Whether an event that has this reply has it again where it happens again, and does nothing.
+fn happens_again(reply: &Reply) -> bool
+    ensures { result ≡ happens_again reply.now }
+{
+    matches!(reply, Reply::Waited | Reply::Idle)
 }

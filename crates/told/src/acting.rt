@@ -86,12 +86,12 @@ fn packet_by(machine: &Checked, a: &Activation, instr: &Instr) -> Option<u64>
 }
 
 /// The packet that the next step of a frame is about which stands at this instruction.
-fn packet_at(machine: &Checked, frame: &Frame, instruction: Option<Instr>) -> Option<u64>
-    ensures { result ≡ packet_at machine.now.world.shared frame.now instruction }
+fn packet_at(machine: &Checked, frame: &Frame, instruction: &Option<Instr>) -> Option<u64>
+    ensures { result ≡ packet_at machine.now.world.shared frame.now instruction.now }
 {
     if let Some(a) = frame.activation() {
         return match instruction {
-            Some(instr) => packet_by(machine, a, &instr),
+            Some(instr) => packet_by(machine, a, instr),
             None => None,
         };
     }
@@ -106,10 +106,11 @@ fn acting_by(machine: &Checked, frame: &Frame) -> Acting
     ensures { result ≡ acting_by machine.now.set machine.now.world frame.now }
 {
     let instruction = instruction_of(machine.set(), frame);
+    let packet = packet_at(machine, frame, &instruction);
     Acting {
         frame: frame.view(),
         instruction,
-        packet: packet_at(machine, frame, instruction),
+        packet,
     }
 }
 

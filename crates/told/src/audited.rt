@@ -40,6 +40,11 @@ impl Audited {
         }
     }
 
+    /// Passes so many events.
+    pub(crate) fn pass(&mut self, events: u64) {
+        self.events = self.events.wrapping_add(events);
+    }
+
     /// Notes the reply to the next event.
     pub(crate) fn note(&mut self, moment: &Moment, reply: &Reply) -> Result<(), AllocError> {
         let number = self.events;

@@ -29,10 +29,10 @@ struct DriverPage<'a> {
 impl DriverPage<'_> {
     /// Notes the place of an instruction of the last routine.
     fn note_place(&mut self, place: Place) -> Result<(), AllocError> {
-        match self.places.last_mut() {
-            Some(places) => places.push(place),
-            None => Ok(()),
+        if let Some(places) = self.places.last_mut() {
+            places.push(place)?;
         }
+        Ok(())
     }
 }
 

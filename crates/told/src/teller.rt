@@ -16,6 +16,8 @@ pub struct Teller<'a> {
     book: Book<'a>,
     audited: Audited,
     words: String,
+    /// How many bytes stand before these words.
+    head: usize,
     /// What the last event changed.
     change: String,
 }
@@ -31,6 +33,7 @@ impl<'a> Teller<'a> {
             book: Book::of(alloc, text)?,
             audited: Audited::new(alloc),
             words: String::new(alloc),
+            head: 0,
             change: String::new(alloc),
         })
     }
@@ -42,6 +45,16 @@ impl<'a> Teller<'a> {
     /// When memory runs out.
     pub fn note(&mut self, moment: &Moment, reply: &Reply) -> Result<(), AllocError> {
         self.audited.note(moment, reply)
+    }
+
+    /// Notes so many events more, of which there is nothing to note.
+    pub fn pass(&mut self, events: u64) {
+        self.audited.pass(events);
+    }
+
+    /// Whether the words that were made last stand behind so many bytes.
+    pub fn is_behind(&self, head: usize) -> bool {
+        self.head == head
     }
 
     /// Makes the words that stand behind an event's number and its reply, which are so many bytes:
@@ -61,6 +74,7 @@ impl<'a> Teller<'a> {
         self.change.clear();
         add_change(&mut self.change, &self.book, event, moment, reply, machine)?;
         self.words.clear();
+        self.head = head;
         let change = self.change.as_str();
         add_event(
             &mut self.words,
