@@ -42,7 +42,7 @@ use Rattle.drvhost_parts.specs.declared.verification.Verification.{Verification}
 use Rattle.drvhost_parts.specs.Ends.{HoldsRun}
 use Rattle.drvhost_parts.specs.Fault.{Goes, ReadsSchedule, ReadsSet}
 use Rattle.drvhost_parts.specs.Repeats.{awaited}
-use Rattle.drvhost_parts.specs.Told.{HasTold, IsRunShown, IsRunTold, IsScheduleShown, IsShownRunOf, IsTold, Tells, happens_again, is_left_out, left_again, replies_by, reply_head, run_to_end, times_again, told_end, told_line, world_by}
+use Rattle.drvhost_parts.specs.Told.{HasTold, IsRunShown, IsRunTold, IsScheduleShown, IsShownRunOf, IsTold, Tells, count_left, happens_again, is_left_out, left_again, replies_by, reply_head, run_to_end, times_again, told_end, told_line, world_by}
 use Rattle.drvhost_parts.proofs.Following.{counted, run_more}
 use Rattle.drvhost_parts.proofs.Writing.{keeps_same}
 
@@ -283,6 +283,18 @@ module _ (detail : Detail) (set : Set) (threads : ℕ) (events : List Event) (m 
       (subst (λ (x : List ℕ). Telling detail set threads events n (number + 1 + 1 + count) rest x)
       whole all)
 
+-- what is left of a run of equal events
+left_events : (e : Event) (rest : Option Repeated) (later : List Event)
+    → IfSome rest (λ run. run.event ≡ e)
+    → awaited rest later ≡ replicate (count_left rest) e ++ later
+left_events e None later equal = refl
+left_events e (Some run) later equal = ap (λ (x : Event). replicate run.count x ++ later) equal
+
+left_length : (rest : Option Repeated) (later : List Event)
+    → count_left rest + length later ≡ length (awaited rest later)
+left_length None later = refl
+left_length (Some run) later = sym (counted run.count run.event later)
+
 -- an event is told, and those behind it that are told again
 pub telling_rest : (detail : Detail) (set : Set) (threads : ℕ) (events : List Event) (m n : Machine)
     (number : ℕ) (e : Event) (rest : Option Repeated) (later : List Event)
@@ -294,39 +306,35 @@ pub telling_rest : (detail : Detail) (set : Set) (threads : ℕ) (events : List 
     → IsTold detail (number + 1) (replicate (times_again reply rest) reply) added
     → Telling detail set threads events n (number + 1 + times_again reply rest)
     (awaited (left_again reply rest) later) (more ++ added)
-telling_rest detail set threads events m n number e None later text more words added reply t ran law
+telling_rest detail set threads events m n number e rest later text more words added reply t ran law
     on equal is told =
-    let whole : more ++ added ≡ text ++ told_line detail number reply words =
-    ap (λ x. more ++ x) told ∙ append-nil more ∙ is in
-    telling_on detail set threads events m n number e later text (more ++ added) words reply t ran
-    whole on
-telling_rest detail set threads events m n number e (Some run) later text more words added reply t ran
-    law on equal is told =
+    let line = told_line detail number reply words in
     elim (cases_Bool (happens_again reply)) [
-      | inl again ↦ (let line = told_line detail number reply words in
-          let counted : IsTold detail (number + 1) (replicate run.count reply) added =
+      | inl again ↦ (let counted : IsTold detail (number + 1) (replicate (count_left rest) reply)
+          added =
           subst (λ (b : Bool). IsTold detail (number + 1)
-          (replicate (if b then run.count else 0) reply) added) again told in
+          (replicate (if b then count_left rest else 0) reply) added) again told in
           let awaits : Telling detail set threads events m number
-          (e ∷ (replicate run.count e ++ later)) text =
-          subst (λ (x : Event). Telling detail set threads events m number
-          (e ∷ (replicate run.count x ++ later)) text) equal t in
-          let all : Telling detail set threads events n (number + 1 + run.count) later
+          (e ∷ (replicate (count_left rest) e ++ later)) text =
+          subst (λ (x : List Event). Telling detail set threads events m number (e ∷ x) text)
+          (left_events e rest later equal) t in
+          let all : Telling detail set threads events n (number + 1 + count_left rest) later
           (text ++ (line ++ added)) =
           telling_more detail set threads events m n e reply ran law (unchanged_again reply again)
-          on run.count number later text (line ++ added) awaits (words, (added, refl, counted)) in
+          on (count_left rest) number later text (line ++ added) awaits
+          (words, (added, refl, counted)) in
           let whole : text ++ (line ++ added) ≡ more ++ added =
           sym (append_assoc text line added) ∙ ap (λ x. x ++ added) (sym is) in
           rw again
-          (subst (λ (x : List ℕ). Telling detail set threads events n (number + 1 + run.count) later
-          x) whole all))
+          (subst (λ (x : List ℕ). Telling detail set threads events n
+          (number + 1 + count_left rest) later x) whole all))
       | inr other ↦ (let none : added ≡ [] =
           subst (λ (b : Bool). IsTold detail (number + 1)
-          (replicate (if b then run.count else 0) reply) added) other told in
-          let whole : more ++ added ≡ text ++ told_line detail number reply words =
+          (replicate (if b then count_left rest else 0) reply) added) other told in
+          let whole : more ++ added ≡ text ++ line =
           ap (λ x. more ++ x) none ∙ append-nil more ∙ is in
           rw other
-          (telling_on detail set threads events m n number e (awaited (Some run) later) text
+          (telling_on detail set threads events m n number e (awaited rest later) text
           (more ++ added) words reply t ran whole on))
     ]
 
@@ -334,29 +342,19 @@ telling_rest detail set threads events m n number e (Some run) later text more w
 pub rest_length : (reply : Reply) (rest : Option Repeated) (later : List Event)
     → times_again reply rest + length (awaited (left_again reply rest) later)
     ≡ length (awaited rest later)
-rest_length reply None later = refl
-rest_length reply (Some run) later =
+rest_length reply rest later =
     elim (cases_Bool (happens_again reply)) [
-      | inl again ↦ rw again (sym (counted run.count run.event later))
+      | inl again ↦ rw again (left_length rest later)
       | inr other ↦ rw other refl
     ]
 
 pub left_some : (reply : Reply) (rest : Option Repeated) → IfSome rest (λ run. 1 ≤ run.count)
     → IfSome (left_again reply rest) (λ run. 1 ≤ run.count)
-left_some reply None some = tt
-left_some reply (Some run) some =
+left_some reply rest some =
     elim (cases_Bool (happens_again reply)) [
       | inl again ↦ rw again tt
       | inr other ↦ rw other some
     ]
-
--- nothing is told again
-pub none_again : (detail : Detail) (number : ℕ) (reply : Reply) (rest : Option Repeated)
-    (text : List ℕ) → times_again reply rest ≡ 0
-    → (added : List ℕ) × (text ≡ text ++ added)
-    × IsTold detail number (replicate (times_again reply rest) reply) added
-none_again detail number reply rest text none =
-    ([], (sym (append-nil text), rw none refl))
 
 -- one more of the same
 pub told_again : (detail : Detail) (count number : ℕ) (reply : Reply) (added words : List ℕ)

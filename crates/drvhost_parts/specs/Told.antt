@@ -78,13 +78,15 @@ happens_again (Bug bug) = false
 happens_again (Wrong place) = false
 
 -- how often it is told again of what is left of a run, and what is left to be run then
+abbrev pub count_left : Option Repeated → ℕ
+count_left None = 0
+count_left (Some run) = run.count
+
 abbrev pub times_again : Reply → Option Repeated → ℕ
-times_again reply None = 0
-times_again reply (Some run) = if happens_again reply then run.count else 0
+times_again reply rest = if happens_again reply then count_left rest else 0
 
 abbrev pub left_again : Reply → Option Repeated → Option Repeated
-left_again reply None = None
-left_again reply (Some run) = if happens_again reply then None else Some run
+left_again reply rest = if happens_again reply then None else rest
 
 -- a run after these events, or after the first of them that stops it
 abbrev pub run_to_end : Set → Run → List Event → Run

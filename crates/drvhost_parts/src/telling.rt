@@ -168,7 +168,16 @@ fn tell_event(
         moment,
         reply,
     };
-    add_event(teller, machine, number, &happened, Turn::First, detail, lines, text)?;
+    add_event(
+        teller,
+        machine,
+        number,
+        &happened,
+        Turn::First,
+        detail,
+        lines,
+        text,
+    )?;
     number.advance();
     Ok(happened)
 }
@@ -208,14 +217,31 @@ fn tell_rest(
         × IsTold detail number.old
         (replicate (times_again happened.now.reply rest) happened.now.reply) added) }
 {
-    let Some(Repeated { event: _, count }) = rest else {
-        return Ok(rest);
-    };
-    if !happens_again(&happened.reply) {
-        return Ok(rest);
+    let count = times_again(&happened.reply, &rest);
+    tell_again(
+        teller, machine, number, happened, count, detail, lines, text,
+    )?;
+    Ok(left_again(&happened.reply, rest))
+}
+
+/// How often an event that has this reply is told again of what is left of its run.
+fn times_again(reply: &Reply, rest: &Option<Repeated>) -> usize
+    ensures { result ≡ times_again reply.now rest.now }
+{
+    if !happens_again(reply) {
+        return 0;
     }
-    tell_again(teller, machine, number, happened, count, detail, lines, text)?;
-    Ok(None)
+    match rest {
+        Some(run) => run.count,
+        None => 0,
+    }
+}
+
+/// What is left to be run then.
+fn left_again(reply: &Reply, rest: Option<Repeated>) -> Option<Repeated>
+    ensures { result ≡ left_again reply.now rest }
+{
+    if happens_again(reply) { None } else { rest }
 }
 
 /// Tells an event that happened so many times more.
@@ -236,7 +262,16 @@ fn tell_again(
 {
     teller.pass(count as u64);
     for _ in 0..count {
-        add_event(teller, machine, number, happened, Turn::Again, detail, lines, text)?;
+        add_event(
+            teller,
+            machine,
+            number,
+            happened,
+            Turn::Again,
+            detail,
+            lines,
+            text,
+        )?;
         number.advance();
     }
     Ok(())
