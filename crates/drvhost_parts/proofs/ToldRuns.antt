@@ -42,7 +42,7 @@ use Rattle.drvhost_parts.specs.declared.verification.Verification.{Verification}
 use Rattle.drvhost_parts.specs.Ends.{HoldsRun}
 use Rattle.drvhost_parts.specs.Fault.{Goes, ReadsSchedule, ReadsSet}
 use Rattle.drvhost_parts.specs.Repeats.{awaited}
-use Rattle.drvhost_parts.specs.Told.{HasTold, IsRunShown, IsRunTold, IsScheduleShown, IsShownRunOf, IsTold, Tells, count_left, happens_again, is_left_out, left_again, replies_by, reply_head, run_to_end, times_again, told_end, told_line, world_by}
+use Rattle.drvhost_parts.specs.Told.{HasTold, IsRunShown, IsRunTold, IsScheduleShown, IsShownRunOf, IsTold, Tells, ToldNext, count_left, happens_again, is_left_out, left_again, replies_by, reply_head, run_to_end, times_again, told_end, told_line, world_by}
 use Rattle.drvhost_parts.proofs.Following.{counted, run_more}
 use Rattle.drvhost_parts.proofs.Writing.{keeps_same}
 
@@ -244,6 +244,7 @@ module _ (detail : Detail) (set : Set) (threads : ℕ) (events : List Event) (m 
       → Telling detail set threads events m number (e ∷ rest) text
       → more ≡ text ++ told_line detail number reply words
       → Telling detail set threads events m (number + 1) rest more
+  unfolding telling_on
   telling_same number rest text more words t is =
       let next : Telling detail set threads events n (number + 1) rest more =
       telling_on detail set threads events m n number e rest text more words reply t ran is on in
@@ -262,13 +263,15 @@ module _ (detail : Detail) (set : Set) (threads : ℕ) (events : List Event) (m 
       → Telling detail set threads events m number (e ∷ (replicate count e ++ rest)) text
       → IsTold detail number (reply ∷ replicate count reply) added
       → Telling detail set threads events n (number + 1 + count) rest (text ++ added)
-  telling_more zero number rest text added t (words, later, is, none) =
+  telling_more zero number rest text added t (words, (later, is, none)) =
       let line = told_line detail number reply words in
       let whole : text ++ added ≡ text ++ line =
       ap (λ x. text ++ x) (is ∙ ap (λ x. line ++ x) none ∙ append-nil line) in
-      telling_on detail set threads events m n number e rest text (text ++ added) words reply t
-      ran whole on
-  telling_more (suc count) number rest text added t (words, later, is, told) =
+      let numbers : number + 1 ≡ number + 1 + 0 = omega arith in
+      subst (λ (k : ℕ). Telling detail set threads events n k rest (text ++ added)) numbers
+      (telling_on detail set threads events m n number e rest text (text ++ added) words reply t
+      ran whole on)
+  telling_more (suc count) number rest text added t (words, (later, is, told)) =
       let line = told_line detail number reply words in
       let whole : (text ++ line) ++ later ≡ text ++ added =
       append_assoc text line later ∙ ap (λ x. text ++ x) (sym is) in
@@ -288,12 +291,12 @@ left_events : (e : Event) (rest : Option Repeated) (later : List Event)
     → IfSome rest (λ run. run.event ≡ e)
     → awaited rest later ≡ replicate (count_left rest) e ++ later
 left_events e None later equal = refl
-left_events e (Some run) later equal = ap (λ (x : Event). replicate run.count x ++ later) equal
+left_events e (Some left) later equal = ap (λ (x : Event). replicate left.count x ++ later) equal
 
 left_length : (rest : Option Repeated) (later : List Event)
     → count_left rest + length later ≡ length (awaited rest later)
-left_length None later = refl
-left_length (Some run) later = sym (counted run.count run.event later)
+left_length None later = omega arith
+left_length (Some equal) later = sym (counted equal.count equal.event later)
 
 -- an event is told, and those behind it that are told again
 pub telling_rest : (detail : Detail) (set : Set) (threads : ℕ) (events : List Event) (m n : Machine)
@@ -333,9 +336,12 @@ telling_rest detail set threads events m n number e rest later text more words a
           (replicate (if b then count_left rest else 0) reply) added) other told in
           let whole : more ++ added ≡ text ++ line =
           ap (λ x. more ++ x) none ∙ append-nil more ∙ is in
+          let numbers : number + 1 ≡ number + 1 + 0 = omega arith in
           rw other
+          (subst (λ (k : ℕ). Telling detail set threads events n k (awaited rest later)
+          (more ++ added)) numbers
           (telling_on detail set threads events m n number e (awaited rest later) text
-          (more ++ added) words reply t ran whole on))
+          (more ++ added) words reply t ran whole on)))
     ]
 
 -- how many are left, and that a run that is left has an event
@@ -345,7 +351,7 @@ pub rest_length : (reply : Reply) (rest : Option Repeated) (later : List Event)
 rest_length reply rest later =
     elim (cases_Bool (happens_again reply)) [
       | inl again ↦ rw again (left_length rest later)
-      | inr other ↦ rw other refl
+      | inr other ↦ rw other (omega arith)
     ]
 
 pub left_some : (reply : Reply) (rest : Option Repeated) → IfSome rest (λ run. 1 ≤ run.count)
@@ -357,37 +363,91 @@ left_some reply rest some =
     ]
 
 -- one more of the same
-pub told_again : (detail : Detail) (count number : ℕ) (reply : Reply) (added words : List ℕ)
+told_again : (detail : Detail) (count number : ℕ) (reply : Reply) (added words : List ℕ)
     → IsTold detail number (replicate count reply) added
-    → IsTold detail number (replicate (count + 1) reply)
+    → IsTold detail number (replicate (suc count) reply)
     (added ++ told_line detail (number + count) reply words)
 told_again detail zero number reply added words none =
-    let line = told_line detail number reply words in
-    (words, ([], (ap (λ x. x ++ line) none ∙ sym (append-nil line), refl)))
-told_again detail (suc count) number reply added words (first, later, is, told) =
+    let line = told_line detail (number + 0) reply words in
+    let numbers : number + 0 ≡ number = omega arith in
+    let whole : added ++ line ≡ told_line detail number reply words ++ [] =
+    ap (λ x. x ++ line) none ∙ ap (λ k. told_line detail k reply words) numbers
+    ∙ sym (append-nil (told_line detail number reply words)) in
+    (words, ([], whole, refl))
+told_again detail (suc count) number reply added words (first, (later, is, told)) =
     let line = told_line detail number reply first in
     let last = told_line detail (number + 1 + count) reply words in
     let numbers : number + 1 + count ≡ number + suc count = omega arith in
-    let more : IsTold detail (number + 1) (replicate (count + 1) reply) (later ++ last) =
+    let more : IsTold detail (number + 1) (replicate (suc count) reply) (later ++ last) =
     told_again detail count (number + 1) reply later words told in
-    subst (λ (k : ℕ). IsTold detail number (reply ∷ replicate (count + 1) reply)
-    (added ++ told_line detail k reply words)) numbers
-    (first, (later ++ last, (ap (λ x. x ++ last) is ∙ append_assoc line later last, more)))
+    let whole : added ++ last ≡ line ++ (later ++ last) =
+    ap (λ x. x ++ last) is ∙ append_assoc line later last in
+    let all : IsTold detail number (reply ∷ replicate (suc count) reply) (added ++ last) =
+    (first, (later ++ last, whole, more)) in
+    subst (λ (k : ℕ). IsTold detail number (reply ∷ replicate (suc count) reply)
+    (added ++ told_line detail k reply words)) numbers all
 
 -- an event is told once more behind so many of the same
 pub again_more : (detail : Detail) (count number now : ℕ) (reply : Reply)
-    (text before after : List ℕ) → now ≡ number + count
+    (text before beyond : List ℕ) → now ≡ number + count
     → (added : List ℕ) × (before ≡ text ++ added)
     × IsTold detail number (replicate count reply) added
-    → (words : List ℕ) × (after ≡ before ++ told_line detail now reply words)
-    → (added : List ℕ) × (after ≡ text ++ added)
+    → (words : List ℕ) × (beyond ≡ before ++ told_line detail now reply words)
+    → (added : List ℕ) × (beyond ≡ text ++ added)
     × IsTold detail number (replicate (count + 1) reply) added
-again_more detail count number now reply text before after is (added, holds, told) (words, more) =
+again_more detail count number now reply text before beyond is (added, holds, told) (words, more) =
     let line = told_line detail (number + count) reply words in
-    let whole : after ≡ text ++ (added ++ line) =
+    let whole : beyond ≡ text ++ (added ++ line) =
     more ∙ ap (λ n. before ++ told_line detail n reply words) is
     ∙ ap (λ x. x ++ line) holds ∙ append_assoc text added line in
-    (added ++ line, (whole, told_again detail count number reply added words told))
+    let counts : suc count ≡ count + 1 = omega arith in
+    let all : IsTold detail number (replicate (count + 1) reply) (added ++ line) =
+    subst (λ (k : ℕ). IsTold detail number (replicate k reply) (added ++ line)) counts
+    (told_again detail count number reply added words told) in
+    (added ++ line, whole, all)
+
+-- a reply that ends the run isn't told again
+pub last_once : (reply : Reply) → is_last reply ≡ true → happens_again reply ≡ false
+last_once (Bug bug) is = refl
+last_once (Wrong place) is = refl
+last_once (Started packet) is = absurd (false≢true is)
+last_once Stepped is = absurd (false≢true is)
+last_once Finished is = absurd (false≢true is)
+last_once (Topped packet status info) is = absurd (false≢true is)
+last_once Waited is = absurd (false≢true is)
+last_once Idle is = absurd (false≢true is)
+last_once Refused is = absurd (false≢true is)
+
+-- so nothing is told behind it
+pub next_last : (detail : Detail) (number : ℕ) (reply : Reply) (rest : Option Repeated)
+    (text more : List ℕ) → ToldNext detail number reply rest text more → is_last reply ≡ true
+    → (words : List ℕ) × (more ≡ text ++ told_line detail number reply words)
+next_last detail number reply rest text more told is =
+    let none : told.added ≡ [] =
+    subst (λ (b : Bool). IsTold detail (number + 1)
+    (replicate (if b then count_left rest else 0) reply) told.added) (last_once reply is)
+    told.again in
+    let line = told_line detail number reply told.words in
+    (told.words, told.whole ∙ ap (λ x. (text ++ line) ++ x) none ∙ append-nil (text ++ line))
+
+-- and else the run goes on behind it
+pub next_on : (detail : Detail) (set : Set) (threads : ℕ) (events : List Event) (m n : Machine)
+    (number : ℕ) (e : Event) (rest : Option Repeated) (later : List Event)
+    (text more : List ℕ) (reply : Reply)
+    → Telling detail set threads events m number (e ∷ awaited rest later) text
+    → AppliesWhole m e n reply → WaitingChangesNothing → is_last reply ≡ false
+    → IfSome rest (λ run. run.event ≡ e) → ToldNext detail number reply rest text more
+    → Telling detail set threads events n (number + 1 + times_again reply rest)
+    (awaited (left_again reply rest) later) more
+next_on detail set threads events m n number e rest later text more reply t ran law on equal told =
+    let line = told_line detail number reply told.words in
+    let next : Telling detail set threads events n (number + 1 + times_again reply rest)
+    (awaited (left_again reply rest) later) ((text ++ line) ++ told.added) =
+    telling_rest detail set threads events m n number e rest later text (text ++ line) told.words
+    told.added reply t ran law on equal refl told.again in
+    subst (λ (x : List ℕ). Telling detail set threads events n
+    (number + 1 + times_again reply rest) (awaited (left_again reply rest) later) x)
+    (sym told.whole) next
 
 -- a line is told of an event
 pub line_told : (detail : Detail) (number : ℕ) (reply : Reply) (text more head words : List ℕ)

@@ -1,6 +1,6 @@
 -- What `tell` answers: the trace of a run with words behind the reply of each event, and its audit;
 -- and what `draw` does: a picture of the run.
-use Rattle.std.specs.Prelude.{ℕ, ⊤, ◌≡◌, ◌+◌, ◌-◌, ◌++◌, ◌||◌, Bool, true, false, if◌then◌else◌, List, [], ◌∷◌, codes, length, take, Option, None, Some, Result, Ok, Err}
+use Rattle.std.specs.Prelude.{ℕ, ⊤, ◌≡◌, ◌+◌, ◌-◌, ◌++◌, ◌||◌, Bool, true, false, if◌then◌else◌, List, [], ◌∷◌, codes, length, replicate, take, Option, None, Some, Result, Ok, Err}
 use Rattle.std.specs.List.{list_any}
 use Rattle.audit.specs.Findings.{has_findings}
 use Rattle.interleave.specs.declared.read.Repeated.{Repeated}
@@ -87,6 +87,14 @@ times_again reply rest = if happens_again reply then count_left rest else 0
 
 abbrev pub left_again : Reply → Option Repeated → Option Repeated
 left_again reply rest = if happens_again reply then None else rest
+
+-- an event is told, and those behind it that are told again
+pub record ToldNext (detail : Detail) (number : ℕ) (reply : Reply) (rest : Option Repeated)
+    (text more : List ℕ) : Type 0 where
+  pub words : List ℕ
+  pub added : List ℕ
+  pub whole : more ≡ (text ++ told_line detail number reply words) ++ added
+  pub again : IsTold detail (number + 1) (replicate (times_again reply rest) reply) added
 
 -- a run after these events, or after the first of them that stops it
 abbrev pub run_to_end : Set → Run → List Event → Run

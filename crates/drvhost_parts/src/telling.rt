@@ -5,7 +5,7 @@ ghost use Rattle.interleave.specs.Listing.{IsWithinLimits};
 ghost use Rattle.model.specs.Machine.{AppliesWhole, ShowsWhole};
 ghost use Rattle.drvhost_parts.specs.Answer.{ended};
 ghost use Rattle.drvhost_parts.specs.Repeats.{awaited};
-ghost use Rattle.drvhost_parts.specs.Told.{HasTold, IsRunTold, IsTold, happens_again, is_left_out, left_again, reply_head, times_again, told_line};
+ghost use Rattle.drvhost_parts.specs.Told.{HasTold, IsRunTold, IsTold, ToldNext, count_left, happens_again, is_left_out, left_again, reply_head, times_again, told_line};
 
 use crate::fault::End;
 use crate::follow::{is_last, next_run, rest_of};
@@ -90,28 +90,11 @@ fn tell_events(
     let mut upcoming = schedule.events.upcoming();
     let mut rest = None;
     while let Some(next) = next_event(rest, &mut upcoming) {
-        let happened = tell_event(
-            teller,
-            machine,
-            &mut number,
-            &next.event,
-            detail,
-            lines,
-            text,
-        )?;
-        if is_last(&happened.reply) {
+        let answered = tell_next(teller, machine, &mut number, next, detail, lines, text)?;
+        if is_last(&answered.reply) {
             return Ok(true);
         }
-        rest = tell_rest(
-            teller,
-            machine,
-            &mut number,
-            &happened,
-            next.rest,
-            detail,
-            lines,
-            text,
-        )?;
+        rest = answered.rest;
     }
     Ok(false)
 }
@@ -143,28 +126,39 @@ pub(crate) fn next_event(rest: Option<Repeated>, upcoming: &mut Upcoming<'_>) ->
     })
 }
 
-/// Runs an event, and adds what is told of it.
-fn tell_event(
+/// The reply to an event, and what is left to be run of those that are equal to it.
+#[derive(Clone, Copy)]
+struct Answered {
+    reply: Reply,
+    rest: Option<Repeated>,
+}
+
+/// Runs the event that comes next, and adds what is told of it, and of the others of its run where
+/// they do nothing.
+fn tell_next(
     teller: &mut Teller<'_>,
     machine: &mut Checked,
     number: &mut EventNumber,
-    event: &Event,
+    next: Next,
     detail: Detail,
     lines: &mut Lines,
     text: &mut Vec<u8>,
-) -> Result<Happened, AllocError>
-    requires { number.old + 1 < 2 ^ 64 }
-    ensures number { OnOk result (number.new ≡ number.old + 1) }
-    ensures applied { IfOk result (λ happened.
-        AppliesWhole machine.old event.now machine.new happened.reply) }
-    ensures told { IfOk result (λ happened. (words : List ℕ) × (text.new.items
-        ≡ text.old.items ++ told_line detail number.old happened.reply words)) }
+) -> Result<Answered, AllocError>
+    requires { number.old + 1 + count_left next.rest < 2 ^ 64 }
+    ensures number { IfOk result (λ answered.
+        number.new ≡ number.old + 1 + times_again answered.reply next.rest) }
+    ensures applied { IfOk result (λ answered.
+        AppliesWhole machine.old next.event machine.new answered.reply) }
+    ensures rest { IfOk result (λ answered.
+        answered.rest ≡ left_again answered.reply next.rest) }
+    ensures told { IfOk result (λ answered.
+        ToldNext detail number.old answered.reply next.rest text.old.items text.new.items) }
 {
-    let moment = Moment::before(machine, event);
-    let reply = machine.apply(event);
+    let moment = Moment::before(machine, &next.event);
+    let reply = machine.apply(&next.event);
     teller.note(&moment, &reply)?;
     let happened = Happened {
-        event: *event,
+        event: next.event,
         moment,
         reply,
     };
@@ -179,7 +173,14 @@ fn tell_event(
         text,
     )?;
     number.advance();
-    Ok(happened)
+    let count = times_again(&reply, &next.rest);
+    tell_again(
+        teller, machine, number, &happened, count, detail, lines, text,
+    )?;
+    Ok(Answered {
+        reply,
+        rest: left_again(&reply, next.rest),
+    })
 }
 
 /// An event that has happened, and what is told of it as it was before.
@@ -195,33 +196,6 @@ struct Happened {
 enum Turn {
     First,
     Again,
-}
-
-/// Tells what is left of a run of equal events behind one that happened, if that waited or found
-/// nothing to do, so that the others do the same. Answers what is left to be run.
-fn tell_rest(
-    teller: &mut Teller<'_>,
-    machine: &Checked,
-    number: &mut EventNumber,
-    happened: &Happened,
-    rest: Option<Repeated>,
-    detail: Detail,
-    lines: &mut Lines,
-    text: &mut Vec<u8>,
-) -> Result<Option<Repeated>, AllocError>
-    requires { number.old + times_again happened.now.reply rest < 2 ^ 64 }
-    ensures number { OnOk result
-        (number.new ≡ number.old + times_again happened.now.reply rest) }
-    ensures left { IfOk result (λ left. left ≡ left_again happened.now.reply rest) }
-    ensures told { OnOk result ((added : List ℕ) × (text.new.items ≡ text.old.items ++ added)
-        × IsTold detail number.old
-        (replicate (times_again happened.now.reply rest) happened.now.reply) added) }
-{
-    let count = times_again(&happened.reply, &rest);
-    tell_again(
-        teller, machine, number, happened, count, detail, lines, text,
-    )?;
-    Ok(left_again(&happened.reply, rest))
 }
 
 /// How often an event that has this reply is told again of what is left of its run.

@@ -1,4 +1,4 @@
-use Rattle.std.proofs.Common.{◌∙◌, ap, arith, refl, rules, sym}
+use Rattle.std.proofs.Common.{[], arith, refl, rules, sym}
 use Rattle.std.proofs.lemmas.List.{append-nil}
 use Rattle.drvhost_parts.proofs.ToldRuns.{again_more}
 use Rattle.drvhost_parts.proofs.telling.tell_again.Goals as goal
@@ -8,7 +8,7 @@ loop-init c =
     record {
       numbered = omega arith;
       few = omega arith;
-      told = ([], (sym (append-nil _), refl));
+      told = ([], sym (append-nil _), refl);
     }
 
 pub loop-preserved : goal.loop-preserved

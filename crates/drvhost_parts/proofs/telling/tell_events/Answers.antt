@@ -1,6 +1,6 @@
 use Rattle.std.proofs.Common.{◌∙◌, ap, arith, length, sym}
 use Rattle.drvhost_parts.specs.Repeats.{awaited}
-use Rattle.drvhost_parts.proofs.ToldRuns.{left_some, rest_length, telling_first, telling_rest, told_all, told_last}
+use Rattle.drvhost_parts.proofs.ToldRuns.{left_some, next_last, next_on, rest_length, telling_first, told_all, told_last}
 use Rattle.drvhost_parts.proofs.telling.tell_events.Goals as goal
 
 pub loop-next-init : goal.loop-next-init
@@ -16,29 +16,36 @@ loop-next-init c =
 
 pub returns-then-is_last : goal.returns-then-is_last
 returns-then-is_last c =
+    let told = next_last _ _ _ _ _ _ c.in_ok-answered.ensures.told
+    (sym c.is_last.ensures ∙ c.if-is_last.true) in
     told_last _ _ _ _ _ _ _ _ _ _ _ _ _
     (rw c.in-Some.ensures.next at c.loop-next.invariant.telling)
-    c.in_ok-happened.ensures.applied c.in_ok-happened.ensures.told.1
+    c.in_ok-answered.ensures.applied told.1
     (sym c.is_last.ensures ∙ c.if-is_last.true)
 
 pub loop-next-preserved : goal.loop-next-preserved
 loop-next-preserved c =
-    let reply = c.in_ok-happened.result.reply in
-    let left = rest_length reply c.in-Some.next.rest c.next_event.new.upcoming in
+    let reply = c.in_ok-answered.answered.reply in
+    let later = c.in-Some.new.upcoming in
+    let rest = c.in-Some.next.rest in
     record {
       numbered = omega (
         arith,
         c.loop-next.invariant.numbered,
         ap (λ events. length events) c.in-Some.ensures.next,
-        c.in_ok-happened.ensures.number,
-        c.in_ok-tell_rest.ensures.number,
-        left,
-        ap (λ r. length (awaited r c.next_event.new.upcoming)) c.in_ok-tell_rest.ensures.left,
+        c.in_ok-answered.ensures.number,
+        rest_length reply rest later,
+        ap (λ r. length (awaited r later)) c.in_ok-answered.ensures.rest,
       );
       some =
-          rw c.in_ok-tell_rest.ensures.left
-          (left_some reply c.in-Some.next.rest c.in-Some.ensures.some);
-      telling = ?;
+          rw c.in_ok-answered.ensures.rest (left_some reply rest c.in-Some.ensures.some);
+      telling =
+          rw (c.in_ok-answered.ensures.number, c.in_ok-answered.ensures.rest)
+          (next_on _ _ _ _ _ _ _ _ _ _ _ _ _
+          (rw c.in-Some.ensures.next at c.loop-next.invariant.telling)
+          c.in_ok-answered.ensures.applied c.waiting_changes_nothing.ensures
+          (sym c.is_last.ensures ∙ c.if-is_last.false)
+          c.in-Some.ensures.equal c.in_ok-answered.ensures.told);
     }
 
 pub returns : goal.returns
