@@ -345,7 +345,7 @@ telling_rest detail set threads events m n number e rest later text more words a
     ]
 
 -- how many are left, and that a run that is left has an event
-pub rest_length : (reply : Reply) (rest : Option Repeated) (later : List Event)
+rest_length : (reply : Reply) (rest : Option Repeated) (later : List Event)
     → times_again reply rest + length (awaited (left_again reply rest) later)
     ≡ length (awaited rest later)
 rest_length reply rest later =
@@ -353,6 +353,12 @@ rest_length reply rest later =
       | inl again ↦ rw again (left_length rest later)
       | inr other ↦ rw other (omega arith)
     ]
+
+pub length_on : (reply : Reply) (all : List Event) (e : Event) (rest : Option Repeated)
+    (later : List Event) → all ≡ e ∷ awaited rest later
+    → length all ≡ 1 + times_again reply rest + length (awaited (left_again reply rest) later)
+length_on reply all e rest later is =
+    omega (arith, ap (λ (x : List Event). length x) is, rest_length reply rest later)
 
 pub left_some : (reply : Reply) (rest : Option Repeated) → IfSome rest (λ run. 1 ≤ run.count)
     → IfSome (left_again reply rest) (λ run. 1 ≤ run.count)

@@ -1,6 +1,6 @@
 use Rattle.std.proofs.Common.{◌∙◌, ap, arith, length, sym}
 use Rattle.drvhost_parts.specs.Repeats.{awaited}
-use Rattle.drvhost_parts.proofs.ToldRuns.{left_some, next_last, next_on, rest_length, telling_first, told_all, told_last}
+use Rattle.drvhost_parts.proofs.ToldRuns.{left_some, length_on, next_last, next_on, telling_first, told_all, told_last}
 use Rattle.drvhost_parts.proofs.telling.tell_events.Goals as goal
 
 pub loop-next-init : goal.loop-next-init
@@ -26,17 +26,17 @@ returns-then-is_last c =
 pub loop-next-preserved : goal.loop-next-preserved
 loop-next-preserved c =
     let reply = c.in_ok-answered.answered.reply in
-    let later = c.in-Some.new.upcoming in
     let rest = c.in-Some.next.rest in
+    let counted = length_on reply (awaited c.loop-next.rest c.loop-next.upcoming)
+    c.in-Some.next.event rest c.next_event.new.upcoming c.in-Some.ensures.next in
     record {
-      numbered = omega (
-        arith,
-        c.loop-next.invariant.numbered,
-        ap (λ events. length events) c.in-Some.ensures.next,
-        c.in_ok-answered.ensures.number,
-        rest_length reply rest later,
-        ap (λ r. length (awaited r later)) c.in_ok-answered.ensures.rest,
-      );
+      numbered =
+          rw c.in_ok-answered.ensures.rest (omega (
+            arith,
+            c.loop-next.invariant.numbered,
+            counted,
+            c.in_ok-answered.ensures.number,
+          ));
       some =
           rw c.in_ok-answered.ensures.rest (left_some reply rest c.in-Some.ensures.some);
       telling =
