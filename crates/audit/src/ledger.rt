@@ -350,8 +350,9 @@ impl Ledger {
         reply: &Reply,
         machine: &Checked,
     ) -> Result<(), AllocError>
-        ensures { OnOk result (TellsOn machine.now.set machine.now.world event.now step reply.now
-            self.old self.new) }
+        ensures told { OnOk result (TellsOn machine.now.set machine.now.world event.now step
+            reply.now self.old self.new) }
+        ensures kept { says_unchanged reply.now ≡ true → OnOk result (self.new ≡ self.old) }
     {
         let Some(thread) = thread_of(event) else {
             return Ok(());

@@ -1,8 +1,9 @@
 -- How the telling of a run goes on.
-use Rattle.std.proofs.Common.{◌≡◌, ◌∙◌, ℕ, ◌+◌, Bool, true, false, ◌||◌, List, [], ◌∷◌, ◌++◌, ◌⊎◌, inl, inr, Option, Result, Ok, Err, IfErr, IfOk, ◌≢◌, refl, sym, ap, subst, append_assoc, if◌then◌else◌}
+use Rattle.std.proofs.Common.{◌≡◌, ◌∙◌, ℕ, zero, suc, ◌+◌, ◌≤◌, Bool, true, false, ◌||◌, List, [], ◌∷◌, ◌++◌, ◌⊎◌, inl, inr, Option, None, Some, Result, Ok, Err, IfErr, IfOk, ◌≢◌, refl, sym, ap, arith, length, replicate, subst, append_assoc, if◌then◌else◌}
+use Rattle.std.proofs.lemmas.Bool.{cases_Bool, false≢true}
 use Rattle.std.proofs.lemmas.List.{append-nil}
 use Rattle.std.specs.List.{list_any}
-use Rattle.std.specs.Prelude.{codes}
+use Rattle.std.specs.Prelude.{IfSome, codes}
 use Rattle.std.specs.Io.KnownBytes.{Appends}
 use Rattle.audit.specs.declared.findings.Findings.{Findings}
 use Rattle.audit.specs.Acts.{use_step}
@@ -10,18 +11,25 @@ use Rattle.audit.specs.Findings.{AreFindings, any_of, has_findings}
 use Rattle.audit.specs.Ledger.{LedgerState, Tells as TellsRun, TellsOn}
 use Rattle.audit.specs.Left.{left_locks}
 use Rattle.audit.specs.Naming.{lost_packets}
+use Rattle.interleave.specs.declared.read.Repeated.{Repeated}
 use Rattle.interleave.specs.declared.schedule.Schedule.{Schedule}
 use Rattle.interleave.specs.declared.schedule.ScheduleFault.{ScheduleFault}
 use Rattle.model.specs.declared.abs.Refusal.{Refusal}
 use Rattle.model.specs.declared.abs.Rule.TheVariants as Rule
+use Rattle.model.specs.declared.event.Bug.{Bug as BugOf}
 use Rattle.model.specs.declared.event.Event.{Event}
 use Rattle.model.specs.declared.event.Reply.{Reply}
+use Rattle.model.specs.declared.event.Reply.TheVariants.{Started, Stepped, Finished, Topped, Waited, Idle, Refused, Bug, Wrong}
+use Rattle.model.specs.Events.{Change, effect}
+use Rattle.model.specs.Fault.{first_fault}
 use Rattle.model.specs.Machine.{AppliesWhole, Machine, ShowsWhole, reply_to}
-use Rattle.model.specs.Run.{Run, begun, run, step}
+use Rattle.model.specs.Run.{Run, actor_on, answered_on, begun, goes, refused, run, step, thread_of, unless_fault, unless_wrong}
 use Rattle.model.specs.Set.{Set}
+use Rattle.model.specs.Trace.{Entry, recorded}
 use Rattle.model.specs.Typable.{IsFirstFault, at_start}
 use Rattle.model.specs.World.{World}
 use Rattle.report.specs.Fault.{schedule_fault_line}
+use Rattle.run_laws.specs.Waits.{WaitingChangesNothing, says_unchanged}
 use Rattle.report.specs.Verdict.{refusal_line}
 use Rattle.drvhost_parts.specs.declared.fault.End.{End}
 use Rattle.drvhost_parts.specs.declared.fault.End.TheVariants.{Complete, Stopped}
@@ -35,8 +43,9 @@ use Rattle.drvhost_parts.specs.Device.{Supply, TakesBeginning}
 use Rattle.drvhost_parts.specs.declared.verification.Verification.{Verification}
 use Rattle.drvhost_parts.specs.Ends.{HoldsRun}
 use Rattle.drvhost_parts.specs.Fault.{Goes, ReadsSchedule, ReadsSet}
-use Rattle.drvhost_parts.specs.Told.{HasTold, IsRunShown, IsRunTold, IsScheduleShown, IsShownRunOf, IsTold, Tells, is_left_out, past_by, replies_by, reply_head, run_to_end, told_end, told_line, world_by}
-use Rattle.drvhost_parts.proofs.Following.{run_more}
+use Rattle.drvhost_parts.specs.Repeats.{awaited}
+use Rattle.drvhost_parts.specs.Told.{HasTold, IsRunShown, IsRunTold, IsScheduleShown, IsShownRunOf, IsTold, Tells, ToldNext, count_left, happens_again, is_left_out, left_again, past_by, replies_by, reply_head, run_to_end, times_again, told_end, told_line, world_by}
+use Rattle.drvhost_parts.proofs.Following.{counted, run_more}
 use Rattle.drvhost_parts.proofs.Writing.{keeps_same}
 
 -- a machine shows a run of which these events are still to come: what is told of their replies
@@ -179,6 +188,306 @@ module _ (detail : Detail) (set : Set) (threads : ℕ) (events : List Event) (m 
         ends = sym end;
         tells = noted_on;
       }
+
+-- an event that leaves a run's world as it was doesn't stop it either
+module _ (set : Set) (r : Run) where
+  stopped_over : (t : ℕ) (past : List Entry) (c : Change) (over : Bool) → r.stopped ≡ false
+      → (if over then refused r else goes set r t past c).run.stopped ≡ r.stopped
+  stopped_over t past c true is = refl
+  stopped_over t past c false is = sym is
+
+  stopped_wrong : (t : ℕ) (past : List Entry) (c : Change) (reply : Reply) → r.stopped ≡ false
+      → says_unchanged (unless_wrong set r t past c reply).reply ≡ true
+      → (unless_wrong set r t past c reply).run.stopped ≡ r.stopped
+  stopped_wrong t past c (Wrong place) is same = absurd (false≢true same)
+  stopped_wrong t past c (Started packet) is same = stopped_over t past c c.over is
+  stopped_wrong t past c Stepped is same = stopped_over t past c c.over is
+  stopped_wrong t past c Finished is same = stopped_over t past c c.over is
+  stopped_wrong t past c (Topped packet status info) is same = stopped_over t past c c.over is
+  stopped_wrong t past c Waited is same = stopped_over t past c c.over is
+  stopped_wrong t past c Idle is same = stopped_over t past c c.over is
+  stopped_wrong t past c Refused is same = stopped_over t past c c.over is
+  stopped_wrong t past c (Bug bug) is same = stopped_over t past c c.over is
+
+  stopped_fault : (t : ℕ) (past : List Entry) (c : Change) (fault : Option BugOf)
+      → r.stopped ≡ false → says_unchanged (unless_fault set r t past c fault).reply ≡ true
+      → (unless_fault set r t past c fault).run.stopped ≡ r.stopped
+  stopped_fault t past c (Some bug) is same = absurd (false≢true same)
+  stopped_fault t past c None is same = stopped_wrong t past c c.reply is same
+
+  stopped_on : (c : Change) (thread : Option ℕ) → r.stopped ≡ false
+      → says_unchanged (answered_on set r c thread).reply ≡ true
+      → (answered_on set r c thread).run.stopped ≡ r.stopped
+  stopped_on c None is same = refl
+  stopped_on c (Some t) is same =
+      let actor = actor_on r t in
+      stopped_fault actor.thread (recorded r.past actor c.actions) c
+      (first_fault r.past actor c.actions) is same
+
+  stopped_by : (e : Event) (stopped : Bool) → r.stopped ≡ stopped
+      → says_unchanged (if stopped then refused r
+      else answered_on set r (effect set r.world e) (thread_of e)).reply ≡ true
+      → (if stopped then refused r
+      else answered_on set r (effect set r.world e) (thread_of e)).run.stopped ≡ r.stopped
+  stopped_by e true is same = refl
+  stopped_by e false is same = stopped_on (effect set r.world e) (thread_of e) is same
+
+  stopped_same : (e : Event) → says_unchanged (step set r e).reply ≡ true
+      → (step set r e).run.stopped ≡ r.stopped
+  stopped_same e same = stopped_by e r.stopped refl same
+
+-- so a machine that showed the run before it shows the run after it too
+shown_same : (m : Machine) (threads : ℕ) (past : List Event) (e : Event)
+    → WaitingChangesNothing → ShowsWhole m threads past
+    → says_unchanged (reply_to m.set threads past e) ≡ true
+    → ShowsWhole m threads (past ++ e ∷ [])
+shown_same m threads past e law shows same =
+    let more : run m.set threads (past ++ e ∷ []) ≡ (step m.set (run m.set threads past) e).run =
+    run_more m.set (begun m.set threads) past e in
+    record {
+      world = shows.world ∙ sym (law m.set threads past e same);
+      stopped = shows.stopped ∙ sym (stopped_same m.set (run m.set threads past) e same)
+          ∙ sym (ap (λ (r : Run). r.stopped) more);
+    }
+
+unchanged_again : (reply : Reply) → happens_again reply ≡ true → says_unchanged reply ≡ true
+unchanged_again Waited is = refl
+unchanged_again Idle is = refl
+unchanged_again (Started packet) is = absurd (false≢true is)
+unchanged_again Stepped is = absurd (false≢true is)
+unchanged_again Finished is = absurd (false≢true is)
+unchanged_again (Topped packet status info) is = absurd (false≢true is)
+unchanged_again Refused is = absurd (false≢true is)
+unchanged_again (Bug bug) is = absurd (false≢true is)
+unchanged_again (Wrong place) is = absurd (false≢true is)
+
+-- the same event several times in a row
+module _ (detail : Detail) (set : Set) (threads : ℕ) (events : List Event) (m n : Machine)
+    (l k : LedgerState) (e : Event) (reply : Reply) (ran : AppliesWhole m e n reply)
+    (noted : TellsOn n.set n.world e (use_step m.set m.world e) reply l k) (kept : k ≡ l)
+    (law : WaitingChangesNothing) (same : says_unchanged reply ≡ true)
+    (on : is_last reply ≡ false) where
+  -- the machine and the ledger as they were before the event show the run with it
+  telling_same : (number : ℕ) (rest : List Event) (text more words : List ℕ)
+      → Telling detail set threads events m l number (e ∷ rest) text
+      → more ≡ text ++ told_line detail number reply words
+      → Telling detail set threads events m l (number + 1) rest more
+  unfolding telling_on
+  telling_same number rest text more words t is =
+      let next : Telling detail set threads events n k (number + 1) rest more =
+      telling_on detail set threads events m n l k number e rest text more words reply t ran noted
+      is on in
+      let unchanged : says_unchanged (reply_to m.set threads t.past e) ≡ true =
+      ap (λ r. says_unchanged r) (sym (ran.replies threads t.past t.shows)) ∙ same in
+      record {
+        past = t.past ++ e ∷ [];
+        same = t.same;
+        shows = shown_same m threads t.past e law t.shows unchanged;
+        tells = subst (λ (x : LedgerState). TellsRun (run set threads (t.past ++ e ∷ [])) x) kept
+            next.tells;
+        told = next.told;
+        last = next.last;
+        ends = next.ends;
+      }
+
+  telling_more : (count number : ℕ) (rest : List Event) (text added : List ℕ)
+      → Telling detail set threads events m l number (e ∷ (replicate count e ++ rest)) text
+      → IsTold detail number (reply ∷ replicate count reply) added
+      → Telling detail set threads events n k (number + 1 + count) rest (text ++ added)
+  telling_more zero number rest text added t (words, (later, is, none)) =
+      let line = told_line detail number reply words in
+      let whole : text ++ added ≡ text ++ line =
+      ap (λ x. text ++ x) (is ∙ ap (λ x. line ++ x) none ∙ append-nil line) in
+      let numbers : number + 1 ≡ number + 1 + 0 = omega arith in
+      subst (λ (j : ℕ). Telling detail set threads events n k j rest (text ++ added)) numbers
+      (telling_on detail set threads events m n l k number e rest text (text ++ added) words reply
+      t ran noted whole on)
+  telling_more (suc count) number rest text added t (words, (later, is, told)) =
+      let line = told_line detail number reply words in
+      let whole : (text ++ line) ++ later ≡ text ++ added =
+      append_assoc text line later ∙ ap (λ x. text ++ x) (sym is) in
+      let numbers : number + 1 + 1 + count ≡ number + 1 + suc count = omega arith in
+      let next : Telling detail set threads events m l (number + 1)
+      (e ∷ (replicate count e ++ rest)) (text ++ line) =
+      telling_same number (e ∷ (replicate count e ++ rest)) text (text ++ line) words t refl in
+      let all : Telling detail set threads events n k (number + 1 + 1 + count) rest
+      ((text ++ line) ++ later) =
+      telling_more count (number + 1) rest (text ++ line) later next told in
+      subst (λ (j : ℕ). Telling detail set threads events n k j rest (text ++ added)) numbers
+      (subst (λ (x : List ℕ). Telling detail set threads events n k (number + 1 + 1 + count) rest
+      x) whole all)
+
+-- what is left of a run of equal events
+left_events : (e : Event) (rest : Option Repeated) (later : List Event)
+    → IfSome rest (λ run. run.event ≡ e)
+    → awaited rest later ≡ replicate (count_left rest) e ++ later
+left_events e None later equal = refl
+left_events e (Some left) later equal = ap (λ (x : Event). replicate left.count x ++ later) equal
+
+left_length : (rest : Option Repeated) (later : List Event)
+    → count_left rest + length later ≡ length (awaited rest later)
+left_length None later = omega arith
+left_length (Some equal) later = sym (counted equal.count equal.event later)
+
+-- an event is told, and those behind it that are told again
+pub telling_rest : (detail : Detail) (set : Set) (threads : ℕ) (events : List Event) (m n : Machine)
+    (l k : LedgerState) (number : ℕ) (e : Event) (rest : Option Repeated) (later : List Event)
+    (text more words added : List ℕ) (reply : Reply)
+    → Telling detail set threads events m l number (e ∷ awaited rest later) text
+    → AppliesWhole m e n reply → TellsOn n.set n.world e (use_step m.set m.world e) reply l k
+    → (says_unchanged reply ≡ true → k ≡ l) → WaitingChangesNothing → is_last reply ≡ false
+    → IfSome rest (λ run. run.event ≡ e)
+    → more ≡ text ++ told_line detail number reply words
+    → IsTold detail (number + 1) (replicate (times_again reply rest) reply) added
+    → Telling detail set threads events n k (number + 1 + times_again reply rest)
+    (awaited (left_again reply rest) later) (more ++ added)
+telling_rest detail set threads events m n l k number e rest later text more words added reply t
+    ran noted kept law on equal is told =
+    let line = told_line detail number reply words in
+    elim (cases_Bool (happens_again reply)) [
+      | inl again ↦ (let counted : IsTold detail (number + 1) (replicate (count_left rest) reply)
+          added =
+          subst (λ (b : Bool). IsTold detail (number + 1)
+          (replicate (if b then count_left rest else 0) reply) added) again told in
+          let awaits : Telling detail set threads events m l number
+          (e ∷ (replicate (count_left rest) e ++ later)) text =
+          subst (λ (x : List Event). Telling detail set threads events m l number (e ∷ x) text)
+          (left_events e rest later equal) t in
+          let all : Telling detail set threads events n k (number + 1 + count_left rest) later
+          (text ++ (line ++ added)) =
+          telling_more detail set threads events m n l k e reply ran noted
+          (kept (unchanged_again reply again)) law (unchanged_again reply again) on (count_left rest) number later text (line ++ added) awaits
+          (words, (added, refl, counted)) in
+          let whole : text ++ (line ++ added) ≡ more ++ added =
+          sym (append_assoc text line added) ∙ ap (λ x. x ++ added) (sym is) in
+          rw again
+          (subst (λ (x : List ℕ). Telling detail set threads events n k
+          (number + 1 + count_left rest) later x) whole all))
+      | inr other ↦ (let none : added ≡ [] =
+          subst (λ (b : Bool). IsTold detail (number + 1)
+          (replicate (if b then count_left rest else 0) reply) added) other told in
+          let whole : more ++ added ≡ text ++ line =
+          ap (λ x. more ++ x) none ∙ append-nil more ∙ is in
+          let numbers : number + 1 ≡ number + 1 + 0 = omega arith in
+          rw other
+          (subst (λ (j : ℕ). Telling detail set threads events n k j (awaited rest later)
+          (more ++ added)) numbers
+          (telling_on detail set threads events m n l k number e (awaited rest later) text
+          (more ++ added) words reply t ran noted whole on)))
+    ]
+
+-- how many are left, and that a run that is left has an event
+rest_length : (reply : Reply) (rest : Option Repeated) (later : List Event)
+    → times_again reply rest + length (awaited (left_again reply rest) later)
+    ≡ length (awaited rest later)
+rest_length reply rest later =
+    elim (cases_Bool (happens_again reply)) [
+      | inl again ↦ rw again (left_length rest later)
+      | inr other ↦ rw other (omega arith)
+    ]
+
+pub length_on : (reply : Reply) (all : List Event) (e : Event) (rest : Option Repeated)
+    (later : List Event) → all ≡ e ∷ awaited rest later
+    → length all ≡ 1 + times_again reply rest + length (awaited (left_again reply rest) later)
+length_on reply all e rest later is =
+    omega (arith, ap (λ (x : List Event). length x) is, rest_length reply rest later)
+
+pub left_some : (reply : Reply) (rest : Option Repeated) → IfSome rest (λ run. 1 ≤ run.count)
+    → IfSome (left_again reply rest) (λ run. 1 ≤ run.count)
+left_some reply rest some =
+    elim (cases_Bool (happens_again reply)) [
+      | inl again ↦ rw again tt
+      | inr other ↦ rw other some
+    ]
+
+-- one more of the same
+told_again : (detail : Detail) (count number : ℕ) (reply : Reply) (added words : List ℕ)
+    → IsTold detail number (replicate count reply) added
+    → IsTold detail number (replicate (suc count) reply)
+    (added ++ told_line detail (number + count) reply words)
+told_again detail zero number reply added words none =
+    let line = told_line detail (number + 0) reply words in
+    let numbers : number + 0 ≡ number = omega arith in
+    let whole : added ++ line ≡ told_line detail number reply words ++ [] =
+    ap (λ x. x ++ line) none ∙ ap (λ k. told_line detail k reply words) numbers
+    ∙ sym (append-nil (told_line detail number reply words)) in
+    (words, ([], whole, refl))
+told_again detail (suc count) number reply added words (first, (later, is, told)) =
+    let line = told_line detail number reply first in
+    let last = told_line detail (number + 1 + count) reply words in
+    let numbers : number + 1 + count ≡ number + suc count = omega arith in
+    let more : IsTold detail (number + 1) (replicate (suc count) reply) (later ++ last) =
+    told_again detail count (number + 1) reply later words told in
+    let whole : added ++ last ≡ line ++ (later ++ last) =
+    ap (λ x. x ++ last) is ∙ append_assoc line later last in
+    let all : IsTold detail number (reply ∷ replicate (suc count) reply) (added ++ last) =
+    (first, (later ++ last, whole, more)) in
+    subst (λ (k : ℕ). IsTold detail number (reply ∷ replicate (suc count) reply)
+    (added ++ told_line detail k reply words)) numbers all
+
+-- an event is told once more behind so many of the same
+pub again_more : (detail : Detail) (count number now : ℕ) (reply : Reply)
+    (text before beyond : List ℕ) → now ≡ number + count
+    → (added : List ℕ) × (before ≡ text ++ added)
+    × IsTold detail number (replicate count reply) added
+    → (words : List ℕ) × (beyond ≡ before ++ told_line detail now reply words)
+    → (added : List ℕ) × (beyond ≡ text ++ added)
+    × IsTold detail number (replicate (count + 1) reply) added
+again_more detail count number now reply text before beyond is (added, holds, told) (words, more) =
+    let line = told_line detail (number + count) reply words in
+    let whole : beyond ≡ text ++ (added ++ line) =
+    more ∙ ap (λ n. before ++ told_line detail n reply words) is
+    ∙ ap (λ x. x ++ line) holds ∙ append_assoc text added line in
+    let counts : suc count ≡ count + 1 = omega arith in
+    let all : IsTold detail number (replicate (count + 1) reply) (added ++ line) =
+    subst (λ (k : ℕ). IsTold detail number (replicate k reply) (added ++ line)) counts
+    (told_again detail count number reply added words told) in
+    (added ++ line, whole, all)
+
+-- a reply that ends the run isn't told again
+pub last_once : (reply : Reply) → is_last reply ≡ true → happens_again reply ≡ false
+last_once (Bug bug) is = refl
+last_once (Wrong place) is = refl
+last_once (Started packet) is = absurd (false≢true is)
+last_once Stepped is = absurd (false≢true is)
+last_once Finished is = absurd (false≢true is)
+last_once (Topped packet status info) is = absurd (false≢true is)
+last_once Waited is = absurd (false≢true is)
+last_once Idle is = absurd (false≢true is)
+last_once Refused is = absurd (false≢true is)
+
+-- so nothing is told behind it
+pub next_last : (detail : Detail) (number : ℕ) (reply : Reply) (rest : Option Repeated)
+    (text more : List ℕ) → ToldNext detail number reply rest text more → is_last reply ≡ true
+    → (words : List ℕ) × (more ≡ text ++ told_line detail number reply words)
+next_last detail number reply rest text more told is =
+    let none : told.added ≡ [] =
+    subst (λ (b : Bool). IsTold detail (number + 1)
+    (replicate (if b then count_left rest else 0) reply) told.added) (last_once reply is)
+    told.again in
+    let line = told_line detail number reply told.words in
+    (told.words, told.whole ∙ ap (λ x. (text ++ line) ++ x) none ∙ append-nil (text ++ line))
+
+-- and else the run goes on behind it
+pub next_on : (detail : Detail) (set : Set) (threads : ℕ) (events : List Event) (m n : Machine)
+    (l k : LedgerState) (number : ℕ) (e : Event) (rest : Option Repeated) (later : List Event)
+    (text more : List ℕ) (reply : Reply)
+    → Telling detail set threads events m l number (e ∷ awaited rest later) text
+    → AppliesWhole m e n reply → TellsOn n.set n.world e (use_step m.set m.world e) reply l k
+    → (says_unchanged reply ≡ true → k ≡ l) → WaitingChangesNothing → is_last reply ≡ false
+    → IfSome rest (λ run. run.event ≡ e) → ToldNext detail number reply rest text more
+    → Telling detail set threads events n k (number + 1 + times_again reply rest)
+    (awaited (left_again reply rest) later) more
+next_on detail set threads events m n l k number e rest later text more reply t ran noted kept law
+    on equal told =
+    let line = told_line detail number reply told.words in
+    let next : Telling detail set threads events n k (number + 1 + times_again reply rest)
+    (awaited (left_again reply rest) later) ((text ++ line) ++ told.added) =
+    telling_rest detail set threads events m n l k number e rest later text (text ++ line) told.words
+    told.added reply t ran noted kept law on equal refl told.again in
+    subst (λ (x : List ℕ). Telling detail set threads events n k
+    (number + 1 + times_again reply rest) (awaited (left_again reply rest) later) x)
+    (sym told.whole) next
 
 -- a line is told of an event
 pub line_told : (detail : Detail) (number : ℕ) (reply : Reply) (text more head words : List ℕ)

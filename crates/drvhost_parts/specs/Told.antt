@@ -1,9 +1,10 @@
 -- What `tell` answers: the trace of a run with words behind the reply of each event, and its audit;
 -- and what `draw` does: a picture of the run.
-use Rattle.std.specs.Prelude.{ℕ, ⊤, ◌≡◌, ◌+◌, ◌-◌, ◌++◌, ◌||◌, Bool, true, false, if◌then◌else◌, List, [], ◌∷◌, codes, length, take, Result, Ok, Err}
+use Rattle.std.specs.Prelude.{ℕ, ⊤, ◌≡◌, ◌+◌, ◌-◌, ◌++◌, ◌||◌, Bool, true, false, if◌then◌else◌, List, [], ◌∷◌, codes, length, replicate, take, Option, None, Some, Result, Ok, Err}
 use Rattle.std.specs.List.{list_any}
 use Rattle.audit.specs.Findings.{has_findings}
 use Rattle.audit.specs.Ledger.{LedgerState, Tells as TellsRun}
+use Rattle.interleave.specs.declared.read.Repeated.{Repeated}
 use Rattle.interleave.specs.declared.schedule.Schedule.{Schedule}
 use Rattle.interleave.specs.declared.schedule.ScheduleFault.{ScheduleFault}
 use Rattle.interleave.specs.Listing.{schedule_in}
@@ -65,6 +66,37 @@ IsTold detail number (reply ∷ rest) text =
     (words : List ℕ) × ((later : List ℕ)
     × (text ≡ told_line detail number reply words ++ later)
     × IsTold detail (number + 1) rest later)
+
+-- a reply that an event has again where it happens again, without doing anything
+abbrev pub happens_again : Reply → Bool
+happens_again Waited = true
+happens_again Idle = true
+happens_again (Started packet) = false
+happens_again Stepped = false
+happens_again Finished = false
+happens_again (Topped packet status info) = false
+happens_again Refused = false
+happens_again (Bug bug) = false
+happens_again (Wrong place) = false
+
+-- how often it is told again of what is left of a run, and what is left to be run then
+abbrev pub count_left : Option Repeated → ℕ
+count_left None = 0
+count_left (Some run) = run.count
+
+abbrev pub times_again : Reply → Option Repeated → ℕ
+times_again reply rest = if happens_again reply then count_left rest else 0
+
+abbrev pub left_again : Reply → Option Repeated → Option Repeated
+left_again reply rest = if happens_again reply then None else rest
+
+-- an event is told, and those behind it that are told again
+pub record ToldNext (detail : Detail) (number : ℕ) (reply : Reply) (rest : Option Repeated)
+    (text more : List ℕ) : Type 0 where
+  pub words : List ℕ
+  pub added : List ℕ
+  pub whole : more ≡ (text ++ told_line detail number reply words) ++ added
+  pub again : IsTold detail (number + 1) (replicate (times_again reply rest) reply) added
 
 -- a run after these events, or after the first of them that stops it
 abbrev pub run_to_end : Set → Run → List Event → Run

@@ -95,6 +95,7 @@ pub(crate) fn rest_of(event: Event, left: usize) -> Option<Repeated>
     ensures events { (later : List Event)
         → awaited result later ≡ replicate left event ++ later }
     ensures some { IfSome result (λ run. 1 ≤ run.count) }
+    ensures same { IfSome result (λ run. run.event ≡ event) }
 {
     if left == 0 {
         return None;

@@ -1,17 +1,18 @@
 //! Runs that are told in words.
 
-ghost use Rattle.std.specs.Prelude.{◌≡◌, ◌+◌, ◌++◌, ◌∷◌, ◌<◌, ◌≤◌, ◌^◌, ◌||◌, List, ℕ, [], IfOk, IfSome, MatchOption, OnOk, codes, if◌then◌else◌};
+ghost use Rattle.std.specs.Prelude.{◌≡◌, ◌+◌, ◌++◌, ◌∷◌, ◌<◌, ◌≤◌, ◌^◌, ◌||◌, List, ℕ, [], IfOk, IfSome, MatchOption, OnOk, codes, if◌then◌else◌, replicate, true};
 ghost use Rattle.audit.specs.Acts.{use_step};
 ghost use Rattle.audit.specs.Ledger.{Tells as TellsRun, TellsOn};
 ghost use Rattle.interleave.specs.Listing.{IsWithinLimits};
 ghost use Rattle.model.specs.Machine.{AppliesWhole, ShowsWhole};
 ghost use Rattle.model.specs.Run.{begun};
+ghost use Rattle.run_laws.specs.Waits.{says_unchanged};
 ghost use Rattle.drvhost_parts.specs.Answer.{ended};
 ghost use Rattle.drvhost_parts.specs.Repeats.{awaited};
-ghost use Rattle.drvhost_parts.specs.Told.{HasTold, IsRunTold, is_left_out, reply_head, told_line};
+ghost use Rattle.drvhost_parts.specs.Told.{HasTold, IsRunTold, IsTold, ToldNext, count_left, happens_again, is_left_out, left_again, reply_head, times_again, told_line};
 
 use crate::fault::End;
-use crate::follow::{is_last, next_run, next_single, rest_of};
+use crate::follow::{is_last, next_run, rest_of};
 use crate::tell::Detail;
 use audit::acts::use_step;
 use audit::findings::Findings;
@@ -23,6 +24,7 @@ use interleave::schedule::Schedule;
 use model::event::{Event, Reply};
 use report::event_number::EventNumber;
 use report::lines::Lines;
+use run_laws::waiting_changes_nothing;
 use std::alloc::{AllocError, Global};
 use told::{Moment, Teller};
 
@@ -106,23 +108,16 @@ fn tell_events(
         schedule.now.events machine.new.set machine.new.world carried.new.ledger stopped
         text.new.items) }
 {
+    waiting_changes_nothing();
     let mut number = EventNumber::first();
     let mut upcoming = schedule.events.upcoming();
     let mut rest = None;
     while let Some(next) = next_event(rest, &mut upcoming) {
-        let reply = tell_event(
-            carried,
-            machine,
-            &mut number,
-            &next.event,
-            detail,
-            lines,
-            text,
-        )?;
-        if is_last(&reply) {
+        let answered = tell_next(carried, machine, &mut number, next, detail, lines, text)?;
+        if is_last(&answered.reply) {
             return Ok(true);
         }
-        rest = next.rest;
+        rest = answered.rest;
     }
     Ok(false)
 }
@@ -140,9 +135,12 @@ pub(crate) fn next_event(rest: Option<Repeated>, upcoming: &mut Upcoming<'_>) ->
     ensures next { MatchOption result (awaited rest upcoming.old ≡ []) (λ next.
         awaited rest upcoming.old ≡ next.event ∷ awaited next.rest upcoming.new) }
     ensures some { IfSome result (λ next. IfSome next.rest (λ run. 1 ≤ run.count)) }
+    ensures equal { IfSome result (λ next. IfSome next.rest (λ run. run.event ≡ next.event)) }
 {
-    if let Some(event) = next_single(&rest, upcoming) {
-        return Some(Next { event, rest });
+    if rest.is_none() {
+        if let Some(event) = upcoming.next_single() {
+            return Some(Next { event, rest: None });
+        }
     }
     let Repeated { event, count } = next_run(rest, upcoming)?;
     Some(Next {
@@ -151,41 +149,73 @@ pub(crate) fn next_event(rest: Option<Repeated>, upcoming: &mut Upcoming<'_>) ->
     })
 }
 
-/// Runs an event, and adds what is told of it.
-fn tell_event(
+/// The reply to an event, and what is left to be run of those that are equal to it.
+#[derive(Clone, Copy)]
+struct Answered {
+    reply: Reply,
+    rest: Option<Repeated>,
+}
+
+/// Runs the event that comes next, and adds what is told of it, and of the others of its run where
+/// they do nothing.
+fn tell_next(
     carried: &mut Carried<'_>,
     machine: &mut Checked,
     number: &mut EventNumber,
-    event: &Event,
+    next: Next,
     detail: Detail,
     lines: &mut Lines,
     text: &mut Vec<u8>,
-) -> Result<Reply, AllocError>
-    requires { number.old + 1 < 2 ^ 64 }
-    ensures number { OnOk result (number.new ≡ number.old + 1) }
-    ensures applied { IfOk result (λ reply. AppliesWhole machine.old event.now machine.new reply) }
-    ensures noted { IfOk result (λ reply. TellsOn machine.new.set machine.new.world event.now
-        (use_step machine.old.set machine.old.world event.now) reply carried.old.ledger
+) -> Result<Answered, AllocError>
+    requires { number.old + 1 + count_left next.rest < 2 ^ 64 }
+    ensures number { IfOk result (λ answered.
+        number.new ≡ number.old + 1 + times_again answered.reply next.rest) }
+    ensures applied { IfOk result (λ answered.
+        AppliesWhole machine.old next.event machine.new answered.reply) }
+    ensures noted { IfOk result (λ answered. TellsOn machine.new.set machine.new.world next.event
+        (use_step machine.old.set machine.old.world next.event) answered.reply carried.old.ledger
         carried.new.ledger) }
-    ensures told { IfOk result (λ reply. (words : List ℕ) × (text.new.items
-        ≡ text.old.items ++ told_line detail number.old reply words)) }
+    ensures kept { IfOk result (λ answered. says_unchanged answered.reply ≡ true
+        → carried.new.ledger ≡ carried.old.ledger) }
+    ensures rest { IfOk result (λ answered.
+        answered.rest ≡ left_again answered.reply next.rest) }
+    ensures told { IfOk result (λ answered.
+        ToldNext detail number.old answered.reply next.rest text.old.items text.new.items) }
 {
-    let moment = Moment::before(machine, event);
-    let step = use_step(machine, event);
-    let reply = machine.apply(event);
+    let moment = Moment::before(machine, &next.event);
+    let step = use_step(machine, &next.event);
+    let reply = machine.apply(&next.event);
     carried
         .ledger
-        .note(carried.alloc, step, event, &reply, machine)?;
-    carried.teller.note(&moment, step, event, &reply, machine)?;
+        .note(carried.alloc, step, &next.event, &reply, machine)?;
+    carried
+        .teller
+        .note(&moment, step, &next.event, &reply, machine)?;
     let happened = Happened {
-        event: *event,
+        event: next.event,
         moment,
         reply,
     };
     let teller = &mut carried.teller;
-    add_event(teller, machine, number, &happened, detail, lines, text)?;
+    add_event(
+        teller,
+        machine,
+        number,
+        &happened,
+        Turn::First,
+        detail,
+        lines,
+        text,
+    )?;
     number.advance();
-    Ok(reply)
+    let count = times_again(&reply, &next.rest);
+    tell_again(
+        teller, machine, number, &happened, count, detail, lines, text,
+    )?;
+    Ok(Answered {
+        reply,
+        rest: left_again(&reply, next.rest),
+    })
 }
 
 /// An event that has happened, and what is told of it as it was before.
@@ -196,12 +226,73 @@ struct Happened {
     reply: Reply,
 }
 
+/// Whether an event is told for the first time, or again as it was told last.
+#[derive(Clone, Copy)]
+enum Turn {
+    First,
+    Again,
+}
+
+/// How often an event that has this reply is told again of what is left of its run.
+fn times_again(reply: &Reply, rest: &Option<Repeated>) -> usize
+    ensures { result ≡ times_again reply.now rest.now }
+{
+    if !happens_again(reply) {
+        return 0;
+    }
+    match rest {
+        Some(run) => run.count,
+        None => 0,
+    }
+}
+
+/// What is left to be run then.
+fn left_again(reply: &Reply, rest: Option<Repeated>) -> Option<Repeated>
+    ensures { result ≡ left_again reply.now rest }
+{
+    if happens_again(reply) { None } else { rest }
+}
+
+/// Tells an event that happened so many times more.
+fn tell_again(
+    teller: &mut Teller<'_>,
+    machine: &Checked,
+    number: &mut EventNumber,
+    happened: &Happened,
+    count: usize,
+    detail: Detail,
+    lines: &mut Lines,
+    text: &mut Vec<u8>,
+) -> Result<(), AllocError>
+    requires { number.old + count < 2 ^ 64 }
+    ensures number { OnOk result (number.new ≡ number.old + count) }
+    ensures told { OnOk result ((added : List ℕ) × (text.new.items ≡ text.old.items ++ added)
+        × IsTold detail number.old (replicate count happened.now.reply) added) }
+{
+    teller.pass(count as u64);
+    for _ in 0..count {
+        add_event(
+            teller,
+            machine,
+            number,
+            happened,
+            Turn::Again,
+            detail,
+            lines,
+            text,
+        )?;
+        number.advance();
+    }
+    Ok(())
+}
+
 /// Adds what is told of an event: a line, unless it is left out.
 fn add_event(
     teller: &mut Teller<'_>,
     machine: &Checked,
     number: &mut EventNumber,
     happened: &Happened,
+    turn: Turn,
     detail: Detail,
     lines: &mut Lines,
     text: &mut Vec<u8>,
@@ -214,16 +305,25 @@ fn add_event(
         return Ok(());
     }
     let head = head_of(number, &happened.reply, lines);
-    let moment = &happened.moment;
-    teller.tell(
-        head.len(),
-        &happened.event,
-        moment,
-        &happened.reply,
-        machine,
-    )?;
+    make_words(teller, machine, happened, turn, head.len())?;
     add_line(head, teller.words(), text)?;
     Ok(())
+}
+
+/// Makes the words of an event behind so many bytes: those that were made last, where it is told
+/// again behind as many.
+fn make_words(
+    teller: &mut Teller<'_>,
+    machine: &Checked,
+    happened: &Happened,
+    turn: Turn,
+    head: usize,
+) -> Result<(), AllocError> {
+    if matches!(turn, Turn::Again) && teller.is_behind(head) {
+        return Ok(());
+    }
+    let moment = &happened.moment;
+    teller.tell(head, &happened.event, moment, &happened.reply, machine)
 }
 
 /// The line of the trace for an event, without its end.
@@ -266,4 +366,11 @@ fn is_left_out(detail: Detail, reply: &Reply) -> bool
         Detail::Whole => false,
         Detail::Quiet => matches!(reply, Reply::Stepped | Reply::Idle),
     }
+}
+
+/// Whether an event that has this reply has it again where it happens again, and does nothing.
+fn happens_again(reply: &Reply) -> bool
+    ensures { result ≡ happens_again reply.now }
+{
+    matches!(reply, Reply::Waited | Reply::Idle)
 }

@@ -7,6 +7,7 @@ use crate::devices::{Narrow, Slow};
 use crate::images::{EMPTY, OLD_ONE_READ, ONE_READ, QUEUED};
 use drvhost_parts::check::check;
 use drvhost_parts::device::{Reader, Sink, Source};
+use drvhost_parts::draw::draw;
 use drvhost_parts::explaining::{Extent, explain};
 use drvhost_parts::host::host;
 use drvhost_parts::list::list;
@@ -93,6 +94,8 @@ enum Job {
     Trace(&'static [u8], Verification),
     /// And told in words.
     Tell(&'static [u8], Verification, Detail),
+    /// Or drawn.
+    Draw(&'static [u8], Verification),
     /// A script is served by one worker.
     Host(&'static [u8]),
 }
@@ -130,7 +133,7 @@ const WHOLE: Devices = Devices {
 };
 
 /// Verdicts, explanations, listings and images.
-static CASES: [Case; 15] = [
+static CASES: [Case; 16] = [
     Case {
         set: TEXT,
         job: Job::Check,
@@ -237,10 +240,26 @@ static CASES: [Case; 15] = [
         lines: b"",
         told: b"image fault 2 Truncated\n",
     },
+    Case {
+        set: &EMPTY,
+        job: Job::Draw(b"", Verification::Required),
+        status: 1,
+        lines: b"refused V1 Malformed driver 0 routine 0 at 0\n",
+        told: b"",
+    },
 ];
 
+/// A run that is drawn.
+static DRAWN: Case = Case {
+    set: TEXT,
+    job: Job::Draw(SCHEDULE, Verification::Required),
+    status: 0,
+    lines: b"",
+    told: b"",
+};
+
 /// Runs of schedules, and of scripts.
-static RUNS: [Case; 9] = [
+static RUNS: [Case; 10] = [
     Case {
         set: TEXT,
         job: Job::Trace(SCHEDULE, Verification::Required),
@@ -291,6 +310,13 @@ static RUNS: [Case; 9] = [
         told: b"schedule fault 3 OutOfRange line 1\n",
     },
     Case {
+        set: TEXT,
+        job: Job::Draw(b"threads 65\n", Verification::Skipped),
+        status: 2,
+        lines: b"",
+        told: b"schedule fault 3 OutOfRange line 1\n",
+    },
+    Case {
         set: QUEUED,
         job: Job::Host(SCRIPT),
         status: 0,
@@ -332,6 +358,10 @@ fn answer<R: Threads + Wait + Sync>(
         Job::Tell(schedule, verification, detail) => {
             let mut schedule = Slow::new(schedule, devices.step, devices.orders);
             tell(alloc, set, &mut schedule, verification, detail, out, err)
+        }
+        Job::Draw(schedule, verification) => {
+            let mut schedule = Slow::new(schedule, devices.step, devices.orders);
+            draw(alloc, set, &mut schedule, verification, out, err)
         }
         Job::Host(script) => {
             let mut script = Slow::new(script, devices.step, devices.orders);
@@ -415,27 +445,33 @@ fn each_read_of_the_set_of_a_run_fails_in_turn(rt: HostRuntime) {
 /// How many calls read the orders of a case.
 fn calls_of_orders(case: &Case) -> usize {
     match case.job {
-        Job::Trace(orders, _) | Job::Tell(orders, _, _) | Job::Host(orders) => {
-            orders.len().saturating_add(1)
-        }
+        Job::Trace(orders, _)
+        | Job::Tell(orders, _, _)
+        | Job::Draw(orders, _)
+        | Job::Host(orders) => orders.len().saturating_add(1),
         Job::Check | Job::Explain(_) | Job::List | Job::Rewrite => 0,
     }
 }
 
-/// A read of a schedule, or of a script, that fails at any call is told, and nothing is written.
+/// Whether a read of a schedule, or of a script, that fails at any call is told, and nothing is
+/// written.
+fn tells_each_failed_order<R: Threads + Wait + Sync>(rt: &R, alloc: Global, case: &Case) -> bool {
+    for calls in 0..calls_of_orders(case) {
+        let devices = Devices {
+            orders: Some(calls),
+            ..WHOLE
+        };
+        if !is_answered(rt, alloc, case, &devices, 2, b"", b"read failed\n") {
+            return false;
+        }
+    }
+    true
+}
+
 #[test]
 fn each_read_of_orders_fails_in_turn(rt: HostRuntime) {
     for case in RUNS.iter() {
-        for calls in 0..calls_of_orders(case) {
-            let devices = Devices {
-                orders: Some(calls),
-                ..WHOLE
-            };
-            assert!(rt;
-                is_answered(&rt, rt.alloc(), case, &devices, 2, b"", b"read failed\n"),
-                "{calls}"
-            );
-        }
+        assert!(rt; tells_each_failed_order(&rt, rt.alloc(), case));
     }
 }
 
@@ -465,6 +501,42 @@ fn each_write_fails_in_turn(rt: HostRuntime) {
 fn each_write_of_a_run_fails_in_turn(rt: HostRuntime) {
     for case in RUNS.iter() {
         assert!(rt; tells_each_failed_write(&rt, rt.alloc(), case));
+    }
+}
+
+/// The picture of a run, as sinks take it that don't fail.
+fn picture_of(alloc: Global) -> Narrow {
+    let mut set = Slow::new(TEXT, 1, None);
+    let mut schedule = Slow::new(SCHEDULE, 1, None);
+    let mut out = Narrow::new(alloc, 100, None);
+    let mut err = Narrow::new(alloc, 1, None);
+    let how = Verification::Required;
+    let _status = draw(alloc, &mut set, &mut schedule, how, &mut out, &mut err);
+    out
+}
+
+/// A read or a write that fails at any call of a run that is drawn is told, and a beginning of the
+/// picture is there, or nothing.
+#[test]
+fn each_call_for_a_picture_fails_in_turn(rt: HostRuntime) {
+    let alloc = rt.alloc();
+    assert!(rt; tells_each_failed_read(&rt, alloc, &DRAWN));
+    assert!(rt; tells_each_failed_order(&rt, alloc, &DRAWN));
+    let picture = picture_of(alloc);
+    let picture = picture.written.as_slice();
+    assert!(rt; picture.starts_with(b"<?xml ") && picture.ends_with(b"</svg>\n"));
+    let whole = Devices { step: 100, ..WHOLE };
+    assert!(rt; is_answered(&rt, alloc, &DRAWN, &whole, 0, picture, b""));
+    for calls in 0..picture.len() / 100 {
+        let devices = Devices {
+            out: Some(calls),
+            ..whole
+        };
+        let written = &picture[..calls * 100];
+        assert!(rt;
+            is_answered(&rt, alloc, &DRAWN, &devices, 2, written, b"write failed\n"),
+            "{calls}"
+        );
     }
 }
 

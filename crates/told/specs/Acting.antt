@@ -62,11 +62,11 @@ packet_by s a (Some Next) =
 packet_by s a (Some i) =
     option_and_then (λ r. packet_in s (register a r)) (packet_register i)
 
-abbrev pub packet_about : Set → Shared → Frame → Option ℕ
-packet_about set s (Routine a) =
-    packet_by s a (instruction_at set a.driver a.routine a.position)
-packet_about set s (Walk n) = Some n
-packet_about set s (CancelFrame c) = Some c.packet
+-- the packet that the next step of a frame is about which stands at this instruction
+abbrev pub packet_at : Shared → Frame → Option Instr → Option ℕ
+packet_at s (Routine a) i = packet_by s a i
+packet_at s (Walk n) i = Some n
+packet_at s (CancelFrame c) i = Some c.packet
 
 -- all that is told of the frame that acts
 abbrev pub acting_by : Set → World → Frame → Acting
@@ -74,7 +74,7 @@ acting_by set w f =
     record {
       frame = frame_view f;
       instruction = instruction_of set f;
-      packet = packet_about set w.shared f;
+      packet = packet_at w.shared f (instruction_of set f);
     }
 
 abbrev pub acting_in : Set → World → Event → Option Acting

@@ -2,7 +2,7 @@
 
 ghost use Rattle.std.specs.Prelude.{◌≡◌, Some, option_and_then};
 ghost use Rattle.model.specs.World.{packet_in, register};
-ghost use Rattle.told.specs.Acting.{acting_by, acting_in, instruction_of, packet_about, packet_by, packet_register};
+ghost use Rattle.told.specs.Acting.{acting_by, acting_in, instruction_of, packet_at, packet_by, packet_register};
 
 use checked::Checked;
 use checked_parts::{Frame, Managing};
@@ -85,13 +85,13 @@ fn packet_by(machine: &Checked, a: &Activation, instr: &Instr) -> Option<u64>
     }
 }
 
-/// The packet that the next step of a frame is about.
-fn packet_about(machine: &Checked, frame: &Frame) -> Option<u64>
-    ensures { result ≡ packet_about machine.now.set machine.now.world.shared frame.now }
+/// The packet that the next step of a frame is about which stands at this instruction.
+fn packet_at(machine: &Checked, frame: &Frame, instruction: &Option<Instr>) -> Option<u64>
+    ensures { result ≡ packet_at machine.now.world.shared frame.now instruction.now }
 {
     if let Some(a) = frame.activation() {
-        return match machine.set().instruction(a.driver, a.routine, a.position) {
-            Some(instr) => packet_by(machine, a, &instr),
+        return match instruction {
+            Some(instr) => packet_by(machine, a, instr),
             None => None,
         };
     }
@@ -105,10 +105,12 @@ fn packet_about(machine: &Checked, frame: &Frame) -> Option<u64>
 fn acting_by(machine: &Checked, frame: &Frame) -> Acting
     ensures { result ≡ acting_by machine.now.set machine.now.world frame.now }
 {
+    let instruction = instruction_of(machine.set(), frame);
+    let packet = packet_at(machine, frame, &instruction);
     Acting {
         frame: frame.view(),
-        instruction: instruction_of(machine.set(), frame),
-        packet: packet_about(machine, frame),
+        instruction,
+        packet,
     }
 }
 

@@ -46,6 +46,11 @@ impl Audited {
         }
     }
 
+    /// Passes so many events.
+    pub(crate) fn pass(&mut self, events: u64) {
+        self.events = self.events.wrapping_add(events);
+    }
+
     /// Notes the location of which the next event opens a use, if it does.
     fn note_opened(
         &mut self,

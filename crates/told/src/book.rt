@@ -1,54 +1,67 @@
 //! What things are called and where instructions stand, as a text has it.
 
+use crate::words::add_number;
 use asm_line::{Body, read_line};
-use excerpt::{PlacedLines, Spot, Spots, add_bytes, line_at};
+use excerpt::{PlacedLines, add_bytes};
 use std::alloc::{AllocError, Global};
 use text::piece::Piece;
 
-/// A driver of a text: its name, those of its routines and queues, and the lines of each routine.
+/// Where an instruction stands.
+#[derive(Clone, Copy)]
+pub struct Place {
+    /// The number of its line.
+    pub number: u64,
+    /// Where the words on it begin and end among those on all places.
+    start: usize,
+    end: usize,
+}
+
+/// A driver of a text: its name, those of its routines and queues, and the places of the
+/// instructions of each routine.
 #[derive(Drop)]
 struct DriverPage<'a> {
     name: Piece<'a>,
     routines: Vec<Piece<'a>>,
     queues: Vec<Piece<'a>>,
-    lines: Vec<Spots>,
+    places: Vec<Vec<Place>>,
 }
 
 impl DriverPage<'_> {
-    /// Notes a line that is an instruction, of the last routine.
-    fn note_line(&mut self, spot: Spot) -> Result<(), AllocError> {
-        match self.lines.last_mut() {
-            Some(lines) => lines.push(spot),
-            None => Ok(()),
+    /// Notes the place of an instruction of the last routine.
+    fn note_place(&mut self, place: Place) -> Result<(), AllocError> {
+        if let Some(places) = self.places.last_mut() {
+            places.push(place)?;
         }
+        Ok(())
     }
 }
 
 /// The names and the lines of a text.
 #[derive(Drop)]
 pub struct Book<'a> {
-    text: &'a [u8],
     drivers: Vec<DriverPage<'a>>,
     devices: Vec<Piece<'a>>,
+    /// The words on all places, made once: they are told again at each step.
+    places: String,
 }
 
 impl<'a> Book<'a> {
     /// Those of a text.
     pub fn of(alloc: Global, text: &'a [u8]) -> Result<Book<'a>, AllocError> {
         let mut book = Book {
-            text,
             drivers: Vec::new(alloc),
             devices: Vec::new(alloc),
+            places: String::new(alloc),
         };
         let mut left = PlacedLines::of(text);
         while let Some(raw) = left.next() {
-            book.note(alloc, raw, left.spot())?;
+            book.note(alloc, raw, left.spot().number)?;
         }
         Ok(book)
     }
 
     /// Notes what a line names, or that it is an instruction.
-    fn note(&mut self, alloc: Global, raw: &'a [u8], spot: Spot) -> Result<(), AllocError> {
+    fn note(&mut self, alloc: Global, raw: &'a [u8], number: u64) -> Result<(), AllocError> {
         let Ok(line) = read_line(raw) else {
             return Ok(());
         };
@@ -57,12 +70,12 @@ impl<'a> Book<'a> {
                 name,
                 routines: Vec::new(alloc),
                 queues: Vec::new(alloc),
-                lines: Vec::new(alloc),
+                places: Vec::new(alloc),
             })?,
             Body::OpenRoutine(name, _) => {
                 if let Some(page) = self.drivers.last_mut() {
                     page.routines.push(name)?;
-                    page.lines.push(Spots::new(alloc))?;
+                    page.places.push(Vec::new(alloc))?;
                 }
             }
             Body::AddQueue(name, _, _) => {
@@ -71,28 +84,60 @@ impl<'a> Book<'a> {
                 }
             }
             Body::AddDevice(name, _, _, _) => self.devices.push(name)?,
-            Body::Step(_, _) => {
-                if let Some(page) = self.drivers.last_mut() {
-                    page.note_line(spot)?;
-                }
-            }
+            Body::Step(_, _) => self.note_instruction(raw, number)?,
             _ => {}
         }
         Ok(())
     }
 
-    /// Where the instruction of a position of a routine stands.
-    pub fn line_of(&self, driver: u8, routine: u8, position: u16) -> Option<Spot> {
-        let page = self.drivers.get(driver as usize)?;
-        page.lines.get(routine as usize)?.get(position as usize)
-    }
-
-    /// Adds a line of the text, without its comment and blanks round it.
-    pub(crate) fn add_source(&self, words: &mut String, spot: Spot) -> Result<(), AllocError> {
-        match line_at(self.text, spot) {
-            Some(raw) => add_bytes(words, without_comment(raw).trim_ascii()),
+    /// Notes the line of an instruction of the last routine.
+    fn note_instruction(&mut self, raw: &[u8], number: u64) -> Result<(), AllocError> {
+        let start = self.places.len();
+        self.make_place(raw, number)?;
+        let place = Place {
+            number,
+            start,
+            end: self.places.len(),
+        };
+        match self.drivers.last_mut() {
+            Some(page) => page.note_place(place),
             None => Ok(()),
         }
+    }
+
+    /// Makes the words on a place: the routine, the number of the line, and what stands on it without
+    /// its comment and blanks round it.
+    fn make_place(&mut self, raw: &[u8], number: u64) -> Result<(), AllocError> {
+        if let Some(name) = self.drivers.last().and_then(|page| page.routines.last()) {
+            add_bytes(&mut self.places, name.bytes())?;
+        }
+        self.places.push_str(" ")?;
+        add_number(&mut self.places, number)?;
+        self.places.push_str(": ")?;
+        add_bytes(&mut self.places, without_comment(raw).trim_ascii())
+    }
+
+    /// Where the instruction of a position of a routine stands.
+    pub fn line_of(&self, driver: u8, routine: u8, position: u16) -> Option<Place> {
+        let page = self.drivers.get(driver as usize)?;
+        let places = page.places.get(routine as usize)?;
+        places.get(position as usize).copied()
+    }
+
+    /// Adds the routine and the line of that instruction.
+    pub(crate) fn add_place(
+        &self,
+        words: &mut String,
+        driver: u8,
+        routine: u8,
+        position: u16,
+    ) -> Result<(), AllocError> {
+        if let Some(place) = self.line_of(driver, routine, position) {
+            let all = self.places.as_str();
+            return words.push_str(all.get(place.start..place.end).unwrap_or(""));
+        }
+        self.add_routine(words, driver, routine)?;
+        write!(words, " at {position}")
     }
 
     /// Adds the name of a routine.

@@ -1,5 +1,6 @@
 //! A column for each thread.
 
+use crate::words::add_number;
 use checked::Checked;
 use model::event::Event;
 use std::alloc::AllocError;
@@ -27,7 +28,7 @@ pub(crate) fn add_columns(
     let acts = thread_of(event);
     for (number, thread) in threads.iter().enumerate() {
         if is_number(acts, number) {
-            write!(words, "{number}")?;
+            add_number(words, number as u64)?;
         } else {
             words.push_str(if thread.is_idle() { "." } else { "|" })?;
             if number > 9 {

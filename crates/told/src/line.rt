@@ -9,6 +9,7 @@ use crate::columns::add_columns;
 use audit::refusal::{Reason, why_refused};
 use checked::Checked;
 use model::event::Event;
+use model::instr::Instr;
 use model::view::{FrameView, PacketView};
 use model::world::CancelStep;
 use std::alloc::AllocError;
@@ -18,12 +19,15 @@ const COLUMNS: usize = 26;
 
 const PLACE: usize = 44;
 
+/// As many blanks as ever stand in a row.
+const BLANKS: &str = "                                            ";
+
 /// What is told of an event, as it is before the event.
 #[derive(Clone, Copy)]
 pub struct Moment {
     /// The frame that acts, if one does.
     pub acting: Option<Acting>,
-    /// The packet that it is about.
+    /// The packet that it is about, where words on it say how it was.
     pub packet: Option<PacketView>,
     /// Why the event can't happen, if it can't.
     pub reason: Option<Reason>,
@@ -34,21 +38,34 @@ impl Moment {
     pub fn before(machine: &Checked, event: &Event) -> Moment
         ensures { result.acting ≡ acting_in machine.now.set machine.now.world event.now }
     {
-        let acting = acting_in(machine, event);
-        let packet = match acting {
-            Some(
-                Acting {
-                    packet: Some(n),
-                    ..
-                },
-            ) => Some(machine.packet(n)),
-            _ => None,
-        };
-        Moment {
-            acting,
-            packet,
-            reason: why_refused(machine, event),
+        // Where a frame acts there is its thread, and a step needs nothing else.
+        match acting_in(machine, event) {
+            Some(acting) => Moment {
+                acting: Some(acting),
+                packet: packet_before(machine, &acting),
+                reason: None,
+            },
+            None => Moment {
+                acting: None,
+                packet: None,
+                reason: why_refused(machine, event),
+            },
         }
+    }
+}
+
+/// The packet that a step is about, if words on it say how the packet was before it.
+fn packet_before(machine: &Checked, acting: &Acting) -> Option<PacketView> {
+    let is_told = match acting.frame {
+        FrameView::Routine { .. } => matches!(
+            acting.instruction,
+            Some(Instr::Disarm(_, _) | Instr::IfCancel(_, _))
+        ),
+        FrameView::Walk(_) | FrameView::Cancel(_) => true,
+    };
+    match acting.packet {
+        Some(n) if is_told => Some(machine.packet(n)),
+        _ => None,
     }
 }
 
@@ -78,10 +95,8 @@ pub(crate) fn add_event(
 
 /// Adds blanks behind so many bytes, up to a width, and one at least.
 fn pad(words: &mut String, has: usize, width: usize) -> Result<(), AllocError> {
-    for _ in 0..width.saturating_sub(has).max(1) {
-        words.push_str(" ")?;
-    }
-    Ok(())
+    let blanks = width.saturating_sub(has).max(1);
+    words.push_str(BLANKS.get(..blanks).unwrap_or(BLANKS))
 }
 
 /// Adds where the frame that acts stands: the routine and the line of its instruction, or what the
@@ -96,16 +111,7 @@ fn add_place(words: &mut String, book: &Book<'_>, moment: &Moment) -> Result<(),
             routine,
             position,
             device: _,
-        } => {
-            book.add_routine(words, driver, routine)?;
-            match book.line_of(driver, routine, position) {
-                Some(spot) => {
-                    write!(words, " {}: ", spot.number)?;
-                    book.add_source(words, spot)
-                }
-                None => write!(words, " at {position}"),
-            }
-        }
+        } => book.add_place(words, driver, routine, position),
         FrameView::Walk(_) => words.push_str("IoCompleteRequest"),
         FrameView::Cancel(canceller) => words.push_str(match canceller.next {
             CancelStep::Acquire => "IoCancelIrp: acquires",

@@ -18,6 +18,8 @@ pub struct Teller<'a> {
     book: Book<'a>,
     audited: Audited,
     words: String,
+    /// How many bytes stand before these words.
+    head: usize,
     /// What the last event changed.
     change: String,
 }
@@ -33,6 +35,7 @@ impl<'a> Teller<'a> {
             book: Book::of(alloc, text)?,
             audited: Audited::new(alloc),
             words: String::new(alloc),
+            head: 0,
             change: String::new(alloc),
         })
     }
@@ -54,6 +57,16 @@ impl<'a> Teller<'a> {
         self.audited.note(moment, step, event, reply, machine)
     }
 
+    /// Notes so many events more, of which there is nothing to note.
+    pub fn pass(&mut self, events: u64) {
+        self.audited.pass(events);
+    }
+
+    /// Whether the words that were made last stand behind so many bytes.
+    pub fn is_behind(&self, head: usize) -> bool {
+        self.head == head
+    }
+
     /// Makes the words that stand behind an event's number and its reply, which are so many bytes:
     /// by what it was before, and by the machine after it.
     ///
@@ -71,6 +84,7 @@ impl<'a> Teller<'a> {
         self.change.clear();
         add_change(&mut self.change, &self.book, event, moment, reply, machine)?;
         self.words.clear();
+        self.head = head;
         let change = self.change.as_str();
         add_event(
             &mut self.words,

@@ -2,6 +2,7 @@
 
 use crate::book::Book;
 use audit::refusal::Reason;
+use itoa::Buffer;
 use model::event::{BugCheck, Lock, OfDevice, Subject};
 use model::status::{Major, Status};
 use std::alloc::AllocError;
@@ -67,6 +68,12 @@ pub(crate) fn reason_words(reason: Reason) -> &'static str {
         Reason::NoDpc => "the device has no DPC routine",
         Reason::NoStartIo => "the device has no StartIo routine",
     }
+}
+
+/// Adds a number.
+pub(crate) fn add_number(words: &mut String, number: u64) -> Result<(), AllocError> {
+    let mut buffer = Buffer::new();
+    words.push_str(buffer.format(number))
 }
 
 /// Adds a lock.

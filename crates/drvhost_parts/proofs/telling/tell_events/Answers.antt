@@ -1,5 +1,6 @@
 use Rattle.std.proofs.Common.{◌∙◌, ap, arith, length, sym}
-use Rattle.drvhost_parts.proofs.ToldRuns.{telling_first, telling_on, told_all, told_last}
+use Rattle.drvhost_parts.specs.Repeats.{awaited}
+use Rattle.drvhost_parts.proofs.ToldRuns.{left_some, length_on, next_last, next_on, telling_first, told_all, told_last}
 use Rattle.drvhost_parts.proofs.telling.tell_events.Goals as goal
 
 pub loop-next-init : goal.loop-next-init
@@ -16,27 +17,37 @@ loop-next-init c =
 
 pub returns-then-is_last : goal.returns-then-is_last
 returns-then-is_last c =
+    let told = next_last _ _ _ _ _ _ c.in_ok-answered.ensures.told
+    (sym c.is_last.ensures ∙ c.if-is_last.true) in
     told_last _ _ _ _ _ _ _ _ _ _ _ _ _ _ _
     (rw c.in-Some.ensures.next at c.loop-next.invariant.telling)
-    c.in_ok-reply.ensures.applied c.in_ok-reply.ensures.noted c.in_ok-reply.ensures.told.1
+    c.in_ok-answered.ensures.applied c.in_ok-answered.ensures.noted told.1
     (sym c.is_last.ensures ∙ c.if-is_last.true)
 
 pub loop-next-preserved : goal.loop-next-preserved
 loop-next-preserved c =
+    let reply = c.in_ok-answered.answered.reply in
+    let rest = c.in-Some.next.rest in
+    let counted = length_on reply (awaited c.loop-next.rest c.loop-next.upcoming)
+    c.in-Some.next.event rest c.next_event.new.upcoming c.in-Some.ensures.next in
     record {
-      numbered = omega (
-        arith,
-        c.loop-next.invariant.numbered,
-        ap (λ events. length events) c.in-Some.ensures.next,
-        c.in_ok-reply.ensures.number,
-      );
-      some = c.in-Some.ensures.some;
+      numbered =
+          rw c.in_ok-answered.ensures.rest (omega (
+            arith,
+            c.loop-next.invariant.numbered,
+            counted,
+            c.in_ok-answered.ensures.number,
+          ));
+      some =
+          rw c.in_ok-answered.ensures.rest (left_some reply rest c.in-Some.ensures.some);
       telling =
-          rw c.in_ok-reply.ensures.number
-          (telling_on _ _ _ _ _ _ _ _ _ _ _ _ _ _ _
+          rw (c.in_ok-answered.ensures.number, c.in_ok-answered.ensures.rest)
+          (next_on _ _ _ _ _ _ _ _ _ _ _ _ _ _ _
           (rw c.in-Some.ensures.next at c.loop-next.invariant.telling)
-          c.in_ok-reply.ensures.applied c.in_ok-reply.ensures.noted c.in_ok-reply.ensures.told.1
-          (sym c.is_last.ensures ∙ c.if-is_last.false));
+          c.in_ok-answered.ensures.applied c.in_ok-answered.ensures.noted
+          c.in_ok-answered.ensures.kept c.waiting_changes_nothing.ensures
+          (sym c.is_last.ensures ∙ c.if-is_last.false)
+          c.in-Some.ensures.equal c.in_ok-answered.ensures.told);
     }
 
 pub returns : goal.returns
