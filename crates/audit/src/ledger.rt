@@ -1,6 +1,6 @@
 //! What is carried along a run for its audit.
 
-ghost use Rattle.std.specs.Prelude.{◌≡◌, ◌++◌, [], IfOk, OnOk, length, option_to_list, replicate, slice_get};
+ghost use Rattle.std.specs.Prelude.{true, ◌≡◌, ◌++◌, [], IfOk, OnOk, length, option_to_list, replicate, slice_get};
 ghost use Rattle.model.specs.Run.{frames_on, thread_of};
 ghost use Rattle.audit.specs.Ledger.{new_server, of_server, served_as, settled, settled_at, settled_place, stays};
 ghost use Rattle.audit.specs.Uses.{disagreeing_at, disagreeing_from};
