@@ -17,18 +17,28 @@ pub(crate) struct Place {
     number: u8,
 }
 
+/// The device of the routine that acts, before it does.
+fn acting_device(moment: &Moment) -> Option<u8> {
+    let Some(acting) = moment.acting else {
+        return None;
+    };
+    match acting.frame {
+        FrameView::Routine { device, .. } => Some(device),
+        _ => None,
+    }
+}
+
 /// The location that a routine's `call` made current, which stands as it was before.
 fn called_place(moment: &Moment, machine: &Checked) -> Option<Place> {
-    let FrameView::Routine { device, .. } = moment.acting?.frame else {
-        return None;
-    };
-    let PacketView::Live(packet) = moment.packet? else {
-        return None;
-    };
-    Some(Place {
-        device: machine.set().lower(device)?,
-        number: packet.depth.saturating_add(1),
-    })
+    let device = acting_device(moment)?;
+    let device = machine.set().lower(device)?;
+    match moment.packet {
+        Some(PacketView::Live(packet)) => Some(Place {
+            device,
+            number: packet.depth.saturating_add(1),
+        }),
+        _ => None,
+    }
 }
 
 /// The location of which an event opened a use, if it is known.
