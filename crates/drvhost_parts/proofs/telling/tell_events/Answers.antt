@@ -1,4 +1,4 @@
-use Rattle.std.proofs.Common.{◌∙◌, ap, arith, length, sym}
+use Rattle.std.proofs.Common.{◌∙◌, arith, sym}
 use Rattle.drvhost_parts.specs.Repeats.{awaited}
 use Rattle.drvhost_parts.proofs.ToldRuns.{left_some, length_on, next_last, next_on, telling_first, told_all, told_last}
 use Rattle.drvhost_parts.proofs.telling.tell_events.Goals as goal
