@@ -72,29 +72,27 @@ fn labelled(
     ensures missed { found.new ≡ earliest found.old (missed labels.now.keys step.now.label) }
 {
     match &step.label {
-        Some(used) => jump(step.instr, labels, positions, used, found),
+        Some(used) => with_label(step.instr, target(labels, positions, used, found)),
         None => with_label(step.instr, 0),
     }
 }
 
-/// The instruction that jumps to this label, which is looked up once.
+/// The position of this label, which is looked up once; 0 where it isn't there.
 #[tactic(auto, using(crate::proofs::Orderly::Names::found_missed, crate::proofs::Orderly::Names::unfound_missed, crate::proofs::Orderly::Names::earliest_none))]
-fn jump(
-    instr: Instr,
+fn target(
     labels: &IndexSet<Piece<'_>>,
     positions: &[u16],
     used: &Use<'_>,
     found: &mut Option<u64>,
-) -> Instr
-    ensures instr { result ≡ with_label instr
-        (target_position labels.now.keys positions.now (Some used.now)) }
+) -> u16
+    ensures place { result ≡ target_position labels.now.keys positions.now (Some used.now) }
     ensures missed { found.new ≡ earliest found.old (missed labels.now.keys (Some used.now)) }
 {
     match labels.get_index_of(&used.name) {
-        Some(number) => with_label(instr, positions.get(number).copied().unwrap_or(0)),
+        Some(number) => positions.get(number).copied().unwrap_or(0),
         None => {
             *found = earliest(*found, Some(used.line));
-            with_label(instr, 0)
+            0
         }
     }
 }
