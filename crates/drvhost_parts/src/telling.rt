@@ -36,15 +36,6 @@ pub(crate) struct Told {
     pub(crate) end: End,
 }
 
-/// What is carried along a run that is told.
-#[derive(Drop)]
-struct Carried<'a> {
-    alloc: Global,
-    teller: Teller<'a>,
-    /// What its audit goes by beside the machine that ran.
-    ledger: Ledger,
-}
-
 /// Tells the run of a machine by a schedule, up to an event that stops it, and its audit: with the
 /// names and the lines of a text that names its set.
 pub(crate) fn tell_run(
@@ -60,18 +51,22 @@ pub(crate) fn tell_run(
     ensures { IfOk result (λ told. IsRunTold detail machine.old.set schedule.now.threads
         schedule.now.events (ended told.end told.text.items)) }
 {
-    let mut carried = Carried {
-        alloc,
-        teller: Teller::of(alloc, source)?,
-        ledger: Ledger::new(alloc, schedule.threads)?,
-    };
+    let mut teller = Teller::of(alloc, source)?;
+    let mut ledger = Ledger::new(alloc, schedule.threads)?;
     let mut text = Vec::new(alloc);
-    let stopped = tell_events(&mut carried, machine, schedule, detail, lines, &mut text)?;
-    let found = Findings::of(alloc, machine, &carried.ledger)?;
-    carried
-        .teller
-        .tell_audit(alloc, machine, &found, &carried.ledger)?;
-    add_audit(carried.teller.words(), &mut text)?;
+    let stopped = tell_events(
+        alloc,
+        &mut teller,
+        &mut ledger,
+        machine,
+        schedule,
+        detail,
+        lines,
+        &mut text,
+    )?;
+    let found = Findings::of(alloc, machine, &ledger)?;
+    teller.tell_audit(alloc, machine, &found, &ledger)?;
+    add_audit(teller.words(), &mut text)?;
     Ok(Told {
         text,
         end: end_of(stopped, found.any()),
@@ -91,7 +86,9 @@ pub(crate) fn end_of(stopped: bool, amiss: bool) -> End
 
 /// Tells the events of a schedule, up to one that stops the run, and answers whether one did.
 fn tell_events(
-    carried: &mut Carried<'_>,
+    alloc: Global,
+    teller: &mut Teller<'_>,
+    ledger: &mut Ledger,
     machine: &mut Checked,
     schedule: &Schedule,
     detail: Detail,
@@ -100,10 +97,10 @@ fn tell_events(
 ) -> Result<bool, AllocError>
     requires begun { ShowsWhole machine.old schedule.now.threads [] }
     requires limits { IsWithinLimits schedule.now }
-    requires ledger { TellsRun (begun machine.old.set schedule.now.threads) carried.old.ledger }
+    requires tells { TellsRun (begun machine.old.set schedule.now.threads) ledger.old }
     requires empty { text.old.items ≡ [] }
     ensures { IfOk result (λ stopped. HasTold detail machine.old.set schedule.now.threads
-        schedule.now.events machine.new.set machine.new.world carried.new.ledger stopped
+        schedule.now.events machine.new.set machine.new.world ledger.new stopped
         text.new.items) }
 {
     let mut number = EventNumber::first();
@@ -111,7 +108,9 @@ fn tell_events(
     let mut rest = None;
     while let Some(next) = next_event(rest, &mut upcoming) {
         let reply = tell_event(
-            carried,
+            alloc,
+            teller,
+            ledger,
             machine,
             &mut number,
             &next.event,
@@ -153,7 +152,9 @@ pub(crate) fn next_event(rest: Option<Repeated>, upcoming: &mut Upcoming<'_>) ->
 
 /// Runs an event, and adds what is told of it.
 fn tell_event(
-    carried: &mut Carried<'_>,
+    alloc: Global,
+    teller: &mut Teller<'_>,
+    ledger: &mut Ledger,
     machine: &mut Checked,
     number: &mut EventNumber,
     event: &Event,
@@ -165,24 +166,21 @@ fn tell_event(
     ensures number { OnOk result (number.new ≡ number.old + 1) }
     ensures applied { IfOk result (λ reply. AppliesWhole machine.old event.now machine.new reply) }
     ensures noted { IfOk result (λ reply. TellsOn machine.new.set machine.new.world event.now
-        (use_step machine.old.set machine.old.world event.now) reply carried.old.ledger
-        carried.new.ledger) }
+        (use_step machine.old.set machine.old.world event.now) reply ledger.old
+        ledger.new) }
     ensures told { IfOk result (λ reply. (words : List ℕ) × (text.new.items
         ≡ text.old.items ++ told_line detail number.old reply words)) }
 {
     let moment = Moment::before(machine, event);
     let step = use_step(machine, event);
     let reply = machine.apply(event);
-    carried
-        .ledger
-        .note(carried.alloc, step, event, &reply, machine)?;
-    carried.teller.note(&moment, step, event, &reply, machine)?;
+    ledger.note(alloc, step, event, &reply, machine)?;
+    teller.note(&moment, step, event, &reply, machine)?;
     let happened = Happened {
         event: *event,
         moment,
         reply,
     };
-    let teller = &mut carried.teller;
     add_event(teller, machine, number, &happened, detail, lines, text)?;
     number.advance();
     Ok(reply)
