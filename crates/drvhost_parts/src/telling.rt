@@ -38,15 +38,6 @@ pub(crate) struct Told {
     pub(crate) end: End,
 }
 
-/// What is carried along a run that is told.
-#[derive(Drop)]
-struct Carried<'a> {
-    alloc: Global,
-    teller: Teller<'a>,
-    /// What its audit goes by beside the machine that ran.
-    ledger: Ledger,
-}
-
 /// Tells the run of a machine by a schedule, up to an event that stops it, and its audit: with the
 /// names and the lines of a text that names its set.
 pub(crate) fn tell_run(
@@ -62,18 +53,22 @@ pub(crate) fn tell_run(
     ensures { IfOk result (λ told. IsRunTold detail machine.old.set schedule.now.threads
         schedule.now.events (ended told.end told.text.items)) }
 {
-    let mut carried = Carried {
-        alloc,
-        teller: Teller::of(alloc, source)?,
-        ledger: Ledger::new(alloc, schedule.threads)?,
-    };
+    let mut teller = Teller::of(alloc, source)?;
+    let mut ledger = Ledger::new(alloc, schedule.threads)?;
     let mut text = Vec::new(alloc);
-    let stopped = tell_events(&mut carried, machine, schedule, detail, lines, &mut text)?;
-    let found = Findings::of(alloc, machine, &carried.ledger)?;
-    carried
-        .teller
-        .tell_audit(alloc, machine, &found, &carried.ledger)?;
-    add_audit(carried.teller.words(), &mut text)?;
+    let stopped = tell_events(
+        alloc,
+        &mut teller,
+        &mut ledger,
+        machine,
+        schedule,
+        detail,
+        lines,
+        &mut text,
+    )?;
+    let found = Findings::of(alloc, machine, &ledger)?;
+    teller.tell_audit(alloc, machine, &found, &ledger)?;
+    add_audit(teller.words(), &mut text)?;
     Ok(Told {
         text,
         end: end_of(stopped, found.any()),
@@ -93,7 +88,9 @@ pub(crate) fn end_of(stopped: bool, amiss: bool) -> End
 
 /// Tells the events of a schedule, up to one that stops the run, and answers whether one did.
 fn tell_events(
-    carried: &mut Carried<'_>,
+    alloc: Global,
+    teller: &mut Teller<'_>,
+    ledger: &mut Ledger,
     machine: &mut Checked,
     schedule: &Schedule,
     detail: Detail,
@@ -102,10 +99,10 @@ fn tell_events(
 ) -> Result<bool, AllocError>
     requires begun { ShowsWhole machine.old schedule.now.threads [] }
     requires limits { IsWithinLimits schedule.now }
-    requires ledger { TellsRun (begun machine.old.set schedule.now.threads) carried.old.ledger }
+    requires tells { TellsRun (begun machine.old.set schedule.now.threads) ledger.old }
     requires empty { text.old.items ≡ [] }
     ensures { IfOk result (λ stopped. HasTold detail machine.old.set schedule.now.threads
-        schedule.now.events machine.new.set machine.new.world carried.new.ledger stopped
+        schedule.now.events machine.new.set machine.new.world ledger.new stopped
         text.new.items) }
 {
     waiting_changes_nothing();
@@ -113,7 +110,17 @@ fn tell_events(
     let mut upcoming = schedule.events.upcoming();
     let mut rest = None;
     while let Some(next) = next_event(rest, &mut upcoming) {
-        let answered = tell_next(carried, machine, &mut number, next, detail, lines, text)?;
+        let answered = tell_next(
+            alloc,
+            teller,
+            ledger,
+            machine,
+            &mut number,
+            next,
+            detail,
+            lines,
+            text,
+        )?;
         if is_last(&answered.reply) {
             return Ok(true);
         }
@@ -159,7 +166,9 @@ struct Answered {
 /// Runs the event that comes next, and adds what is told of it, and of the others of its run where
 /// they do nothing.
 fn tell_next(
-    carried: &mut Carried<'_>,
+    alloc: Global,
+    teller: &mut Teller<'_>,
+    ledger: &mut Ledger,
     machine: &mut Checked,
     number: &mut EventNumber,
     next: Next,
@@ -173,10 +182,10 @@ fn tell_next(
     ensures applied { IfOk result (λ answered.
         AppliesWhole machine.old next.event machine.new answered.reply) }
     ensures noted { IfOk result (λ answered. TellsOn machine.new.set machine.new.world next.event
-        (use_step machine.old.set machine.old.world next.event) answered.reply carried.old.ledger
-        carried.new.ledger) }
+        (use_step machine.old.set machine.old.world next.event) answered.reply ledger.old
+        ledger.new) }
     ensures kept { IfOk result (λ answered. says_unchanged answered.reply ≡ true
-        → carried.new.ledger ≡ carried.old.ledger) }
+        → ledger.new ≡ ledger.old) }
     ensures rest { IfOk result (λ answered.
         answered.rest ≡ left_again answered.reply next.rest) }
     ensures told { IfOk result (λ answered.
@@ -185,18 +194,13 @@ fn tell_next(
     let moment = Moment::before(machine, &next.event);
     let step = use_step(machine, &next.event);
     let reply = machine.apply(&next.event);
-    carried
-        .ledger
-        .note(carried.alloc, step, &next.event, &reply, machine)?;
-    carried
-        .teller
-        .note(&moment, step, &next.event, &reply, machine)?;
+    ledger.note(alloc, step, &next.event, &reply, machine)?;
+    teller.note(&moment, step, &next.event, &reply, machine)?;
     let happened = Happened {
         event: next.event,
         moment,
         reply,
     };
-    let teller = &mut carried.teller;
     add_event(
         teller,
         machine,

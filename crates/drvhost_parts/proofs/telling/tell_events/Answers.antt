@@ -10,9 +10,9 @@ loop-next-init c =
       some = tt;
       telling =
           rw (c.first-number.ensures, c.upcoming-upcoming.ensures, c.requires.empty)
-          (telling_first c.args.detail c.args.machine.now c.args.carried.now.ledger
+          (telling_first c.args.detail c.args.machine.now c.args.ledger.now
           c.args.schedule.now.threads c.args.schedule.now.events c.requires.begun
-          c.requires.ledger);
+          c.requires.tells);
     }
 
 pub returns-then-is_last : goal.returns-then-is_last
