@@ -7,7 +7,7 @@ mod trouble;
 use asm::assemble;
 use hostcore::{Core, Desk, LogFull, Seat, Taken, Ticket};
 use machine::World;
-use model::event::Event;
+use model::event::{Event, Reply};
 use model::history::{Command, Outcome};
 use model::status::Major;
 use model::view::PacketView;
@@ -35,22 +35,32 @@ fn accepted(alloc: Global, text: &[u8]) -> Result<Accepted, Trouble> {
     verify(alloc, set).map_err(|(_set, refusal)| Trouble::Refused(refusal))
 }
 
-/// A read, event by event: it is issued on thread 0, which then steps.
+/// A world of two threads, in which a read is done.
 fn step_a_world<R: Print>(rt: &R, alloc: Global, accepted: Accepted) -> Result<(), Trouble> {
     let mut world = World::new(alloc, accepted, 2).map_err(|_back| Trouble::Memory)?;
+    read_by_steps(rt, &mut world)
+}
+
+/// A read, event by event: it is issued on thread 0, which then steps.
+fn read_by_steps<R: Print>(rt: &R, world: &mut World) -> Result<(), Trouble> {
     let issue = Event::Issue {
         thread: 0,
         device: 0,
         major: Major::Read,
         argument: 7,
     };
-    println!(rt; "issue: {}", world.apply(&issue))?;
-    look(rt, &world)?;
+    tell(rt, "issue", world.apply(&issue))?;
+    look(rt, world)?;
     for _ in 0..4 {
-        let reply = world.apply(&Event::Step { thread: 0 });
-        println!(rt; "step: {reply}")?;
+        tell(rt, "step", world.apply(&Event::Step { thread: 0 }))?;
     }
-    look(rt, &world)
+    look(rt, world)
+}
+
+/// What was done, and the reply to it.
+fn tell<R: Print>(rt: &R, done: &str, reply: Reply) -> Result<(), Trouble> {
+    println!(rt; "{done}: {reply}")?;
+    Ok(())
 }
 
 /// What a world tells of its thread 0, its packet 0 and its device 0.
@@ -66,29 +76,36 @@ fn look<R: Print>(rt: &R, world: &World) -> Result<(), Trouble> {
     Ok(())
 }
 
-/// The same read as a command with a name. What was lent is handed back before an error is passed
-/// on: the ticket first, then the seat.
+/// A core of two threads, by which the same read is done.
 fn perform_a_command<R: Print>(rt: &R, alloc: Global, accepted: Accepted) -> Result<(), Trouble> {
     let mut core = Core::new(alloc, accepted, 2, 100).map_err(|_back| Trouble::Memory)?;
+    read_with_a_seat(rt, &mut core)
+}
+
+/// A read with the seat of thread 0, which is handed back before an error is passed on.
+fn read_with_a_seat<R: Print>(rt: &R, core: &mut Core) -> Result<(), Trouble> {
     let Some(mut seat) = core.seat(0) else {
         return Err(Trouble::NoSeat);
     };
+    let ended = read_by_name(rt, core, &mut seat);
+    let entries = core.give_back(seat);
+    ended?;
+    println!(rt; "entries {entries}")?;
+    Ok(())
+}
+
+/// A read as a command with a name. Its ticket is handed back before an error is passed on.
+fn read_by_name<R: Print>(rt: &R, core: &mut Core, seat: &mut Seat) -> Result<(), Trouble> {
     let mut desk = Desk::new(0);
     let (ticket, queued) = desk.open(Command::Request {
         device: 0,
         major: Major::Read,
         argument: 7,
     });
-    let ended = perform(rt, &mut core, &mut seat, queued.taken());
-    let outcome = outcome_of(&core, ticket);
-    let entries = core.give_back(seat);
+    let ended = perform(rt, core, seat, queued.taken());
+    let outcome = outcome_of(core, ticket);
     ended?;
-    match outcome {
-        Some(outcome) => println!(rt; "collected: {outcome}")?,
-        None => println!(rt; "owed still")?,
-    }
-    println!(rt; "entries {entries}")?;
-    Ok(())
+    tell_outcome(rt, outcome)
 }
 
 /// Performs a command with a seat, whose thread then steps until it has nothing to do.
@@ -99,7 +116,7 @@ fn perform<R: Print>(
     taken: Taken,
 ) -> Result<(), Trouble> {
     match core.perform(seat, taken) {
-        Ok(reply) => println!(rt; "perform: {reply}")?,
+        Ok(reply) => tell(rt, "perform", reply)?,
         Err((LogFull, back)) => {
             let _command = back.give_up();
             return Err(Trouble::HistoryFull);
@@ -109,10 +126,7 @@ fn perform<R: Print>(
         if !core.busy(seat) {
             break;
         }
-        let step = Event::Step {
-            thread: seat.thread(),
-        };
-        println!(rt; "step: {}", core.apply(seat, step)?)?;
+        tell(rt, "step", core.step(seat)?)?;
     }
     Ok(())
 }
@@ -126,4 +140,13 @@ fn outcome_of(core: &Core, ticket: Ticket) -> Option<Outcome> {
             None
         }
     }
+}
+
+/// What came of a command, if that isn't owed still.
+fn tell_outcome<R: Print>(rt: &R, outcome: Option<Outcome>) -> Result<(), Trouble> {
+    match outcome {
+        Some(outcome) => println!(rt; "collected: {outcome}")?,
+        None => println!(rt; "owed still")?,
+    }
+    Ok(())
 }

@@ -12,15 +12,20 @@ use std::process::Abort;
 #[test]
 fn a_request_is_read_back(rt: HostRuntime) {
     let mut core = core_of(&rt, rt.alloc(), COMPLETES, 1, 10);
-    let mut seat = core.seat(0).expect(&rt, "a seat");
+    read_back(&rt, &mut core);
+}
+
+/// A request, up to its outcome.
+fn read_back<R: Abort>(rt: &R, core: &mut Core) {
+    let mut seat = core.seat(0).expect(rt, "a seat");
     let (ticket, queued) = Desk::new(0).open(READ);
-    let ticket = owed(&rt, &core, ticket);
-    let started = perform(&rt, &mut core, &mut seat, queued);
+    let ticket = owed(rt, core, ticket);
+    let started = perform(rt, core, &mut seat, queued);
     assert!(rt; matches!(started, Reply::Started(0)));
     assert!(rt; core.busy(&seat));
-    assert!(rt; matches!(step(&rt, &mut core, &mut seat), Reply::Stepped));
-    let ticket = owed(&rt, &core, ticket);
-    let topped = step(&rt, &mut core, &mut seat);
+    assert!(rt; matches!(step(rt, core, &mut seat), Reply::Stepped));
+    let ticket = owed(rt, core, ticket);
+    let topped = step(rt, core, &mut seat);
     assert!(rt;
         matches!(
             topped,
@@ -31,9 +36,9 @@ fn a_request_is_read_back(rt: HostRuntime) {
             }
         )
     );
-    assert!(rt; matches!(step(&rt, &mut core, &mut seat), Reply::Finished));
+    assert!(rt; matches!(step(rt, core, &mut seat), Reply::Finished));
     assert!(rt; !core.busy(&seat));
-    assert!(rt; tells_of_success(&collected(&rt, &core, ticket)));
+    assert!(rt; tells_of_success(&collected(rt, core, ticket)));
     assert_eq!(rt; core.history().len(), 4);
     assert_eq!(rt; core.give_back(seat), 4);
 }
@@ -57,21 +62,26 @@ fn tells_of_success(outcome: &Outcome) -> bool {
 #[test]
 fn a_thread_has_one_seat(rt: HostRuntime) {
     let mut core = core_of(&rt, rt.alloc(), QUEUES, 2, 10);
-    let mut first = core.seat(0).expect(&rt, "a seat");
-    let mut second = core.seat(1).expect(&rt, "a seat");
-    assert!(rt; has_no_seat(&mut core, 0));
-    assert!(rt; has_no_seat(&mut core, 2));
-    assert!(rt; has_no_seat(&mut core, 255));
-    assert!(rt; matches!(step(&rt, &mut core, &mut first), Reply::Idle));
+    seat_both(&rt, &mut core);
+}
+
+/// The seats of two threads, which both make entries.
+fn seat_both<R: Abort>(rt: &R, core: &mut Core) {
+    let mut first = core.seat(0).expect(rt, "a seat");
+    let mut second = core.seat(1).expect(rt, "a seat");
+    assert!(rt; has_no_seat(core, 0));
+    assert!(rt; has_no_seat(core, 2));
+    assert!(rt; has_no_seat(core, 255));
+    assert!(rt; matches!(step(rt, core, &mut first), Reply::Idle));
     let interrupted = core.apply(&mut first, Event::Interrupt { device: 0 });
     assert!(rt; matches!(interrupted, Ok(Reply::Stepped)));
     assert!(rt; matches!(core.due(0), (false, true)));
     assert!(rt; matches!(core.due(1), (false, false)));
-    assert!(rt; begins_dpc(&mut core, &mut second));
-    assert!(rt; matches!(step(&rt, &mut core, &mut second), Reply::Stepped));
+    assert!(rt; begins_dpc(core, &mut second));
+    assert!(rt; matches!(step(rt, core, &mut second), Reply::Stepped));
     assert_eq!(rt; core.give_back(first), 1);
     assert_eq!(rt; core.give_back(second), 2);
-    let again = core.seat(0).expect(&rt, "a seat");
+    let again = core.seat(0).expect(rt, "a seat");
     assert_eq!(rt; core.give_back(again), 0);
 }
 
@@ -98,24 +108,29 @@ fn begins_dpc(core: &mut Core, seat: &mut Seat) -> bool {
 #[test]
 fn commands_are_told_by_their_names(rt: HostRuntime) {
     let mut core = core_of(&rt, rt.alloc(), COMPLETES, 1, 10);
-    let mut seat = core.seat(0).expect(&rt, "a seat");
+    name_commands(&rt, &mut core);
+}
+
+/// A command that is lost, a request, and its cancel.
+fn name_commands<R: Abort>(rt: &R, core: &mut Core) {
+    let mut seat = core.seat(0).expect(rt, "a seat");
     let mut desk = Desk::new(7);
     let (lost, _dropped) = desk.open(READ);
     assert!(rt; is_named(lost.name(), 7, 0));
     assert!(rt; core.abandon(lost).is_none());
     let (request, asked) = desk.open(READ);
-    let started = perform(&rt, &mut core, &mut seat, asked);
+    let started = perform(rt, core, &mut seat, asked);
     assert!(rt; matches!(started, Reply::Started(0)));
     let name = request.name();
     assert!(rt; is_named(name, 7, 1));
     assert!(rt; matches!(core.abandon(request), Some(Reply::Started(0))));
     for _ in 0..3 {
-        let _reply = step(&rt, &mut core, &mut seat);
+        let _reply = step(rt, core, &mut seat);
     }
     let (cancel, asked) = desk.open(Command::Cancel { name, level: 0 });
-    let told = perform(&rt, &mut core, &mut seat, asked);
+    let told = perform(rt, core, &mut seat, asked);
     assert!(rt; matches!(told, Reply::Finished));
-    assert!(rt; is_finished(&collected(&rt, &core, cancel)));
+    assert!(rt; is_finished(&collected(rt, core, cancel)));
     assert_eq!(rt; core.give_back(seat), 5);
 }
 
@@ -127,18 +142,23 @@ fn is_named(name: Name, submitter: u32, count: u64) -> bool {
 #[test]
 fn a_request_too_many_is_refused(rt: HostRuntime) {
     let mut core = core_of(&rt, rt.alloc(), QUEUES, 1, 40_000);
-    let mut seat = core.seat(0).expect(&rt, "a seat");
+    request_too_many(&rt, &mut core);
+}
+
+/// One request more than may be live.
+fn request_too_many<R: Abort>(rt: &R, core: &mut Core) {
+    let mut seat = core.seat(0).expect(rt, "a seat");
     let mut desk = Desk::new(0);
     for number in 0..4_096 {
-        let (reply, ticket) = request(&rt, &mut core, &mut seat, &mut desk);
+        let (reply, ticket) = request(rt, core, &mut seat, &mut desk);
         assert!(rt; matches!(reply, Reply::Started(packet) if packet == number));
-        queue_it(&rt, &mut core, &mut seat);
+        queue_it(rt, core, &mut seat);
         let told = core.abandon(ticket);
         assert!(rt; matches!(told, Some(Reply::Started(packet)) if packet == number));
     }
-    let (reply, ticket) = request(&rt, &mut core, &mut seat, &mut desk);
+    let (reply, ticket) = request(rt, core, &mut seat, &mut desk);
     assert!(rt; matches!(reply, Reply::Refused));
-    let outcome = collected(&rt, &core, ticket);
+    let outcome = collected(rt, core, ticket);
     assert!(rt;
         matches!(
             outcome,

@@ -11,10 +11,15 @@ use std::process::Abort;
 #[test]
 fn a_full_history_stays_as_it_is(rt: HostRuntime) {
     let mut core = core_of(&rt, rt.alloc(), COMPLETES, 1, 3);
-    let mut seat = core.seat(0).expect(&rt, "a seat");
-    assert!(rt; is_issued(&mut core, &mut seat));
-    assert!(rt; matches!(step(&rt, &mut core, &mut seat), Reply::Stepped));
-    let topped = step(&rt, &mut core, &mut seat);
+    fill(&rt, &mut core);
+}
+
+/// A history that becomes full.
+fn fill<R: Abort>(rt: &R, core: &mut Core) {
+    let mut seat = core.seat(0).expect(rt, "a seat");
+    assert!(rt; is_issued(core, &mut seat));
+    assert!(rt; matches!(step(rt, core, &mut seat), Reply::Stepped));
+    let topped = step(rt, core, &mut seat);
     assert!(rt;
         matches!(
             topped,
@@ -25,8 +30,8 @@ fn a_full_history_stays_as_it_is(rt: HostRuntime) {
             }
         )
     );
-    assert!(rt; is_full(&mut core, &mut seat));
-    assert!(rt; is_full(&mut core, &mut seat));
+    assert!(rt; is_full(core, &mut seat));
+    assert!(rt; is_full(core, &mut seat));
     assert_eq!(rt; core.give_back(seat), 3);
 }
 
@@ -51,14 +56,19 @@ fn is_full(core: &mut Core, seat: &mut Seat) -> bool {
 #[test]
 fn a_full_history_hands_commands_back(rt: HostRuntime) {
     let mut core = core_of(&rt, rt.alloc(), COMPLETES, 1, 4);
-    let mut seat = core.seat(0).expect(&rt, "a seat");
+    perform_too_many(&rt, &mut core);
+}
+
+/// One command more than the history has room for.
+fn perform_too_many<R: Abort>(rt: &R, core: &mut Core) {
+    let mut seat = core.seat(0).expect(rt, "a seat");
     let mut desk = Desk::new(0);
     let (first, queued) = desk.open(READ);
-    let started = perform(&rt, &mut core, &mut seat, queued);
+    let started = perform(rt, core, &mut seat, queued);
     assert!(rt; matches!(started, Reply::Started(0)));
-    run_out(&rt, &mut core, &mut seat);
+    run_out(rt, core, &mut seat);
     let (second, queued) = desk.open(Command::Interrupt { device: 5 });
-    let taken = handed_back(&rt, &mut core, &mut seat, queued);
+    let taken = handed_back(rt, core, &mut seat, queued);
     assert_eq!(rt; taken.name().count, 1);
     assert!(rt; matches!(taken.command(), Command::Interrupt { device: 5 }));
     assert!(rt; matches!(taken.give_up(), Command::Interrupt { device: 5 }));

@@ -11,43 +11,58 @@ use std::sync::Wait;
 #[test]
 fn names_count_up_for_each_submitter(rt: HostRuntime) {
     let mut market = Market::open(&rt, rt.alloc(), 64, 2, 1);
-    put_in_turn(&rt, &mut market, 15);
+    take_in_turn(&rt, &mut market);
+}
+
+/// What two submitters put in turn is taken so.
+fn take_in_turn<R: Wait + Abort>(rt: &R, market: &mut Market) {
+    put_in_turn(rt, market, 15);
     for count in 0..15 {
-        assert!(rt; is_next(&rt, &mut market, 0, 0, count));
-        assert!(rt; is_next(&rt, &mut market, 0, 1, count));
+        assert!(rt; is_next(rt, market, 0, 0, count));
+        assert!(rt; is_next(rt, market, 0, 1, count));
     }
-    assert!(rt; is_empty(&rt, &mut market, 0));
+    assert!(rt; is_empty(rt, market, 0));
 }
 
 /// A full queue hands a command back, and its name goes to the next that is put.
 #[test]
 fn a_full_queue_hands_commands_back(rt: HostRuntime) {
     let mut market = Market::open(&rt, rt.alloc(), 2, 1, 1);
-    assert!(rt; is_put(&rt, &mut market, 0, 0));
-    assert!(rt; is_put(&rt, &mut market, 0, 1));
-    assert!(rt; comes_back(&rt, &mut market, 0, 2));
-    assert!(rt; is_next(&rt, &mut market, 0, 0, 0));
-    assert!(rt; is_put(&rt, &mut market, 0, 2));
-    assert!(rt; comes_back(&rt, &mut market, 0, 3));
-    assert!(rt; is_next(&rt, &mut market, 0, 0, 1));
-    assert!(rt; is_next(&rt, &mut market, 0, 0, 2));
-    assert!(rt; is_empty(&rt, &mut market, 0));
+    put_too_many(&rt, &mut market);
+}
+
+/// One command more than there is room for, twice.
+fn put_too_many<R: Wait + Abort>(rt: &R, market: &mut Market) {
+    assert!(rt; is_put(rt, market, 0, 0));
+    assert!(rt; is_put(rt, market, 0, 1));
+    assert!(rt; comes_back(rt, market, 0, 2));
+    assert!(rt; is_next(rt, market, 0, 0, 0));
+    assert!(rt; is_put(rt, market, 0, 2));
+    assert!(rt; comes_back(rt, market, 0, 3));
+    assert!(rt; is_next(rt, market, 0, 0, 1));
+    assert!(rt; is_next(rt, market, 0, 0, 2));
+    assert!(rt; is_empty(rt, market, 0));
 }
 
 /// A closed queue hands commands back, and what was put before is taken.
 #[test]
 fn a_closed_queue_is_taken_from(rt: HostRuntime) {
     let mut market = Market::open(&rt, rt.alloc(), 8, 1, 1);
+    take_from_closed(&rt, &mut market);
+}
+
+/// What was put before the queue was closed is taken after it.
+fn take_from_closed<R: Wait + Abort>(rt: &R, market: &mut Market) {
     assert!(rt; !market.closed());
-    assert!(rt; is_put(&rt, &mut market, 0, 0));
-    assert!(rt; is_put(&rt, &mut market, 0, 1));
+    assert!(rt; is_put(rt, market, 0, 0));
+    assert!(rt; is_put(rt, market, 0, 1));
     market.close();
     assert!(rt; market.closed());
-    assert!(rt; comes_back(&rt, &mut market, 0, 2));
-    assert!(rt; is_next(&rt, &mut market, 0, 0, 0));
-    assert!(rt; comes_back(&rt, &mut market, 0, 2));
-    assert!(rt; is_next(&rt, &mut market, 0, 0, 1));
-    assert!(rt; is_empty(&rt, &mut market, 0));
+    assert!(rt; comes_back(rt, market, 0, 2));
+    assert!(rt; is_next(rt, market, 0, 0, 0));
+    assert!(rt; comes_back(rt, market, 0, 2));
+    assert!(rt; is_next(rt, market, 0, 0, 1));
+    assert!(rt; is_empty(rt, market, 0));
     assert!(rt; market.closed());
 }
 
@@ -55,17 +70,27 @@ fn a_closed_queue_is_taken_from(rt: HostRuntime) {
 #[test]
 fn what_was_not_taken_is_left(rt: HostRuntime) {
     let mut market = Market::open(&rt, rt.alloc(), 8, 2, 2);
-    put_in_turn(&rt, &mut market, 3);
-    assert!(rt; is_next(&rt, &mut market, 0, 0, 0));
-    assert!(rt; is_next(&rt, &mut market, 1, 1, 0));
-    assert!(rt; is_next(&rt, &mut market, 1, 0, 1));
-    market.close();
+    take_some(&rt, &mut market);
     let mut left = market.left();
-    assert!(rt; is_left(&rt, &mut left, 1, 1));
-    assert!(rt; is_left(&rt, &mut left, 0, 2));
-    assert!(rt; is_left(&rt, &mut left, 1, 2));
-    assert!(rt; is_all(&rt, &mut left));
-    assert!(rt; is_all(&rt, &mut left));
+    take_left(&rt, &mut left);
+}
+
+/// Three commands of six are taken, and the queue closes.
+fn take_some<R: Wait + Abort>(rt: &R, market: &mut Market) {
+    put_in_turn(rt, market, 3);
+    assert!(rt; is_next(rt, market, 0, 0, 0));
+    assert!(rt; is_next(rt, market, 1, 1, 0));
+    assert!(rt; is_next(rt, market, 1, 0, 1));
+    market.close();
+}
+
+/// The other three are left.
+fn take_left<R: Wait + Abort>(rt: &R, left: &mut Left) {
+    assert!(rt; is_left(rt, left, 1, 1));
+    assert!(rt; is_left(rt, left, 0, 2));
+    assert!(rt; is_left(rt, left, 1, 2));
+    assert!(rt; is_all(rt, left));
+    assert!(rt; is_all(rt, left));
 }
 
 /// The command that a submitter gives this name.

@@ -1,5 +1,8 @@
 //! Workers that serve a queue of commands.
 
+ghost use Rattle.std.specs.Prelude.{◌≤◌};
+ghost use Rattle.model.specs.declared.limits.TheConstants.{MAX_THREADS};
+
 use crate::pace::{Pace, TOGETHER};
 use crate::served::{Account, Told, serve_all};
 use crate::sets::{COMPLETES, QUEUES, READ, core_of};
@@ -8,6 +11,8 @@ use model::history::{Command, Name, Outcome, TopOut};
 use model::status::Status;
 use std::alloc::Global;
 use std::process::Abort;
+use std::sync::Wait;
+use std::thread::Threads;
 use workers::Gate;
 
 /// Many commands are 100 requests, 50 cancels of every other of these, and 100 interrupts.
@@ -33,6 +38,11 @@ fn one_worker_serves_a_request_and_an_interrupt(rt: HostRuntime) {
     let core = core_of(&rt, alloc, QUEUES, 1, 100);
     let commands = [READ, Command::Interrupt { device: 0 }];
     let account = serve_all(&rt, alloc, core, 1, commands.as_slice(), &Open);
+    check_both(&rt, &account);
+}
+
+/// One worker performed both, and made 17 entries.
+fn check_both<R: Abort>(rt: &R, account: &Account) {
     assert_eq!(rt; account.core.history().len(), 17);
     let told = account.told.as_slice();
     assert_eq!(rt; told.len(), 2);
@@ -51,7 +61,7 @@ fn one_worker_serves_a_request_and_an_interrupt(rt: HostRuntime) {
     );
     assert!(rt; is_interrupt_told(&told[1]));
     assert_eq!(rt; account.counts.as_slice(), [17].as_slice());
-    assert!(rt; is_finished(&account, 1));
+    assert!(rt; is_finished(account, 1));
 }
 
 /// Whether so many workers were started and performed all commands, and all takers came back.
@@ -79,19 +89,38 @@ fn workers_serve_many_commands(rt: HostRuntime) {
     let alloc = rt.alloc();
     let commands = many_commands(&rt, alloc);
     for workers in [1, 2, 4, 64u8] {
-        let core = core_of(&rt, alloc, QUEUES, workers, 1_000_000);
-        let account = serve_all(&rt, alloc, core, workers, commands.as_slice(), &Open);
-        assert!(rt;
-            is_finished(&account, workers as usize),
-            "with {workers} workers"
-        );
-        check_names(&rt, alloc, &account);
-        check_told(&rt, alloc, account.told.as_slice());
-        let cancelled = count_topped(account.told.as_slice(), Status::Cancelled);
-        let success = count_topped(account.told.as_slice(), Status::Success);
-        assert!(rt; cancelled <= CANCELS && success <= REQUESTS);
-        assert!(rt; workers > 1 || (cancelled == CANCELS && success == REQUESTS - CANCELS));
+        serve_many(&rt, alloc, commands.as_slice(), workers);
     }
+}
+
+/// So many workers serve many commands.
+fn serve_many<R: Threads + Wait + Abort + Sync>(
+    rt: &R,
+    alloc: Global,
+    commands: &[Command],
+    workers: u8,
+)
+    requires some { 1 ≤ workers }
+    requires few { workers ≤ MAX_THREADS }
+{
+    let core = core_of(rt, alloc, QUEUES, workers, 1_000_000);
+    let account = serve_all(rt, alloc, core, workers, commands, &Open);
+    check_served(rt, alloc, &account, workers);
+}
+
+/// So many workers performed all of many commands, each once.
+fn check_served<R: Abort>(rt: &R, alloc: Global, account: &Account, workers: u8) {
+    assert!(rt;
+        is_finished(account, workers as usize),
+        "with {workers} workers"
+    );
+    check_names(rt, alloc, account);
+    let told = account.told.as_slice();
+    check_told(rt, alloc, told);
+    let cancelled = count_topped(told, Status::Cancelled);
+    let success = count_topped(told, Status::Success);
+    assert!(rt; cancelled <= CANCELS && success <= REQUESTS);
+    assert!(rt; workers > 1 || (cancelled == CANCELS && success == REQUESTS - CANCELS));
 }
 
 /// The command of a number.
@@ -239,12 +268,17 @@ fn a_full_history_ends_all_workers(rt: HostRuntime) {
     let commands = many_commands(&rt, alloc);
     let core = core_of(&rt, alloc, QUEUES, 4, 100);
     let account = serve_all(&rt, alloc, core, 4, commands.as_slice(), &Open);
+    check_full(&rt, alloc, &account);
+}
+
+/// Four workers made the 100 entries that there was room for, and lost no command.
+fn check_full<R: Abort>(rt: &R, alloc: Global, account: &Account) {
     assert!(rt; account.full);
     assert_eq!(rt; account.started, 4);
     assert_eq!(rt; account.takers, 4);
     assert_eq!(rt; account.core.history().len(), 100);
-    assert_eq!(rt; counted(&account), 100);
-    check_names(&rt, alloc, &account);
+    assert_eq!(rt; counted(account), 100);
+    check_names(rt, alloc, account);
 }
 
 /// Two workers perform requests side by side.
@@ -257,7 +291,12 @@ fn workers_overlap(rt: HostRuntime) {
     let pace = Pace::new(clock);
     let account = serve_all(&rt, alloc, core, 2, commands.as_slice(), &pace);
     assert!(rt; pace.held());
+    check_overlap(&rt, &account);
+}
+
+/// Two workers performed all of 200 requests, and each made as many entries as the gate asks for.
+fn check_overlap<R: Abort>(rt: &R, account: &Account) {
     assert!(rt; account.counts.iter().all(|count| *count >= TOGETHER));
     assert_eq!(rt; account.core.history().len(), 800);
-    assert!(rt; is_finished(&account, 2));
+    assert!(rt; is_finished(account, 2));
 }
