@@ -6,8 +6,8 @@
 mod advice;
 mod faulty;
 mod form;
-mod forms;
 mod lexing;
+mod line_form;
 mod names;
 mod naming;
 mod nearest;

@@ -2,7 +2,7 @@
 
 use crate::advice::{add_at_fault, add_expected, add_meant, add_token};
 use crate::faulty::FaultyLine;
-use crate::forms::form_of;
+use crate::line_form::form_of;
 use crate::names::{Given, Thing, names_of};
 use crate::nearest::{distance, is_near};
 use std::alloc::{AllocError, Global};

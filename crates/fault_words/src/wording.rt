@@ -3,7 +3,7 @@
 use crate::advice::{add_at_fault, add_expected, add_meant, add_token, add_wrong};
 use crate::faulty::FaultyLine;
 use crate::form::{Form, Place};
-use crate::forms::form_of;
+use crate::line_form::form_of;
 use crate::nearest::nearest;
 use crate::operand::{Fit, Operand};
 use crate::token::Parts;
