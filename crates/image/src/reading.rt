@@ -12,7 +12,7 @@ ghost use Rattle.image.specs.Spelling.{Spells};
 ghost use Rattle.image.specs.declared.fault.ImageFault.TheVariants.{Memory};
 ghost use Rattle.forms.specs.InstructionForm.{AReturn, SecondAlone, cell_forms, packet_forms};
 ghost use Rattle.forms.specs.InstructionForm.{queue_forms};
-ghost use Rattle.model.specs.declared.instr.Instr.TheVariants.{Dequeue};
+ghost use Rattle.model.specs.declared.instr.Instr.TheVariants.{Dequeue, Ret};
 ghost use Rattle.model.specs.Set.{Set};
 ghost use Rattle.model.specs.Sound.{IsSound};
 
@@ -179,25 +179,26 @@ impl Word {
             && (wide || self.last == 0)
     }
 
-    /// How many operand bytes a `ret` uses.
-    fn return_size(&self) -> u8
-        ensures { result ≡ used_from (AReturn ∷ []) 0 self.now }
-    {
-        if self.first < 2 { 2 } else { 1 }
-    }
-
     /// What `ret` returns, by its form.
-    fn returned(&self) -> Result<Return, ImageFault>
-        ensures { result ≡ return_in self.now.first self.now.second }
+    fn returned(&self) -> Result<Instr, ImageFault>
+        ensures { result ≡ using (used_from (AReturn ∷ []) 0 self.now) false self.now
+            (one (λ form. Ret form) (return_in self.now.first self.now.second)) }
     {
-        match self.first {
-            0 => Ok(Return::WithStatus(status(self.second)?)),
-            1 => Ok(Return::Lower(register(self.second)?)),
-            2 => Ok(Return::Continue),
-            3 => Ok(Return::Stop),
-            4 => Ok(Return::Void),
-            _ => Err(ImageFault::BadOpcode),
+        let used = match self.first {
+            0 | 1 => 2,
+            2 | 3 | 4 => 1,
+            _ => return Err(ImageFault::BadOpcode),
+        };
+        if !self.leaves(used, false) {
+            return Err(ImageFault::BadOpcode);
         }
+        Ok(Instr::Ret(match self.first {
+            0 => Return::WithStatus(status(self.second)?),
+            1 => Return::Lower(register(self.second)?),
+            2 => Return::Continue,
+            3 => Return::Stop,
+            _ => Return::Void,
+        }))
     }
 }
 
@@ -339,7 +340,7 @@ fn on_packets(scope: &Scope, word: &Word) -> Result<Instr, ImageFault>
             register(word.first)?,
             label(scope.positions, word.last)?,
         )),
-        36 if word.leaves(word.return_size(), false) => Ok(Instr::Ret(word.returned()?)),
+        36 => word.returned(),
         37 => dequeue(scope.edition, word),
         _ => Err(ImageFault::BadOpcode),
     }
