@@ -1,8 +1,8 @@
--- What an event can be: nothing happens, the top frame of a thread steps, a packet is issued, a DPC
--- is queued or begins, a StartIo routine or IoCancelIrp begins; and what a run answers to it.
+-- What an event can be: nothing happens, the top frame of a thread steps, a root begins on an idle
+-- one, or a DPC is queued; and what a run answers to it.
 use Rattle.std.proofs.Common.{◌≡◌, ℕ, ◌-◌, List, [], ◌∷◌, ◌++◌, length, Option, None, Some, Bool, true, false, take, refl}
-use Rattle.std.specs.Prelude.{◌&&◌, not, nat_eq, nat_lt, slice_get, if◌then◌else◌}
-use Rattle.std.proofs.lemmas.Bool.{eqb-true, cond_both}
+use Rattle.std.specs.Prelude.{⊤, ◌&&◌, not, nat_eq, nat_lt, slice_get, if◌then◌else◌}
+use Rattle.std.proofs.lemmas.Bool.{eqb-true}
 use Rattle.model.specs.declared.event.Bug.{Bug}
 use Rattle.model.specs.declared.event.Event.{Event}
 use Rattle.model.specs.declared.event.Event.TheVariants.{Issue, Cancel as CancelEvent, Interrupt, Dpc, StartIo as StartIoEvent, Step}
@@ -16,7 +16,7 @@ use Rattle.model.specs.declared.world.Irql.{Irql}
 use Rattle.model.specs.declared.world.Packet.{Packet}
 use Rattle.model.specs.declared.world.Thread.{Thread}
 use Rattle.model.specs.Effect.{Outcome, frame_effect, top_of}
-use Rattle.model.specs.Events.{Change, settled, top_effect, step_thread, unchanged, issued, issue_on, is_idle, can_issue, irql_of, cancel_of, cancel_on, interrupted, interrupt_on, dpc_begun, dpc_on, effect, startio_begun, startio_for, startio_from, startio_on}
+use Rattle.model.specs.Events.{Change, settled, top_effect, step_thread, unchanged, issued, issue_on, is_idle, can_issue, irql_of, cancel_of, cancel_on, interrupted, interrupt_on, dpc_begun, dpc_on, effect, startio_for, startio_from, startio_on}
 use Rattle.model.specs.Fault.{first_fault}
 use Rattle.model.specs.Queues.{StartState, head_of}
 use Rattle.model.specs.Run.{Run, Answered, actor_on, goes, refused, stops, unless_wrong, unless_fault, thread_of, answered_on, step}
@@ -24,6 +24,7 @@ use Rattle.model.specs.Set.{Set, dpc_of, startio_of}
 use Rattle.model.specs.Trace.{Entry, recorded}
 use Rattle.model.specs.World.{World, is_queued, packet_of, start_of}
 use Rattle.run_laws.proofs.Lists.{last_split}
+use Rattle.run_laws.proofs.Runs.Roots.{Root, Beside, issues, takes_dpc, takes_first, takes_nothing, IdleThread, root_begun, request_root, dpc_root, startio_root, cancel_root}
 use Rattle.run_laws.proofs.Steps.Comes.{Comes}
 use Rattle.run_laws.proofs.Steps.Walk.{comes}
 use Rattle.run_laws.proofs.Tests.{and_left, and_right}
@@ -44,63 +45,13 @@ pub record StepsFrame (set : Set) (w : World) (t : ℕ) : Type 0 where
   pub frames : thread.frames.items ≡ below ++ frame ∷ []
   pub comes : Comes set w.shared t (top_of below) frame outcome
 
--- a packet is issued on an idle thread
-pub record IssuesPacket (set : Set) (w : World) (t : ℕ) : Type 0 where
-  pub thread : Thread
-  pub d : ℕ
-  pub device : Device
-  pub major : Major
-  pub argument : ℕ
-  pub found : slice_get w.threads t ≡ Some thread
-  pub idle : thread.frames.items ≡ []
-  pub there : slice_get set.devices d ≡ Some device
-  pub room : can_issue w.shared ≡ true
-
--- the DPC of a device begins on an idle thread
-pub record BeginsDpc (set : Set) (w : World) (t : ℕ) : Type 0 where
-  pub thread : Thread
-  pub d : ℕ
-  pub routine : ℕ
-  pub found : slice_get w.threads t ≡ Some thread
-  pub idle : thread.frames.items ≡ []
-  pub there : dpc_of set d ≡ Some routine
-
--- the StartIo routine of a device begins on an idle thread, for the first packet of its start list
-pub record BeginsStartIo (set : Set) (w : World) (t : ℕ) : Type 0 where
-  pub thread : Thread
-  pub d : ℕ
-  pub routine : ℕ
-  pub start : StartState
-  pub n : ℕ
-  pub found : slice_get w.threads t ≡ Some thread
-  pub idle : thread.frames.items ≡ []
-  pub there : startio_of set d ≡ Some routine
-  pub has : start_of w.shared d ≡ Some start
-  pub first : head_of start.start_list ≡ Some n
-
--- IoCancelIrp begins on an idle thread, at a level, for a packet that is live
-pub record BeginsCancel (set : Set) (w : World) (t : ℕ) : Type 0 where
-  pub thread : Thread
-  pub n : ℕ
-  pub level : Irql
-  pub packet : Packet
-  pub found : slice_get w.threads t ≡ Some thread
-  pub idle : thread.frames.items ≡ []
-  pub there : packet_of w.shared n ≡ Some packet
-
 -- what an event on a thread can be, with the change that it makes
 pub data Happens (set : Set) (w : World) (t : ℕ) : Change → Type 0 where
   nothing : (reply : Reply) → stops_run reply ≡ false → Happens set w t (unchanged w reply)
   steps : (h : StepsFrame set w t)
       → Happens set w t (settled set w t h.thread h.below h.outcome)
-  issues : (h : IssuesPacket set w t)
-      → Happens set w t (issued set w t h.d h.thread h.device h.major h.argument)
-  begins : (h : BeginsDpc set w t)
-      → Happens set w t (dpc_begun set w t h.d h.thread h.routine)
-  begins_startio : (h : BeginsStartIo set w t)
-      → Happens set w t (startio_begun set w t h.d h.thread h.routine h.n h.start)
-  begins_cancel : (h : BeginsCancel set w t)
-      → Happens set w t (cancel_of w t h.n h.level h.thread (Some h.packet))
+  begins : (i : IdleThread w t) (root : Root) → Beside set w.shared root
+      → Happens set w t (root_begun w t i.thread root)
 
 -- what one about no thread can be
 pub data Sets (set : Set) (w : World) : Change → Type 0 where
@@ -138,127 +89,178 @@ module _ (set : Set) (w : World) (t : ℕ) where
   happens_step (Some thread) found =
       happens_top thread (slice_get thread.frames.items (length thread.frames.items - 1)) found refl
 
+-- the threads are both there, and are idle both or neither
+abbrev pub SameIdle : Option Thread → Option Thread → Type 0
+SameIdle None None = ⊤
+SameIdle (Some x) (Some y) = is_idle x ≡ is_idle y
+SameIdle _ _ = ⊥
+
+module _ (set : Set) (w : World) (others : List Thread) (t : ℕ) where
+  -- another world, whose threads share what those of this one do
+  abbrev v : World
+  v = record { threads = others; shared = w.shared }
+
+  -- what it can be on a thread of either: nothing, or the same root begins
+  pub data Both : Change → Change → Type 0 where
+    both_nothing : (reply : Reply) → stops_run reply ≡ false
+        → Both (unchanged v reply) (unchanged w reply)
+    both_begin : (x : Thread) (i : IdleThread w t) (root : Root) → Beside set w.shared root
+        → Both (root_begun v t x root) (root_begun w t i.thread root)
+
   none_of_length : (frames : List Frame) → nat_eq (length frames) 0 ≡ true → frames ≡ []
   none_of_length [] h = refl
   none_of_length (f ∷ frames) h = let no : length (f ∷ frames) ≡ 0 =
       eqb-true (length (f ∷ frames)) 0 h in cc
 
-  happens_if : (d : ℕ) (major : Major) (argument : ℕ) (thread : Thread) (device : Device) (b : Bool)
-      → (is_idle thread && can_issue w.shared) ≡ b → slice_get w.threads t ≡ Some thread
-      → slice_get set.devices d ≡ Some device
-      → Happens set w t
-      (if b then issued set w t d thread device major argument else unchanged w Refused)
-  happens_if d major argument thread device false may found there = nothing Refused refl
-  happens_if d major argument thread device true may found there =
-      issues (record {
-        thread = thread;
-        d = d;
-        device = device;
-        major = major;
-        argument = argument;
-        found = found;
-        idle = none_of_length thread.frames.items (and_left _ _ may);
-        there = there;
-        room = and_right _ _ may;
-      })
+  module _ (x y : Thread) (found : slice_get w.threads t ≡ Some y) where
+    begin_both : (root : Root) → is_idle y ≡ true → Beside set w.shared root
+        → Both (root_begun v t x root) (root_begun w t y root)
+    begin_both root is beside =
+        both_begin x (record {
+          thread = y;
+          found = found;
+          idle = none_of_length y.frames.items is;
+        }) root beside
 
-  happens_issue : (d : ℕ) (major : Major) (argument : ℕ) (o : Option Thread)
+    -- a request begins
+    issue_if : (d : ℕ) (major : Major) (argument : ℕ) (device : Device) (may : Bool)
+        → slice_get set.devices d ≡ Some device → (is_idle y && can_issue w.shared) ≡ may
+        → Both (if may then issued set v t d x device major argument else unchanged v Refused)
+        (if may then issued set w t d y device major argument else unchanged w Refused)
+    issue_if d major argument device false there may = both_nothing Refused refl
+    issue_if d major argument device true there may =
+        begin_both (request_root set w.shared d device major argument) (and_left _ _ may)
+        (issues (record {
+          d = d;
+          device = device;
+          major = major;
+          argument = argument;
+          there = there;
+          room = and_right _ _ may;
+        }))
+
+    -- a DPC
+    dpc_if : (d routine : ℕ) (idle queued : Bool) → dpc_of set d ≡ Some routine
+        → is_idle y ≡ idle
+        → Both (if not idle then unchanged v Refused else
+        (if queued then dpc_begun set v t d x routine else unchanged v Idle))
+        (if not idle then unchanged w Refused else
+        (if queued then dpc_begun set w t d y routine else unchanged w Idle))
+    dpc_if d routine false queued there is = both_nothing Refused refl
+    dpc_if d routine true false there is = both_nothing Idle refl
+    dpc_if d routine true true there is =
+        begin_both (dpc_root set w.shared d routine) is
+        (takes_dpc (record { d = d; routine = routine; there = there }))
+
+    -- StartIo
+    startio_first : (d routine : ℕ) (start : StartState) (n : Option ℕ)
+        → startio_of set d ≡ Some routine → start_of w.shared d ≡ Some start
+        → head_of start.start_list ≡ n → is_idle y ≡ true
+        → Both (startio_for set v t d x routine start n) (startio_for set w t d y routine start n)
+    startio_first d routine start None there has first is = both_nothing Idle refl
+    startio_first d routine start (Some n) there has first is =
+        begin_both (startio_root set w.shared d routine n start) is (takes_first (record {
+          d = d;
+          routine = routine;
+          start = start;
+          n = n;
+          there = there;
+          has = has;
+          first = first;
+        }))
+
+    startio_has : (d routine : ℕ) (o : Option StartState) → startio_of set d ≡ Some routine
+        → start_of w.shared d ≡ o → is_idle y ≡ true
+        → Both (startio_from set v t d x routine o) (startio_from set w t d y routine o)
+    startio_has d routine None there has is = both_nothing Refused refl
+    startio_has d routine (Some start) there has is =
+        startio_first d routine start (head_of start.start_list) there has refl is
+
+    startio_if : (d routine : ℕ) (idle : Bool) → startio_of set d ≡ Some routine
+        → is_idle y ≡ idle
+        → Both (if idle then startio_from set v t d x routine (start_of w.shared d)
+        else unchanged v Refused)
+        (if idle then startio_from set w t d y routine (start_of w.shared d)
+        else unchanged w Refused)
+    startio_if d routine false there is = both_nothing Refused refl
+    startio_if d routine true there is =
+        startio_has d routine (start_of w.shared d) there refl is
+
+    -- IoCancelIrp
+    cancel_live : (n : ℕ) (level : Irql) (o : Option Packet) → packet_of w.shared n ≡ o
+        → is_idle y ≡ true → Both (cancel_of v t n level x o) (cancel_of w t n level y o)
+    cancel_live n level None there is = both_nothing Finished refl
+    cancel_live n level (Some p) there is =
+        begin_both (cancel_root w.shared n level) is
+        (takes_nothing (record { n = n; level = level; packet = p; there = there }))
+
+    cancel_if : (n : ℕ) (level : Irql) (may : Bool)
+        → (is_idle y && nat_lt n w.shared.issued) ≡ may
+        → Both (if may then cancel_of v t n level x (packet_of w.shared n) else unchanged v Refused)
+        (if may then cancel_of w t n level y (packet_of w.shared n) else unchanged w Refused)
+    cancel_if n level false may = both_nothing Refused refl
+    cancel_if n level true may =
+        cancel_live n level (packet_of w.shared n) refl (and_left _ _ may)
+
+  issue_both : (d : ℕ) (major : Major) (argument : ℕ) (o p : Option Thread)
       (device : Option Device)
-      → slice_get w.threads t ≡ o → slice_get set.devices d ≡ device
-      → Happens set w t (issue_on set w t d major argument o device)
-  happens_issue d major argument (Some thread) (Some device) found there =
-      happens_if d major argument thread device (is_idle thread && can_issue w.shared) refl found
-      there
-  happens_issue d major argument _ _ found there = nothing Refused refl
-
-  happens_queued : (d routine : ℕ) (thread : Thread) (idle queued : Bool) → is_idle thread ≡ idle
-      → slice_get w.threads t ≡ Some thread → dpc_of set d ≡ Some routine
-      → Happens set w t
-      (if not idle then unchanged w Refused else
-      (if queued then dpc_begun set w t d thread routine else unchanged w Idle))
-  happens_queued d routine thread false queued is found there = nothing Refused refl
-  happens_queued d routine thread true false is found there = nothing Idle refl
-  happens_queued d routine thread true true is found there =
-      begins (record {
-        thread = thread;
-        d = d;
-        routine = routine;
-        found = found;
-        idle = none_of_length thread.frames.items is;
-        there = there;
-      })
-
-  happens_dpc : (d : ℕ) (o : Option Thread) (routine : Option ℕ) → slice_get w.threads t ≡ o
-      → dpc_of set d ≡ routine
-      → Happens set w t (dpc_on set w t d o routine)
-  happens_dpc d (Some thread) (Some routine) found there =
-      happens_queued d routine thread (is_idle thread) (is_queued w.shared d) refl found there
-  happens_dpc d _ _ found there = nothing Refused refl
-
-  happens_first : (d routine : ℕ) (thread : Thread) (start : StartState) (n : Option ℕ)
-      → slice_get w.threads t ≡ Some thread → is_idle thread ≡ true
-      → startio_of set d ≡ Some routine → start_of w.shared d ≡ Some start
-      → head_of start.start_list ≡ n
-      → Happens set w t (startio_for set w t d thread routine start n)
-  happens_first d routine thread start None found is there has first = nothing Idle refl
-  happens_first d routine thread start (Some n) found is there has first =
-      begins_startio (record {
-        thread = thread;
-        d = d;
-        routine = routine;
-        start = start;
-        n = n;
-        found = found;
-        idle = none_of_length thread.frames.items is;
-        there = there;
-        has = has;
-        first = first;
-      })
-
-  happens_started : (d routine : ℕ) (thread : Thread) (start : Option StartState)
-      → slice_get w.threads t ≡ Some thread → is_idle thread ≡ true
-      → startio_of set d ≡ Some routine → start_of w.shared d ≡ start
-      → Happens set w t (startio_from set w t d thread routine start)
-  happens_started d routine thread None found is there has = nothing Refused refl
-  happens_started d routine thread (Some start) found is there has =
-      happens_first d routine thread start (head_of start.start_list) found is there has refl
-
-  happens_startio : (d : ℕ) (o : Option Thread) (routine : Option ℕ) → slice_get w.threads t ≡ o
-      → startio_of set d ≡ routine
-      → Happens set w t (startio_on set w t d o routine)
-  happens_startio d (Some thread) (Some routine) found there =
-      cond_both (is_idle thread) (startio_from set w t d thread routine (start_of w.shared d))
-      (unchanged w Refused) (Happens set w t)
-      (λ is. happens_started d routine thread (start_of w.shared d) found is there refl)
-      (λ busy. nothing Refused refl)
-  happens_startio d _ _ found there = nothing Refused refl
-
-  happens_cancelling : (n : ℕ) (level : Irql) (thread : Thread) (o : Option Packet)
-      → slice_get w.threads t ≡ Some thread → is_idle thread ≡ true → packet_of w.shared n ≡ o
-      → Happens set w t (cancel_of w t n level thread o)
-  happens_cancelling n level thread None found is there = nothing Finished refl
-  happens_cancelling n level thread (Some p) found is there =
-      begins_cancel (record {
-        thread = thread;
-        n = n;
-        level = level;
-        packet = p;
-        found = found;
-        idle = none_of_length thread.frames.items is;
-        there = there;
-      })
-
-  happens_cancel : (n : ℕ) (level : Option Irql) (o : Option Thread) → slice_get w.threads t ≡ o
-      → Happens set w t (cancel_on w t n level o)
-  happens_cancel n level None found = nothing Refused refl
-  happens_cancel n None (Some thread) found = nothing Refused refl
-  happens_cancel n (Some level) (Some thread) found =
-      cond_both (is_idle thread && nat_lt n w.shared.issued)
-      (cancel_of w t n level thread (packet_of w.shared n))
-      (unchanged w Refused) (Happens set w t)
-      (λ may. happens_cancelling n level thread (packet_of w.shared n) found (and_left _ _ may)
+      → slice_get w.threads t ≡ p → slice_get set.devices d ≡ device → SameIdle o p
+      → Both (issue_on set v t d major argument o device)
+      (issue_on set w t d major argument p device)
+  issue_both d major argument None None device found there same = both_nothing Refused refl
+  issue_both d major argument (Some x) (Some y) None found there same = both_nothing Refused refl
+  issue_both d major argument (Some x) (Some y) (Some device) found there same =
+      rw same (issue_if x y found d major argument device (is_idle y && can_issue w.shared) there
       refl)
-      (λ may_not. nothing Refused refl)
+  issue_both d major argument _ _ device found there same = absurd same
+
+  dpc_both : (d : ℕ) (o p : Option Thread) (routine : Option ℕ) → slice_get w.threads t ≡ p
+      → dpc_of set d ≡ routine → SameIdle o p
+      → Both (dpc_on set v t d o routine) (dpc_on set w t d p routine)
+  dpc_both d None None routine found there same = both_nothing Refused refl
+  dpc_both d (Some x) (Some y) None found there same = both_nothing Refused refl
+  dpc_both d (Some x) (Some y) (Some routine) found there same =
+      rw same (dpc_if x y found d routine (is_idle y) (is_queued w.shared d) there refl)
+  dpc_both d _ _ routine found there same = absurd same
+
+  startio_both : (d : ℕ) (o p : Option Thread) (routine : Option ℕ) → slice_get w.threads t ≡ p
+      → startio_of set d ≡ routine → SameIdle o p
+      → Both (startio_on set v t d o routine) (startio_on set w t d p routine)
+  startio_both d None None routine found there same = both_nothing Refused refl
+  startio_both d (Some x) (Some y) None found there same = both_nothing Refused refl
+  startio_both d (Some x) (Some y) (Some routine) found there same =
+      rw same (startio_if x y found d routine (is_idle y) there refl)
+  startio_both d _ _ routine found there same = absurd same
+
+  cancel_both : (n : ℕ) (level : Option Irql) (o p : Option Thread) → slice_get w.threads t ≡ p
+      → SameIdle o p → Both (cancel_on v t n level o) (cancel_on w t n level p)
+  cancel_both n level None None found same = both_nothing Refused refl
+  cancel_both n None (Some x) (Some y) found same = both_nothing Refused refl
+  cancel_both n (Some level) (Some x) (Some y) found same =
+      rw same (cancel_if x y found n level (is_idle y && nat_lt n w.shared.issued) refl)
+  cancel_both n level _ _ found same = absurd same
+
+  -- whichever event it is, by the thread that it is about
+  abbrev EachBoth : Event → Type 0
+  EachBoth e = SameIdle (slice_get others t) (slice_get w.threads t)
+      → Both (effect set v e) (effect set w e)
+
+  pub request_both : (d : ℕ) (major : Major) (argument : ℕ) → EachBoth (Issue t d major argument)
+  request_both d major argument same =
+      issue_both d major argument (slice_get others t) (slice_get w.threads t)
+      (slice_get set.devices d) refl refl same
+
+  pub deferred_both : (d : ℕ) → EachBoth (Dpc t d)
+  deferred_both d same =
+      dpc_both d (slice_get others t) (slice_get w.threads t) (dpc_of set d) refl refl same
+
+  pub started_both : (d : ℕ) → EachBoth (StartIoEvent t d)
+  started_both d same =
+      startio_both d (slice_get others t) (slice_get w.threads t) (startio_of set d) refl refl same
+
+  pub cancelled_both : (n level : ℕ) → EachBoth (CancelEvent t n level)
+  cancelled_both n level same =
+      cancel_both n (irql_of level) (slice_get others t) (slice_get w.threads t) refl same
 
 sets_if : (set : Set) (w : World) (d : ℕ) (queued : Bool)
     → Sets set w (if queued then unchanged w Idle else interrupted w d)
@@ -270,20 +272,30 @@ sets_interrupt : (set : Set) (w : World) (d : ℕ) (routine : Option ℕ)
 sets_interrupt set w d None = sets_nothing Refused refl
 sets_interrupt set w d (Some routine) = sets_if set w d (is_queued w.shared d)
 
-pub concerns : (set : Set) (w : World) (e : Event) → Concerns set w e
-concerns set w (Issue t d major argument) =
-    a_thread t refl
-    (happens_issue set w t d major argument (slice_get w.threads t) (slice_get set.devices d) refl
-    refl)
-concerns set w (CancelEvent t n level) =
-    a_thread t refl (happens_cancel set w t n (irql_of level) (slice_get w.threads t) refl)
-concerns set w (Interrupt d) = no_thread refl (sets_interrupt set w d (dpc_of set d))
-concerns set w (Dpc t d) =
-    a_thread t refl (happens_dpc set w t d (slice_get w.threads t) (dpc_of set d) refl refl)
-concerns set w (StartIoEvent t d) =
-    a_thread t refl
-    (happens_startio set w t d (slice_get w.threads t) (startio_of set d) refl refl)
-concerns set w (Step t) = a_thread t refl (happens_step set w t (slice_get w.threads t) refl)
+module _ (set : Set) (w : World) where
+  happens_one : (t : ℕ) (c d : Change) → Both set w w.threads t c d → Happens set w t d
+  happens_one t c d (both_nothing reply right) = nothing reply right
+  happens_one t c d (both_begin x i root beside) = begins i root beside
+
+  itself_idle : (o : Option Thread) → SameIdle o o
+  itself_idle None = tt
+  itself_idle (Some x) = refl
+
+  alone : (t : ℕ) → SameIdle (slice_get w.threads t) (slice_get w.threads t)
+  alone t = itself_idle (slice_get w.threads t)
+
+  pub concerns : (e : Event) → Concerns set w e
+  concerns (Issue t d major argument) =
+      a_thread t refl
+      (happens_one t _ _ (request_both set w w.threads t d major argument (alone t)))
+  concerns (CancelEvent t n level) =
+      a_thread t refl (happens_one t _ _ (cancelled_both set w w.threads t n level (alone t)))
+  concerns (Interrupt d) = no_thread refl (sets_interrupt set w d (dpc_of set d))
+  concerns (Dpc t d) =
+      a_thread t refl (happens_one t _ _ (deferred_both set w w.threads t d (alone t)))
+  concerns (StartIoEvent t d) =
+      a_thread t refl (happens_one t _ _ (started_both set w w.threads t d (alone t)))
+  concerns (Step t) = a_thread t refl (happens_step set w t (slice_get w.threads t) refl)
 
 -- what a run does with a change that an event would make on a thread
 abbrev pub past_with : Run → ℕ → Change → List Entry
