@@ -124,10 +124,10 @@ module _ (set : Set) (states : States) (threads : ℕ) (w : World) (past : List 
 
   pub effects_alike : (e : Event) → AlikeChange set states (effect set v e) (effect set w e)
   effects_alike (Issue t d major argument) =
-      both_alike t _ _ (request_both set w others t d major argument (idle_at t))
+      both_alike t _ _ (request_both set w others t (idle_at t) d major argument)
   effects_alike (CancelEvent t n level) =
-      both_alike t _ _ (cancelled_both set w others t n level (idle_at t))
+      both_alike t _ _ (cancelled_both set w others t (idle_at t) n level)
   effects_alike (Interrupt d) = interrupt_alike d (dpc_of set d)
-  effects_alike (DpcEvent t d) = both_alike t _ _ (deferred_both set w others t d (idle_at t))
-  effects_alike (StartIoEvent t d) = both_alike t _ _ (started_both set w others t d (idle_at t))
+  effects_alike (DpcEvent t d) = both_alike t _ _ (deferred_both set w others t (idle_at t) d)
+  effects_alike (StartIoEvent t d) = both_alike t _ _ (started_both set w others t (idle_at t) d)
   effects_alike (Step t) = step_alike set states threads w past good keeps others alike t

@@ -27,7 +27,6 @@ use Rattle.run_laws.proofs.Lists.{last_split}
 use Rattle.run_laws.proofs.Runs.Roots.{Root, Beside, issues, takes_dpc, takes_first, takes_nothing, IdleThread, root_begun, request_root, dpc_root, startio_root, cancel_root}
 use Rattle.run_laws.proofs.Steps.Comes.{Comes}
 use Rattle.run_laws.proofs.Steps.Walk.{comes}
-use Rattle.run_laws.proofs.Tests.{and_left, and_right}
 
 -- a reply with which a run stops
 abbrev pub stops_run : Reply → Bool
@@ -112,155 +111,154 @@ module _ (set : Set) (w : World) (others : List Thread) (t : ℕ) where
   none_of_length (f ∷ frames) h = let no : length (f ∷ frames) ≡ 0 =
       eqb-true (length (f ∷ frames)) 0 h in cc
 
-  module _ (x y : Thread) (found : slice_get w.threads t ≡ Some y) where
-    begin_both : (root : Root) → is_idle y ≡ true → Beside set w.shared root
-        → Both (root_begun v t x root) (root_begun w t y root)
-    begin_both root is beside =
-        both_begin x (record {
-          thread = y;
-          found = found;
-          idle = none_of_length y.frames.items is;
-        }) root beside
+  module _ (x y : Thread) (found : slice_get w.threads t ≡ Some y) (same : is_idle x ≡ is_idle y)
+    where
+      abbrev Two : (World → Thread → Change) → Type 0
+      Two c = Both (c v x) (c w y)
 
-    -- a request begins
-    issue_if : (d : ℕ) (major : Major) (argument : ℕ) (device : Device) (may : Bool)
-        → slice_get set.devices d ≡ Some device → (is_idle y && can_issue w.shared) ≡ may
-        → Both (if may then issued set v t d x device major argument else unchanged v Refused)
-        (if may then issued set w t d y device major argument else unchanged w Refused)
-    issue_if d major argument device false there may = both_nothing Refused refl
-    issue_if d major argument device true there may =
-        begin_both (request_root set w.shared d device major argument) (and_left _ _ may)
-        (issues (record {
-          d = d;
-          device = device;
-          major = major;
-          argument = argument;
-          there = there;
-          room = and_right _ _ may;
-        }))
+      begin_both : (root : Root) → is_idle y ≡ true → Beside set w.shared root
+          → Two (λ u z. root_begun u t z root)
+      begin_both root is beside =
+          both_begin x (record {
+            thread = y;
+            found = found;
+            idle = none_of_length y.frames.items is;
+          }) root beside
 
-    -- a DPC
-    dpc_if : (d routine : ℕ) (idle queued : Bool) → dpc_of set d ≡ Some routine
-        → is_idle y ≡ idle
-        → Both (if not idle then unchanged v Refused else
-        (if queued then dpc_begun set v t d x routine else unchanged v Idle))
-        (if not idle then unchanged w Refused else
-        (if queued then dpc_begun set w t d y routine else unchanged w Idle))
-    dpc_if d routine false queued there is = both_nothing Refused refl
-    dpc_if d routine true false there is = both_nothing Idle refl
-    dpc_if d routine true true there is =
-        begin_both (dpc_root set w.shared d routine) is
-        (takes_dpc (record { d = d; routine = routine; there = there }))
+      when_both : (b : Bool) (c e : World → Thread → Change) → (b ≡ true → Two c) → Two e
+          → Two (λ u z. if b then c u z else e u z)
+      when_both true c e first second = first refl
+      when_both false c e first second = second
 
-    -- StartIo
-    startio_first : (d routine : ℕ) (start : StartState) (n : Option ℕ)
-        → startio_of set d ≡ Some routine → start_of w.shared d ≡ Some start
-        → head_of start.start_list ≡ n → is_idle y ≡ true
-        → Both (startio_for set v t d x routine start n) (startio_for set w t d y routine start n)
-    startio_first d routine start None there has first is = both_nothing Idle refl
-    startio_first d routine start (Some n) there has first is =
-        begin_both (startio_root set w.shared d routine n start) is (takes_first (record {
-          d = d;
-          routine = routine;
-          start = start;
-          n = n;
-          there = there;
-          has = has;
-          first = first;
-        }))
+      idle_both : (c : World → Thread → Bool → Change) (idle : Bool) → is_idle y ≡ idle
+          → Two (λ u z. c u z false) → (is_idle y ≡ true → Two (λ u z. c u z true))
+          → Two (λ u z. c u z idle)
+      idle_both c true is busy free = free is
+      idle_both c false is busy free = busy
 
-    startio_has : (d routine : ℕ) (o : Option StartState) → startio_of set d ≡ Some routine
-        → start_of w.shared d ≡ o → is_idle y ≡ true
-        → Both (startio_from set v t d x routine o) (startio_from set w t d y routine o)
-    startio_has d routine None there has is = both_nothing Refused refl
-    startio_has d routine (Some start) there has is =
-        startio_first d routine start (head_of start.start_list) there has refl is
+      when_idle : (c : World → Thread → Bool → Change) → Two (λ u z. c u z false)
+          → (is_idle y ≡ true → Two (λ u z. c u z true)) → Two (λ u z. c u z (is_idle z))
+      when_idle c busy free = rw same (idle_both c (is_idle y) refl busy free)
 
-    startio_if : (d routine : ℕ) (idle : Bool) → startio_of set d ≡ Some routine
-        → is_idle y ≡ idle
-        → Both (if idle then startio_from set v t d x routine (start_of w.shared d)
-        else unchanged v Refused)
-        (if idle then startio_from set w t d y routine (start_of w.shared d)
-        else unchanged w Refused)
-    startio_if d routine false there is = both_nothing Refused refl
-    startio_if d routine true there is =
-        startio_has d routine (start_of w.shared d) there refl is
+      issue_both : (d : ℕ) (major : Major) (argument : ℕ) (o : Option Device)
+          → slice_get set.devices d ≡ o
+          → Two (λ u z. issue_on set u t d major argument (Some z) o)
+      issue_both d major argument None there = both_nothing Refused refl
+      issue_both d major argument (Some device) there =
+          when_idle (λ u z idle. if idle && can_issue u.shared
+          then issued set u t d z device major argument else unchanged u Refused)
+          (both_nothing Refused refl)
+          (λ is. when_both (can_issue w.shared) (λ u z. issued set u t d z device major argument)
+          (λ u z. unchanged u Refused)
+          (λ room. begin_both (request_root set w.shared d device major argument) is
+          (issues (record {
+            d = d;
+            device = device;
+            major = major;
+            argument = argument;
+            there = there;
+            room = room;
+          }))) (both_nothing Refused refl))
 
-    -- IoCancelIrp
-    cancel_live : (n : ℕ) (level : Irql) (o : Option Packet) → packet_of w.shared n ≡ o
-        → is_idle y ≡ true → Both (cancel_of v t n level x o) (cancel_of w t n level y o)
-    cancel_live n level None there is = both_nothing Finished refl
-    cancel_live n level (Some p) there is =
-        begin_both (cancel_root w.shared n level) is
-        (takes_nothing (record { n = n; level = level; packet = p; there = there }))
+      dpc_both : (d : ℕ) (o : Option ℕ) → dpc_of set d ≡ o
+          → Two (λ u z. dpc_on set u t d (Some z) o)
+      dpc_both d None there = both_nothing Refused refl
+      dpc_both d (Some routine) there =
+          when_idle (λ u z idle. if not idle then unchanged u Refused else
+          (if is_queued u.shared d then dpc_begun set u t d z routine else unchanged u Idle))
+          (both_nothing Refused refl)
+          (λ is. when_both (is_queued w.shared d) (λ u z. dpc_begun set u t d z routine)
+          (λ u z. unchanged u Idle)
+          (λ queued. begin_both (dpc_root set w.shared d routine) is
+          (takes_dpc (record { d = d; routine = routine; there = there })))
+          (both_nothing Idle refl))
 
-    cancel_if : (n : ℕ) (level : Irql) (may : Bool)
-        → (is_idle y && nat_lt n w.shared.issued) ≡ may
-        → Both (if may then cancel_of v t n level x (packet_of w.shared n) else unchanged v Refused)
-        (if may then cancel_of w t n level y (packet_of w.shared n) else unchanged w Refused)
-    cancel_if n level false may = both_nothing Refused refl
-    cancel_if n level true may =
-        cancel_live n level (packet_of w.shared n) refl (and_left _ _ may)
+      first_both : (d routine : ℕ) (start : StartState) (o : Option ℕ)
+          → startio_of set d ≡ Some routine → start_of w.shared d ≡ Some start
+          → head_of start.start_list ≡ o → is_idle y ≡ true
+          → Two (λ u z. startio_for set u t d z routine start o)
+      first_both d routine start None there has first is = both_nothing Idle refl
+      first_both d routine start (Some n) there has first is =
+          begin_both (startio_root set w.shared d routine n start) is (takes_first (record {
+            d = d;
+            routine = routine;
+            start = start;
+            n = n;
+            there = there;
+            has = has;
+            first = first;
+          }))
 
-  issue_both : (d : ℕ) (major : Major) (argument : ℕ) (o p : Option Thread)
-      (device : Option Device)
-      → slice_get w.threads t ≡ p → slice_get set.devices d ≡ device → SameIdle o p
-      → Both (issue_on set v t d major argument o device)
-      (issue_on set w t d major argument p device)
-  issue_both d major argument None None device found there same = both_nothing Refused refl
-  issue_both d major argument (Some x) (Some y) None found there same = both_nothing Refused refl
-  issue_both d major argument (Some x) (Some y) (Some device) found there same =
-      rw same (issue_if x y found d major argument device (is_idle y && can_issue w.shared) there
-      refl)
-  issue_both d major argument _ _ device found there same = absurd same
+      start_both : (d routine : ℕ) (o : Option StartState) → startio_of set d ≡ Some routine
+          → start_of w.shared d ≡ o → is_idle y ≡ true
+          → Two (λ u z. startio_from set u t d z routine o)
+      start_both d routine None there has is = both_nothing Refused refl
+      start_both d routine (Some start) there has is =
+          first_both d routine start (head_of start.start_list) there has refl is
 
-  dpc_both : (d : ℕ) (o p : Option Thread) (routine : Option ℕ) → slice_get w.threads t ≡ p
-      → dpc_of set d ≡ routine → SameIdle o p
-      → Both (dpc_on set v t d o routine) (dpc_on set w t d p routine)
-  dpc_both d None None routine found there same = both_nothing Refused refl
-  dpc_both d (Some x) (Some y) None found there same = both_nothing Refused refl
-  dpc_both d (Some x) (Some y) (Some routine) found there same =
-      rw same (dpc_if x y found d routine (is_idle y) (is_queued w.shared d) there refl)
-  dpc_both d _ _ routine found there same = absurd same
+      startio_both : (d : ℕ) (o : Option ℕ) → startio_of set d ≡ o
+          → Two (λ u z. startio_on set u t d (Some z) o)
+      startio_both d None there = both_nothing Refused refl
+      startio_both d (Some routine) there =
+          when_idle (λ u z idle. if idle then startio_from set u t d z routine (start_of u.shared d)
+          else unchanged u Refused) (both_nothing Refused refl)
+          (λ is. start_both d routine (start_of w.shared d) there refl is)
 
-  startio_both : (d : ℕ) (o p : Option Thread) (routine : Option ℕ) → slice_get w.threads t ≡ p
-      → startio_of set d ≡ routine → SameIdle o p
-      → Both (startio_on set v t d o routine) (startio_on set w t d p routine)
-  startio_both d None None routine found there same = both_nothing Refused refl
-  startio_both d (Some x) (Some y) None found there same = both_nothing Refused refl
-  startio_both d (Some x) (Some y) (Some routine) found there same =
-      rw same (startio_if x y found d routine (is_idle y) there refl)
-  startio_both d _ _ routine found there same = absurd same
+      live_both : (n : ℕ) (level : Irql) (o : Option Packet) → packet_of w.shared n ≡ o
+          → is_idle y ≡ true → Two (λ u z. cancel_of u t n level z o)
+      live_both n level None there is = both_nothing Finished refl
+      live_both n level (Some p) there is =
+          begin_both (cancel_root w.shared n level) is
+          (takes_nothing (record { n = n; level = level; packet = p; there = there }))
 
-  cancel_both : (n : ℕ) (level : Option Irql) (o p : Option Thread) → slice_get w.threads t ≡ p
-      → SameIdle o p → Both (cancel_on v t n level o) (cancel_on w t n level p)
-  cancel_both n level None None found same = both_nothing Refused refl
-  cancel_both n None (Some x) (Some y) found same = both_nothing Refused refl
-  cancel_both n (Some level) (Some x) (Some y) found same =
-      rw same (cancel_if x y found n level (is_idle y && nat_lt n w.shared.issued) refl)
-  cancel_both n level _ _ found same = absurd same
+      cancel_both : (n : ℕ) (level : Option Irql) → Two (λ u z. cancel_on u t n level (Some z))
+      cancel_both n None = both_nothing Refused refl
+      cancel_both n (Some level) =
+          when_idle (λ u z idle. if idle && nat_lt n u.shared.issued
+          then cancel_of u t n level z (packet_of u.shared n) else unchanged u Refused)
+          (both_nothing Refused refl)
+          (λ is. when_both (nat_lt n w.shared.issued)
+          (λ u z. cancel_of u t n level z (packet_of w.shared n)) (λ u z. unchanged u Refused)
+          (λ low. live_both n level (packet_of w.shared n) refl is) (both_nothing Refused refl))
 
-  -- whichever event it is, by the thread that it is about
-  abbrev EachBoth : Event → Type 0
-  EachBoth e = SameIdle (slice_get others t) (slice_get w.threads t)
-      → Both (effect set v e) (effect set w e)
+  -- an event about a thread that is there in both or in neither
+  thread_both : (c : World → Option Thread → Change) (o p : Option Thread)
+      → slice_get w.threads t ≡ p → SameIdle o p → Both (c v None) (c w None)
+      → ((x y : Thread) → slice_get w.threads t ≡ Some y → is_idle x ≡ is_idle y
+      → Both (c v (Some x)) (c w (Some y)))
+      → Both (c v o) (c w p)
+  thread_both c None None found same none some = none
+  thread_both c (Some x) (Some y) found same none some = some x y found same
+  thread_both c _ _ found same none some = absurd same
 
-  pub request_both : (d : ℕ) (major : Major) (argument : ℕ) → EachBoth (Issue t d major argument)
-  request_both d major argument same =
-      issue_both d major argument (slice_get others t) (slice_get w.threads t)
-      (slice_get set.devices d) refl refl same
+  module _ (same : SameIdle (slice_get others t) (slice_get w.threads t)) where
+    pub request_both : (d : ℕ) (major : Major) (argument : ℕ)
+        → Both (effect set v (Issue t d major argument)) (effect set w (Issue t d major argument))
+    request_both d major argument =
+        thread_both (λ u o. issue_on set u t d major argument o (slice_get set.devices d))
+        (slice_get others t) (slice_get w.threads t) refl same (both_nothing Refused refl)
+        (λ x y found idle. issue_both x y found idle d major argument (slice_get set.devices d)
+        refl)
 
-  pub deferred_both : (d : ℕ) → EachBoth (Dpc t d)
-  deferred_both d same =
-      dpc_both d (slice_get others t) (slice_get w.threads t) (dpc_of set d) refl refl same
+    pub deferred_both : (d : ℕ) → Both (effect set v (Dpc t d)) (effect set w (Dpc t d))
+    deferred_both d =
+        thread_both (λ u o. dpc_on set u t d o (dpc_of set d)) (slice_get others t)
+        (slice_get w.threads t) refl same (both_nothing Refused refl)
+        (λ x y found idle. dpc_both x y found idle d (dpc_of set d) refl)
 
-  pub started_both : (d : ℕ) → EachBoth (StartIoEvent t d)
-  started_both d same =
-      startio_both d (slice_get others t) (slice_get w.threads t) (startio_of set d) refl refl same
+    pub started_both : (d : ℕ)
+        → Both (effect set v (StartIoEvent t d)) (effect set w (StartIoEvent t d))
+    started_both d =
+        thread_both (λ u o. startio_on set u t d o (startio_of set d)) (slice_get others t)
+        (slice_get w.threads t) refl same (both_nothing Refused refl)
+        (λ x y found idle. startio_both x y found idle d (startio_of set d) refl)
 
-  pub cancelled_both : (n level : ℕ) → EachBoth (CancelEvent t n level)
-  cancelled_both n level same =
-      cancel_both n (irql_of level) (slice_get others t) (slice_get w.threads t) refl same
+    pub cancelled_both : (n level : ℕ)
+        → Both (effect set v (CancelEvent t n level)) (effect set w (CancelEvent t n level))
+    cancelled_both n level =
+        thread_both (λ u o. cancel_on u t n (irql_of level) o) (slice_get others t)
+        (slice_get w.threads t) refl same (both_nothing Refused refl)
+        (λ x y found idle. cancel_both x y found idle n (irql_of level))
 
 sets_if : (set : Set) (w : World) (d : ℕ) (queued : Bool)
     → Sets set w (if queued then unchanged w Idle else interrupted w d)
@@ -287,14 +285,14 @@ module _ (set : Set) (w : World) where
   pub concerns : (e : Event) → Concerns set w e
   concerns (Issue t d major argument) =
       a_thread t refl
-      (happens_one t _ _ (request_both set w w.threads t d major argument (alone t)))
+      (happens_one t _ _ (request_both set w w.threads t (alone t) d major argument))
   concerns (CancelEvent t n level) =
-      a_thread t refl (happens_one t _ _ (cancelled_both set w w.threads t n level (alone t)))
+      a_thread t refl (happens_one t _ _ (cancelled_both set w w.threads t (alone t) n level))
   concerns (Interrupt d) = no_thread refl (sets_interrupt set w d (dpc_of set d))
   concerns (Dpc t d) =
-      a_thread t refl (happens_one t _ _ (deferred_both set w w.threads t d (alone t)))
+      a_thread t refl (happens_one t _ _ (deferred_both set w w.threads t (alone t) d))
   concerns (StartIoEvent t d) =
-      a_thread t refl (happens_one t _ _ (started_both set w w.threads t d (alone t)))
+      a_thread t refl (happens_one t _ _ (started_both set w w.threads t (alone t) d))
   concerns (Step t) = a_thread t refl (happens_step set w t (slice_get w.threads t) refl)
 
 -- what a run does with a change that an event would make on a thread
