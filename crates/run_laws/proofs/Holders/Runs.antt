@@ -236,11 +236,11 @@ module _ (set : Set) (states : States) (w : World) (past : List Entry) (good : I
       let waits : times_waiting set root.shared n ≡ times_waiting set w.shared n =
       new_waits w.shared p stands.tells.rises refl refl set root.shared refl refl refl refl n in
       omega arith
-  root_even root (takes_dpc h) n =
+  root_even root (takes_dpc d routine there) n =
       omega (
         arith,
-        dpc_rights set states w.shared.issued (dpc_activation set h.d h.routine) n
-            (begins_dpc set states good w.shared.issued h.d h.routine h.there),
+        dpc_rights set states w.shared.issued (dpc_activation set d routine) n
+            (begins_dpc set states good w.shared.issued d routine there),
       )
   root_even root (takes_first h) n =
       omega (
@@ -250,7 +250,7 @@ module _ (set : Set) (states : States) (w : World) (past : List Entry) (good : I
         started_put set w.shared.starts h.d h.start (without_first_to_start h.start) n h.has,
         times_first (waits_cancelable set h.d) h.start h.n n h.first,
       )
-  root_even root (takes_nothing h) n = omega arith
+  root_even root (takes_nothing m level p there) n = omega arith
 
   -- and is the I/O manager's for none
   root_still : (root : Root) → Beside set w.shared root → (n : ℕ)

@@ -468,17 +468,17 @@ module _ (set : Set) (states : States) (w : World) (past : List Entry) (tags : L
       subst (λ (tag : Tag). FrameServes set states later_w later None None (Routine a) tag)
       (sym tagged)
       ((refl, refl), inl (begun_serves set states later_w later v a n beginning refl current))
-  root_serves i root (takes_dpc h) settles = (
+  root_serves i root (takes_dpc d routine there) settles = (
     (refl, refl),
-    inr (deferred_sort set (dpc_activation set h.d h.routine) Dpc
-        (begins_dpc set states known.good w.shared.issued h.d h.routine h.there).of_sort refl),
+    inr (deferred_sort set (dpc_activation set d routine) Dpc
+        (begins_dpc set states known.good w.shared.issued d routine there).of_sort refl),
   )
   root_serves i root (takes_first h) settles = (
     (refl, refl),
     inr (deferred_sort set (startio_activation set h.d h.routine h.n) StartIo
         (startio_enters set states known.good w.shared known.stands.fits h).of_sort refl),
   )
-  root_serves i root (takes_nothing h) settles = refl
+  root_serves i root (takes_nothing n level p there) settles = refl
 
   root_spares : (root : Root) → Beside set w.shared root → (k m : ℕ)
       → 1 ≤ stack_sum (λ g. frame_rights states g m) (frames_on w k)

@@ -306,11 +306,11 @@ module _ (set : Set) (states : States) (w : World) (past : List Entry) (good : I
     root_room : (root : Root) → Beside set w.shared root
         → HasRoom set states root.shared root.frame
     root_room root (issues h) = request_room h
-    root_room root (takes_dpc h) =
-        begins_idle set states w.shared.issued root.shared (dpc_activation set h.d h.routine) 0
-        (begins_dpc set states good w.shared.issued h.d h.routine h.there)
+    root_room root (takes_dpc d routine there) =
+        begins_idle set states w.shared.issued root.shared (dpc_activation set d routine) 0
+        (begins_dpc set states good w.shared.issued d routine there)
     root_room root (takes_first h) = startio_room h
-    root_room root (takes_nothing h) = tt
+    root_room root (takes_nothing n level p there) = tt
 
     root_others : (root : Root) → Beside set w.shared root → (k n : ℕ)
         → 1 ≤ stack_sum (λ g. frame_rights states g n) (frames_on w k) → Keeps w.shared root.shared n

@@ -170,7 +170,7 @@ module _ (set : Set) (w : World) (others : List Thread) (t : ℕ) where
           (λ is. when_both (is_queued w.shared d) (λ u z. dpc_begun set u t d z routine)
           (λ u z. unchanged u Idle)
           (λ queued. begin_both (dpc_root set w.shared d routine) is
-          (takes_dpc (record { d = d; routine = routine; there = there })))
+          (takes_dpc d routine there))
           (both_nothing Idle refl))
 
       first_both : (d routine : ℕ) (start : StartState) (o : Option ℕ)
@@ -209,7 +209,7 @@ module _ (set : Set) (w : World) (others : List Thread) (t : ℕ) where
       live_both n level None there is = both_nothing Finished refl
       live_both n level (Some p) there is =
           begin_both (cancel_root w.shared n level) is
-          (takes_nothing (record { n = n; level = level; packet = p; there = there }))
+          (takes_nothing n level p there)
 
       cancel_both : (n : ℕ) (level : Option Irql) → Two (λ u z. cancel_on u t n level (Some z))
       cancel_both n None = both_nothing Refused refl

@@ -87,12 +87,6 @@ pub record IssuesPacket (set : Set) (s : Shared) : Type 0 where
   pub there : slice_get set.devices d ≡ Some device
   pub room : can_issue s ≡ true
 
--- a device has a DPC routine
-pub record TakesDpc (set : Set) : Type 0 where
-  pub d : ℕ
-  pub routine : ℕ
-  pub there : dpc_of set d ≡ Some routine
-
 -- a packet is the first of the start list of a device with a StartIo routine
 pub record TakesFirst (set : Set) (s : Shared) : Type 0 where
   pub d : ℕ
@@ -103,22 +97,17 @@ pub record TakesFirst (set : Set) (s : Shared) : Type 0 where
   pub has : start_of s d ≡ Some start
   pub first : head_of start.start_list ≡ Some n
 
--- a packet is live
-pub record CancelsLive (s : Shared) : Type 0 where
-  pub n : ℕ
-  pub level : Irql
-  pub packet : Packet
-  pub there : packet_of s n ≡ Some packet
-
 -- what begins and changes beside it: a packet is new, a DPC isn't queued any more, the first packet
 -- of a start list is off it, or nothing
 pub data Beside (set : Set) (s : Shared) : Root → Type 0 where
   issues : (h : IssuesPacket set s)
       → Beside set s (request_root set s h.d h.device h.major h.argument)
-  takes_dpc : (h : TakesDpc set) → Beside set s (dpc_root set s h.d h.routine)
+  takes_dpc : (d routine : ℕ) → dpc_of set d ≡ Some routine
+      → Beside set s (dpc_root set s d routine)
   takes_first : (h : TakesFirst set s)
       → Beside set s (startio_root set s h.d h.routine h.n h.start)
-  takes_nothing : (h : CancelsLive s) → Beside set s (cancel_root s h.n h.level)
+  takes_nothing : (n : ℕ) (level : Irql) (p : Packet) → packet_of s n ≡ Some p
+      → Beside set s (cancel_root s n level)
 
 -- a thread without frames
 pub record IdleThread (w : World) (t : ℕ) : Type 0 where

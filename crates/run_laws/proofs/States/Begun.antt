@@ -81,10 +81,9 @@ module _ (set : Set) (states : States) (good : IsGood set states) (s : Shared) (
         root_enters _ Dispatch (Ref s.issued) refl
         (begins_request set states good (s.issued + 1) s.issued (omega arith) h.d h.device h.major
         h.there)
-    root_frame past tells root (takes_dpc h) =
-        root_enters _ Dpc Blank tt (begins_dpc set states good s.issued h.d h.routine h.there)
+    root_frame past tells root (takes_dpc d routine there) =
+        root_enters _ Dpc Blank tt (begins_dpc set states good s.issued d routine there)
     root_frame past tells root (takes_first h) =
         root_enters _ StartIo (Ref h.n) tt (startio_enters h)
-    root_frame past tells root (takes_nothing h) =
-        root_cancels h.n
-        (found_lt s h.n h.packet tells.rises (found s h.n (Some h.packet) h.there))
+    root_frame past tells root (takes_nothing n level p there) =
+        root_cancels n (found_lt s n p tells.rises (found s n (Some p) there))

@@ -203,8 +203,8 @@ module _ (set : Set) (states : States) (w : World) (past : List Entry) (good : I
       (start_put_fits set w.shared h.d (without_first_to_start h.start)
       (begun_fits w.shared.issued h.start
       (start_issued set w.shared h.d h.start h.has stands.fits.starts)) stands.fits.starts)
-  root_fits root (takes_dpc h) = (standing_queued h.d false).fits
-  root_fits root (takes_nothing h) = stands.fits
+  root_fits root (takes_dpc d routine there) = (standing_queued d false).fits
+  root_fits root (takes_nothing n level p there) = stands.fits
 
   pub root_there : (root : Root) → Beside set w.shared root
       → RootFrame set states root.shared.issued root.level root.frame

@@ -215,11 +215,11 @@ module _ (set : Set) (states : States) (w : World) (past : List Entry) (good : I
       (begun_tokens (begins_request set states good (n + 1) n (omega arith) h.d h.device h.major
       h.there)
       refl)
-  root_each t i root (takes_dpc h) =
+  root_each t i root (takes_dpc d routine there) =
       begun_each t i root refl
-      (begun_tokens (begins_dpc set states good w.shared.issued h.d h.routine h.there) refl)
+      (begun_tokens (begins_dpc set states good w.shared.issued d routine there) refl)
   root_each t i root (takes_first h) = startio_each t i h
-  root_each t i root (takes_nothing h) = begun_each t i root refl (λ d. refl)
+  root_each t i root (takes_nothing n level p there) = begun_each t i root refl (λ d. refl)
 
   tokens_happen : (actor : Actor) (c : Change) → Happens set w actor.thread c
       → OneTokenEach states c.world

@@ -21,7 +21,7 @@ use Rattle.run_laws.proofs.Holders.Runs.{top_holding}
 use Rattle.run_laws.proofs.Holders.Sums.{Held}
 use Rattle.run_laws.proofs.Past.LivePackets.{find, find_above, find_push}
 use Rattle.run_laws.proofs.Runs.Events.{Happens, StepsFrame, nothing, steps, begins}
-use Rattle.run_laws.proofs.Runs.Roots.{Root, Beside, IdleThread, issues, root_begun, takes_dpc, takes_first, takes_nothing, with_root}
+use Rattle.run_laws.proofs.Runs.Roots.{Root, Beside, IdleThread, issues, root_begun, with_root}
 use Rattle.run_laws.proofs.Runs.Threads.{frames_there}
 use Rattle.run_laws.proofs.States.Frames.{IsGood, Ready, state_of}
 use Rattle.run_laws.specs.ArrivingStates.{States}
@@ -318,9 +318,7 @@ module _ (set : Set) (states : States) (w : World) (past : List Entry)
             (same_recorded past actor root.actions n (rw e.0 refl)) (push ∙ rw e.0 refl)
             (λ q there. same q.pending_returned)
       ])
-  root_turns actor i root (takes_dpc h) n = quiet_turns actor i root refl n
-  root_turns actor i root (takes_first h) n = quiet_turns actor i root refl n
-  root_turns actor i root (takes_nothing h) n = quiet_turns actor i root refl n
+  root_turns actor i root _ n = quiet_turns actor i root refl n
 
   -- an event
   pub event_turns : (actor : Actor) (c : Change) → Happens set w actor.thread c
