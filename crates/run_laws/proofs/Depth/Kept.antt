@@ -9,14 +9,14 @@ use Rattle.model.specs.declared.world.Frame.{Frame}
 use Rattle.model.specs.declared.world.Irql.{Irql}
 use Rattle.model.specs.declared.world.Thread.{Thread}
 use Rattle.model.specs.Effect.{Outcome, top_of}
-use Rattle.model.specs.Events.{Change, standing, with_stack, with_thread}
+use Rattle.model.specs.Events.{Change, settled, standing, with_stack, with_thread}
 use Rattle.model.specs.Run.{begun, frames_on}
 use Rattle.model.specs.Set.{Set}
 use Rattle.model.specs.Sound.{IsSound}
 use Rattle.model.specs.Trace.{Entry}
 use Rattle.model.specs.World.{Shared, World}
 use Rattle.run_laws.proofs.Depth.Falls.{Falls, falls_length, falls_before, falls_after, short, is_cancelling}
-use Rattle.run_laws.proofs.Runs.Events.{Happens, nothing, steps, begins}
+use Rattle.run_laws.proofs.Runs.Events.{Happens, StepsFrame, nothing, steps, begins}
 use Rattle.run_laws.proofs.Runs.Roots.{with_root}
 use Rattle.run_laws.proofs.Runs.Threads.{frames_there, frames_put, each_frames, idle_frames}
 use Rattle.run_laws.proofs.States.Begun.{RootFrame, root_cancels, root_enters}
@@ -124,15 +124,14 @@ module _ (set : Set) (states : States) (w : World) (t : ℕ) (falls : AllFall se
       cancel_full_of set s t under (CancelFrame c) o refl comes
 
   -- and passes no bound
-  pub within_bounds : (past : List Entry) (c : Change) → IsGood set states
-      → Standing set states w past
-      → Held set states w → Claimed set states w → AllFall set c.world → Happens set w t c
-      → c.over ≡ false
-  within_bounds past c good stands held claimed later (nothing reply right) = refl
-  within_bounds past c good stands held claimed later (begins i root beside) = refl
-  within_bounds past c good stands held claimed later (steps h) =
-      let few : length (frames_on c.world t) ≤ 18 = few_frames set c.world t good.sound later in
-      let same : frames_on c.world t ≡ standing set h.below h.outcome =
+  pub within_bounds : (past : List Entry) (h : StepsFrame set w t) → IsGood set states
+      → Standing set states w past → Held set states w → Claimed set states w
+      → AllFall set (settled set w t h.thread h.below h.outcome).world
+      → (settled set w t h.thread h.below h.outcome).over ≡ false
+  within_bounds past h good stands held claimed later =
+      let after : World = (settled set w t h.thread h.below h.outcome).world in
+      let few : length (frames_on after t) ≤ 18 = few_frames set after t good.sound later in
+      let same : frames_on after t ≡ standing set h.below h.outcome =
       frames_put w t h.outcome.shared (with_stack h.thread (standing set h.below h.outcome))
       h.thread h.found in
       let less : length (standing set h.below h.outcome) ≤ 18 =

@@ -35,7 +35,7 @@ use Rattle.run_laws.proofs.Past.LivePackets.{find, find_place, find_above}
 use Rattle.run_laws.proofs.Past.Packets.{Tells}
 use Rattle.run_laws.proofs.Runs.Events.{StepsFrame, Happens, nothing, steps, begins}
 use Rattle.run_laws.proofs.Runs.Kept.{GoesOnBy}
-use Rattle.run_laws.proofs.Runs.Roots.{Root, Beside, IdleThread, issues, root_begun, root_quiet, takes_dpc, takes_first, takes_nothing, with_root}
+use Rattle.run_laws.proofs.Runs.Roots.{Root, Beside, IdleThread, issues, root_begun, takes_dpc, takes_first, takes_nothing, with_root}
 use Rattle.run_laws.proofs.States.Begun.{startio_enters}
 use Rattle.run_laws.proofs.States.Entering.{begins_request, begins_dpc, startio_activation}
 use Rattle.run_laws.proofs.States.Fine.{StepLeaves, leaves_fine}
@@ -364,16 +364,12 @@ module _ (set : Set) (states : States) (w : World) (past : List Entry) (good : I
   held_kept tokens actor c lent next on =
       held_happens tokens actor c lent next on.happens on.quiet
 
-  pub completion_faults_none : (actor : Actor) (c : Change)
-      → Happens set w actor.thread c → fault_among is_completion past actor c.actions ≡ None
-  completion_faults_none actor c (nothing reply right) = refl
-  completion_faults_none actor c (steps h) =
+  pub completion_faults_none : (actor : Actor) (h : StepsFrame set w actor.thread)
+      → fault_among is_completion past actor h.outcome.actions ≡ None
+  completion_faults_none actor h =
       completion_faults set states w.shared past actor (top_of h.below) h.frame h.outcome
       (on_top set states w past good stands actor.thread h)
       (top_holding set states w past stands kept actor.thread h) h.comes
-  completion_faults_none actor c (begins i root beside) =
-      quiet_among is_completion past actor root.actions
-      (root_quiet set w.shared past actor root beside)
 
 -- before the first event
 pub idle_sum : (count : Frame → ℕ) (threads : ℕ)

@@ -27,7 +27,7 @@ use Rattle.run_laws.proofs.Live.Steps.{UnderLives, seen, touch_faults, ClaimsLiv
 use Rattle.run_laws.proofs.Past.LivePackets.{find}
 use Rattle.run_laws.proofs.Past.Packets.{found}
 use Rattle.run_laws.proofs.Runs.Events.{StepsFrame, Happens, nothing, steps, begins}
-use Rattle.run_laws.proofs.Runs.Roots.{root_quiet, with_root}
+use Rattle.run_laws.proofs.Runs.Roots.{with_root}
 use Rattle.run_laws.proofs.Runs.Threads.{frames_there, each_frames, idle_frames}
 use Rattle.run_laws.proofs.States.Begun.{RootFrame, root_cancels, root_enters}
 use Rattle.run_laws.proofs.States.Frames.{IsGood}
@@ -36,7 +36,7 @@ use Rattle.run_laws.proofs.States.Standing.{Standing, on_top, root_there}
 use Rattle.run_laws.proofs.States.Told.{last_under}
 use Rattle.run_laws.proofs.Steps.Comes.{Cancels, takes_cancel, Comes, returns_status, cancels}
 use Rattle.run_laws.proofs.Steps.Below.{stood}
-use Rattle.run_laws.proofs.Steps.Faults.{fault_among, is_touch, quiet_among}
+use Rattle.run_laws.proofs.Steps.Faults.{fault_among, is_touch}
 
 -- the frames of every thread see what they should
 abbrev pub Sees : Set → States → World → Type 0
@@ -168,22 +168,17 @@ module _ (set : Set) (states : States) (w : World) (past : List Entry) (good : I
       (root_seen (root_there set states w past good stands root beside))
 
   -- and touches live packets alone
-  pub touches_none : (actor : Actor) (c : Change) → Held set states w
-      → ((h : StepsFrame set w actor.thread) → Holding set states w.shared past h.frame)
-      → ((h : StepsFrame set w actor.thread) → ClaimsLive states w.shared h.frame)
-      → EntriesLive w.shared
-      → Happens set w actor.thread c → fault_among is_touch past actor c.actions ≡ None
-  touches_none actor c kept holding claims entries_live (nothing reply right) = refl
-  touches_none actor c kept holding claims entries_live (begins i root beside) =
-      quiet_among is_touch past actor root.actions (root_quiet set w.shared past actor root beside)
-  touches_none actor c kept holding claims entries_live (steps h) =
+  pub touches_none : (actor : Actor) (h : StepsFrame set w actor.thread) → Held set states w
+      → Holding set states w.shared past h.frame → ClaimsLive states w.shared h.frame
+      → EntriesLive w.shared → fault_among is_touch past actor h.outcome.actions ≡ None
+  touches_none actor h kept holding claims entries_live =
       touch_faults set states w.shared past actor (top_of h.below) h.frame h.outcome stands.tells
-      (on_top set states w past good stands actor.thread h) (holding h)
+      (on_top set states w past good stands actor.thread h) holding
       (subst (λ (under : Option Frame). Seen set states under h.frame) (last_is_top h.below)
       (seen_top set states None h.below (h.frame ∷ []) (top_seen actor.thread h)).0)
       (under_lives set states w actor.thread h.thread h.below h.frame (top_of h.below) kept h.found
       h.frames refl)
-      (claims h) entries_live h.comes
+      claims entries_live h.comes
 
 -- a completion routine that is lent a packet was handed that of the I/O manager's frame below it
 module _ (set : Set) (states : States) where

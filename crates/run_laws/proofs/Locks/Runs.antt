@@ -23,7 +23,7 @@ use Rattle.run_laws.proofs.Locks.Says.{frame_says, top_says, free_says}
 use Rattle.run_laws.proofs.Locks.Steps.{begun_says, own, lock_faults}
 use Rattle.run_laws.proofs.Runs.Events.{StepsFrame, Happens, nothing, steps, begins}
 use Rattle.run_laws.proofs.Runs.Kept.{GoesOnBy}
-use Rattle.run_laws.proofs.Runs.Roots.{Root, Beside, issues, root_quiet, with_root}
+use Rattle.run_laws.proofs.Runs.Roots.{Root, Beside, issues, with_root}
 use Rattle.run_laws.proofs.Runs.Threads.{frames_there, each_frames, idle_frames}
 use Rattle.run_laws.proofs.States.Begun.{RootFrame, root_cancels, root_enters, root_free}
 use Rattle.run_laws.proofs.States.Frames.{state_of, IsGood}
@@ -33,7 +33,7 @@ use Rattle.run_laws.proofs.States.Stacks.{Stands, Stacked}
 use Rattle.run_laws.proofs.States.Standing.{Standing, stands_there, on_top, low_there, root_there}
 use Rattle.run_laws.proofs.States.Told.{told_frame, told_last, told_is}
 use Rattle.run_laws.proofs.Steps.Below.{stood}
-use Rattle.run_laws.proofs.Steps.Faults.{is_of_locks, fault_among, quiet_among}
+use Rattle.run_laws.proofs.Steps.Faults.{is_of_locks, fault_among}
 
 -- every thread holds the locks that the state of its top frame says
 abbrev pub LocksAgree : States → World → List Entry → Type 0
@@ -186,18 +186,14 @@ module _ (set : Set) (states : States) (w : World) (past : List Entry) (good : I
       → LocksAgree states c.world (recorded past actor c.actions)
   locks_kept actor c on = locks_happen actor c on.happens
 
-  pub lock_faults_none : (actor : Actor) (c : Change)
-      → actor.root ≡ root_of (slice_get w.threads actor.thread)
-      → Happens set w actor.thread c → fault_among is_of_locks past actor c.actions ≡ None
-  lock_faults_none actor c root (steps h) =
+  pub lock_faults_none : (actor : Actor) → actor.root ≡ root_of (slice_get w.threads actor.thread)
+      → (h : StepsFrame set w actor.thread)
+      → fault_among is_of_locks past actor h.outcome.actions ≡ None
+  lock_faults_none actor root h =
       lock_faults set states w.shared past actor (top_of h.below) h.frame h.outcome
       (subst (λ (level : Irql). Low set level h.frame) (sym (root ∙ ap root_of h.found))
       (low_there set states w past good stands actor.thread h))
       (on_top set states w past good stands actor.thread h) (own_top actor.thread h) h.comes
-  lock_faults_none actor c root (begins i r beside) =
-      quiet_among is_of_locks past actor r.actions
-      (root_quiet set w.shared past actor r beside)
-  lock_faults_none actor c root (nothing reply right) = refl
 
 -- before the first event
 pub locks_begun : (set : Set) (states : States) (threads : ℕ)

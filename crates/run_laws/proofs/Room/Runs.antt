@@ -40,7 +40,7 @@ use Rattle.run_laws.proofs.Room.Ways.{WayUp, new_way, stays_same}
 use Rattle.run_laws.proofs.Room.Words.{names_device}
 use Rattle.run_laws.proofs.Runs.Events.{StepsFrame, Happens, nothing, steps, begins}
 use Rattle.run_laws.proofs.Runs.Kept.{GoesOnBy, with_queued}
-use Rattle.run_laws.proofs.Runs.Roots.{Root, Beside, IssuesPacket, TakesFirst, issues, root_quiet, takes_dpc, takes_first, takes_nothing, with_root}
+use Rattle.run_laws.proofs.Runs.Roots.{Root, Beside, IssuesPacket, TakesFirst, issues, takes_dpc, takes_first, takes_nothing, with_root}
 use Rattle.run_laws.proofs.States.Begun.{startio_enters}
 use Rattle.run_laws.proofs.Runs.Threads.{frames_there, each_frames, idle_frames}
 use Rattle.run_laws.proofs.States.Entering.{begins_request, begins_dpc, startio_activation}
@@ -49,7 +49,7 @@ use Rattle.run_laws.specs.ArrivingStates.{States}
 use Rattle.run_laws.proofs.States.Standing.{Standing, on_top}
 use Rattle.run_laws.proofs.States.Told.{told_last, told_is}
 use Rattle.run_laws.proofs.Steps.Below.{stood}
-use Rattle.run_laws.proofs.Steps.Faults.{is_call, fault_among, quiet_among}
+use Rattle.run_laws.proofs.Steps.Faults.{is_call, fault_among}
 use Rattle.run_laws.specs.Holder.{waits_cancelable}
 use Rattle.run_laws.proofs.Holders.Waits.{NextArmed}
 
@@ -141,17 +141,13 @@ module _ (set : Set) (states : States) (w : World) (past : List Entry) (good : I
         (room_there t h)).0
 
     -- nothing is sent down past its last location
-    pub call_faults_none : (actor : Actor) (c : Change) → Happens set w actor.thread c
-        → fault_among is_call past actor c.actions ≡ None
-    call_faults_none actor c (steps h) =
+    pub call_faults_none : (actor : Actor) (h : StepsFrame set w actor.thread)
+        → fault_among is_call past actor h.outcome.actions ≡ None
+    call_faults_none actor h =
         call_faults set states w.shared past actor (top_of h.below) h.frame h.outcome
         (on_top set states w past good stands actor.thread h)
         (top_holding set states w past stands holds actor.thread h) (top_room actor.thread h)
         h.comes
-    call_faults_none actor c (nothing reply right) = refl
-    call_faults_none actor c (begins i root beside) =
-        quiet_among is_call past actor root.actions
-        (root_quiet set w.shared past actor root beside)
 
     -- frames of each thread after an event
     threads_room : (t : ℕ) (s : Shared) (thread after : Thread)
