@@ -25,7 +25,8 @@ use Rattle.run_laws.proofs.Room.Runs.{Roomy, roomy_begun, call_faults_none, room
 use Rattle.run_laws.proofs.Claims.Sums.{Claimed}
 use Rattle.run_laws.proofs.Live.Claimed.{claims_live, entries_live}
 use Rattle.run_laws.proofs.Runs.Events.{Happens, begins, nothing, steps}
-use Rattle.run_laws.proofs.Runs.Roots.{root_quiet}
+use Rattle.run_laws.proofs.Runs.Roots.{root_told}
+use Rattle.model.specs.Action.{Action}
 use Rattle.model.specs.Fault.{first_fault}
 use Rattle.run_laws.proofs.Runs.Faultless.{recorded_faultless}
 use Rattle.run_laws.proofs.Runs.Kept.{GoesOnBy, with_queued}
@@ -94,7 +95,9 @@ module _ (set : Set) (states : States) (threads : ℕ) (w : World) (past : List 
       → actor.root ≡ root_of (slice_get w.threads actor.thread)
       → Happens set w actor.thread c → first_fault past actor c.actions ≡ None
   quiet_event actor c root (nothing reply right) = refl
-  quiet_event actor c root (begins i r beside) = root_quiet set w.shared past actor r beside
+  quiet_event actor c root (begins i r beside) =
+      root_told set w.shared (λ (actions : List Action). first_fault past actor actions ≡ None) refl
+      (λ n stack. refl) r beside
   quiet_event actor c root (steps h) =
       no_fault past actor h.outcome.actions
       (record {

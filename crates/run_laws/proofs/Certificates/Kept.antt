@@ -20,7 +20,7 @@ use Rattle.run_laws.proofs.Certificates.Tally.{AllKnown, Tally, known_kept, one_
 use Rattle.run_laws.proofs.Lists.{last_of}
 use Rattle.run_laws.proofs.Runs.Events.{StepsFrame, Happens, nothing, steps, past_with, begins}
 use Rattle.run_laws.proofs.Runs.Kept.{with_queued}
-use Rattle.run_laws.proofs.Runs.Roots.{Root, Beside, issues, IdleThread, root_begun, with_root}
+use Rattle.run_laws.proofs.Runs.Roots.{Root, root_told, IdleThread, root_begun, with_root}
 use Rattle.run_laws.proofs.Runs.Threads.{frames_there, frames_put}
 use Rattle.run_laws.proofs.States.Begun.{RootFrame, root_cancels, root_enters}
 use Rattle.run_laws.proofs.States.Frames.{IsGood}
@@ -229,10 +229,6 @@ module _ (set : Set) (states : States) (good : IsGood set states) (r : Run) (t :
       ap (λ (new : List Tag). slice_set r.tags t new) row ∙ set-get_or r.tags t [] in
       rw (tags, count_same r.activations (frames_on r.world t)) tally
 
-  root_silent : (root : Root) → Beside set r.world.shared root → executed_in root.actions ≡ 0
-  root_silent root (issues h) = refl
-  root_silent root _ = refl
-
   root_fresh : {issued : ℕ} {level : Irql} {f : Frame} → RootFrame set states issued level f
       → IsFresh (frame_due set) set f
   root_fresh (root_enters a sort first root enters) = enters.due
@@ -243,7 +239,9 @@ module _ (set : Set) (states : States) (good : IsGood set states) (r : Run) (t :
   tally_kept c (nothing reply right) = nothing_tally
   tally_kept c (steps h) = steps_tally h
   tally_kept c (begins i root beside) =
-      begins_tally i root (root_silent root beside)
+      begins_tally i root
+      (root_told set r.world.shared (λ actions. executed_in actions ≡ 0) refl (λ n stack. refl) root
+      beside)
       (root_fresh (root_there set states r.world r.past good stands root beside))
 
 -- where a DPC is queued

@@ -13,7 +13,7 @@ use Rattle.model.specs.World.{Shared, World}
 use Rattle.run_laws.specs.TopsOnce.{times_topped}
 use Rattle.run_laws.proofs.Past.Packets.{Tells, found, untopped}
 use Rattle.run_laws.proofs.Runs.Events.{Happens, nothing, steps, begins}
-use Rattle.run_laws.proofs.Runs.Roots.{Root, Beside, issues}
+use Rattle.run_laws.proofs.Runs.Roots.{root_told}
 use Rattle.run_laws.proofs.Steps.Comes.{Cancels, takes_cancel, Comes, tops_out, works_on_queues, cancels}
 use Rattle.run_laws.proofs.Steps.Queues.{queued_touches}
 use Rattle.run_laws.proofs.Tests.{if_one}
@@ -52,17 +52,14 @@ module _ (set : Set) (past : List Entry) (actor : Actor) (once : ToppedOnce past
   once_step s under f o tells _ m =
       omega (arith, once m)
 
-  root_once : (s : Shared) (root : Root) → Beside set s root
-      → ToppedOnce (recorded past actor root.actions)
-  root_once s root (issues h) = λ m. (omega (arith, once m))
-  root_once s root _ = once
-
   pub once_kept : (w : World) (c : Change) → Tells w.shared past → Happens set w actor.thread c
       → ToppedOnce (recorded past actor c.actions)
   once_kept w c tells (nothing reply right) = once
   once_kept w c tells (steps h) =
       once_step w.shared (top_frame h.below) h.frame h.outcome tells h.comes
-  once_kept w c tells (begins i root beside) = root_once w.shared root beside
+  once_kept w c tells (begins i root beside) =
+      root_told set w.shared (λ actions. ToppedOnce (recorded past actor actions)) once
+      (λ n stack m. omega (arith, once m)) root beside
 
 pub tops_at_most_once : (past : List Entry) → ToppedOnce past → (n : ℕ) → times_topped past n ≤ 1
 tops_at_most_once past once n =

@@ -23,7 +23,7 @@ use Rattle.run_laws.proofs.Locks.Says.{frame_says, top_says, free_says}
 use Rattle.run_laws.proofs.Locks.Steps.{begun_says, own, lock_faults}
 use Rattle.run_laws.proofs.Runs.Events.{StepsFrame, Happens, nothing, steps, begins}
 use Rattle.run_laws.proofs.Runs.Kept.{GoesOnBy}
-use Rattle.run_laws.proofs.Runs.Roots.{Root, Beside, issues, with_root}
+use Rattle.run_laws.proofs.Runs.Roots.{root_told, with_root}
 use Rattle.run_laws.proofs.Runs.Threads.{frames_there, each_frames, idle_frames}
 use Rattle.run_laws.proofs.States.Begun.{RootFrame, root_cancels, root_enters, root_free}
 use Rattle.run_laws.proofs.States.Frames.{state_of, IsGood}
@@ -157,11 +157,6 @@ module _ (set : Set) (states : States) (w : World) (past : List Entry) (good : I
             ∙ ap (λ (frames : List Frame). top_says states frames l) (sym gone.stands)
       ]
 
-  root_holds : (actor : Actor) (l : Lock) (root : Root) → Beside set w.shared root
-      → holds (recorded past actor root.actions) actor.thread l ≡ holds past actor.thread l
-  root_holds actor l root (issues h) = refl
-  root_holds actor l root _ = refl
-
   root_says : {issued : ℕ} {level : Irql} {f : Frame} (l : Lock)
       → RootFrame set states issued level f → frame_says states f l ≡ false
   root_says {issued = issued} {level = level} l (root_enters a sort first root enters) =
@@ -176,7 +171,9 @@ module _ (set : Set) (states : States) (w : World) (past : List Entry) (good : I
       (with_stack h.thread (standing set h.below h.outcome)) h.found (stepped_locks actor h)
   locks_happen actor c (begins i root beside) =
       agree_after actor root.actions root.shared i.thread (with_root i.thread root) i.found
-      (λ l. root_holds actor l root beside
+      (λ l. root_told set w.shared
+      (λ actions. holds (recorded past actor actions) actor.thread l ≡ holds past actor.thread l)
+      refl (λ n stack. refl) root beside
       ∙ agree actor.thread l
       ∙ ap (λ (frames : List Frame). top_says states frames l)
       (frames_there w actor.thread i.thread i.found ∙ i.idle)

@@ -22,7 +22,7 @@ use Rattle.run_laws.proofs.Pending.Events.{Attends}
 use Rattle.run_laws.proofs.Pending.Serving.{AllServe, FrameServes, MustServe, TagNames, UnderServes, first_served, served}
 use Rattle.run_laws.proofs.Pending.Threads.{TagOf, Tagged, TopServes, tagged_all, top_serves}
 use Rattle.run_laws.proofs.Runs.Events.{Happens, nothing, steps, begins}
-use Rattle.run_laws.proofs.Runs.Roots.{Root, Beside, issues}
+use Rattle.run_laws.proofs.Runs.Roots.{root_told}
 use Rattle.run_laws.proofs.Runs.Threads.{frames_there}
 use Rattle.model.specs.LocalRule.{is_completion}
 use Rattle.run_laws.proofs.States.Entering.{IsCompleting}
@@ -190,18 +190,15 @@ module _ (set : Set) (states : States) (w : World) (past : List Entry) (actor : 
   frame_says under below (CancelFrame c) o on serves (cancels n step made moves) h =
       cancel_says n step made moves h
 
-  root_says : (root : Root) → Beside set w.shared root → EntriesSay past
-      → EntriesSay (recorded past actor root.actions)
-  root_says root (issues i) h = (tt, h)
-  root_says root _ h = h
-
   -- an event's
   pub entries_event : (tags : List (List Tag)) (c : Change) → KnownWorld set states w past
       → Attends set states w past tags → Happens set w actor.thread c
       → actor.tag ≡ top_tag (slice_index_or tags actor.thread []) → EntriesSay past
       → EntriesSay (recorded past actor c.actions)
   entries_event tags c known attends (nothing reply right) acts h = h
-  entries_event tags c known attends (begins i root beside) acts h = root_says root beside h
+  entries_event tags c known attends (begins i root beside) acts h =
+      root_told set w.shared (λ actions. EntriesSay (recorded past actor actions)) h
+      (λ n stack. (tt, h)) root beside
   entries_event tags c known attends (steps i) acts h =
       let row : List Tag = slice_index_or tags actor.thread [] in
       let top : TopServes set states w past None i.below i.frame row =

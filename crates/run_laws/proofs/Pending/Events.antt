@@ -40,7 +40,7 @@ use Rattle.run_laws.proofs.Pending.Threads.{Tagged, TopServes, walk_below_serves
 use Rattle.run_laws.proofs.Pending.TopDispatch.{begins_serving}
 use Rattle.run_laws.proofs.Pending.UsesServed.{BeginsServing, Settles, begun_serves, new_serving}
 use Rattle.run_laws.proofs.Runs.Events.{Happens, StepsFrame, nothing, steps, begins}
-use Rattle.run_laws.proofs.Runs.Roots.{Root, Beside, IdleThread, issues, root_begun, takes_dpc, takes_first, takes_nothing, with_root}
+use Rattle.run_laws.proofs.Runs.Roots.{Root, root_told, Beside, IdleThread, issues, root_begun, takes_dpc, takes_first, takes_nothing, with_root}
 use Rattle.run_laws.proofs.States.Begun.{startio_enters}
 use Rattle.run_laws.proofs.Runs.Kept.{with_queued}
 use Rattle.run_laws.proofs.Runs.Threads.{frames_put, frames_there, idle_frames, others_put, thread_put}
@@ -490,10 +490,6 @@ module _ (set : Set) (states : States) (w : World) (past : List Entry) (tags : L
       rw other refl)
   root_spares root _ k m some = same_uses past m
 
-  root_silent : (root : Root) → Beside set w.shared root → list_any is_return root.actions ≡ false
-  root_silent root (issues h) = refl
-  root_silent root _ = refl
-
   root_attends : (i : IdleThread w actor.thread) (root : Root) → Beside set w.shared root
       → Settles states w past (root_begun w actor.thread i.thread root).world
       (recorded past actor root.actions)
@@ -516,7 +512,8 @@ module _ (set : Set) (states : States) (w : World) (past : List Entry) (tags : L
       i.found settles.keeps (root_serves i root beside settles, tt)
       (λ k apart m some. root_spares root beside k m some)
       (agree_kept states w later_w past actor root.actions settles.keeps
-      (root_silent root beside) attends.agree)))
+      (root_told set w.shared (λ actions. list_any is_return actions ≡ false) refl
+      (λ n stack. refl) root beside) attends.agree)))
 
   -- where a DPC is queued or isn't
   pub attends_queued : (d : ℕ) (queued : Bool) → UsesTell w past

@@ -1,6 +1,6 @@
 -- What begins on an idle thread: the root of a request, a DPC, a StartIo routine or IoCancelIrp,
 -- with what changes beside it.
-use Rattle.std.proofs.Common.{◌≡◌, ℕ, ◌≤◌, List, [], ◌∷◌, None, Some, false, true, refl, arith}
+use Rattle.std.proofs.Common.{◌≡◌, ℕ, ◌≤◌, List, [], ◌∷◌, Some, false, true, arith}
 use Rattle.std.specs.Prelude.{slice_get}
 use Rattle.model.specs.declared.event.Reply.{Reply}
 use Rattle.model.specs.declared.event.Reply.TheVariants.{Started, Stepped}
@@ -17,10 +17,8 @@ use Rattle.model.specs.declared.world.Value.TheVariants.{Ref}
 use Rattle.model.specs.Action.{Action, Issues}
 use Rattle.model.specs.Effect.{routine_of_device}
 use Rattle.model.specs.Events.{Change, can_issue, dpc_activation, serves_request, with_new_packet, with_thread}
-use Rattle.model.specs.Fault.{first_fault}
 use Rattle.model.specs.Queues.{StartState, head_of, without_first_to_start}
 use Rattle.model.specs.Set.{Set, dpc_of, startio_of}
-use Rattle.model.specs.Trace.{Entry, Actor}
 use Rattle.model.specs.World.{Shared, World, entered, packet_of, start_of, with_dpc, with_start}
 
 -- a frame that begins at a level, what threads share then, the actions and the reply
@@ -135,8 +133,9 @@ module _ (set : Set) (s : Shared) where
   issued_more root (issues h) = omega arith
   issued_more root _ = omega arith
 
-  -- nothing has a bug check
-  pub root_quiet : (past : List Entry) (actor : Actor) (root : Root) → Beside set s root
-      → first_fault past actor root.actions ≡ None
-  root_quiet past actor root (issues h) = refl
-  root_quiet past actor root _ = refl
+  -- no action is told of it, or that a packet is issued
+  pub root_told : (P : List Action → Type 0) → P []
+      → ((n stack : ℕ) → P (Issues n stack ∷ [])) → (root : Root) → Beside set s root
+      → P root.actions
+  root_told P none one root (issues h) = one s.issued h.device.stack
+  root_told P none one root _ = none
