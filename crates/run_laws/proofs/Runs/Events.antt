@@ -34,6 +34,18 @@ stops_run (BugCheckReply bug) = true
 stops_run (Wrong place) = true
 stops_run _ = false
 
+-- one that tells that nothing happened
+abbrev pub says_nothing : Reply → Bool
+says_nothing Finished = true
+says_nothing Idle = true
+says_nothing Refused = true
+says_nothing _ = false
+
+pub nothing_stops : (reply : Reply) → says_nothing reply ≡ true → stops_run reply ≡ false
+nothing_stops (BugCheckReply bug) right = cc
+nothing_stops (Wrong place) right = cc
+nothing_stops _ right = refl
+
 -- the top frame of a thread does a step
 pub record StepsFrame (set : Set) (w : World) (t : ℕ) : Type 0 where
   pub thread : Thread
@@ -46,7 +58,7 @@ pub record StepsFrame (set : Set) (w : World) (t : ℕ) : Type 0 where
 
 -- what an event on a thread can be, with the change that it makes
 pub data Happens (set : Set) (w : World) (t : ℕ) : Change → Type 0 where
-  nothing : (reply : Reply) → stops_run reply ≡ false → Happens set w t (unchanged w reply)
+  nothing : (reply : Reply) → says_nothing reply ≡ true → Happens set w t (unchanged w reply)
   steps : (h : StepsFrame set w t)
       → Happens set w t (settled set w t h.thread h.below h.outcome)
   begins : (i : IdleThread w t) (root : Root) → Beside set w.shared root
@@ -54,7 +66,7 @@ pub data Happens (set : Set) (w : World) (t : ℕ) : Change → Type 0 where
 
 -- what one about no thread can be
 pub data Sets (set : Set) (w : World) : Change → Type 0 where
-  sets_nothing : (reply : Reply) → stops_run reply ≡ false → Sets set w (unchanged w reply)
+  sets_nothing : (reply : Reply) → says_nothing reply ≡ true → Sets set w (unchanged w reply)
   queues : (d : ℕ) → Sets set w (interrupted w d)
 
 -- an event is about a thread, or about none
@@ -101,7 +113,7 @@ module _ (set : Set) (w : World) (others : List Thread) (t : ℕ) where
 
   -- what it can be on a thread of either: nothing, or the same root begins
   pub data Both : Change → Change → Type 0 where
-    both_nothing : (reply : Reply) → stops_run reply ≡ false
+    both_nothing : (reply : Reply) → says_nothing reply ≡ true
         → Both (unchanged v reply) (unchanged w reply)
     both_begin : (x : Thread) (i : IdleThread w t) (root : Root) → Beside set w.shared root
         → Both (root_begun v t x root) (root_begun w t i.thread root)

@@ -23,7 +23,7 @@ use Rattle.run_laws.proofs.Past.Packets.{Tells, tells_nothing}
 use Rattle.run_laws.proofs.Past.Runs.{root_tells}
 use Rattle.run_laws.proofs.Past.Steps.{told_packets}
 use Rattle.run_laws.proofs.Past.Walks.{UnderIssued, WalkIssued, under_issued}
-use Rattle.run_laws.proofs.Runs.Events.{stops_run, StepsFrame, Happens, nothing, steps, begins}
+use Rattle.run_laws.proofs.Runs.Events.{nothing_stops, stops_run, StepsFrame, Happens, nothing, steps, begins}
 use Rattle.run_laws.proofs.Runs.Kept.{GoesOnBy, with_queued}
 use Rattle.run_laws.proofs.Runs.Roots.{Root, Beside, issues, takes_dpc, takes_first, takes_nothing, issued_more, with_root}
 use Rattle.run_laws.proofs.Runs.Threads.{frames_there, each_thread, each_frames, idle_frames}
@@ -97,7 +97,7 @@ module _ (set : Set) (states : States) (w : World) (past : List Entry) (good : I
   -- no event goes wrong, and none has a reply with which a run stops
   pub right_event : (t : ℕ) (c : Change) → Happens set w t c
       → (list_any is_wrong c.actions ≡ false) × (stops_run c.reply ≡ false)
-  right_event t c (nothing reply right) = (refl, right)
+  right_event t c (nothing reply right) = (refl, nothing_stops reply right)
   right_event t c (steps h) =
       let is : IsRight h.outcome =
       is_right_step set states w.shared t (top_of h.below) h.frame h.outcome (on_top t h) h.comes in
