@@ -11,7 +11,7 @@ use Rattle.model.specs.declared.status.Major.{Major}
 use Rattle.model.specs.declared.world.Frame.{Frame}
 use Rattle.model.specs.declared.world.Packet.{Packet}
 use Rattle.model.specs.declared.world.Thread.{Thread}
-use Rattle.model.specs.Events.{Change, with_thread, with_new_packet, unchanged, is_idle, issued, interrupted, interrupt_on, effect}
+use Rattle.model.specs.Events.{Change, with_thread, with_new_packet, unchanged, is_idle, interrupted, interrupt_on, effect}
 use Rattle.model.specs.Set.{Set, dpc_of}
 use Rattle.model.specs.Trace.{Entry}
 use Rattle.model.specs.World.{new_packet, with_dpc, Shared, World, is_queued}

@@ -32,7 +32,6 @@ use Rattle.run_laws.proofs.States.Frames.{IsGood}
 use Rattle.run_laws.specs.ArrivingStates.{States}
 use Rattle.run_laws.proofs.States.Standing.{Standing, on_top, root_there}
 use Rattle.model.specs.declared.world.Packet.{Packet}
-use Rattle.run_laws.proofs.Past.Packets.{found}
 use Rattle.model.specs.declared.set.Sort.TheVariants.{Cancel}
 use Rattle.run_laws.proofs.States.OnTop.{OnTop}
 use Rattle.run_laws.proofs.Steps.Faults.{is_touch, quiet_among}

@@ -29,7 +29,6 @@ use Rattle.run_laws.proofs.Past.Packets.{absent, found, found_lt, lt_false, lt_m
 use Rattle.run_laws.proofs.Runs.Events.{Answers, Concerns, Happens, Sets, a_thread, begins, concerns, goes_on_with, answers, no_thread, nothing, queues, says_nothing, sets_nothing, set_in, steps, answers_none}
 use Rattle.run_laws.proofs.Runs.Roots.{Root, Beside, issues}
 use Rattle.run_laws.proofs.Steps.Comes.{Cancels, sets_flag, finds_empty, finds_none, calls_cancel, Comes, writes_info, marks_packet, exchanges, completes_packet, passes_down, calls_down, resumes_walk, walks_to, lends_to, walks_up, carries_up, tops_out, cancels, works_on_waiting}
-use Rattle.run_laws.proofs.Steps.Walk.{comes}
 use Rattle.run_laws.proofs.Tests.{and_false}
 
 -- what becomes of the live packets, of as many as were issued, where some top out: numbers still

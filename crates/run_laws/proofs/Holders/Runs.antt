@@ -15,7 +15,7 @@ use Rattle.model.specs.Effect.{Outcome, operand_of, answered_in, top_of, kept_be
 use Rattle.model.specs.Events.{Change, standing, with_stack, serves_request, dpc_activation}
 use Rattle.model.specs.Fault.{first_fault, topped}
 use Rattle.model.specs.LocalRule.{is_hold}
-use Rattle.model.specs.Queues.{idle, without_first_to_start}
+use Rattle.model.specs.Queues.{without_first_to_start}
 use Rattle.model.specs.Run.{Run, begun}
 use Rattle.model.specs.Set.{Set, instruction_at, sort_of}
 use Rattle.model.specs.Trace.{Entry, Actor}
