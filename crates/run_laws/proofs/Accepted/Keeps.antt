@@ -24,7 +24,7 @@ use Rattle.run_laws.proofs.Past.Runs.{Telling, telling_begun, telling_happens, t
 use Rattle.run_laws.proofs.Room.Runs.{Roomy, roomy_begun, call_faults_none, roomy_kept, roomy_lends, roomy_queued}
 use Rattle.run_laws.proofs.Claims.Sums.{Claimed}
 use Rattle.run_laws.proofs.Live.Claimed.{claims_live, entries_live}
-use Rattle.run_laws.proofs.Runs.Events.{Happens, begins, nothing, steps}
+use Rattle.run_laws.proofs.Runs.Events.{Happens, StepsFrame, begins, nothing, steps}
 use Rattle.run_laws.proofs.Runs.Roots.{root_told}
 use Rattle.model.specs.Action.{Action}
 use Rattle.model.specs.Fault.{first_fault}
@@ -36,6 +36,7 @@ use Rattle.run_laws.proofs.States.Standing.{Standing, standing_begun, right_even
 use Rattle.run_laws.proofs.Steps.Faults.{no_fault}
 use Rattle.run_laws.proofs.Tokens.Runs.{tokens_begun, tokens_kept, tokens_queued}
 use Rattle.run_laws.proofs.Tokens.Sums.{OneTokenEach}
+use Rattle.run_laws.proofs.Holders.Waits.{NextArmed}
 use Rattle.run_laws.proofs.Claims.Next.{next_armed}
 
 pub record Keeps (set : Set) (states : States) (threads : ℕ) (w : World) (past : List Entry) : Type
@@ -132,33 +133,29 @@ module _ (set : Set) (states : States) (threads : ℕ) (w : World) (past : List 
   pub keeps_event : (actor : Actor) (c : Change) → GoesOnBy set w past actor c
       → Keeps set states threads c.world (recorded past actor c.actions)
   keeps_event actor c on =
+      let t : ℕ = actor.thread in
+      let armed : (h : StepsFrame set w t) → NextArmed set w.shared h.frame =
+      next_armed set states w past good keeps.stands keeps.locks keeps.told.locks keeps.claims t in
+      let happens : Happens set w t c = on.happens in
       record {
-        stands = standing_kept set states w past good keeps.stands actor c on;
-        told = telling_happens set good.sound w past actor c keeps.told on.happens on.quiet
-            on.within;
-        locks = locks_kept set states w past good keeps.stands keeps.locks actor c on;
+        stands = standing_kept set states w past good keeps.stands actor c happens on.quiet;
+        told = telling_happens set good.sound w past actor c keeps.told happens on.quiet on.within;
+        locks = locks_kept set states w past good keeps.stands keeps.locks actor c happens;
         held = held_kept set states w past good keeps.stands keeps.held keeps.tokens actor c
-            (top_lent set states w keeps.sees actor.thread)
-            (next_armed set states w past good keeps.stands keeps.locks keeps.told.locks
-            keeps.claims
-            actor.thread) on;
+            (top_lent set states w keeps.sees t) armed happens on.quiet;
         claims = claimed_kept set states w past good keeps.stands keeps.claims keeps.locks
-            keeps.told.locks keeps.held actor c on;
-        tokens = tokens_kept set states w past good keeps.stands keeps.tokens actor c on;
-        sees = sees_event set states w past good keeps.stands keeps.sees actor.thread c on.happens;
+            keeps.told.locks keeps.held actor c happens on.quiet;
+        tokens = tokens_kept set states w past good keeps.stands keeps.tokens actor c happens;
+        sees = sees_event set states w past good keeps.stands keeps.sees t c happens;
         room = roomy_kept set states w past good keeps.stands keeps.held keeps.room keeps.claims
-            actor c
-            (next_armed set states w past good keeps.stands keeps.locks keeps.told.locks
-            keeps.claims
-            actor.thread) on;
-        falls = falls_event set states w actor.thread keeps.falls past c good keeps.stands
-            on.happens;
-        «uses» = uses_event set states w past actor c known_world keeps.«uses» on.happens on.quiet;
-        once = once_kept set past actor keeps.once w c keeps.stands.tells on.happens;
+            actor armed c happens;
+        falls = falls_event set states w t keeps.falls past c good keeps.stands happens;
+        «uses» = uses_event set states w past actor c known_world keeps.«uses» happens on.quiet;
+        once = once_kept set past actor keeps.once w c keeps.stands.tells happens;
         faultless = recorded_faultless past actor c.actions keeps.faultless on.quiet;
         right = recorded_right past actor c.actions keeps.right
-            (right_event set states w past good keeps.stands actor.thread c on.happens).0;
-        count = same_count set w actor.thread c on.happens ∙ keeps.count;
+            (right_event set states w past good keeps.stands t c happens).0;
+        count = same_count set w t c happens ∙ keeps.count;
       }
 
   -- where a DPC is queued or isn't

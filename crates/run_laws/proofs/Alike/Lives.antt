@@ -92,8 +92,8 @@ module _ (set : Set) (states : States) (threads : ℕ) (w : World) (past : List 
       → IsLive c.world.shared n → IsLive w.shared n
   lives_before c happens n low live =
       let after : Standing set states c.world (recorded past by_thread c.actions) =
-      standing_kept set states w past good keeps.stands by_thread c
-      (goes_on_by set states threads w past good keeps by_thread c refl happens) in
+      standing_kept set states w past good keeps.stands by_thread c happens
+      (goes_on_by set states threads w past good keeps by_thread c refl happens).quiet in
       untopped_live w.shared past n (packet_of w.shared n) keeps.stands.tells low
       (still_untopped past by_thread c.actions n
       (live_untopped c.world.shared (recorded past by_thread c.actions) n

@@ -43,7 +43,6 @@ use Rattle.model.specs.Fault.{first_fault}
 use Rattle.model.specs.Run.{begun}
 use Rattle.run_laws.proofs.Claims.Shapes.{shape_claims}
 use Rattle.run_laws.proofs.Holders.Runs.{idle_sum, top_holding}
-use Rattle.run_laws.proofs.Runs.Kept.{GoesOnBy}
 use Rattle.run_laws.proofs.Runs.Threads.{each_frames, idle_frames}
 use Rattle.run_laws.proofs.Claims.Queues.{entries_same, put_waiting}
 use Rattle.run_laws.proofs.Claims.WordSteps.{list_le}
@@ -165,15 +164,11 @@ module _ (set : Set) (states : States) (w : World) (past : List Entry) (good : I
         root_claims actor.thread i root beside (λ n d q. refl) refl (λ d n is. omega arith)
         (λ n. omega arith)
 
-    claimed_happens : (change : Change) → Happens set w actor.thread change
+    pub claimed_kept : (change : Change) → Happens set w actor.thread change
         → first_fault past actor change.actions ≡ None → Claimed set states change.world
-    claimed_happens change (nothing reply right) quiet = c
-    claimed_happens change (steps h) quiet = claimed_step h quiet
-    claimed_happens change (begins i root beside) quiet = root_claimed i root beside
-
-    pub claimed_kept : (change : Change) → GoesOnBy set w past actor change
-        → Claimed set states change.world
-    claimed_kept change on = claimed_happens change on.happens on.quiet
+    claimed_kept change (nothing reply right) quiet = c
+    claimed_kept change (steps h) quiet = claimed_step h quiet
+    claimed_kept change (begins i root beside) quiet = root_claimed i root beside
 
 -- before the first event
 none_to_start : (devices n : ℕ) → times_to_start (replicate devices idle_start) n ≡ 0

@@ -34,7 +34,6 @@ use Rattle.run_laws.proofs.Lists.{last_split}
 use Rattle.run_laws.proofs.Past.LivePackets.{find, find_place, find_above}
 use Rattle.run_laws.proofs.Past.Packets.{Tells}
 use Rattle.run_laws.proofs.Runs.Events.{StepsFrame, Happens, nothing, steps, begins}
-use Rattle.run_laws.proofs.Runs.Kept.{GoesOnBy}
 use Rattle.run_laws.proofs.Runs.Roots.{Root, Beside, IdleThread, issues, root_begun, takes_dpc, takes_first, takes_nothing, with_root}
 use Rattle.run_laws.proofs.States.Begun.{startio_enters}
 use Rattle.run_laws.proofs.States.Entering.{begins_request, begins_dpc, startio_activation}
@@ -320,13 +319,13 @@ module _ (set : Set) (states : States) (w : World) (past : List Entry) (good : I
             omega arith
       ]
 
-  held_happens : OneTokenEach states w → (actor : Actor) (c : Change)
+  pub held_kept : OneTokenEach states w → (actor : Actor) (c : Change)
       → ((h : StepsFrame set w actor.thread) → IsLent set states (top_of h.below) h.frame)
       → ((h : StepsFrame set w actor.thread) → NextArmed set w.shared h.frame)
       → Happens set w actor.thread c
       → first_fault past actor c.actions ≡ None → Held set states c.world
-  held_happens tokens actor c lent next (nothing reply right) quiet = kept
-  held_happens tokens actor c lent next (steps h) quiet =
+  held_kept tokens actor c lent next (nothing reply right) quiet = kept
+  held_kept tokens actor c lent next (steps h) quiet =
       let o : Outcome = h.outcome in
       let t : ℕ = actor.thread in
       let on : OnTop set states w.shared h.frame = on_top set states w past good stands t h in
@@ -353,16 +352,8 @@ module _ (set : Set) (states : States) (w : World) (past : List Entry) (good : I
               walks_after set states w.shared t h.below h.frame o on h.comes step n,
             );
       }
-  held_happens tokens actor c lent next (begins i root beside) quiet =
+  held_kept tokens actor c lent next (begins i root beside) quiet =
       root_held actor.thread i root beside
-
-  pub held_kept : OneTokenEach states w → (actor : Actor) (c : Change)
-      → ((h : StepsFrame set w actor.thread) → IsLent set states (top_of h.below) h.frame)
-      → ((h : StepsFrame set w actor.thread) → NextArmed set w.shared h.frame)
-      → GoesOnBy set w past actor c
-      → Held set states c.world
-  held_kept tokens actor c lent next on =
-      held_happens tokens actor c lent next on.happens on.quiet
 
   pub completion_faults_none : (actor : Actor) (h : StepsFrame set w actor.thread)
       → fault_among is_completion past actor h.outcome.actions ≡ None

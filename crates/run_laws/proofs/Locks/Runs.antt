@@ -22,7 +22,6 @@ use Rattle.model.specs.World.{Shared, World}
 use Rattle.run_laws.proofs.Locks.Says.{frame_says, top_says, free_says}
 use Rattle.run_laws.proofs.Locks.Steps.{begun_says, own, lock_faults}
 use Rattle.run_laws.proofs.Runs.Events.{StepsFrame, Happens, nothing, steps, begins}
-use Rattle.run_laws.proofs.Runs.Kept.{GoesOnBy}
 use Rattle.run_laws.proofs.Runs.Roots.{root_told, with_root}
 use Rattle.run_laws.proofs.Runs.Threads.{frames_there, each_frames, idle_frames}
 use Rattle.run_laws.proofs.States.Begun.{RootFrame, root_cancels, root_enters, root_free}
@@ -163,13 +162,13 @@ module _ (set : Set) (states : States) (w : World) (past : List Entry) (good : I
       begun_says set states issued a sort first l enters (root_free level sort _ root)
   root_says l (root_cancels n low) = refl
 
-  locks_happen : (actor : Actor) (c : Change) → Happens set w actor.thread c
+  pub locks_kept : (actor : Actor) (c : Change) → Happens set w actor.thread c
       → LocksAgree states c.world (recorded past actor c.actions)
-  locks_happen actor c (nothing reply right) = agree
-  locks_happen actor c (steps h) =
+  locks_kept actor c (nothing reply right) = agree
+  locks_kept actor c (steps h) =
       agree_after actor h.outcome.actions h.outcome.shared h.thread
       (with_stack h.thread (standing set h.below h.outcome)) h.found (stepped_locks actor h)
-  locks_happen actor c (begins i root beside) =
+  locks_kept actor c (begins i root beside) =
       agree_after actor root.actions root.shared i.thread (with_root i.thread root) i.found
       (λ l. root_told set w.shared
       (λ actions. holds (recorded past actor actions) actor.thread l ≡ holds past actor.thread l)
@@ -178,10 +177,6 @@ module _ (set : Set) (states : States) (w : World) (past : List Entry) (good : I
       ∙ ap (λ (frames : List Frame). top_says states frames l)
       (frames_there w actor.thread i.thread i.found ∙ i.idle)
       ∙ sym (root_says l (root_there set states w past good stands root beside)))
-
-  pub locks_kept : (actor : Actor) (c : Change) → GoesOnBy set w past actor c
-      → LocksAgree states c.world (recorded past actor c.actions)
-  locks_kept actor c on = locks_happen actor c on.happens
 
   pub lock_faults_none : (actor : Actor) → actor.root ≡ root_of (slice_get w.threads actor.thread)
       → (h : StepsFrame set w actor.thread)

@@ -39,7 +39,7 @@ use Rattle.run_laws.proofs.Room.Waiting.{FrameRoom, HasRoom, Keeps, RoomAt, Wait
 use Rattle.run_laws.proofs.Room.Ways.{WayUp, new_way, stays_same}
 use Rattle.run_laws.proofs.Room.Words.{names_device}
 use Rattle.run_laws.proofs.Runs.Events.{StepsFrame, Happens, nothing, steps, begins}
-use Rattle.run_laws.proofs.Runs.Kept.{GoesOnBy, with_queued}
+use Rattle.run_laws.proofs.Runs.Kept.{with_queued}
 use Rattle.run_laws.proofs.Runs.Roots.{Root, Beside, IssuesPacket, TakesFirst, issues, takes_dpc, takes_first, takes_nothing, with_root}
 use Rattle.run_laws.proofs.States.Begun.{startio_enters}
 use Rattle.run_laws.proofs.Runs.Threads.{frames_there, each_frames, idle_frames}
@@ -340,21 +340,17 @@ module _ (set : Set) (states : States) (w : World) (past : List Entry) (good : I
     root_ways root (issues h) = request_ways h
     root_ways root _ = roomy.ways
 
-    pub roomy_kept : Claimed set states w → (actor : Actor) (c : Change)
+    pub roomy_kept : Claimed set states w → (actor : Actor)
         → ((h : StepsFrame set w actor.thread) → NextArmed set w.shared h.frame)
-        → GoesOnBy set w past actor c
-        → Roomy set states c.world
-    roomy_kept claimed actor c armed on = kept c on.happens
-      where
-        kept : (c : Change) → Happens set w actor.thread c → Roomy set states c.world
-        kept c (nothing reply right) = roomy
-        kept c (steps h) =
-            step_room actor h
-            (names_device set states w past good stands holds claimed actor.thread h) (armed h)
-        kept c (begins i root beside) =
-            threads_room actor.thread root.shared i.thread (with_root i.thread root) i.found
-            (root_room root beside, tt) (λ k apart n some. root_others root beside k n some)
-            (root_waiting root beside) (root_ways root beside)
+        → (c : Change) → Happens set w actor.thread c → Roomy set states c.world
+    roomy_kept claimed actor armed c (nothing reply right) = roomy
+    roomy_kept claimed actor armed c (steps h) =
+        step_room actor h
+        (names_device set states w past good stands holds claimed actor.thread h) (armed h)
+    roomy_kept claimed actor armed c (begins i root beside) =
+        threads_room actor.thread root.shared i.thread (with_root i.thread root) i.found
+        (root_room root beside, tt) (λ k apart n some. root_others root beside k n some)
+        (root_waiting root beside) (root_ways root beside)
 
 -- where a DPC is queued or isn't
 pub roomy_queued : (set : Set) (states : States) (w : World) (d : ℕ) (queued : Bool)

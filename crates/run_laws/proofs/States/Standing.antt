@@ -24,7 +24,7 @@ use Rattle.run_laws.proofs.Past.Runs.{root_tells}
 use Rattle.run_laws.proofs.Past.Steps.{told_packets}
 use Rattle.run_laws.proofs.Past.Walks.{UnderIssued, WalkIssued, under_issued}
 use Rattle.run_laws.proofs.Runs.Events.{nothing_stops, stops_run, StepsFrame, Happens, nothing, steps, begins}
-use Rattle.run_laws.proofs.Runs.Kept.{GoesOnBy, with_queued}
+use Rattle.run_laws.proofs.Runs.Kept.{with_queued}
 use Rattle.run_laws.proofs.Runs.Roots.{Root, Beside, issues, takes_dpc, takes_first, takes_nothing, issued_more, with_root}
 use Rattle.run_laws.proofs.Runs.Threads.{frames_there, each_thread, each_frames, idle_frames}
 use Rattle.run_laws.proofs.States.Begun.{RootFrame, root_frame, root_low, root_stands}
@@ -211,50 +211,47 @@ module _ (set : Set) (states : States) (w : World) (past : List Entry) (good : I
   root_there root beside =
       root_frame set states good w.shared stands.fits past stands.tells root beside
 
-  pub standing_kept : (actor : Actor) (c : Change) → GoesOnBy set w past actor c
+  pub standing_kept : (actor : Actor) (c : Change) → Happens set w actor.thread c
+      → first_fault past actor c.actions ≡ None
       → Standing set states c.world (recorded past actor c.actions)
-  standing_kept actor c on = kept c on.happens on.quiet
-    where
-      kept : (c : Change) → Happens set w actor.thread c → first_fault past actor c.actions ≡ None
-          → Standing set states c.world (recorded past actor c.actions)
-      kept c (nothing reply right) quiet = stands
-      kept c (steps h) quiet =
-          let o : Outcome = h.outcome in
-          let t : ℕ = actor.thread in
-          let leaves : StepLeaves set states w.shared h.frame o =
-          leaves_fine set states w.shared past actor stands.tells (top_of h.below) h.frame o
-          (on_top t h) quiet h.comes
-          in
-          let issued : o.shared.issued ≡ w.shared.issued = leaves.issued in
-          record {
-            fits = leaves.fits;
-            tells = told_packets set w.shared past actor (top_of h.below) h.frame o stands.tells
-                (walks_below t h) h.comes;
-            roots = roots_after t o.shared h.thread (with_stack h.thread (standing set h.below o))
-                h.found
-                (low_over set h.thread.root (standing set h.below o) (lows_after t h));
-            frames = frames_after t o.shared h.thread (with_stack h.thread (standing set h.below o))
-                h.found
-                (omega arith)
-                (rw issued (elim (stood set w.shared t h.below h.frame o h.comes) [
-                  | inl is ↦
-                      rw is (replaced set states w.shared.issued h.below h.frame o.told o.frames
-                      (stands_there t h) leaves.stands)
-                  | inr stops ↦
-                      rw stops.stands (walk_taken set states w.shared.issued stops.others stops.n
-                      h.frame
-                      (subst (λ (frames : List Frame). Stacked set states w.shared.issued frames)
-                      (stopped_before t h stops) (stands_there t h)))
-                ]));
-          }
-      kept c (begins i root beside) quiet =
-          let t : ℕ = actor.thread in
-          record {
-            fits = root_fits root beside;
-            tells = root_tells set good.sound w.shared past actor root stands.tells beside;
-            roots = roots_after t root.shared i.thread (with_root i.thread root) i.found
-                (root_low set states (root_there root beside));
-            frames = frames_after t root.shared i.thread (with_root i.thread root) i.found
-                (issued_more set w.shared root beside)
-                (root_stands set states (root_there root beside));
-          }
+  standing_kept actor c (nothing reply right) quiet = stands
+  standing_kept actor c (steps h) quiet =
+      let o : Outcome = h.outcome in
+      let t : ℕ = actor.thread in
+      let leaves : StepLeaves set states w.shared h.frame o =
+      leaves_fine set states w.shared past actor stands.tells (top_of h.below) h.frame o
+      (on_top t h) quiet h.comes
+      in
+      let issued : o.shared.issued ≡ w.shared.issued = leaves.issued in
+      record {
+        fits = leaves.fits;
+        tells = told_packets set w.shared past actor (top_of h.below) h.frame o stands.tells
+            (walks_below t h) h.comes;
+        roots = roots_after t o.shared h.thread (with_stack h.thread (standing set h.below o))
+            h.found
+            (low_over set h.thread.root (standing set h.below o) (lows_after t h));
+        frames = frames_after t o.shared h.thread (with_stack h.thread (standing set h.below o))
+            h.found
+            (omega arith)
+            (rw issued (elim (stood set w.shared t h.below h.frame o h.comes) [
+              | inl is ↦
+                  rw is (replaced set states w.shared.issued h.below h.frame o.told o.frames
+                  (stands_there t h) leaves.stands)
+              | inr stops ↦
+                  rw stops.stands (walk_taken set states w.shared.issued stops.others stops.n
+                  h.frame
+                  (subst (λ (frames : List Frame). Stacked set states w.shared.issued frames)
+                  (stopped_before t h stops) (stands_there t h)))
+            ]));
+      }
+  standing_kept actor c (begins i root beside) quiet =
+      let t : ℕ = actor.thread in
+      record {
+        fits = root_fits root beside;
+        tells = root_tells set good.sound w.shared past actor root stands.tells beside;
+        roots = roots_after t root.shared i.thread (with_root i.thread root) i.found
+            (root_low set states (root_there root beside));
+        frames = frames_after t root.shared i.thread (with_root i.thread root) i.found
+            (issued_more set w.shared root beside)
+            (root_stands set states (root_there root beside));
+      }

@@ -22,7 +22,7 @@ use Rattle.run_laws.proofs.Lists.{each_at, each_same, set_other, set_same}
 use Rattle.run_laws.proofs.Runs.Events.{Happens, StepsFrame, begins, nothing, steps}
 use Rattle.run_laws.proofs.Runs.Roots.{Root, Beside, TakesFirst, IdleThread, issues, root_begun, startio_root, takes_dpc, takes_first, takes_nothing, with_root}
 use Rattle.run_laws.proofs.States.Begun.{startio_enters}
-use Rattle.run_laws.proofs.Runs.Kept.{GoesOnBy, with_queued}
+use Rattle.run_laws.proofs.Runs.Kept.{with_queued}
 use Rattle.run_laws.proofs.States.Entering.{Begins, begins_dpc, begins_request, startio_activation}
 use Rattle.run_laws.proofs.States.Frames.{IsGood, state_of}
 use Rattle.run_laws.specs.ArrivingStates.{States}
@@ -221,15 +221,11 @@ module _ (set : Set) (states : States) (w : World) (past : List Entry) (good : I
   root_each t i root (takes_first h) = startio_each t i h
   root_each t i root (takes_nothing n level p there) = begun_each t i root refl (λ d. refl)
 
-  tokens_happen : (actor : Actor) (c : Change) → Happens set w actor.thread c
+  pub tokens_kept : (actor : Actor) (c : Change) → Happens set w actor.thread c
       → OneTokenEach states c.world
-  tokens_happen actor c (nothing reply right) = each
-  tokens_happen actor c (steps h) = stepped_each actor.thread h
-  tokens_happen actor c (begins i root beside) = root_each actor.thread i root beside
-
-  pub tokens_kept : (actor : Actor) (c : Change) → GoesOnBy set w past actor c
-      → OneTokenEach states c.world
-  tokens_kept actor c on = tokens_happen actor c on.happens
+  tokens_kept actor c (nothing reply right) = each
+  tokens_kept actor c (steps h) = stepped_each actor.thread h
+  tokens_kept actor c (begins i root beside) = root_each actor.thread i root beside
 
 -- before the first event
 pub tokens_begun : (set : Set) (states : States) (threads : ℕ)
