@@ -111,7 +111,7 @@ module _ (set : Set) (w : World) (others : List Thread) (t : ℕ) where
   abbrev v : World
   v = record { threads = others; shared = w.shared }
 
-  -- what it can be on a thread of either: nothing, or the same root begins
+  -- what an event but a step can be on a thread of both: nothing, or the same root begins
   pub data Both : Change → Change → Type 0 where
     both_nothing : (reply : Reply) → says_nothing reply ≡ true
         → Both (unchanged v reply) (unchanged w reply)

@@ -95,8 +95,8 @@ pub record TakesFirst (set : Set) (s : Shared) : Type 0 where
   pub has : start_of s d ≡ Some start
   pub first : head_of start.start_list ≡ Some n
 
--- what begins and changes beside it: a packet is new, a DPC isn't queued any more, the first packet
--- of a start list is off it, or nothing
+-- what begins, and what changes beside it: a packet is new, a DPC is no longer queued, the first
+-- packet of a start list is off it, or nothing does
 pub data Beside (set : Set) (s : Shared) : Root → Type 0 where
   issues : (h : IssuesPacket set s)
       → Beside set s (request_root set s h.d h.device h.major h.argument)
@@ -133,7 +133,7 @@ module _ (set : Set) (s : Shared) where
   issued_more root (issues h) = omega arith
   issued_more root _ = omega arith
 
-  -- no action is told of it, or that a packet is issued
+  -- what holds of no action, and of one that issues a packet, holds of its actions
   pub root_told : (P : List Action → Type 0) → P []
       → ((n stack : ℕ) → P (Issues n stack ∷ [])) → (root : Root) → Beside set s root
       → P root.actions

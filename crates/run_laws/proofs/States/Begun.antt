@@ -1,5 +1,5 @@
--- A root that begins stands: a routine's frame, of a sort that no frame below enters, with no lock,
--- or that of IoCancelIrp.
+-- What the frame of a root is: that of a dispatch routine at PASSIVE_LEVEL, of a DPC or a StartIo
+-- routine, or of IoCancelIrp; so it stands.
 use Rattle.std.proofs.Common.{◌≡◌, ℕ, ◌+◌, ◌<◌, [], ◌∷◌, List, Some, false, refl, sym, ◌∙◌, arith, Option}
 use Rattle.std.specs.Prelude.{⊤}
 use Rattle.model.specs.declared.set.QueueName.{QueueName}
