@@ -1,6 +1,6 @@
 -- No thread of an accepted set ever has more than 18 frames, so no step of a thread that is there
 -- is refused.
-use Rattle.std.proofs.Common.{◌≡◌, ℕ, ◌≤◌, List, [], ◌∷◌, ◌++◌, length, Some, false, refl, sym, ◌∙◌, subst, arith, Option, true, inl, inr}
+use Rattle.std.proofs.Common.{◌≡◌, ℕ, ◌≤◌, List, [], ◌∷◌, ◌++◌, length, Some, false, refl, sym, subst, arith, Option, true, inl, inr}
 use Rattle.std.specs.Prelude.{slice_get}
 use Rattle.std.proofs.lemmas.Bool.{le-ltb}
 use Rattle.std.proofs.lemmas.Option.{slice_get_within}
@@ -18,7 +18,7 @@ use Rattle.model.specs.World.{Shared, World}
 use Rattle.run_laws.proofs.Depth.Falls.{Falls, falls_length, falls_before, falls_after, short, is_cancelling}
 use Rattle.run_laws.proofs.Runs.Events.{Happens, StepsFrame, nothing, steps, begins}
 use Rattle.run_laws.proofs.Runs.Roots.{with_root}
-use Rattle.run_laws.proofs.Runs.Threads.{frames_there, frames_put, each_frames, idle_frames}
+use Rattle.run_laws.proofs.Runs.Threads.{of_steps, frames_put, each_frames, idle_frames}
 use Rattle.run_laws.proofs.States.Begun.{RootFrame, root_cancels, root_enters}
 use Rattle.run_laws.proofs.States.Frames.{IsGood, Serves}
 use Rattle.run_laws.specs.ArrivingStates.{States}
@@ -91,8 +91,7 @@ module _ (set : Set) (states : States) (w : World) (t : ℕ) (falls : AllFall se
   falls_event past c good stands (steps h) =
       let o : Outcome = h.outcome in
       let before : Falls (length set.devices) (h.below ++ h.frame ∷ []) =
-      subst (λ (frames : List Frame). Falls (length set.devices) frames)
-      (frames_there w t h.thread h.found ∙ h.frames) (falls t) in
+      of_steps w t (Falls (length set.devices)) h (falls t) in
       let after : Falls (length set.devices) (standing set h.below o) =
       elim (stood set w.shared t h.below h.frame o h.comes) [
         | inl kept ↦

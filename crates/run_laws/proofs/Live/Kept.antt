@@ -28,7 +28,7 @@ use Rattle.run_laws.proofs.Past.LivePackets.{find}
 use Rattle.run_laws.proofs.Past.Packets.{found}
 use Rattle.run_laws.proofs.Runs.Events.{StepsFrame, Happens, nothing, steps, begins}
 use Rattle.run_laws.proofs.Runs.Roots.{with_root}
-use Rattle.run_laws.proofs.Runs.Threads.{frames_there, each_frames, idle_frames}
+use Rattle.run_laws.proofs.Runs.Threads.{of_steps, each_frames, idle_frames}
 use Rattle.run_laws.proofs.States.Begun.{RootFrame, root_cancels, root_enters}
 use Rattle.run_laws.proofs.States.Frames.{IsGood}
 use Rattle.run_laws.specs.ArrivingStates.{States}
@@ -118,10 +118,7 @@ module _ (set : Set) (states : States) (w : World) (past : List Entry) (good : I
     (stands : Standing set states w past) (sees : Sees set states w) where
   -- the frame that steps sees what it stands on
   top_seen : (t : ℕ) (h : StepsFrame set w t) → AllSeen set states None (h.below ++ h.frame ∷ [])
-  top_seen t h =
-      subst (λ (frames : List Frame). AllSeen set states None frames)
-      (frames_there w t h.thread h.found
-      ∙ h.frames) (sees t)
+  top_seen t h = of_steps w t (AllSeen set states None) h (sees t)
 
   sees_put : (t : ℕ) (s : Shared) (thread after : Thread) → slice_get w.threads t ≡ Some thread
       → AllSeen set states None after.frames.items → Sees set states (with_thread w t s after)
@@ -202,6 +199,4 @@ module _ (set : Set) (states : States) where
       subst (λ (under : Option Frame). IsLent set states under h.frame) (last_is_top h.below)
       (seen_lent (last_under None h.below) h.frame
       (seen_top set states None h.below (h.frame ∷ [])
-      (subst (λ (frames : List Frame). AllSeen set states None frames)
-      (frames_there w t h.thread h.found
-      ∙ h.frames) (sees t))).0)
+      (of_steps w t (AllSeen set states None) h (sees t))).0)

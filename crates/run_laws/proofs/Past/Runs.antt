@@ -1,5 +1,5 @@
 -- In every run of a sound set, until it stops, the past tells what the world has.
-use Rattle.std.proofs.Common.{◌≡◌, ◌≤◌, ℕ, inl, inr, List, [], ◌∷◌, ◌++◌, length, Option, None, Some, Bool, true, false, sym, subst, ◌∙◌, arith}
+use Rattle.std.proofs.Common.{◌≡◌, ◌≤◌, ℕ, inl, inr, List, [], ◌∷◌, ◌++◌, length, Option, None, Some, Bool, true, false, sym, ◌∙◌, arith}
 use Rattle.std.specs.Prelude.{◌||◌, nat_lt, slice_get}
 use Rattle.std.proofs.lemmas.Bool.{cases_lt}
 use Rattle.model.specs.declared.event.Lock.{Lock}
@@ -28,7 +28,7 @@ use Rattle.run_laws.proofs.Past.Walks.{WalkIssued, WalksIssued, step_issued, sta
 use Rattle.run_laws.proofs.Runs.Events.{Happens, StepsFrame, nothing, steps, begins}
 use Rattle.run_laws.proofs.Runs.Kept.{GoesOnBy, with_queued, kept_until}
 use Rattle.run_laws.proofs.Runs.Roots.{Root, Beside, issues, issued_more, with_root}
-use Rattle.run_laws.proofs.Runs.Threads.{each_frames, frames_there, idle_frames}
+use Rattle.run_laws.proofs.Runs.Threads.{of_steps, each_frames, idle_frames}
 use Rattle.run_laws.proofs.Tests.{or_right}
 
 -- what the threads share tells what the past tells, the I/O manager completes packets that were
@@ -60,8 +60,7 @@ module _ (set : Set) (w : World) (past : List Entry) (actor : Actor) (tells : Te
     (h : StepsFrame set w actor.thread) where
   frames_issued : Each (WalkIssued w.shared.issued) (h.below ++ h.frame ∷ [])
   frames_issued =
-      subst (λ (frames : List Frame). Each (WalkIssued w.shared.issued) frames)
-      (frames_there w actor.thread h.thread h.found ∙ h.frames) (tells.walks actor.thread)
+      of_steps w actor.thread (Each (WalkIssued w.shared.issued)) h (tells.walks actor.thread)
 
   below_issued : Each (WalkIssued w.shared.issued) h.below
   below_issued = each_before (WalkIssued w.shared.issued) h.below (h.frame ∷ []) frames_issued

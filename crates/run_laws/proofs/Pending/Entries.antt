@@ -23,7 +23,7 @@ use Rattle.run_laws.proofs.Pending.Serving.{AllServe, FrameServes, MustServe, Ta
 use Rattle.run_laws.proofs.Pending.Threads.{TagOf, Tagged, TopServes, tagged_all, top_serves}
 use Rattle.run_laws.proofs.Runs.Events.{Happens, nothing, steps, begins}
 use Rattle.run_laws.proofs.Runs.Roots.{root_told}
-use Rattle.run_laws.proofs.Runs.Threads.{frames_there}
+use Rattle.run_laws.proofs.Runs.Threads.{of_steps}
 use Rattle.model.specs.LocalRule.{is_completion}
 use Rattle.run_laws.proofs.States.Entering.{IsCompleting}
 use Rattle.run_laws.proofs.States.NoViews.{is_deferred}
@@ -203,9 +203,8 @@ module _ (set : Set) (states : States) (w : World) (past : List Entry) (actor : 
       let row : List Tag = slice_index_or tags actor.thread [] in
       let top : TopServes set states w past None i.below i.frame row =
       top_serves set states w past None i.below i.frame row
-      (subst (λ (all : List Frame). AllServe set states w past None all row)
-      (frames_there w actor.thread i.thread i.found ∙ i.frames) (attends.serves_all actor.thread))
-      in
+      (of_steps w actor.thread (λ all. AllServe set states w past None all row) i
+      (attends.serves_all actor.thread)) in
       let under : Option Frame = last_under None i.below in
       frame_says under (top_of i.below) i.frame i.outcome
       (known_top set states w past known actor.thread i).on

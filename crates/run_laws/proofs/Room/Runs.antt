@@ -42,7 +42,7 @@ use Rattle.run_laws.proofs.Runs.Events.{StepsFrame, Happens, nothing, steps, beg
 use Rattle.run_laws.proofs.Runs.Kept.{with_queued}
 use Rattle.run_laws.proofs.Runs.Roots.{Root, Beside, IssuesPacket, TakesFirst, issues, takes_dpc, takes_first, takes_nothing, with_root}
 use Rattle.run_laws.proofs.States.Begun.{startio_enters}
-use Rattle.run_laws.proofs.Runs.Threads.{frames_there, each_frames, idle_frames}
+use Rattle.run_laws.proofs.Runs.Threads.{of_steps, each_frames, idle_frames}
 use Rattle.run_laws.proofs.States.Entering.{begins_request, begins_dpc, startio_activation}
 use Rattle.run_laws.proofs.States.Frames.{IsGood}
 use Rattle.run_laws.specs.ArrivingStates.{States}
@@ -132,9 +132,7 @@ module _ (set : Set) (states : States) (w : World) (past : List Entry) (good : I
   where
     room_there : (t : ℕ) (h : StepsFrame set w t)
         → Each (HasRoom set states w.shared) (h.below ++ h.frame ∷ [])
-    room_there t h =
-        subst (λ (frames : List Frame). Each (HasRoom set states w.shared) frames)
-        (frames_there w t h.thread h.found ∙ h.frames) (roomy.frames t)
+    room_there t h = of_steps w t (Each (HasRoom set states w.shared)) h (roomy.frames t)
 
     top_room : (t : ℕ) (h : StepsFrame set w t) → HasRoom set states w.shared h.frame
     top_room t h = (each_after (HasRoom set states w.shared) h.below (h.frame ∷ [])

@@ -26,7 +26,7 @@ use Rattle.run_laws.proofs.Past.Walks.{UnderIssued, WalkIssued, under_issued}
 use Rattle.run_laws.proofs.Runs.Events.{nothing_stops, stops_run, StepsFrame, Happens, nothing, steps, begins}
 use Rattle.run_laws.proofs.Runs.Kept.{with_queued}
 use Rattle.run_laws.proofs.Runs.Roots.{Root, Beside, issues, takes_dpc, takes_first, takes_nothing, issued_more, with_root}
-use Rattle.run_laws.proofs.Runs.Threads.{frames_there, each_thread, each_frames, idle_frames}
+use Rattle.run_laws.proofs.Runs.Threads.{of_steps, each_thread, each_frames, idle_frames}
 use Rattle.run_laws.proofs.States.Begun.{RootFrame, root_frame, root_low, root_stands}
 use Rattle.run_laws.proofs.States.Fine.{is_wrong, IsRight, is_right_step, StepLeaves, leaves_fine}
 use Rattle.run_laws.proofs.States.Fits.{queues_later, PacketLeads, Fits, new_leads, unused_fits, WordLeads, with_queues_fits}
@@ -71,9 +71,7 @@ module _ (set : Set) (states : States) (w : World) (past : List Entry) (good : I
   -- the top frame of a thread that steps
   pub stands_there : (t : ℕ) (h : StepsFrame set w t)
       → Stacked set states w.shared.issued (h.below ++ h.frame ∷ [])
-  stands_there t h =
-      subst (λ (frames : List Frame). Stacked set states w.shared.issued frames)
-      (frames_there w t h.thread h.found ∙ h.frames) (stands.frames t)
+  stands_there t h = of_steps w t (Stacked set states w.shared.issued) h (stands.frames t)
 
   walks_below : (t : ℕ) (h : StepsFrame set w t) → UnderIssued w.shared.issued (top_of h.below)
   walks_below t h =

@@ -22,7 +22,7 @@ use Rattle.run_laws.proofs.Holders.Sums.{Held}
 use Rattle.run_laws.proofs.Past.LivePackets.{find, find_above, find_push}
 use Rattle.run_laws.proofs.Runs.Events.{Happens, StepsFrame, nothing, steps, begins}
 use Rattle.run_laws.proofs.Runs.Roots.{Root, Beside, IdleThread, issues, root_begun, with_root}
-use Rattle.run_laws.proofs.Runs.Threads.{frames_there}
+use Rattle.run_laws.proofs.Runs.Threads.{of_steps, frames_there}
 use Rattle.run_laws.proofs.States.Frames.{IsGood, Ready, state_of}
 use Rattle.run_laws.specs.ArrivingStates.{States}
 use Rattle.run_laws.proofs.States.Stacks.{Stacked, Stands}
@@ -150,8 +150,7 @@ module _ (set : Set) (states : States) (w : World) (past : List Entry)
         top = on_top set states w past known.good known.stands t h;
         holding = top_holding set states w past known.stands known.kept t h;
         seen = (seen_top set states None h.below (h.frame ∷ [])
-            (subst (λ (frames : List Frame). AllSeen set states None frames)
-            (frames_there w t h.thread h.found ∙ h.frames) (known.sees t))).0;
+            (of_steps w t (AllSeen set states None) h (known.sees t))).0;
         on = frame_on set states w.shared.issued h.below h.frame
             (stands_there set states w past known.good known.stands t h);
         lends = known.lends;
