@@ -11,7 +11,7 @@ use std::marker::Model;
 
 /// An I/O stack location (IO_STACK_LOCATION): what the driver of its device is asked to do. Its
 /// fields stand in the order in which they take 16 bytes.
-#[derive(Default, Drop)]
+#[derive(Clone, Copy, Default, Drop)]
 pub struct Location {
     argument: u64,
     /// None while nothing was asked here.

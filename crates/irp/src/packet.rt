@@ -1,13 +1,11 @@
 //! A live packet, and the calls that change it.
 
-ghost use Rattle.std.specs.Prelude.{◌≡◌, ◌≤◌, ◌<◌, ◌-◌, ◌∷◌, true, false, length, nat_lt, option_map, replicate, slice_get};
+ghost use Rattle.std.specs.Prelude.{◌≡◌, ◌≤◌, ◌<◌, ◌-◌, true, false, length, nat_lt, option_map, slice_get, slice_set};
 ghost use Rattle.model.specs.declared.limits.TheConstants.{MAX_STACK};
-ghost use Rattle.model.specs.World.{unused_location};
 
 mod renewal;
 
 use crate::location::Location;
-use arrayvec::ArrayVec;
 use model::instr::Field;
 use model::limits::MAX_STACK;
 use model::status::{Major, Status};
@@ -17,24 +15,27 @@ use std::mem;
 
 /// A live packet (IRP): one that was issued and has not topped out.
 ///
-/// Fields lie as they are declared: what each event reads stands together, before the locations, so
-/// that it shares a cache line with the first two of them.
+/// Fields lie as they are declared: what each event reads stands together, before the locations. All
+/// places of locations are there from the start: those behind its locations have what was left
+/// there, of which contracts see nothing.
 #[derive(Drop)]
 pub struct Packet {
     number: u64,
     info: u64,
     depth: u8,
+    /// How many locations it has.
+    size: u8,
     status: Status,
     completing: bool,
     pending_returned: bool,
     cancel: bool,
     armer: Option<Armer>,
-    /// All its locations, that of the top driver first.
-    stack: ArrayVec<Location, MAX_STACK>,
+    /// The places of its locations, that of the top driver first.
+    places: [Location; MAX_STACK],
 }
 
 impl Model for Packet {
-    ghost use Rattle.std.specs.Prelude.{◌≤◌, length};
+    ghost use Rattle.std.specs.Prelude.{◌≤◌, take};
     ghost use Rattle.model.specs.declared.limits.TheConstants.{MAX_STACK};
     ghost use Rattle.model.specs.declared.world.Packet.{Packet};
 
@@ -44,7 +45,7 @@ impl Model for Packet {
       number = p.number;
       depth = p.depth;
       locations =
-          record { items = p.stack.items };
+          record { items = take p.size p.places };
       status = p.status;
       info = p.info;
       completing =
@@ -54,17 +55,7 @@ impl Model for Packet {
       armer = p.armer;
     } };
 
-    ghost invariant = { λ p. length p.stack.items ≤ MAX_STACK };
-}
-
-/// The stack locations of a packet: the first one as given, and the others unused.
-fn stack_of(size: u8, first: Location) -> ArrayVec<Location, MAX_STACK>
-    requires { size ≤ MAX_STACK }
-    ensures { result.items ≡ first ∷ replicate (size - 1) unused_location }
-{
-    let mut stack = ArrayVec::new();
-    renewal::fill(&mut stack, size, first);
-    stack
+    ghost invariant = { λ p. p.size ≤ MAX_STACK };
 }
 
 impl Packet {
@@ -77,17 +68,38 @@ impl Packet {
         requires { stack ≤ MAX_STACK }
         ensures { result ≡ new_packet number device major argument stack }
     {
-        Packet {
+        let mut packet = Packet {
             number,
-            depth: 1,
-            stack: stack_of(stack, Location::asked(major, argument, device)),
-            status: Status::Success,
             info: 0,
+            depth: 1,
+            size: 0,
+            status: Status::Success,
             completing: false,
             pending_returned: false,
             cancel: false,
             armer: None,
-        }
+            places: Default::default(),
+        };
+        packet.fill(stack, Location::asked(major, argument, device));
+        packet
+    }
+
+    /// Its locations, that of the top driver first.
+    #[inline]
+    fn stack(&self) -> &[Location]
+        ensures { result.now ≡ self.now.locations.items }
+    {
+        &self.places[..self.size as usize]
+    }
+
+    /// Another location at a place.
+    #[tactic(auto, using(crate::proofs::Stack::take_set))]
+    fn put(&mut self, place: usize, location: Location)
+        requires { place < length self.old.locations.items }
+        ensures { let items = slice_set self.old.locations.items place location in
+            self.new ≡ record self.old { locations = record { items = items } } }
+    {
+        self.places[place] = location;
     }
 
     /// Its number: packets are numbered in the order of their issue.
@@ -109,14 +121,14 @@ impl Packet {
         ensures size { result ≡ length self.now.locations.items }
         ensures fits { result ≤ MAX_STACK }
     {
-        self.stack.len()
+        self.stack().len()
     }
 
     /// Whether there is a location below the current one.
     pub fn has_room_below(&self) -> bool
         ensures { result ≡ nat_lt self.now.depth (length self.now.locations.items) }
     {
-        (self.depth as usize) < self.stack.len()
+        (self.depth as usize) < self.stack().len()
     }
 
     /// The status with which it is completed.
@@ -165,7 +177,7 @@ impl Packet {
     pub fn location(&self, place: usize) -> Option<&Location>
         ensures { option_map (λ l. l.now) result ≡ slice_get self.now.locations.items place }
     {
-        self.stack.get(place)
+        self.stack().get(place)
     }
 
     /// The place of its current location.
@@ -179,7 +191,7 @@ impl Packet {
     fn current(&self) -> Option<&Location>
         ensures { option_map (λ l. l.now) result ≡ current_location self.now }
     {
-        self.stack.get(self.place())
+        self.stack().get(self.place())
     }
 
     /// The completion routine of the current location.
@@ -212,7 +224,7 @@ impl Packet {
     {
         let mut marks = [false; MAX_STACK];
         #[tactic(auto, using(crate::proofs::Marks::marks_on))]
-        for (place, location) in self.stack.iter().enumerate() {
+        for (place, location) in self.stack().iter().enumerate() {
             marks[place] = location.is_marked();
         }
         marks
@@ -249,9 +261,9 @@ impl Packet {
     pub fn mark(&mut self)
         ensures { self.new ≡ mark_current self.old }
     {
-        let place = self.place();
-        if let Some(location) = self.stack.get_mut(place) {
+        if let Some(mut location) = self.current().copied() {
             location.mark();
+            self.put(self.place(), location);
         }
     }
 
@@ -265,10 +277,9 @@ impl Packet {
             Some(location) => location.copied_to(device, completion),
             None => Location::unasked(device, completion),
         };
-        if let Some(location) = self.stack.get_mut(self.depth as usize) {
-            *location = copied;
-            self.depth += 1;
-        }
+        let _locations = self.stack_size();
+        self.put(self.depth as usize, copied);
+        self.depth += 1;
     }
 
     /// IoSkipCurrentIrpStackLocation and IoCallDriver: the lower device is asked in the current
@@ -276,9 +287,9 @@ impl Packet {
     pub fn share(&mut self, device: u8)
         ensures { self.new ≡ shared_with self.old device }
     {
-        let place = self.place();
-        if let Some(location) = self.stack.get_mut(place) {
+        if let Some(mut location) = self.current().copied() {
             location.redirect(device);
+            self.put(self.place(), location);
         }
     }
 
