@@ -11,7 +11,7 @@ use std::marker::Model;
 
 /// An I/O stack location (IO_STACK_LOCATION): what the driver of its device is asked to do. Its
 /// fields stand in the order in which they take 16 bytes.
-#[derive(Clone, Copy, Default, Drop)]
+#[derive(Default, Drop)]
 pub struct Location {
     argument: u64,
     /// None while nothing was asked here.
@@ -60,6 +60,19 @@ impl Location {
             device,
             control: Control::default(),
             completion: None,
+        }
+    }
+
+    /// The same location.
+    pub fn copy(&self) -> Location
+        ensures { result ≡ self.now }
+    {
+        Location {
+            argument: self.argument,
+            major: self.major,
+            device: self.device,
+            control: self.control,
+            completion: self.completion,
         }
     }
 

@@ -87,7 +87,8 @@ impl Packet {
     /// Its locations, that of the top driver first.
     #[inline]
     fn stack(&self) -> &[Location]
-        ensures { result.now ≡ self.now.locations.items }
+        ensures locations { result.now ≡ self.now.locations.items }
+        ensures fits { length result.now ≤ MAX_STACK }
     {
         &self.places[..self.size as usize]
     }
@@ -99,6 +100,7 @@ impl Packet {
         ensures { let items = slice_set self.old.locations.items place location in
             self.new ≡ record self.old { locations = record { items = items } } }
     {
+        let _locations = self.stack_size();
         self.places[place] = location;
     }
 
@@ -261,7 +263,8 @@ impl Packet {
     pub fn mark(&mut self)
         ensures { self.new ≡ mark_current self.old }
     {
-        if let Some(mut location) = self.current().copied() {
+        if let Some(current) = self.current() {
+            let mut location = current.copy();
             location.mark();
             self.put(self.place(), location);
         }
@@ -287,7 +290,8 @@ impl Packet {
     pub fn share(&mut self, device: u8)
         ensures { self.new ≡ shared_with self.old device }
     {
-        if let Some(mut location) = self.current().copied() {
+        if let Some(current) = self.current() {
+            let mut location = current.copy();
             location.redirect(device);
             self.put(self.place(), location);
         }
