@@ -15,7 +15,7 @@ use std::marker::Model;
 /// taken from the middle.
 ///
 /// A packet that left the list stays in its slot as it was, which contracts don't see, and the next
-/// one that gets the slot is made of it: so no more of it is written than that one needs.
+/// one that gets the slot is made of it: so no locations are written but those of the two.
 #[derive(Drop)]
 pub struct PacketList {
     slots: Vec<Packet>,
