@@ -15,12 +15,10 @@ use Rattle.image.specs.declared.reading.Scope.{Scope}
 use Rattle.image.specs.declared.word.Word.{Word}
 use Rattle.image.specs.Reading.{all_at, count_at, scoped, device_at, driver_at, field_at, instruction_at, letters_at, queue_at, routine_at, set_at, set_in, waiting_in, word_at, Read}
 use Rattle.image.specs.Spelling.{device_bytes, driver_bytes, edition_digit, instruction_bytes, or_none, queue_bytes, routine_bytes, sort_number, spelling, waiting_byte, word_bytes, word_of, HasSpelling, Spells}
-use Rattle.image.proofs.Again.{InRange, instruction_again}
+use Rattle.image.proofs.Again.{InRange, instruction_again, last_fits}
 use Rattle.image.proofs.Editions.{Has, has_both, has_each, has_set}
 use Rattle.image.proofs.Numbers.{at_most_again, below_again, edition_again, none_or_below_again, sort_again, stack_again}
 use Rattle.model.specs.declared.instr.Instr.{Instr}
-use Rattle.model.specs.declared.instr.Instr.TheVariants.{Const, JumpIfZero, JumpIfLess, Jump, Loop, Remove, Disarm, IfCancel, Take, IfPending, Ret}
-use Rattle.model.specs.declared.instr.Return.TheVariants.{WithStatus, Lower, Continue, Stop, Void}
 use Rattle.model.specs.declared.limits.TheConstants.{MAX_DEVICES, MAX_DRIVERS, MAX_INSTRUCTIONS, MAX_QUEUES, MAX_ROUTINES, SPIN_LOCKS}
 use Rattle.model.specs.declared.set.Device.{Device}
 use Rattle.model.specs.declared.set.Driver.{Driver}
@@ -54,25 +52,6 @@ word_again : (w : Word) (rest : List ℕ) → w.last < 2 ^ 32
     → word_at (word_bytes w ++ rest) ≡ Ok (w, rest)
 word_again w rest lt =
     rw (field_again 8 (word_bytes w) rest refl) (rw (from_le_bytes-to_le_bytes_4 w.last lt) refl)
-
-last_fits : (scope : Scope) → scope.positions ≤ MAX_INSTRUCTIONS → (i : Instr)
-    → InRange scope i → (word_of i).last < 2 ^ 32
-last_fits scope few (Const r n) h = h.operands.1
-last_fits scope few (JumpIfZero r label) h = omega (arith, few, h.label)
-last_fits scope few (JumpIfLess r q label) h = omega (arith, few, h.label)
-last_fits scope few (Jump label) h = omega (arith, few, h.label)
-last_fits scope few (Loop turns) h = omega (arith, h.operands.1)
-last_fits scope few (Remove r q label) h = omega (arith, few, h.label)
-last_fits scope few (Disarm r label) h = omega (arith, few, h.label)
-last_fits scope few (IfCancel r label) h = omega (arith, few, h.label)
-last_fits scope few (Take r label) h = omega (arith, few, h.label)
-last_fits scope few (IfPending r label) h = omega (arith, few, h.label)
-last_fits scope few (Ret (WithStatus status)) h = omega arith
-last_fits scope few (Ret (Lower r)) h = omega arith
-last_fits scope few (Ret Continue) h = omega arith
-last_fits scope few (Ret Stop) h = omega arith
-last_fits scope few (Ret Void) h = omega arith
-last_fits scope few _ h = omega arith
 
 -- everything of a list fits, each thing by its number
 abbrev From : {A : Type 0} → (ℕ → A → Type 0) → ℕ → List A → Type 0

@@ -1,11 +1,12 @@
 -- The fields of an image of either edition in order, and the first that is at fault. The fourth
 -- byte tells the edition, by which two fields differ: the last of a driver's first eight bytes, and
--- whether an instruction is `dequeue`. A field is one byte, the count
+-- whether an instruction is one that the second edition alone has. A field is one byte, the count
 -- of a routine's instructions in two, or a whole word of eight. One that isn't whole is Truncated.
 -- In a field that is whole, a number that nothing has and a byte that must be zero and isn't are
 -- BadOpcode; else a number out of its range, or one that names nothing, is OverLimit.
-use Rattle.std.specs.Prelude.{ℕ, zero, suc, ⊤, ◌≡◌, ◌⊎◌, ◌==◌, ◌&&◌, ◌||◌, Bool, true, false, nat_lt, nat_le, List, [], ◌∷◌, length, get_or, take, drop, Option, None, Some, Result, Ok, Err, if◌then◌else◌}
+use Rattle.std.specs.Prelude.{ℕ, zero, suc, ⊤, ◌+◌, ◌≡◌, ◌⊎◌, ◌==◌, ◌&&◌, ◌||◌, Bool, true, false, nat_lt, nat_le, List, [], ◌∷◌, length, get_or, take, drop, Option, None, Some, Result, Ok, Err, if◌then◌else◌}
 use Rattle.std.specs.Int.{w16, w32, from_le_bytes}
+use Rattle.std.specs.List.{list_any}
 use Rattle.image.specs.declared.edition.Edition.{Edition}
 use Rattle.image.specs.declared.edition.Edition.TheVariants.{Former, Current}
 use Rattle.image.specs.declared.fault.ImageFault.{ImageFault}
@@ -16,7 +17,7 @@ use Rattle.image.specs.Spelling.{word}
 use Rattle.model.specs.declared.instr.Field.{Field}
 use Rattle.model.specs.declared.instr.Field.TheVariants.{Major, Argument, Info}
 use Rattle.model.specs.declared.instr.Instr.{Instr}
-use Rattle.model.specs.declared.instr.Instr.TheVariants.{Const, Move, Clear, Add, Subtract, JumpIfZero, JumpIfLess, Jump, Loop, End, Load, Store, LoadPaged, StorePaged, Get, Put, Mark, Acquire, Release, AcquireCancel, ReleaseCancel, Insert, Remove, Unlink, Arm, Disarm, IfCancel, Start, Take, Begin, Next, Dequeue, Pass, Call, Complete, IfPending, Ret}
+use Rattle.model.specs.declared.instr.Return.{Return}
 use Rattle.model.specs.declared.instr.Return.TheVariants.{WithStatus, Lower, Continue, Stop, Void}
 use Rattle.model.specs.declared.limits.TheConstants.{CELLS, MAX_DEVICES, MAX_DRIVERS, MAX_INSTRUCTIONS, MAX_QUEUES, MAX_ROUTINES, MAX_STACK, MAX_TURNS, REGISTERS, SPIN_LOCKS}
 use Rattle.model.specs.declared.set.Device.{Device}
@@ -27,6 +28,7 @@ use Rattle.model.specs.declared.set.Sort.{Sort}
 use Rattle.model.specs.declared.set.Sort.TheVariants.{Dispatch, StartIo, Dpc, Cancel, Propagate, Hold}
 use Rattle.model.specs.declared.status.Status.{Status}
 use Rattle.model.specs.declared.status.Status.TheVariants.{Success, Pending, Busy, Unsuccessful, InvalidParameter, InvalidDeviceRequest, Cancelled}
+use Rattle.forms.specs.InstructionForm.{Editions, Both, SecondAlone, Operand, ARegister, ACell, APagedCell, ASpinLock, AConstant, ATurns, AField, AStatus, AQueue, ALabel, ARoutine, AReturn, Form, ValueOf, Values, forms, made_of}
 use Rattle.model.specs.Set.{Set}
 use Rattle.model.specs.Sound.{IsSound}
 
@@ -37,17 +39,9 @@ abbrev pub ◌>>=◌ : {A B : Type 0} → Result A ImageFault → (A → Result 
 (Ok x) >>= f = f x
 (Err fault) >>= f = Err fault
 
--- what is made of one operand, of two, of three
+-- what is made of one thing
 abbrev pub one : {A X : Type 0} → (A → X) → Result A ImageFault → Result X ImageFault
 one f a = a >>= λ x. Ok (f x)
-
-abbrev pub two : {A B X : Type 0} → (A → B → X) → Result A ImageFault → Result B ImageFault
-    → Result X ImageFault
-two f a b = a >>= λ x. one (f x) b
-
-abbrev pub three : {A B C X : Type 0} → (A → B → C → X) → Result A ImageFault
-    → Result B ImageFault → Result C ImageFault → Result X ImageFault
-three f a b c = a >>= λ x. two (f x) b c
 
 -- ---- what a number may be
 
@@ -143,99 +137,88 @@ leaves used wide w =
 abbrev pub using : {A : Type 0} → ℕ → Bool → Word → Result A ImageFault → Result A ImageFault
 using used wide w said = if leaves used wide w then said else Err BadOpcode
 
--- what `ret` returns, by its form
-abbrev pub returned : Word → Result Instr ImageFault
-returned w =
-    if w.first == 0 then using 2 false w (one (λ s. Ret (WithStatus s)) (status_in w.second)) else
-    (if w.first == 1 then using 2 false w (one (λ r. Ret (Lower r)) (register_in w.second)) else
-    (if w.first == 2 then using 1 false w (Ok (Ret Continue)) else
-    (if w.first == 3 then using 1 false w (Ok (Ret Stop)) else
-    (if w.first == 4 then using 1 false w (Ok (Ret Void)) else Err BadOpcode))))
+-- the operand byte of a place
+abbrev pub byte_of : Word → ℕ → ℕ
+byte_of w place = get_or (w.first ∷ w.second ∷ w.third ∷ []) place 0
 
--- `dequeue`, which the first edition doesn't have
-abbrev pub dequeue_in : Edition → Word → Result Instr ImageFault
-dequeue_in Former w = Err BadOpcode
-dequeue_in Current w = using 1 false w (one Dequeue (register_in w.first))
+-- what `ret` returns, by its form and what stands behind that
+abbrev pub return_in : ℕ → ℕ → Result Return ImageFault
+return_in form n =
+    if form == 0 then one (λ s. WithStatus s) (status_in n) else
+    (if form == 1 then one (λ r. Lower r) (register_in n) else
+    (if form == 2 then Ok Continue else
+    (if form == 3 then Ok Stop else
+    (if form == 4 then Ok Void else Err BadOpcode))))
 
--- what is done with packets
-abbrev pub on_packets : Scope → Word → Result Instr ImageFault
-on_packets scope w =
-    if w.number == 27 then using 1 true w
-    (two IfCancel (register_in w.first) (below scope.positions w.last)) else
-    (if w.number == 28 then using 1 false w (one Start (register_in w.first)) else
-    (if w.number == 29 then using 1 true w
-    (two Take (register_in w.first) (below scope.positions w.last)) else
-    (if w.number == 30 then using 1 false w (one Begin (register_in w.first)) else
-    (if w.number == 31 then using 0 false w (Ok Next) else
-    (if w.number == 32 then using 1 false w (one Pass (register_in w.first)) else
-    (if w.number == 33 then using 2 false w
-    (two Call (register_in w.first) (none_or_below scope.routines w.second)) else
-    (if w.number == 34 then using 2 false w
-    (two Complete (register_in w.first) (status_in w.second)) else
-    (if w.number == 35 then using 1 true w
-    (two IfPending (register_in w.first) (below scope.positions w.last)) else
-    (if w.number == 36 then returned w else
-    (if w.number == 37 then dequeue_in scope.edition w else Err BadOpcode))))))))))
+-- how many operand bytes an operand takes, the first of which is this
+abbrev pub size_of : Operand → ℕ → ℕ
+size_of AConstant first = 0
+size_of ATurns first = 0
+size_of ALabel first = 0
+size_of AReturn first = if nat_lt first 2 then 2 else 1
+size_of _ first = 1
 
--- what is done with the device's locks and queues, or with packets
-abbrev pub on_queues : Scope → Word → Result Instr ImageFault
-on_queues scope w =
-    if w.number == 18 then using 1 false w (one Acquire (lock_in w.first)) else
-    (if w.number == 19 then using 1 false w (one Release (lock_in w.first)) else
-    (if w.number == 20 then using 0 false w (Ok AcquireCancel) else
-    (if w.number == 21 then using 0 false w (Ok ReleaseCancel) else
-    (if w.number == 22 then using 2 false w
-    (two Insert (register_in w.first) (below scope.queues w.second)) else
-    (if w.number == 23 then using 2 true w
-    (three Remove (register_in w.first) (below scope.queues w.second)
-    (below scope.positions w.last)) else
-    (if w.number == 24 then using 2 false w
-    (two Unlink (register_in w.first) (below scope.queues w.second)) else
-    (if w.number == 25 then using 2 false w
-    (two Arm (register_in w.first) (below scope.queues w.second)) else
-    (if w.number == 26 then using 1 true w
-    (two Disarm (register_in w.first) (below scope.positions w.last)) else
-    on_packets scope w))))))))
+-- whether it takes the last four bytes
+abbrev pub takes_last : Operand → Bool
+takes_last AConstant = true
+takes_last ATurns = true
+takes_last ALabel = true
+takes_last _ = false
 
--- what is done with the device's cells and a packet's fields, its locks and queues, or packets
-abbrev pub on_cells : Scope → Word → Result Instr ImageFault
-on_cells scope w =
-    if w.number == 10 then using 0 false w (Ok End) else
-    (if w.number == 11 then using 2 false w
-    (two Load (register_in w.first) (cell_in w.second)) else
-    (if w.number == 12 then using 2 false w
-    (two Store (cell_in w.first) (register_in w.second)) else
-    (if w.number == 13 then using 2 false w
-    (two LoadPaged (register_in w.first) (cell_in w.second)) else
-    (if w.number == 14 then using 2 false w
-    (two StorePaged (cell_in w.first) (register_in w.second)) else
-    (if w.number == 15 then using 3 false w
-    (three Get (register_in w.first) (register_in w.second) (field_in w.third)) else
-    (if w.number == 16 then using 2 false w
-    (two Put (register_in w.first) (register_in w.second)) else
-    (if w.number == 17 then using 1 false w (one Mark (register_in w.first)) else
-    on_queues scope w)))))))
+-- how many operand bytes are used by operands from a place on
+abbrev pub used_from : List Operand → ℕ → Word → ℕ
+used_from [] place w = place
+used_from (operand ∷ operands) place w =
+    used_from operands (place + size_of operand (byte_of w place)) w
 
--- the instruction that a word spells, in a routine of so many positions, of a driver with so many
--- routines and queues
+-- an operand whose bytes begin at a place, of an instruction in a routine of so many positions, of
+-- a driver with so many routines and queues
+abbrev pub operand_in : Scope → (operand : Operand) → ℕ → Word
+    → Result (ValueOf operand) ImageFault
+operand_in scope ARegister place w = register_in (byte_of w place)
+operand_in scope ACell place w = cell_in (byte_of w place)
+operand_in scope APagedCell place w = cell_in (byte_of w place)
+operand_in scope ASpinLock place w = lock_in (byte_of w place)
+operand_in scope AConstant place w = Ok w.last
+operand_in scope ATurns place w = turns_in w.last
+operand_in scope AField place w = field_in (byte_of w place)
+operand_in scope AStatus place w = status_in (byte_of w place)
+operand_in scope AQueue place w = below scope.queues (byte_of w place)
+operand_in scope ALabel place w = below scope.positions w.last
+operand_in scope ARoutine place w = none_or_below scope.routines (byte_of w place)
+operand_in scope AReturn place w = return_in (byte_of w place) (byte_of w (place + 1))
+
+abbrev pub operands_in : Scope → (operands : List Operand) → ℕ → Word
+    → Result (Values operands) ImageFault
+operands_in scope [] place w = Ok tt
+operands_in scope (operand ∷ operands) place w =
+    operand_in scope operand place w >>= λ value.
+    one (λ values. (value, values))
+    (operands_in scope operands (place + size_of operand (byte_of w place)) w)
+
+-- the instruction of a form
+abbrev pub form_in : Scope → Word → Form → Result Instr ImageFault
+form_in scope w form =
+    using (used_from form.operands 0 w) (list_any takes_last form.operands) w
+    (one (made_of form.operands form.makes) (operands_in scope form.operands 0 w))
+
+-- what an edition of these has, which the other hasn't
+abbrev pub edition_had : {A : Type 0} → Edition → Editions → Result A ImageFault
+    → Result A ImageFault
+edition_had edition Both said = said
+edition_had Former SecondAlone said = Err BadOpcode
+edition_had Current SecondAlone said = said
+
+-- the instruction that a word spells, by the form that has its number
+abbrev pub in_forms : List Form → Scope → Word → Result Instr ImageFault
+in_forms [] scope w = Err BadOpcode
+in_forms (form ∷ forms) scope w =
+    if w.number == form.number
+    then edition_had scope.edition form.editions (form_in scope w form)
+    else in_forms forms scope w
+
 abbrev pub instruction_in : Scope → Word → Result Instr ImageFault
-instruction_in scope w =
-    if w.number == 1 then using 1 true w (one (λ r. Const r w.last) (register_in w.first)) else
-    (if w.number == 2 then using 2 false w
-    (two Move (register_in w.first) (register_in w.second)) else
-    (if w.number == 3 then using 1 false w (one Clear (register_in w.first)) else
-    (if w.number == 4 then using 2 false w
-    (two Add (register_in w.first) (register_in w.second)) else
-    (if w.number == 5 then using 2 false w
-    (two Subtract (register_in w.first) (register_in w.second)) else
-    (if w.number == 6 then using 1 true w
-    (two JumpIfZero (register_in w.first) (below scope.positions w.last)) else
-    (if w.number == 7 then using 2 true w
-    (three JumpIfLess (register_in w.first) (register_in w.second)
-    (below scope.positions w.last)) else
-    (if w.number == 8 then using 0 true w (one Jump (below scope.positions w.last)) else
-    (if w.number == 9 then using 0 true w (one Loop (turns_in w.last)) else
-    on_cells scope w))))))))
+instruction_in scope w = in_forms forms scope w
 
 -- ---- fields
 

@@ -1,6 +1,6 @@
 -- The images of a driver set: the bytes that spell it, in each edition. A number of two or four
 -- bytes is little endian, and FF stands for none.
-use Rattle.std.specs.Prelude.{ℕ, ⊤, ◌≡◌, ◌⊎◌, List, [], ◌∷◌, ◌++◌, length, Option, None, Some}
+use Rattle.std.specs.Prelude.{ℕ, ⊤, ◌≡◌, ◌⊎◌, List, [], ◌∷◌, ◌++◌, length, get_or, Option, None, Some}
 use Rattle.std.specs.Int.{w16, w32, to_le_bytes}
 use Rattle.std.specs.List.{flat_map}
 use Rattle.image.specs.declared.edition.Edition.{Edition}
@@ -9,7 +9,7 @@ use Rattle.image.specs.declared.word.Word.{Word}
 use Rattle.model.specs.declared.instr.Field.{Field}
 use Rattle.model.specs.declared.instr.Field.TheVariants.{Major, Argument, Info}
 use Rattle.model.specs.declared.instr.Instr.{Instr}
-use Rattle.model.specs.declared.instr.Instr.TheVariants.{Const, Move, Clear, Add, Subtract, JumpIfZero, JumpIfLess, Jump, Loop, End, Load, Store, LoadPaged, StorePaged, Get, Put, Mark, Acquire, Release, AcquireCancel, ReleaseCancel, Insert, Remove, Unlink, Arm, Disarm, IfCancel, Start, Take, Begin, Next, Dequeue, Pass, Call, Complete, IfPending, Ret}
+use Rattle.model.specs.declared.instr.Return.{Return}
 use Rattle.model.specs.declared.instr.Return.TheVariants.{WithStatus, Lower, Continue, Stop, Void}
 use Rattle.model.specs.declared.set.Device.{Device}
 use Rattle.model.specs.declared.set.Driver.{Driver}
@@ -19,6 +19,7 @@ use Rattle.model.specs.declared.set.Sort.{Sort}
 use Rattle.model.specs.declared.set.Sort.TheVariants.{Dispatch, StartIo, Dpc, Cancel, Propagate, Hold}
 use Rattle.model.specs.declared.status.Status.{Status}
 use Rattle.model.specs.declared.status.Status.TheVariants.{Success, Pending, Busy, Unsuccessful, InvalidParameter, InvalidDeviceRequest, Cancelled}
+use Rattle.forms.specs.InstructionForm.{Operand, ARegister, ACell, APagedCell, ASpinLock, AConstant, ATurns, AField, AStatus, AQueue, ALabel, ARoutine, AReturn, Form, ValueOf, Values, by_form}
 use Rattle.model.specs.Edition.{edition_of}
 use Rattle.model.specs.Set.{Set}
 
@@ -59,48 +60,54 @@ abbrev pub word : ℕ → ℕ → ℕ → ℕ → ℕ → Word
 word number first second third last =
     record { number = number; first = first; second = second; third = third; last = last }
 
+-- what `ret` returns: its form, and what stands behind that
+abbrev pub return_bytes : Return → List ℕ
+return_bytes (WithStatus status) = 0 ∷ status_number status ∷ []
+return_bytes (Lower r) = 1 ∷ r ∷ []
+return_bytes Continue = 2 ∷ []
+return_bytes Stop = 3 ∷ []
+return_bytes Void = 4 ∷ []
+
+abbrev pub operand_bytes : (operand : Operand) → ValueOf operand → List ℕ
+operand_bytes ARegister r = r ∷ []
+operand_bytes ACell c = c ∷ []
+operand_bytes APagedCell c = c ∷ []
+operand_bytes ASpinLock lock = lock ∷ []
+operand_bytes AConstant n = []
+operand_bytes ATurns turns = []
+operand_bytes AField field = field_number field ∷ []
+operand_bytes AStatus status = status_number status ∷ []
+operand_bytes AQueue q = q ∷ []
+operand_bytes ALabel label = []
+operand_bytes ARoutine f = or_none f ∷ []
+operand_bytes AReturn form = return_bytes form
+
+abbrev pub operands_bytes : (operands : List Operand) → Values operands → List ℕ
+operands_bytes [] values = []
+operands_bytes (operand ∷ operands) values =
+    operand_bytes operand values.0 ++ operands_bytes operands values.1
+
+-- the last four bytes with this operand before others
+abbrev pub last_with : (operand : Operand) → ValueOf operand → ℕ → ℕ
+last_with AConstant n other = n
+last_with ATurns turns other = turns
+last_with ALabel label other = label
+last_with _ value other = other
+
+abbrev pub last_of : (operands : List Operand) → Values operands → ℕ
+last_of [] values = 0
+last_of (operand ∷ operands) values = last_with operand values.0 (last_of operands values.1)
+
+abbrev pub word_with : ℕ → List ℕ → ℕ → Word
+word_with number bytes last =
+    word number (get_or bytes 0 0) (get_or bytes 1 0) (get_or bytes 2 0) last
+
+abbrev pub form_word : (form : Form) → Values form.operands → Word
+form_word form values =
+    word_with form.number (operands_bytes form.operands values) (last_of form.operands values)
+
 abbrev pub word_of : Instr → Word
-word_of (Const r n) = word 1 r 0 0 n
-word_of (Move r q) = word 2 r q 0 0
-word_of (Clear r) = word 3 r 0 0 0
-word_of (Add r q) = word 4 r q 0 0
-word_of (Subtract r q) = word 5 r q 0 0
-word_of (JumpIfZero r label) = word 6 r 0 0 label
-word_of (JumpIfLess r q label) = word 7 r q 0 label
-word_of (Jump label) = word 8 0 0 0 label
-word_of (Loop turns) = word 9 0 0 0 turns
-word_of End = word 10 0 0 0 0
-word_of (Load r c) = word 11 r c 0 0
-word_of (Store c r) = word 12 c r 0 0
-word_of (LoadPaged r c) = word 13 r c 0 0
-word_of (StorePaged c r) = word 14 c r 0 0
-word_of (Get r q field) = word 15 r q (field_number field) 0
-word_of (Put q r) = word 16 q r 0 0
-word_of (Mark r) = word 17 r 0 0 0
-word_of (Acquire lock) = word 18 lock 0 0 0
-word_of (Release lock) = word 19 lock 0 0 0
-word_of AcquireCancel = word 20 0 0 0 0
-word_of ReleaseCancel = word 21 0 0 0 0
-word_of (Insert r q) = word 22 r q 0 0
-word_of (Remove r q label) = word 23 r q 0 label
-word_of (Unlink r q) = word 24 r q 0 0
-word_of (Arm r q) = word 25 r q 0 0
-word_of (Disarm r label) = word 26 r 0 0 label
-word_of (IfCancel r label) = word 27 r 0 0 label
-word_of (Start r) = word 28 r 0 0 0
-word_of (Take r label) = word 29 r 0 0 label
-word_of (Begin r) = word 30 r 0 0 0
-word_of Next = word 31 0 0 0 0
-word_of (Pass r) = word 32 r 0 0 0
-word_of (Call r f) = word 33 r (or_none f) 0 0
-word_of (Complete r status) = word 34 r (status_number status) 0 0
-word_of (IfPending r label) = word 35 r 0 0 label
-word_of (Dequeue r) = word 37 r 0 0 0
-word_of (Ret (WithStatus status)) = word 36 0 (status_number status) 0 0
-word_of (Ret (Lower r)) = word 36 1 r 0 0
-word_of (Ret Continue) = word 36 2 0 0 0
-word_of (Ret Stop) = word 36 3 0 0 0
-word_of (Ret Void) = word 36 4 0 0 0
+word_of i = by_form form_word i
 
 -- the eight bytes of a word
 abbrev pub word_bytes : Word → List ℕ

@@ -1,15 +1,18 @@
 //! Bytes read as an image.
 
-ghost use Rattle.std.specs.Prelude.{◌≡◌, ◌⊎◌, IfErr, IfOk, MatchResult, Ok};
+ghost use Rattle.std.specs.Prelude.{◌≡◌, ◌⊎◌, [], ◌∷◌, false, IfErr, IfOk, MatchResult, Ok};
 ghost use Rattle.image.specs.Reading.{all_at, at_most, below, byte_at, cell_in, count_at};
-ghost use Rattle.image.specs.Reading.{dequeue_in, device_at, driver_at, edition_in, field_in};
-ghost use Rattle.image.specs.Reading.{instruction_at, instruction_in, leaves, letter, letters_at};
-ghost use Rattle.image.specs.Reading.{lock_in, none_or_below, on_cells, on_packets, on_queues, queue_at};
-ghost use Rattle.image.specs.Reading.{register_in, returned, routine_at, set_in, sort_in, stack_in};
-ghost use Rattle.image.specs.Reading.{status_in, turns_in, unused, waiting_in, word_at};
-ghost use Rattle.image.specs.Reading.{Gives, IsFaultOf};
+ghost use Rattle.image.specs.Reading.{device_at, driver_at, edition_had, edition_in, field_in};
+ghost use Rattle.image.specs.Reading.{in_forms, instruction_at, instruction_in, leaves, letter};
+ghost use Rattle.image.specs.Reading.{letters_at, lock_in, none_or_below, one, queue_at};
+ghost use Rattle.image.specs.Reading.{register_in, return_in, routine_at, set_in, sort_in};
+ghost use Rattle.image.specs.Reading.{stack_in, status_in, turns_in, unused, used_from, using};
+ghost use Rattle.image.specs.Reading.{waiting_in, word_at, Gives, IsFaultOf};
 ghost use Rattle.image.specs.Spelling.{Spells};
 ghost use Rattle.image.specs.declared.fault.ImageFault.TheVariants.{Memory};
+ghost use Rattle.forms.specs.InstructionForm.{AReturn, SecondAlone, cell_forms, packet_forms};
+ghost use Rattle.forms.specs.InstructionForm.{queue_forms};
+ghost use Rattle.model.specs.declared.instr.Instr.TheVariants.{Dequeue, Ret};
 ghost use Rattle.model.specs.Set.{Set};
 ghost use Rattle.model.specs.Sound.{IsSound};
 
@@ -178,7 +181,8 @@ impl Word {
 
     /// What `ret` returns, by its form.
     fn returned(&self) -> Result<Instr, ImageFault>
-        ensures { result ≡ returned self.now }
+        ensures { result ≡ using (used_from (AReturn ∷ []) 0 self.now) false self.now
+            (one (λ form. Ret form) (return_in self.now.first self.now.second)) }
     {
         let used = match self.first {
             0 | 1 => 2,
@@ -232,7 +236,7 @@ fn instruction(scope: &Scope, word: &Word) -> Result<Instr, ImageFault>
 
 /// What is done with the device's cells and a packet's fields, its locks and queues, or packets.
 fn on_cells(scope: &Scope, word: &Word) -> Result<Instr, ImageFault>
-    ensures { result ≡ on_cells scope.now word.now }
+    ensures { result ≡ in_forms cell_forms scope.now word.now }
 {
     match word.number {
         10 if word.leaves(0, false) => Ok(Instr::End),
@@ -263,7 +267,7 @@ fn on_cells(scope: &Scope, word: &Word) -> Result<Instr, ImageFault>
 
 /// What is done with the device's locks and queues, or with packets.
 fn on_queues(scope: &Scope, word: &Word) -> Result<Instr, ImageFault>
-    ensures { result ≡ on_queues scope.now word.now }
+    ensures { result ≡ in_forms queue_forms scope.now word.now }
 {
     match word.number {
         18 if word.leaves(1, false) => Ok(Instr::Acquire(lock(word.first)?)),
@@ -298,7 +302,8 @@ fn on_queues(scope: &Scope, word: &Word) -> Result<Instr, ImageFault>
 
 /// `dequeue`, which the first edition doesn't have.
 fn dequeue(edition: Edition, word: &Word) -> Result<Instr, ImageFault>
-    ensures { result ≡ dequeue_in edition word.now }
+    ensures { result ≡ edition_had edition SecondAlone
+        (using 1 false word.now (one Dequeue (register_in word.now.first))) }
 {
     match edition {
         Edition::Current if word.leaves(1, false) => Ok(Instr::Dequeue(register(word.first)?)),
@@ -308,7 +313,7 @@ fn dequeue(edition: Edition, word: &Word) -> Result<Instr, ImageFault>
 
 /// What is done with packets.
 fn on_packets(scope: &Scope, word: &Word) -> Result<Instr, ImageFault>
-    ensures { result ≡ on_packets scope.now word.now }
+    ensures { result ≡ in_forms packet_forms scope.now word.now }
 {
     match word.number {
         27 if word.leaves(1, true) => Ok(Instr::IfCancel(
