@@ -1,5 +1,5 @@
 -- The lines of a listing are read back.
-use Rattle.std.proofs.Common.{◌≡◌, ℕ, List, [], ◌∷◌, ◌++◌, Option, Some, None, refl, ap, ◌∙◌, map, arith}
+use Rattle.std.proofs.Common.{◌≡◌, ℕ, List, [], ◌∷◌, Option, Some, None, refl, ap, ◌∙◌, map, arith}
 use Rattle.std.specs.Prelude.{⊤, option_and_then, option_map, Ok}
 use Rattle.std.specs.Fmt.{decimal}
 use Rattle.text.specs.Cut.{lines_of}
@@ -21,16 +21,12 @@ use Rattle.asm_listing.proofs.Digits as digits
 use Rattle.asm_listing.proofs.Instructions.{instruction_back}
 use Rattle.asm_listing.proofs.Meaning.{meant, EntryFits}
 use Rattle.asm_listing.proofs.Operands.{at, decimal_back, major_back, name_back, one_read, optional_back, sort_back, spin_lock_back, three_read, two_read}
-use Rattle.asm_listing.proofs.Plain.{decimal_plain, instruction_plain, label_plain, major_plain, numbered_plain, optional_plain, plain_word, sort_plain}
+use Rattle.asm_listing.proofs.Plain.{append_plain, decimal_plain, instruction_plain, label_plain, major_plain, numbered_plain, optional_plain, plain_word, sort_plain}
 use Rattle.asm_listing.proofs.Tokens.{is_lexical_line, joined_clear, line_back, tokens_back, ArePlain}
 
 -- before the first operand, where nothing is noted
 abbrev start : Cursor
 start = beginning []
-
-append_plain : (ws vs : List (List ℕ)) → ArePlain ws → ArePlain vs → ArePlain (ws ++ vs)
-append_plain [] vs h k = k
-append_plain (w ∷ ws) vs h k = (h.0, append_plain ws vs h.1 k)
 
 pub words_plain : (e : Entry) → EntryFits e → ArePlain (words_of e)
 words_plain (line.Driver n) fits =

@@ -1,7 +1,7 @@
 -- What the lines of a listing say, as lines of a driver text.
 use Rattle.std.specs.Prelude.{ℕ, ⊤, List, Option, Some, None, IfSome, option_map}
 use Rattle.model.specs.declared.instr.Instr.{Instr}
-use Rattle.model.specs.declared.instr.Instr.TheVariants.{JumpIfZero, JumpIfLess, Jump, Insert, Remove, Unlink, Arm, Disarm, IfCancel, Take, Call, IfPending}
+use Rattle.forms.specs.InstructionForm.{Operand, AQueue, ALabel, ARoutine, ValueOf, rebuilt}
 use Rattle.model.specs.Set.{label_of}
 use Rattle.model.specs.Sound.{completion_named, queue_named, IsSpinLock, OperandFits}
 use Rattle.asm_line.specs.declared.line.Body.{Body}
@@ -14,20 +14,14 @@ use Rattle.asm_listing.specs.Words.{device, driver, label, queue, routine}
 use Rattle.asm_listing.proofs.Digits.{IsSmall}
 
 -- an instruction as its line alone gives it: its label and its queue are 0, its routine is none
+abbrev pub forgets : (operand : Operand) → ValueOf operand → ValueOf operand
+forgets AQueue q = 0
+forgets ALabel to = 0
+forgets ARoutine f = None
+forgets _ value = value
+
 abbrev pub unlinked : Instr → Instr
-unlinked (JumpIfZero r to) = JumpIfZero r 0
-unlinked (JumpIfLess r s to) = JumpIfLess r s 0
-unlinked (Jump to) = Jump 0
-unlinked (Insert r q) = Insert r 0
-unlinked (Remove r q to) = Remove r 0 0
-unlinked (Unlink r q) = Unlink r 0
-unlinked (Arm r q) = Arm r 0
-unlinked (Disarm r to) = Disarm r 0
-unlinked (IfCancel r to) = IfCancel r 0
-unlinked (Take r to) = Take r 0
-unlinked (Call r f) = Call r None
-unlinked (IfPending r to) = IfPending r 0
-unlinked i = i
+unlinked i = rebuilt forgets i
 
 -- the names that it uses
 abbrev pub names_used : Instr → UsedNames

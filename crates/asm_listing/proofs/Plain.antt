@@ -11,7 +11,7 @@ use Rattle.text.specs.Class.{is_name, is_name_start, is_number, is_token, is_wor
 use Rattle.model.specs.declared.instr.Field.{Field}
 use Rattle.model.specs.declared.instr.Field.TheVariants.{Major as MajorField, Argument, Info}
 use Rattle.model.specs.declared.instr.Instr.{Instr}
-use Rattle.model.specs.declared.instr.Instr.TheVariants.{Const, Move, Clear, Add, Subtract, JumpIfZero, JumpIfLess, Jump, Loop, End, Load, Store, LoadPaged, StorePaged, Get, Put, Mark, Acquire, Release, AcquireCancel, ReleaseCancel, Insert, Remove, Unlink, Arm, Disarm, IfCancel, Start, Take, Begin, Next, Dequeue, Pass, Call, Complete, IfPending, Ret}
+use Rattle.model.specs.declared.instr.Instr.TheVariants.{Const}
 use Rattle.model.specs.declared.instr.Return.{Return}
 use Rattle.model.specs.declared.instr.Return.TheVariants.{WithStatus, Lower, Continue, Stop, Void}
 use Rattle.model.specs.declared.set.Sort.{Sort}
@@ -20,8 +20,10 @@ use Rattle.model.specs.declared.status.Major.{Major}
 use Rattle.model.specs.declared.status.Major.TheVariants.{Read, Write, Control}
 use Rattle.model.specs.declared.status.Status.{Status}
 use Rattle.model.specs.declared.status.Status.TheVariants.{Success, Pending, Busy, Unsuccessful, InvalidParameter, InvalidDeviceRequest, Cancelled}
+use Rattle.forms.proofs.InstructionForm.{AllFit, Fits, all_fit, by_form_said}
+use Rattle.forms.specs.InstructionForm.{Operand, ARegister, ACell, APagedCell, ASpinLock, AConstant, ATurns, AField, AStatus, AQueue, ALabel, ARoutine, AReturn, ValueOf, Values, said}
 use Rattle.model.specs.Sound.{FormFits, IsCell, IsRegister, IsSpinLock}
-use Rattle.asm_listing.specs.Words.{cell, field_text, instruction_words, label, label_words, major_text, numbered, optional, paged_cell, queue, register, returned_words, routine, sort_text, spin_lock, status_text}
+use Rattle.asm_listing.specs.Words.{cell, field_text, form_words, instruction_words, label, label_words, major_text, numbered, operand_words, operands_words, optional, paged_cell, queue, register, returned_words, routine, sort_text, spin_lock, status_text}
 use Rattle.asm_listing.proofs.Digits.{decimal_passes, label_back, named, number_token, IsSmall}
 use Rattle.asm_listing.proofs.Meaning.{InstrFits}
 use Rattle.asm_listing.proofs.Tokens.{is_solid, ArePlain, IsPlain}
@@ -132,144 +134,42 @@ returned_plain Continue fits = (plain_word _ _ refl refl, tt)
 returned_plain Stop fits = (plain_word _ _ refl refl, tt)
 returned_plain Void fits = (plain_word _ _ refl refl, tt)
 
+operand_plain : (operand : Operand) (value : ValueOf operand)
+    → Fits IsSmall IsSmall IsSmall operand value → ArePlain (operand_words operand value)
+operand_plain ARegister r fits = (register_plain r fits, tt)
+operand_plain ACell c fits = (cell_plain c fits, tt)
+operand_plain APagedCell c fits = (paged_cell_plain c fits, tt)
+operand_plain ASpinLock lock fits = (spin_lock_plain lock fits, tt)
+operand_plain AConstant n fits = (constant_plain n fits, tt)
+operand_plain ATurns turns fits = (turns_plain turns fits.1, tt)
+operand_plain AField field fits = (field_plain field, tt)
+operand_plain AStatus status fits = (status_plain status, tt)
+operand_plain AQueue q fits = (queue_plain q fits, tt)
+operand_plain ALabel to fits = (target_plain to fits, tt)
+operand_plain ARoutine f fits = called_plain f fits
+operand_plain AReturn form fits = returned_plain form fits
+
+pub append_plain : (ws vs : List (List ℕ)) → ArePlain ws → ArePlain vs → ArePlain (ws ++ vs)
+append_plain [] vs h k = k
+append_plain (w ∷ ws) vs h k = (h.0, append_plain ws vs h.1 k)
+
+operands_plain : (operands : List Operand) (values : Values operands)
+    → AllFit IsSmall IsSmall IsSmall operands values → ArePlain (operands_words operands values)
+operands_plain [] values fits = tt
+operands_plain (operand ∷ operands) values fits =
+    append_plain (operand_words operand values.0) (operands_words operands values.1)
+    (operand_plain operand values.0 fits.0) (operands_plain operands values.1 fits.1)
+
+first_plain : (i : Instr) → IsPlain (said i).form.word
+first_plain (Const r n) = plain_word _ _ refl refl
+first_plain _ = plain_word _ _ refl refl
+
+said_plain : (i : Instr) → InstrFits i → ArePlain (form_words (said i).form (said i).values)
+said_plain i small = (
+  first_plain i,
+  operands_plain (said i).form.operands (said i).values
+      (all_fit IsSmall IsSmall IsSmall i small.operands small.label small.queue small.routine),
+)
+
 pub instruction_plain : (i : Instr) → InstrFits i → ArePlain (instruction_words i)
-instruction_plain (Const r n) small =
-    let fits = small.operands in (
-      plain_word _ _ refl refl,
-      (register_plain r fits.0, (constant_plain n fits.1, tt)),
-    )
-instruction_plain (Move r s) small =
-    let fits = small.operands in (
-      plain_word _ _ refl refl,
-      (register_plain r fits.0, (register_plain s fits.1, tt)),
-    )
-instruction_plain (Clear r) small =
-    let fits = small.operands in (plain_word _ _ refl refl, (register_plain r fits, tt))
-instruction_plain (Add r s) small =
-    let fits = small.operands in (
-      plain_word _ _ refl refl,
-      (register_plain r fits.0, (register_plain s fits.1, tt)),
-    )
-instruction_plain (Subtract r s) small =
-    let fits = small.operands in (
-      plain_word _ _ refl refl,
-      (register_plain r fits.0, (register_plain s fits.1, tt)),
-    )
-instruction_plain (JumpIfZero r to) small =
-    let fits = small.operands in (
-      plain_word _ _ refl refl,
-      (register_plain r fits, (target_plain to small.label, tt)),
-    )
-instruction_plain (JumpIfLess r s to) small =
-    let fits = small.operands in (
-      plain_word _ _ refl refl,
-      (register_plain r fits.0, (register_plain s fits.1, (target_plain to small.label, tt))),
-    )
-instruction_plain (Jump to) small =
-    (plain_word _ _ refl refl, (target_plain to small.label, tt))
-instruction_plain (Loop turns) small =
-    let fits = small.operands in (plain_word _ _ refl refl, (turns_plain turns fits.1, tt))
-instruction_plain End small =
-    (plain_word _ _ refl refl, tt)
-instruction_plain (Load r n) small =
-    let fits = small.operands in (
-      plain_word _ _ refl refl,
-      (register_plain r fits.0, (cell_plain n fits.1, tt)),
-    )
-instruction_plain (Store n r) small =
-    let fits = small.operands in (
-      plain_word _ _ refl refl,
-      (cell_plain n fits.0, (register_plain r fits.1, tt)),
-    )
-instruction_plain (LoadPaged r n) small =
-    let fits = small.operands in (
-      plain_word _ _ refl refl,
-      (register_plain r fits.0, (paged_cell_plain n fits.1, tt)),
-    )
-instruction_plain (StorePaged n r) small =
-    let fits = small.operands in (
-      plain_word _ _ refl refl,
-      (paged_cell_plain n fits.0, (register_plain r fits.1, tt)),
-    )
-instruction_plain (Get r s f) small =
-    let fits = small.operands in (
-      plain_word _ _ refl refl,
-      (register_plain r fits.0, (register_plain s fits.1, (field_plain f, tt))),
-    )
-instruction_plain (Put s r) small =
-    let fits = small.operands in (
-      plain_word _ _ refl refl,
-      (register_plain s fits.0, (register_plain r fits.1, tt)),
-    )
-instruction_plain (Mark r) small =
-    let fits = small.operands in (plain_word _ _ refl refl, (register_plain r fits, tt))
-instruction_plain (Acquire l) small =
-    let fits = small.operands in (plain_word _ _ refl refl, (spin_lock_plain l fits, tt))
-instruction_plain (Release l) small =
-    let fits = small.operands in (plain_word _ _ refl refl, (spin_lock_plain l fits, tt))
-instruction_plain AcquireCancel small =
-    (plain_word _ _ refl refl, tt)
-instruction_plain ReleaseCancel small =
-    (plain_word _ _ refl refl, tt)
-instruction_plain (Insert r q) small =
-    let fits = small.operands in (
-      plain_word _ _ refl refl,
-      (register_plain r fits, (queue_plain q small.queue, tt)),
-    )
-instruction_plain (Remove r q to) small =
-    let fits = small.operands in (
-      plain_word _ _ refl refl,
-      (register_plain r fits, (queue_plain q small.queue, (target_plain to small.label, tt))),
-    )
-instruction_plain (Unlink r q) small =
-    let fits = small.operands in (
-      plain_word _ _ refl refl,
-      (register_plain r fits, (queue_plain q small.queue, tt)),
-    )
-instruction_plain (Arm r q) small =
-    let fits = small.operands in (
-      plain_word _ _ refl refl,
-      (register_plain r fits, (queue_plain q small.queue, tt)),
-    )
-instruction_plain (Disarm r to) small =
-    let fits = small.operands in (
-      plain_word _ _ refl refl,
-      (register_plain r fits, (target_plain to small.label, tt)),
-    )
-instruction_plain (IfCancel r to) small =
-    let fits = small.operands in (
-      plain_word _ _ refl refl,
-      (register_plain r fits, (target_plain to small.label, tt)),
-    )
-instruction_plain (Start r) small =
-    let fits = small.operands in (plain_word _ _ refl refl, (register_plain r fits, tt))
-instruction_plain (Take r to) small =
-    let fits = small.operands in (
-      plain_word _ _ refl refl,
-      (register_plain r fits, (target_plain to small.label, tt)),
-    )
-instruction_plain (Begin r) small =
-    let fits = small.operands in (plain_word _ _ refl refl, (register_plain r fits, tt))
-instruction_plain Next small =
-    (plain_word _ _ refl refl, tt)
-instruction_plain (Dequeue r) small =
-    let fits = small.operands in (plain_word _ _ refl refl, (register_plain r fits, tt))
-instruction_plain (Pass r) small =
-    let fits = small.operands in (plain_word _ _ refl refl, (register_plain r fits, tt))
-instruction_plain (Call r f) small =
-    let fits = small.operands in (
-      plain_word _ _ refl refl,
-      (register_plain r fits, called_plain f small.routine),
-    )
-instruction_plain (Complete r s) small =
-    let fits = small.operands in (
-      plain_word _ _ refl refl,
-      (register_plain r fits, (status_plain s, tt)),
-    )
-instruction_plain (IfPending r to) small =
-    let fits = small.operands in (
-      plain_word _ _ refl refl,
-      (register_plain r fits, (target_plain to small.label, tt)),
-    )
-instruction_plain (Ret form) small =
-    let fits = small.operands in (plain_word _ _ refl refl, returned_plain form fits)
+instruction_plain i small = rw (by_form_said form_words i) (said_plain i small)

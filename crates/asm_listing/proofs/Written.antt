@@ -1,8 +1,13 @@
 -- Lines that are written one after another.
-use Rattle.std.proofs.Common.{◌≡◌, ℕ, ◌+◌, ◌≤◌, ◌<◌, List, [], ◌∷◌, ◌++◌, get_or, drop, length, refl, ap, sym, ◌∙◌, append_assoc, append-nil}
+use Rattle.std.proofs.Common.{◌≡◌, ℕ, ◌+◌, ◌≤◌, ◌<◌, List, [], ◌∷◌, ◌++◌, get_or, drop, length, Option, Some, None, Result, Ok, Err, refl, ap, sym, ◌∙◌, append_assoc, append-nil}
+use Rattle.std.specs.Prelude.{OnOk}
+use Rattle.std.specs.Fmt.{decimal}
 use Rattle.std.proofs.lemmas.List.{drop_more, drop_all}
+use Rattle.model.specs.declared.instr.Instr.{Instr}
+use Rattle.model.specs.declared.instr.Instr.TheVariants.{Const}
 use Rattle.asm_listing.specs.declared.entry.Entry.{Entry}
-use Rattle.asm_listing.specs.Words.{line_text}
+use Rattle.asm_listing.specs.declared.entry.Entry.TheVariants as line
+use Rattle.asm_listing.specs.Words.{instruction_text, instruction_words, joined, line_text, rest_joined}
 use Rattle.asm_listing.specs.Listing.{listed, text_of}
 
 pub text_append : (ls ms : List Entry) → text_of (ls ++ ms) ≡ text_of ls ++ text_of ms
@@ -56,3 +61,43 @@ then_written xs ys old new next first second =
 pub one_written : (l : Entry) (old new : List ℕ) → new ≡ old ++ line_text l
     → new ≡ old ++ text_of (l ∷ [])
 one_written l old new h = h ∙ ap (λ (t : List ℕ). old ++ t) (sym (append-nil (line_text l)))
+
+-- the words of an instruction after a space
+pub words_spaced : (i : Instr)
+    → rest_joined (instruction_words i) ≡ 32 ∷ joined (instruction_words i)
+words_spaced (Const r n) = refl
+words_spaced _ = refl
+
+on_ok : {A E P Q : Type 0} (result : Result A E) → (P → Q) → OnOk result P → OnOk result Q
+on_ok (Ok x) gives h = gives h
+on_ok (Err e) gives h = h
+
+behind_label : (old digits words : List ℕ)
+    → (old ++ (97 ∷ digits ++ (58 ∷ 32 ∷ []))) ++ (words ++ 10 ∷ [])
+    ≡ old ++ (((97 ∷ digits ++ 58 ∷ []) ++ (32 ∷ words)) ++ 10 ∷ [])
+behind_label old digits words =
+    append_assoc old (97 ∷ digits ++ (58 ∷ 32 ∷ [])) (words ++ 10 ∷ [])
+    ∙ ap (λ (t : List ℕ). old ++ (97 ∷ t))
+    (append_assoc digits (58 ∷ 32 ∷ []) (words ++ 10 ∷ [])
+    ∙ sym (append_assoc (digits ++ 58 ∷ []) (32 ∷ words) (10 ∷ [])
+    ∙ append_assoc digits (58 ∷ []) (32 ∷ words ++ 10 ∷ [])))
+
+-- the line of an instruction behind a label, and of one without
+pub labelled_written : {A E : Type 0} (result : Result A E) (label : Option ℕ) (p : ℕ) (i : Instr)
+    (old before new : List ℕ) → label ≡ Some p
+    → before ≡ old ++ (97 ∷ decimal p ++ (58 ∷ 32 ∷ []))
+    → OnOk result (new ≡ before ++ instruction_text i)
+    → OnOk result (new ≡ old ++ line_text (line.Step label i))
+labelled_written result label p i old before new is front h =
+    on_ok result
+    (λ written. written ∙ rw (is, front)
+    (behind_label old (decimal p) (joined (instruction_words i))
+    ∙ ap (λ (t : List ℕ). old ++ (((97 ∷ decimal p ++ 58 ∷ []) ++ t) ++ 10 ∷ []))
+    (sym (words_spaced i)))) h
+
+pub unlabelled_written : {A E : Type 0} (result : Result A E) (label : Option ℕ) (i : Instr)
+    (old before new : List ℕ) → label ≡ None → before ≡ old
+    → OnOk result (new ≡ before ++ instruction_text i)
+    → OnOk result (new ≡ old ++ line_text (line.Step label i))
+unlabelled_written result label i old before new is front h =
+    on_ok result (λ written. written ∙ rw (is, front) refl) h

@@ -4,7 +4,6 @@ use Rattle.std.specs.Fmt.{decimal}
 use Rattle.model.specs.declared.instr.Field.{Field}
 use Rattle.model.specs.declared.instr.Field.TheVariants.{Major as MajorField, Argument, Info}
 use Rattle.model.specs.declared.instr.Instr.{Instr}
-use Rattle.model.specs.declared.instr.Instr.TheVariants.{Const, Move, Clear, Add, Subtract, JumpIfZero, JumpIfLess, Jump, Loop, End, Load, Store, LoadPaged, StorePaged, Get, Put, Mark, Acquire, Release, AcquireCancel, ReleaseCancel, Insert, Remove, Unlink, Arm, Disarm, IfCancel, Start, Take, Begin, Next, Dequeue, Pass, Call, Complete, IfPending, Ret}
 use Rattle.model.specs.declared.instr.Return.{Return}
 use Rattle.model.specs.declared.instr.Return.TheVariants.{WithStatus, Lower, Continue, Stop, Void}
 use Rattle.model.specs.declared.set.Sort.{Sort}
@@ -13,6 +12,7 @@ use Rattle.model.specs.declared.status.Major.{Major}
 use Rattle.model.specs.declared.status.Major.TheVariants.{Read, Write, Control}
 use Rattle.model.specs.declared.status.Status.{Status}
 use Rattle.model.specs.declared.status.Status.TheVariants.{Success, Pending, Busy, Unsuccessful, InvalidParameter, InvalidDeviceRequest, Cancelled}
+use Rattle.forms.specs.InstructionForm.{Operand, ARegister, ACell, APagedCell, ASpinLock, AConstant, ATurns, AField, AStatus, AQueue, ALabel, ARoutine, AReturn, Form, ValueOf, Values, by_form}
 use Rattle.asm_listing.specs.declared.entry.Entry.{Entry}
 use Rattle.asm_listing.specs.declared.entry.Entry.TheVariants as line
 
@@ -93,45 +93,32 @@ returned_words Continue = codes "continue" ∷ []
 returned_words Stop = codes "stop" ∷ []
 returned_words Void = codes "void" ∷ []
 
+-- the words of an operand
+abbrev pub operand_words : (operand : Operand) → ValueOf operand → List (List ℕ)
+operand_words ARegister r = register r ∷ []
+operand_words ACell c = cell c ∷ []
+operand_words APagedCell c = paged_cell c ∷ []
+operand_words ASpinLock lock = spin_lock lock ∷ []
+operand_words AConstant n = decimal n ∷ []
+operand_words ATurns turns = decimal turns ∷ []
+operand_words AField field = field_text field ∷ []
+operand_words AStatus status = status_text status ∷ []
+operand_words AQueue q = queue q ∷ []
+operand_words ALabel to = label to ∷ []
+operand_words ARoutine f = optional routine f
+operand_words AReturn form = returned_words form
+
+abbrev pub operands_words : (operands : List Operand) → Values operands → List (List ℕ)
+operands_words [] values = []
+operands_words (operand ∷ operands) values =
+    operand_words operand values.0 ++ operands_words operands values.1
+
 -- the words of an instruction
+abbrev pub form_words : (form : Form) → Values form.operands → List (List ℕ)
+form_words form values = form.word ∷ operands_words form.operands values
+
 abbrev pub instruction_words : Instr → List (List ℕ)
-instruction_words (Const r n) = codes "const" ∷ register r ∷ decimal n ∷ []
-instruction_words (Move r s) = codes "mov" ∷ register r ∷ register s ∷ []
-instruction_words (Clear r) = codes "clear" ∷ register r ∷ []
-instruction_words (Add r s) = codes "add" ∷ register r ∷ register s ∷ []
-instruction_words (Subtract r s) = codes "sub" ∷ register r ∷ register s ∷ []
-instruction_words (JumpIfZero r to) = codes "jz" ∷ register r ∷ label to ∷ []
-instruction_words (JumpIfLess r s to) = codes "jlt" ∷ register r ∷ register s ∷ label to ∷ []
-instruction_words (Jump to) = codes "jmp" ∷ label to ∷ []
-instruction_words (Loop turns) = codes "loop" ∷ decimal turns ∷ []
-instruction_words End = codes "end" ∷ []
-instruction_words (Load r c) = codes "load" ∷ register r ∷ cell c ∷ []
-instruction_words (Store c r) = codes "store" ∷ cell c ∷ register r ∷ []
-instruction_words (LoadPaged r c) = codes "loadp" ∷ register r ∷ paged_cell c ∷ []
-instruction_words (StorePaged c r) = codes "storep" ∷ paged_cell c ∷ register r ∷ []
-instruction_words (Get r s field) = codes "get" ∷ register r ∷ register s ∷ field_text field ∷ []
-instruction_words (Put s r) = codes "put" ∷ register s ∷ register r ∷ []
-instruction_words (Mark r) = codes "mark" ∷ register r ∷ []
-instruction_words (Acquire lock) = codes "acquire" ∷ spin_lock lock ∷ []
-instruction_words (Release lock) = codes "release" ∷ spin_lock lock ∷ []
-instruction_words AcquireCancel = codes "acqc" ∷ []
-instruction_words ReleaseCancel = codes "relc" ∷ []
-instruction_words (Insert r q) = codes "insert" ∷ register r ∷ queue q ∷ []
-instruction_words (Remove r q to) = codes "remove" ∷ register r ∷ queue q ∷ label to ∷ []
-instruction_words (Unlink r q) = codes "unlink" ∷ register r ∷ queue q ∷ []
-instruction_words (Arm r q) = codes "arm" ∷ register r ∷ queue q ∷ []
-instruction_words (Disarm r to) = codes "disarm" ∷ register r ∷ label to ∷ []
-instruction_words (IfCancel r to) = codes "ifcancel" ∷ register r ∷ label to ∷ []
-instruction_words (Start r) = codes "start" ∷ register r ∷ []
-instruction_words (Take r to) = codes "take" ∷ register r ∷ label to ∷ []
-instruction_words (Begin r) = codes "begin" ∷ register r ∷ []
-instruction_words Next = codes "next" ∷ []
-instruction_words (Dequeue r) = codes "dequeue" ∷ register r ∷ []
-instruction_words (Pass r) = codes "pass" ∷ register r ∷ []
-instruction_words (Call r f) = codes "call" ∷ register r ∷ optional routine f
-instruction_words (Complete r status) = codes "complete" ∷ register r ∷ status_text status ∷ []
-instruction_words (IfPending r to) = codes "ifpending" ∷ register r ∷ label to ∷ []
-instruction_words (Ret form) = codes "ret" ∷ returned_words form
+instruction_words i = by_form form_words i
 
 -- a label before its instruction, if there is one
 abbrev pub label_words : Option ℕ → List (List ℕ)
