@@ -3,7 +3,7 @@ use Rattle.std.proofs.Common.{◌≡◌, ℕ, true, List, [], ◌∷◌, ◌++�
 use Rattle.std.specs.Prelude.{map}
 use Rattle.std.proofs.lemmas.List.{map_push}
 use Rattle.model.specs.declared.instr.Instr.{Instr}
-use Rattle.model.specs.declared.instr.Instr.TheVariants.{JumpIfZero, JumpIfLess, Jump, Insert, Remove, Unlink, Arm, Disarm, IfCancel, Take, Call, IfPending}
+use Rattle.model.specs.declared.instr.Instr.TheVariants.{Jump, Insert}
 use Rattle.asm.specs.declared.draft.Linked.{Linked}
 use Rattle.asm.specs.declared.draft.Step.{Step}
 use Rattle.asm.specs.Bare.{bare_link, bare_step, is_bare, is_nameless, AreBare, AreNameless}
@@ -27,24 +27,13 @@ bare_pushed is rest i none =
 
 -- no label stands for another position in it
 pub label_stays : (i : Instr) (label : ℕ) → is_bare i ≡ true → with_label i label ≡ i
-label_stays (JumpIfZero r old) label bare = cc
-label_stays (JumpIfLess r s old) label bare = cc
 label_stays (Jump old) label bare = cc
-label_stays (Remove r queue old) label bare = cc
-label_stays (Disarm r old) label bare = cc
-label_stays (IfCancel r old) label bare = cc
-label_stays (Take r old) label bare = cc
-label_stays (IfPending r old) label bare = cc
-label_stays _ label bare = refl
+label_stays _ label bare = cc
 
 -- what names nothing names no queue and no routine
 nameless : (i : Instr) → is_bare i ≡ true → is_nameless i ≡ true
 nameless (Insert r queue) bare = cc
-nameless (Remove r queue label) bare = cc
-nameless (Unlink r queue) bare = cc
-nameless (Arm r queue) bare = cc
-nameless (Call r routine) bare = cc
-nameless _ bare = refl
+nameless _ bare = cc
 
 pub all_nameless : (is : List Instr) → AreBare is → AreNameless is
 all_nameless [] all = all
@@ -70,11 +59,7 @@ nameless_pushed is rest i none =
 pub names_stay : (i : Instr) (routine : Option ℕ) (queue : ℕ) → is_nameless i ≡ true
     → with_queue (with_routine i routine) queue ≡ i
 names_stay (Insert r old) routine queue none = cc
-names_stay (Remove r old label) routine queue none = cc
-names_stay (Unlink r old) routine queue none = cc
-names_stay (Arm r old) routine queue none = cc
-names_stay (Call r old) routine queue none = cc
-names_stay _ routine queue none = refl
+names_stay _ routine queue none = cc
 
 -- what names nothing is linked as it is
 pub bare_resolved : (labels : List (List ℕ)) (positions : List ℕ) (s : Step) → s.label ≡ None

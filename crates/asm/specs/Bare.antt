@@ -1,36 +1,30 @@
 -- Instructions of a routine that name nothing: no label, no queue and no routine. They are the same
--- before labels are known, then, and in the set. Those that name no queue and no routine are the same
--- from where labels are known on.
-use Rattle.std.specs.Prelude.{◌≡◌, ⊤, Bool, true, false, List, [], ◌∷◌, None}
+-- before labels are known, then, and in the set. Those that name no queue and no routine are the
+-- same from where labels are known on.
+use Rattle.std.specs.Prelude.{◌≡◌, ⊤, Bool, true, false, not, List, [], ◌∷◌, None}
+use Rattle.std.specs.List.{list_any}
 use Rattle.model.specs.declared.instr.Instr.{Instr}
-use Rattle.model.specs.declared.instr.Instr.TheVariants.{JumpIfZero, JumpIfLess, Jump, Insert, Remove, Unlink, Arm, Disarm, IfCancel, Take, Call, IfPending}
+use Rattle.forms.specs.InstructionForm.{Operand, ALabel, AQueue, ARoutine, by_form}
 use Rattle.asm.specs.declared.draft.Linked.{Linked}
 use Rattle.asm.specs.declared.draft.Step.{Step}
 
+-- operands that are names
+abbrev pub is_called_or_queue : Operand → Bool
+is_called_or_queue ARoutine = true
+is_called_or_queue AQueue = true
+is_called_or_queue _ = false
+
+abbrev pub is_name : Operand → Bool
+is_name ALabel = true
+is_name operand = is_called_or_queue operand
+
 -- the instruction names nothing
 abbrev pub is_bare : Instr → Bool
-is_bare (JumpIfZero r label) = false
-is_bare (JumpIfLess r s label) = false
-is_bare (Jump label) = false
-is_bare (Insert r queue) = false
-is_bare (Remove r queue label) = false
-is_bare (Unlink r queue) = false
-is_bare (Arm r queue) = false
-is_bare (Disarm r label) = false
-is_bare (IfCancel r label) = false
-is_bare (Take r label) = false
-is_bare (Call r routine) = false
-is_bare (IfPending r label) = false
-is_bare _ = true
+is_bare i = by_form (λ form values. not (list_any is_name form.operands)) i
 
 -- the instruction names no queue and no routine
 abbrev pub is_nameless : Instr → Bool
-is_nameless (Insert r queue) = false
-is_nameless (Remove r queue label) = false
-is_nameless (Unlink r queue) = false
-is_nameless (Arm r queue) = false
-is_nameless (Call r routine) = false
-is_nameless _ = true
+is_nameless i = by_form (λ form values. not (list_any is_called_or_queue form.operands)) i
 
 abbrev pub AreNameless : List Instr → Type 0
 AreNameless [] = ⊤

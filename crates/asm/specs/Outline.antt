@@ -2,7 +2,6 @@
 use Rattle.std.specs.Prelude.{ℕ, ⊤, ◌≡◌, ◌<◌, ◌≤◌, All, map, slice_get, unwrap_or, ◌+◌, min, Bool, true, false, not, ◌&&◌, nat_lt, nat_le, bytes_eq, List, [], ◌∷◌, ◌++◌, length, Option, Some, None, is_some, is_none, option_map, option_and_then, option_to_list, position, if◌then◌else◌}
 use Rattle.std.specs.List.{list_any}
 use Rattle.model.specs.declared.instr.Instr.{Instr}
-use Rattle.model.specs.declared.instr.Instr.TheVariants.{Const, Move, Clear, Add, Subtract, JumpIfZero, JumpIfLess, Jump, Loop, End, Load, Store, LoadPaged, StorePaged, Get, Put, Mark, Acquire, Release, AcquireCancel, ReleaseCancel, Insert, Remove, Unlink, Arm, Disarm, IfCancel, Start, Take, Begin, Next, Dequeue, Pass, Call, Complete, IfPending, Ret}
 use Rattle.model.specs.declared.limits.TheConstants.{MAX_DEVICES, MAX_DRIVERS, MAX_INSTRUCTIONS, MAX_QUEUES, MAX_ROUTINES, MAX_STACK}
 use Rattle.model.specs.declared.set.Device.{Device}
 use Rattle.model.specs.declared.set.Driver.{Driver}
@@ -10,6 +9,7 @@ use Rattle.model.specs.declared.set.Queue.{Queue}
 use Rattle.model.specs.declared.set.Routine.{Routine}
 use Rattle.model.specs.declared.set.Sort.{Sort}
 use Rattle.model.specs.declared.set.Sort.TheVariants.{Dispatch, StartIo, Dpc, Propagate, Hold, Cancel}
+use Rattle.forms.specs.InstructionForm.{Operand, ALabel, AQueue, ARoutine, ValueOf, rebuilt}
 use Rattle.model.specs.Sound.{DriverFits, DevicesFit, IsSpinLock, LabelFits, OperandFits, queue_named}
 use Rattle.model.specs.declared.status.Major.{Major}
 use Rattle.model.specs.declared.status.Major.TheVariants.{Read, Write, Control}
@@ -278,44 +278,12 @@ routine_called o call =
     (option_and_then (λ place. slice_get o.calls place) call)
 
 -- the instruction with this routine in place of its own, if it is a `call`
+abbrev pub to_routine : Option ℕ → (operand : Operand) → ValueOf operand → ValueOf operand
+to_routine routine ARoutine old = routine
+to_routine routine _ value = value
+
 abbrev pub with_routine : Instr → Option ℕ → Instr
-with_routine (Call r old) routine = Call r routine
-with_routine (Const r value) routine = Const r value
-with_routine (Move r q) routine = Move r q
-with_routine (Clear r) routine = Clear r
-with_routine (Add r q) routine = Add r q
-with_routine (Subtract r q) routine = Subtract r q
-with_routine (JumpIfZero r old) routine = JumpIfZero r old
-with_routine (JumpIfLess r s old) routine = JumpIfLess r s old
-with_routine (Jump old) routine = Jump old
-with_routine (Loop turns) routine = Loop turns
-with_routine End routine = End
-with_routine (Load r cell) routine = Load r cell
-with_routine (Store cell r) routine = Store cell r
-with_routine (LoadPaged r cell) routine = LoadPaged r cell
-with_routine (StorePaged cell r) routine = StorePaged cell r
-with_routine (Get r q field) routine = Get r q field
-with_routine (Put q r) routine = Put q r
-with_routine (Mark r) routine = Mark r
-with_routine (Acquire lock) routine = Acquire lock
-with_routine (Release lock) routine = Release lock
-with_routine AcquireCancel routine = AcquireCancel
-with_routine ReleaseCancel routine = ReleaseCancel
-with_routine (Insert r q) routine = Insert r q
-with_routine (Remove r q old) routine = Remove r q old
-with_routine (Unlink r q) routine = Unlink r q
-with_routine (Arm r q) routine = Arm r q
-with_routine (Disarm r old) routine = Disarm r old
-with_routine (IfCancel r old) routine = IfCancel r old
-with_routine (Start r) routine = Start r
-with_routine (Take r old) routine = Take r old
-with_routine (Begin r) routine = Begin r
-with_routine Next routine = Next
-with_routine (Dequeue r) routine = Dequeue r
-with_routine (Pass r) routine = Pass r
-with_routine (Complete r status) routine = Complete r status
-with_routine (IfPending r old) routine = IfPending r old
-with_routine (Ret what) routine = Ret what
+with_routine i routine = rebuilt (to_routine routine) i
 
 -- the number of the queue that the instruction of a place touches, if there is one
 abbrev pub queue_used : Outline → Option ℕ → Option ℕ
@@ -328,44 +296,12 @@ abbrev pub queue_at : Outline → Option ℕ → ℕ
 queue_at o place = unwrap_or (queue_used o place) 0
 
 -- the instruction with this queue in place of its own, if it touches one
+abbrev pub to_queue : ℕ → (operand : Operand) → ValueOf operand → ValueOf operand
+to_queue queue AQueue old = queue
+to_queue queue _ value = value
+
 abbrev pub with_queue : Instr → ℕ → Instr
-with_queue (Insert r old) queue = Insert r queue
-with_queue (Remove r old label) queue = Remove r queue label
-with_queue (Unlink r old) queue = Unlink r queue
-with_queue (Arm r old) queue = Arm r queue
-with_queue (Call r f) queue = Call r f
-with_queue (Const r value) queue = Const r value
-with_queue (Move r q) queue = Move r q
-with_queue (Clear r) queue = Clear r
-with_queue (Add r q) queue = Add r q
-with_queue (Subtract r q) queue = Subtract r q
-with_queue (JumpIfZero r label) queue = JumpIfZero r label
-with_queue (JumpIfLess r s label) queue = JumpIfLess r s label
-with_queue (Jump label) queue = Jump label
-with_queue (Loop turns) queue = Loop turns
-with_queue End queue = End
-with_queue (Load r cell) queue = Load r cell
-with_queue (Store cell r) queue = Store cell r
-with_queue (LoadPaged r cell) queue = LoadPaged r cell
-with_queue (StorePaged cell r) queue = StorePaged cell r
-with_queue (Get r q field) queue = Get r q field
-with_queue (Put q r) queue = Put q r
-with_queue (Mark r) queue = Mark r
-with_queue (Acquire lock) queue = Acquire lock
-with_queue (Release lock) queue = Release lock
-with_queue AcquireCancel queue = AcquireCancel
-with_queue ReleaseCancel queue = ReleaseCancel
-with_queue (Disarm r label) queue = Disarm r label
-with_queue (IfCancel r label) queue = IfCancel r label
-with_queue (Start r) queue = Start r
-with_queue (Take r label) queue = Take r label
-with_queue (Begin r) queue = Begin r
-with_queue Next queue = Next
-with_queue (Dequeue r) queue = Dequeue r
-with_queue (Pass r) queue = Pass r
-with_queue (Complete r status) queue = Complete r status
-with_queue (IfPending r label) queue = IfPending r label
-with_queue (Ret what) queue = Ret what
+with_queue i queue = rebuilt (to_queue queue) i
 
 -- an instruction of the open driver; if it is a call, with the number of its routine, and if it
 -- touches a queue, with the number of that
@@ -528,44 +464,12 @@ target_position labels positions None = 0
 target_position labels positions (Some u) = unwrap_or (position_of labels positions u.name) 0
 
 -- the instruction with this label in place of its own, if it has one
+abbrev pub to_label : ℕ → (operand : Operand) → ValueOf operand → ValueOf operand
+to_label label ALabel old = label
+to_label label _ value = value
+
 abbrev pub with_label : Instr → ℕ → Instr
-with_label (JumpIfZero r old) label = JumpIfZero r label
-with_label (JumpIfLess r s old) label = JumpIfLess r s label
-with_label (Jump old) label = Jump label
-with_label (Remove r q old) label = Remove r q label
-with_label (Disarm r old) label = Disarm r label
-with_label (IfCancel r old) label = IfCancel r label
-with_label (Take r old) label = Take r label
-with_label (IfPending r old) label = IfPending r label
-with_label (Const r value) label = Const r value
-with_label (Move r q) label = Move r q
-with_label (Clear r) label = Clear r
-with_label (Add r q) label = Add r q
-with_label (Subtract r q) label = Subtract r q
-with_label (Loop turns) label = Loop turns
-with_label End label = End
-with_label (Load r cell) label = Load r cell
-with_label (Store cell r) label = Store cell r
-with_label (LoadPaged r cell) label = LoadPaged r cell
-with_label (StorePaged cell r) label = StorePaged cell r
-with_label (Get r q field) label = Get r q field
-with_label (Put q r) label = Put q r
-with_label (Mark r) label = Mark r
-with_label (Acquire lock) label = Acquire lock
-with_label (Release lock) label = Release lock
-with_label AcquireCancel label = AcquireCancel
-with_label ReleaseCancel label = ReleaseCancel
-with_label (Insert r q) label = Insert r q
-with_label (Unlink r q) label = Unlink r q
-with_label (Arm r q) label = Arm r q
-with_label (Start r) label = Start r
-with_label (Begin r) label = Begin r
-with_label Next label = Next
-with_label (Dequeue r) label = Dequeue r
-with_label (Pass r) label = Pass r
-with_label (Call r old) label = Call r old
-with_label (Complete r status) label = Complete r status
-with_label (Ret what) label = Ret what
+with_label i label = rebuilt (to_label label) i
 
 -- an instruction with the position of its label
 abbrev pub resolved : List (List ℕ) → List ℕ → StepOf → Linked

@@ -8,7 +8,7 @@ use Rattle.std.proofs.lemmas.List.Elements.{All-head, All-tail}
 use Rattle.std.proofs.lemmas.List.Folds.{list_any_at}
 use Rattle.std.proofs.lemmas.Option.{slice_get_within}
 use Rattle.model.specs.declared.instr.Instr.{Instr}
-use Rattle.model.specs.declared.instr.Instr.TheVariants.{JumpIfZero, JumpIfLess, Jump, Insert, Remove, Unlink, Arm, Disarm, IfCancel, Take, Call, IfPending}
+use Rattle.model.specs.declared.instr.Instr.TheVariants.{Jump}
 use Rattle.model.specs.declared.set.Driver.{Driver}
 use Rattle.model.specs.declared.set.Routine.{Routine}
 use Rattle.model.specs.declared.set.Device.{Device}
@@ -120,19 +120,8 @@ label_found code p (i ∷ is) k few low high jumped =
 relinked : (i : Instr) (to q : ℕ) (f : Option ℕ) → IfSome (label_of i) (λ k. to ≡ k)
     → f ≡ completion_named i → IfSome (queue_named i) (λ k. q ≡ k)
     → with_queue (with_routine (with_label (unlinked i) to) f) q ≡ i
-relinked (JumpIfZero r k) to q f h g j = ap (λ x. JumpIfZero r x) h
-relinked (JumpIfLess r s k) to q f h g j = ap (λ x. JumpIfLess r s x) h
-relinked (Jump k) to q f h g j = ap (λ x. Jump x) h
-relinked (Insert r k) to q f h g j = ap (λ x. Insert r x) j
-relinked (Remove r k l) to q f h g j = ap (λ x. Remove r x to) j ∙ ap (λ x. Remove r k x) h
-relinked (Unlink r k) to q f h g j = ap (λ x. Unlink r x) j
-relinked (Arm r k) to q f h g j = ap (λ x. Arm r x) j
-relinked (Disarm r k) to q f h g j = ap (λ x. Disarm r x) h
-relinked (IfCancel r k) to q f h g j = ap (λ x. IfCancel r x) h
-relinked (Take r k) to q f h g j = ap (λ x. Take r x) h
-relinked (Call r k) to q f h g j = ap (λ x. Call r x) g
-relinked (IfPending r k) to q f h g j = ap (λ x. IfPending r x) h
-relinked _ to q f h g j = refl
+relinked (Jump k) to q f h g j = cc
+relinked _ to q f h g j = cc
 
 jump_found : (code : List Instr) (o : Option ℕ) → length code ≤ 1024 → IfSome o (IsTarget code)
     → IfSome o (λ k. jump_place (before (listed (step_lines code) 0 code) []) (option_map label o)

@@ -9,7 +9,7 @@ use Rattle.model.specs.Sound.{DriverFits, RoutineFits, LabelFits, OperandFits, C
 use Rattle.model.specs.declared.set.Sort.{Sort}
 use Rattle.model.specs.declared.set.Sort.TheVariants.{Dispatch, StartIo, Dpc, Propagate, Hold, Cancel}
 use Rattle.model.specs.declared.instr.Instr.{Instr}
-use Rattle.model.specs.declared.instr.Instr.TheVariants.{Insert, Remove, Unlink, Arm, Call}
+use Rattle.model.specs.declared.instr.Instr.TheVariants.{Insert, Call}
 use Rattle.asm.specs.declared.draft.ClosedRoutine.{ClosedRoutine}
 use Rattle.asm.specs.declared.draft.StartIoLine.{StartIoLine}
 use Rattle.asm.specs.declared.draft.Use.{Use}
@@ -32,9 +32,6 @@ labelled_still count _ f h = h
 label_queued : (count : ℕ) (i : Instr) (q : ℕ) → LabelFits count i
     → LabelFits count (with_queue i q)
 label_queued count (Insert r old) q h = h
-label_queued count (Remove r old label) q h = h
-label_queued count (Unlink r old) q h = h
-label_queued count (Arm r old) q h = h
 label_queued count _ q h = h
 
 -- the operands of an instruction fit still when the routine of a call is known
@@ -44,9 +41,6 @@ operands_still _ f h = h
 
 operands_queued : (i : Instr) (q : ℕ) → OperandFits i → OperandFits (with_queue i q)
 operands_queued (Insert r old) q h = h
-operands_queued (Remove r old label) q h = h
-operands_queued (Unlink r old) q h = h
-operands_queued (Arm r old) q h = h
 operands_queued _ q h = h
 
 -- so a closed routine fits when its driver is finished
@@ -139,9 +133,6 @@ call_fits o _ f h = tt
 call_queued : (routines : List Routine) (i : Instr) (q : ℕ) → CallFits routines i
     → CallFits routines (with_queue i q)
 call_queued routines (Insert r old) q h = h
-call_queued routines (Remove r old label) q h = h
-call_queued routines (Unlink r old) q h = h
-call_queued routines (Arm r old) q h = h
 call_queued routines _ q h = h
 
 calls_fit : (o : Outline) (routine : ClosedRoutine) → map sort_at o.routines ≡ o.sorts
@@ -172,10 +163,7 @@ queue_below o (Some old) (Some place) queues count known used =
 queue_fits : (count : ℕ) (i : Instr) (q : ℕ) → IfSome (queue_named i) (λ old. q < count)
     → QueueFits count (with_queue i q)
 queue_fits count (Insert r old) q h = h
-queue_fits count (Remove r old label) q h = h
-queue_fits count (Unlink r old) q h = h
-queue_fits count (Arm r old) q h = h
-queue_fits count _ q h = tt
+queue_fits count _ q h = assumption h
 
 -- an instruction names the same queue when the routine of a call is known
 queue_still : (i : Instr) (f : Option ℕ) → queue_named (with_routine i f) ≡ queue_named i

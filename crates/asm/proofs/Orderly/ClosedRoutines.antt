@@ -6,7 +6,7 @@ use Rattle.std.proofs.lemmas.List.{length-map}
 use Rattle.std.proofs.lemmas.Option.{slice_get-get_or, slice_get_within}
 use Rattle.model.specs.Sound.{LabelFits, OperandFits, queue_named}
 use Rattle.model.specs.declared.instr.Instr.{Instr}
-use Rattle.model.specs.declared.instr.Instr.TheVariants.{JumpIfZero, JumpIfLess, Jump, Remove, Disarm, IfCancel, Take, IfPending}
+use Rattle.model.specs.declared.instr.Instr.TheVariants.{Jump}
 use Rattle.asm.specs.declared.draft.ClosedRoutine.{ClosedRoutine}
 use Rattle.asm.specs.declared.draft.Linked.{Linked}
 use Rattle.asm.specs.declared.draft.Use.{Use}
@@ -35,38 +35,17 @@ target_fits count labels positions some fit (Some u) =
     number_fits count positions some fit (number_of labels u.name)
 
 label_fits : (count label : ℕ) (i : Instr) → label < count → LabelFits count (with_label i label)
-label_fits count label (JumpIfZero r old) h = h
-label_fits count label (JumpIfLess r s old) h = h
 label_fits count label (Jump old) h = h
-label_fits count label (Remove r q old) h = h
-label_fits count label (Disarm r old) h = h
-label_fits count label (IfCancel r old) h = h
-label_fits count label (Take r old) h = h
-label_fits count label (IfPending r old) h = h
-label_fits count label _ h = tt
+label_fits count label _ h = assumption h
 
 -- the operands of an instruction fit still with its label's position
 operands_labelled : (label : ℕ) (i : Instr) → OperandFits i → OperandFits (with_label i label)
-operands_labelled label (JumpIfZero r old) h = h
-operands_labelled label (JumpIfLess r s old) h = h
 operands_labelled label (Jump old) h = h
-operands_labelled label (Remove r q old) h = h
-operands_labelled label (Disarm r old) h = h
-operands_labelled label (IfCancel r old) h = h
-operands_labelled label (Take r old) h = h
-operands_labelled label (IfPending r old) h = h
 operands_labelled label _ h = h
 
 -- an instruction names the same queue with its label's position
 queue_labelled : (label : ℕ) (i : Instr) → queue_named (with_label i label) ≡ queue_named i
-queue_labelled label (JumpIfZero r old) = refl
-queue_labelled label (JumpIfLess r s old) = refl
 queue_labelled label (Jump old) = refl
-queue_labelled label (Remove r q old) = refl
-queue_labelled label (Disarm r old) = refl
-queue_labelled label (IfCancel r old) = refl
-queue_labelled label (Take r old) = refl
-queue_labelled label (IfPending r old) = refl
 queue_labelled label _ = refl
 
 -- so a routine that is closed fits
