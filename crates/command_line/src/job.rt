@@ -241,104 +241,90 @@ fn refused(alloc: Global, error: &clap::Error) -> JobFault
 fn program<'a>(alloc: Global) -> Result<Command<'a>, AllocError>
     ensures { IfOk result (λ command. app_of command ≡ program) }
 {
-    let version = version_command(alloc);
-    let program = program_of_files(alloc)?;
-    program.subcommand(version)
+    program_of_files(alloc)?.subcommand(version_command(alloc))
 }
 
 /// The part of it whose words name files.
 fn program_of_files<'a>(alloc: Global) -> Result<Command<'a>, AllocError>
     ensures { IfOk result (λ command. app_of command ≡ program_of_files) }
 {
-    let rewrite = rewrite_command(alloc)?;
-    let program = reading_program(alloc)?;
-    program.subcommand(rewrite)
+    reading_program(alloc)?.subcommand(rewrite_command(alloc)?)
 }
 
 /// The part of that which writes none.
 fn reading_program<'a>(alloc: Global) -> Result<Command<'a>, AllocError>
     ensures { IfOk result (λ command. app_of command ≡ reading_program) }
 {
-    let list = list_command(alloc)?;
-    let program = judging_program(alloc)?;
-    program.subcommand(list)
+    judging_program(alloc)?.subcommand(list_command(alloc)?)
 }
 
 /// The part of it that judges sets, and runs them.
 fn judging_program<'a>(alloc: Global) -> Result<Command<'a>, AllocError>
     ensures { IfOk result (λ command. app_of command ≡ judging_program) }
 {
-    let host = host_command(alloc)?;
-    let program = unthreaded_program(alloc)?;
-    program.subcommand(host)
+    unthreaded_program(alloc)?.subcommand(host_command(alloc)?)
 }
 
 /// The part of that which starts no thread.
 fn unthreaded_program<'a>(alloc: Global) -> Result<Command<'a>, AllocError>
     ensures { IfOk result (λ command. app_of command ≡ unthreaded_program) }
 {
-    let trace = trace_command(alloc)?;
-    let tell = tell_command(alloc)?;
-    let draw = draw_command(alloc)?;
-    let program = unrun_program(alloc)?;
-    program
-        .subcommand(trace)?
-        .subcommand(tell)?
-        .subcommand(draw)
+    unrun_program(alloc)?
+        .subcommand(trace_command(alloc)?)?
+        .subcommand(tell_command(alloc)?)?
+        .subcommand(draw_command(alloc)?)
 }
 
 /// The part of that which runs nothing.
 fn unrun_program<'a>(alloc: Global) -> Result<Command<'a>, AllocError>
     ensures { IfOk result (λ command. app_of command ≡ unrun_program) }
 {
-    let check = check_command(alloc)?;
-    let explain = explain_command(alloc)?;
-    let program = Command::new(alloc, NAME)
+    Command::new(alloc, NAME)
         .bin_name(NAME)?
         .no_binary_name(true)
-        .subcommand_required(true);
-    program.subcommand(check)?.subcommand(explain)
+        .subcommand_required(true)
+        .subcommand(check_command(alloc)?)?
+        .subcommand(explain_command(alloc)?)
 }
 
 fn check_command<'a>(alloc: Global) -> Result<Command<'a>, AllocError>
     ensures app { IfOk result (λ command. app_of command ≡ check_command) }
     ensures local { IfOk result (λ command. (fields_of command).has_globals ≡ false) }
 {
-    let set = file(alloc, "FILE", SET);
-    let command = Command::new(alloc, "check").about("Accepts or refuses a driver set");
-    command.arg(set)
+    Command::new(alloc, "check")
+        .about("Accepts or refuses a driver set")
+        .arg(file(alloc, "FILE", SET))
 }
 
 fn explain_command<'a>(alloc: Global) -> Result<Command<'a>, AllocError>
     ensures app { IfOk result (λ command. app_of command ≡ explain_command) }
     ensures local { IfOk result (λ command. (fields_of command).has_globals ≡ false) }
 {
-    let set = file(alloc, "FILE", SET).required(false);
-    let all = all_flag(alloc);
-    let rule = rule_option(alloc);
-    let command = Command::new(alloc, "explain")
+    Command::new(alloc, "explain")
         .about("Accepts or refuses a driver set, and says in words why; or says a rule in words")
-        .override_usage(EXPLAIN_USAGE);
-    command.arg(set)?.arg(all)?.arg(rule)
+        .override_usage(EXPLAIN_USAGE)
+        .arg(file(alloc, "FILE", SET).required(false))?
+        .arg(all_flag(alloc))?
+        .arg(rule_option(alloc))
 }
 
 fn list_command<'a>(alloc: Global) -> Result<Command<'a>, AllocError>
     ensures app { IfOk result (λ command. app_of command ≡ list_command) }
     ensures local { IfOk result (λ command. (fields_of command).has_globals ≡ false) }
 {
-    let set = file(alloc, "FILE", SET);
-    let command = Command::new(alloc, "list").about("Writes a driver set as a text");
-    command.arg(set)
+    Command::new(alloc, "list")
+        .about("Writes a driver set as a text")
+        .arg(file(alloc, "FILE", SET))
 }
 
 fn rewrite_command<'a>(alloc: Global) -> Result<Command<'a>, AllocError>
     ensures app { IfOk result (λ command. app_of command ≡ rewrite_command) }
     ensures local { IfOk result (λ command. (fields_of command).has_globals ≡ false) }
 {
-    let set = file(alloc, "FILE", SET);
-    let output = file(alloc, "OUT", "The file for the image");
-    let command = Command::new(alloc, "rewrite").about("Writes a driver set as an image");
-    command.arg(set)?.arg(output)
+    Command::new(alloc, "rewrite")
+        .about("Writes a driver set as an image")
+        .arg(file(alloc, "FILE", SET))?
+        .arg(file(alloc, "OUT", "The file for the image"))
 }
 
 fn version_command<'a>(alloc: Global) -> Command<'a>
@@ -352,53 +338,47 @@ fn trace_command<'a>(alloc: Global) -> Result<Command<'a>, AllocError>
     ensures app { IfOk result (λ command. app_of command ≡ trace_command) }
     ensures local { IfOk result (λ command. (fields_of command).has_globals ≡ false) }
 {
-    let set = file(alloc, "FILE", SET);
-    let schedule = file(alloc, "SCHEDULE", "The threads and the events");
-    let unchecked = unchecked_flag(alloc);
-    let command = Command::new(alloc, "trace").about(
-        "Runs a driver set by a schedule, and writes a line for each event",
-    );
-    command.arg(set)?.arg(schedule)?.arg(unchecked)
+    Command::new(alloc, "trace")
+        .about("Runs a driver set by a schedule, and writes a line for each event")
+        .arg(file(alloc, "FILE", SET))?
+        .arg(file(alloc, "SCHEDULE", "The threads and the events"))?
+        .arg(unchecked_flag(alloc))
 }
 
 fn tell_command<'a>(alloc: Global) -> Result<Command<'a>, AllocError>
     ensures app { IfOk result (λ command. app_of command ≡ tell_command) }
     ensures local { IfOk result (λ command. (fields_of command).has_globals ≡ false) }
 {
-    let set = file(alloc, "FILE", SET);
-    let schedule = file(alloc, "SCHEDULE", "The threads and the events");
-    let unchecked = unchecked_flag(alloc);
-    let quiet = quiet_flag(alloc);
-    let command = Command::new(alloc, "tell").about(
-        "Runs a driver set by a schedule, and tells in words what happens and what is left",
-    );
-    command.arg(set)?.arg(schedule)?.arg(unchecked)?.arg(quiet)
+    Command::new(alloc, "tell")
+        .about("Runs a driver set by a schedule, and tells in words what happens and what is left")
+        .arg(file(alloc, "FILE", SET))?
+        .arg(file(alloc, "SCHEDULE", "The threads and the events"))?
+        .arg(unchecked_flag(alloc))?
+        .arg(quiet_flag(alloc))
 }
 
 fn draw_command<'a>(alloc: Global) -> Result<Command<'a>, AllocError>
     ensures app { IfOk result (λ command. app_of command ≡ draw_command) }
     ensures local { IfOk result (λ command. (fields_of command).has_globals ≡ false) }
 {
-    let set = file(alloc, "FILE", SET);
-    let schedule = file(alloc, "SCHEDULE", "The threads and the events");
-    let unchecked = unchecked_flag(alloc);
-    let command = Command::new(alloc, "draw").about(
-        "Runs a driver set by a schedule, and writes the run as an SVG picture",
-    );
-    command.arg(set)?.arg(schedule)?.arg(unchecked)
+    Command::new(alloc, "draw")
+        .about("Runs a driver set by a schedule, and writes the run as an SVG picture")
+        .arg(file(alloc, "FILE", SET))?
+        .arg(file(alloc, "SCHEDULE", "The threads and the events"))?
+        .arg(unchecked_flag(alloc))
 }
 
 fn host_command<'a>(alloc: Global) -> Result<Command<'a>, AllocError>
     ensures app { IfOk result (λ command. app_of command ≡ host_command) }
     ensures local { IfOk result (λ command. (fields_of command).has_globals ≡ false) }
 {
-    let set = file(alloc, "FILE", SET);
-    let script = file(alloc, "SCRIPT", "The requests, cancels and interrupts");
-    let workers = workers_option(alloc);
-    let command = Command::new(alloc, "host").about(
-        "Has workers serve a script over one locked core, and writes what came of each command",
-    );
-    command.arg(set)?.arg(script)?.arg(workers)
+    Command::new(alloc, "host")
+        .about(
+            "Has workers serve a script over one locked core, and writes what came of each command",
+        )
+        .arg(file(alloc, "FILE", SET))?
+        .arg(file(alloc, "SCRIPT", "The requests, cancels and interrupts"))?
+        .arg(workers_option(alloc))
 }
 
 /// A required argument: the name of a file.
