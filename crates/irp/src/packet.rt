@@ -4,6 +4,8 @@ ghost use Rattle.std.specs.Prelude.{◌≡◌, ◌≤◌, ◌<◌, ◌-◌, ◌�
 ghost use Rattle.model.specs.declared.limits.TheConstants.{MAX_STACK};
 ghost use Rattle.model.specs.World.{unused_location};
 
+mod renewal;
+
 use crate::location::Location;
 use arrayvec::ArrayVec;
 use model::instr::Field;
@@ -61,10 +63,7 @@ fn stack_of(size: u8, first: Location) -> ArrayVec<Location, MAX_STACK>
     ensures { result.items ≡ first ∷ replicate (size - 1) unused_location }
 {
     let mut stack = ArrayVec::new();
-    stack.push(first);
-    for _place in 0..size.saturating_sub(1) {
-        stack.push(Location::unused());
-    }
+    renewal::fill(&mut stack, size, first);
     stack
 }
 

@@ -1,3 +1,4 @@
+pub mod Roots
 pub mod Events
 pub mod Kept
 pub mod Threads

@@ -20,6 +20,7 @@ pub mod Obeyed
 pub mod Lacking
 pub mod Fine
 pub mod Roots
+pub mod Begun
 pub mod Standing
 pub mod Inside
 pub mod Queueing

@@ -1,7 +1,7 @@
 -- What every run of an accepted set keeps, a field a family; no event has a bug check, goes wrong
 -- or passes a bound; and each event keeps it.
 use Rattle.run_laws.proofs.Claims.Runs.{claimed_begun, claimed_kept}
-use Rattle.std.proofs.Common.{◌≡◌, ℕ, List, [], length, refl, ◌∙◌, Bool}
+use Rattle.std.proofs.Common.{◌≡◌, ℕ, List, [], length, refl, ◌∙◌, Bool, None, false}
 use Rattle.std.specs.Prelude.{slice_get}
 use Rattle.std.proofs.lemmas.List.{length-replicate}
 use Rattle.model.specs.Events.{Change}
@@ -24,15 +24,19 @@ use Rattle.run_laws.proofs.Past.Runs.{Telling, telling_begun, telling_happens, t
 use Rattle.run_laws.proofs.Room.Runs.{Roomy, roomy_begun, call_faults_none, roomy_kept, roomy_lends, roomy_queued}
 use Rattle.run_laws.proofs.Claims.Sums.{Claimed}
 use Rattle.run_laws.proofs.Live.Claimed.{claims_live, entries_live}
-use Rattle.run_laws.proofs.Runs.Events.{Happens}
+use Rattle.run_laws.proofs.Runs.Events.{Happens, StepsFrame, begins, nothing, steps}
+use Rattle.run_laws.proofs.Runs.Roots.{root_told}
+use Rattle.model.specs.Action.{Action}
+use Rattle.model.specs.Fault.{first_fault}
 use Rattle.run_laws.proofs.Runs.Faultless.{recorded_faultless}
 use Rattle.run_laws.proofs.Runs.Kept.{GoesOnBy, with_queued}
 use Rattle.run_laws.proofs.States.Frames.{IsGood}
 use Rattle.run_laws.specs.ArrivingStates.{States}
 use Rattle.run_laws.proofs.States.Standing.{Standing, standing_begun, right_event, standing_kept, standing_queued}
-use Rattle.run_laws.proofs.Steps.Faults.{NoFaults, no_fault}
+use Rattle.run_laws.proofs.Steps.Faults.{no_fault}
 use Rattle.run_laws.proofs.Tokens.Runs.{tokens_begun, tokens_kept, tokens_queued}
 use Rattle.run_laws.proofs.Tokens.Sums.{OneTokenEach}
+use Rattle.run_laws.proofs.Holders.Waits.{NextArmed}
 use Rattle.run_laws.proofs.Claims.Next.{next_armed}
 
 pub record Keeps (set : Set) (states : States) (threads : ℕ) (w : World) (past : List Entry) : Type
@@ -87,64 +91,71 @@ module _ (set : Set) (states : States) (threads : ℕ) (w : World) (past : List 
         lends = roomy_lends set states w keeps.room;
       }
 
-  -- every event of a run goes on
+  -- no event has a bug check or passes a bound
+  quiet_event : (actor : Actor) (c : Change)
+      → actor.root ≡ root_of (slice_get w.threads actor.thread)
+      → Happens set w actor.thread c → first_fault past actor c.actions ≡ None
+  quiet_event actor c root (nothing reply right) = refl
+  quiet_event actor c root (begins i r beside) =
+      root_told set w.shared (λ (actions : List Action). first_fault past actor actions ≡ None) refl
+      (λ n stack. refl) r beside
+  quiet_event actor c root (steps h) =
+      no_fault past actor h.outcome.actions
+      (record {
+        locks = lock_faults_none set states w past good keeps.stands keeps.locks actor root h;
+        touches = touches_none set states w past good keeps.stands keeps.sees actor h keeps.held
+            (top_holding set states w past keeps.stands keeps.held actor.thread h)
+            (claims_live set states w past good keeps.stands keeps.held keeps.claims actor.thread h)
+            (entries_live set states w past good keeps.stands keeps.held keeps.claims);
+        calls = call_faults_none set states w past good keeps.stands keeps.held keeps.room actor h;
+        completions = completion_faults_none set states w past good keeps.stands keeps.held actor h;
+      })
+
+  within_event : (t : ℕ) (c : Change) → Happens set w t c → c.over ≡ false
+  within_event t c (nothing reply right) = refl
+  within_event t c (begins i root beside) = refl
+  within_event t c (steps h) =
+      within_bounds set states w t keeps.falls past h good keeps.stands keeps.held keeps.claims
+      (falls_event set states w t keeps.falls past c good keeps.stands (steps h))
+
+  -- so every event of a run goes on
   pub goes_on_by : (actor : Actor) (c : Change)
       → actor.root ≡ root_of (slice_get w.threads actor.thread)
       → Happens set w actor.thread c → GoesOnBy set w past actor c
   goes_on_by actor c root happens =
-      let none : NoFaults past actor c.actions = record {
-        locks = lock_faults_none set states w past good keeps.stands keeps.locks actor c root
-            happens;
-        touches = touches_none set states w past good keeps.stands keeps.sees actor c keeps.held
-            (top_holding set states w past keeps.stands keeps.held actor.thread)
-            (claims_live set states w past good keeps.stands keeps.held keeps.claims actor.thread)
-            (entries_live set states w past good keeps.stands keeps.held keeps.claims) happens;
-        calls = call_faults_none set states w past good keeps.stands keeps.held keeps.room actor c
-            happens;
-        completions = completion_faults_none set states w past good keeps.stands keeps.held actor c
-            happens;
-      } in
       record {
         happens = happens;
         root = root;
-        quiet = no_fault past actor c.actions none;
-        within = within_bounds set states w actor.thread keeps.falls past c good keeps.stands
-            keeps.held
-            keeps.claims
-            (falls_event set states w actor.thread keeps.falls past c good keeps.stands happens)
-            happens;
+        quiet = quiet_event actor c root happens;
+        within = within_event actor.thread c happens;
       }
 
   pub keeps_event : (actor : Actor) (c : Change) → GoesOnBy set w past actor c
       → Keeps set states threads c.world (recorded past actor c.actions)
   keeps_event actor c on =
+      let t : ℕ = actor.thread in
+      let armed : (h : StepsFrame set w t) → NextArmed set w.shared h.frame =
+      next_armed set states w past good keeps.stands keeps.locks keeps.told.locks keeps.claims t in
+      let happens : Happens set w t c = on.happens in
       record {
-        stands = standing_kept set states w past good keeps.stands actor c on;
-        told = telling_happens set good.sound w past actor c keeps.told on.happens on.quiet
-            on.within;
-        locks = locks_kept set states w past good keeps.stands keeps.locks actor c on;
+        stands = standing_kept set states w past good keeps.stands actor c happens on.quiet;
+        told = telling_happens set good.sound w past actor c keeps.told happens on.quiet on.within;
+        locks = locks_kept set states w past good keeps.stands keeps.locks actor c happens;
         held = held_kept set states w past good keeps.stands keeps.held keeps.tokens actor c
-            (top_lent set states w keeps.sees actor.thread)
-            (next_armed set states w past good keeps.stands keeps.locks keeps.told.locks
-            keeps.claims
-            actor.thread) on;
+            (top_lent set states w keeps.sees t) armed happens on.quiet;
         claims = claimed_kept set states w past good keeps.stands keeps.claims keeps.locks
-            keeps.told.locks keeps.held actor c on;
-        tokens = tokens_kept set states w past good keeps.stands keeps.tokens actor c on;
-        sees = sees_event set states w past good keeps.stands keeps.sees actor.thread c on.happens;
+            keeps.told.locks keeps.held actor c happens on.quiet;
+        tokens = tokens_kept set states w past good keeps.stands keeps.tokens actor c happens;
+        sees = sees_event set states w past good keeps.stands keeps.sees t c happens;
         room = roomy_kept set states w past good keeps.stands keeps.held keeps.room keeps.claims
-            actor c
-            (next_armed set states w past good keeps.stands keeps.locks keeps.told.locks
-            keeps.claims
-            actor.thread) on;
-        falls = falls_event set states w actor.thread keeps.falls past c good keeps.stands
-            on.happens;
-        «uses» = uses_event set states w past actor c known_world keeps.«uses» on.happens on.quiet;
-        once = once_kept set past actor keeps.once w c keeps.stands.tells on.happens;
+            actor armed c happens;
+        falls = falls_event set states w t keeps.falls past c good keeps.stands happens;
+        «uses» = uses_event set states w past actor c known_world keeps.«uses» happens on.quiet;
+        once = once_kept set past actor keeps.once w c keeps.stands.tells happens;
         faultless = recorded_faultless past actor c.actions keeps.faultless on.quiet;
         right = recorded_right past actor c.actions keeps.right
-            (right_event set states w past good keeps.stands actor.thread c on.happens).0;
-        count = same_count set w actor.thread c on.happens ∙ keeps.count;
+            (right_event set states w past good keeps.stands t c happens).0;
+        count = same_count set w t c happens ∙ keeps.count;
       }
 
   -- where a DPC is queued or isn't

@@ -12,7 +12,7 @@ use Rattle.run_laws.proofs.Certificates.Steps.{frame_due}
 use Rattle.run_laws.proofs.Certificates.Tally.{tally_begun}
 use Rattle.run_laws.proofs.Pending.Entries.{EntriesSay, entries_event}
 use Rattle.run_laws.proofs.Pending.Events.{Attends, attend_event, attends_begun, attends_queued}
-use Rattle.run_laws.proofs.Runs.Events.{stops_run, Happens, Sets, sets_nothing, queues, Concerns, a_thread, no_thread, concerns, set_in, answers_none, past_with, Answers, refuses_stopped, refuses_over, goes_on_with, stops_for, stops_wrong, answers}
+use Rattle.run_laws.proofs.Runs.Events.{nothing_stops, stops_run, Happens, Sets, sets_nothing, queues, Concerns, a_thread, no_thread, concerns, set_in, answers_none, past_with, Answers, refuses_stopped, refuses_over, goes_on_with, stops_for, stops_wrong, answers}
 use Rattle.run_laws.proofs.Runs.Kept.{GoesOnBy, kept_run}
 use Rattle.run_laws.proofs.States.Frames.{IsGood}
 use Rattle.run_laws.specs.ArrivingStates.{States}
@@ -71,7 +71,7 @@ module _ (set : Set) (states : States) (good : IsGood set states) (threads : ℕ
     right_set : (c : Change) (stopped : Bool) → Sets set r.world c
         → stops_run (if stopped then refused r else set_in r c).reply ≡ false
     right_set c true of = refl
-    right_set c false (sets_nothing reply right) = right
+    right_set c false (sets_nothing reply right) = nothing_stops reply right
     right_set c false (queues d) = refl
 
     right_concerned : (e : Event) → Concerns set r.world e → stops_run (step set r e).reply ≡ false

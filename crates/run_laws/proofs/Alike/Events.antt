@@ -1,34 +1,28 @@
 -- Every event does the same to worlds of runs of an accepted set that a machine may not tell apart.
-use Rattle.std.proofs.Common.{◌≡◌, ℕ, suc, ◌<◌, arith, subst, Bool, true, false, List, [], ◌∷◌, ◌++◌, length, Option, None, Some, refl, sym, ◌∙◌, ap, is_some, nat_eq, nat_lt, inl, inr}
-use Rattle.std.specs.Prelude.{◌&&◌, not, slice_get, if◌then◌else◌}
+use Rattle.std.proofs.Common.{◌≡◌, ℕ, suc, ◌<◌, arith, subst, Bool, true, false, List, [], ◌∷◌, ◌++◌, length, Option, None, Some, refl, sym, ◌∙◌, ap, is_some, nat_eq, inl, inr}
+use Rattle.std.specs.Prelude.{slice_get, if◌then◌else◌}
 use Rattle.std.proofs.lemmas.Bool.Decides.{eqb_tells}
 use Rattle.model.specs.declared.event.Event.{Event}
 use Rattle.model.specs.declared.event.Event.TheVariants.{Issue, Cancel as CancelEvent, Interrupt, Dpc as DpcEvent, StartIo as StartIoEvent, Step}
 use Rattle.model.specs.declared.event.Reply.{Reply}
-use Rattle.model.specs.declared.event.Reply.TheVariants.{Finished, Idle, Refused}
+use Rattle.model.specs.declared.event.Reply.TheVariants.{Idle, Refused}
 use Rattle.model.specs.declared.set.Device.{Device}
 use Rattle.model.specs.declared.status.Major.{Major}
-use Rattle.model.specs.declared.world.Activation.{Activation}
-use Rattle.model.specs.declared.world.CancelStep.TheVariants.{Acquire as AcquireStep}
 use Rattle.model.specs.declared.world.Frame.{Frame}
-use Rattle.model.specs.declared.world.Frame.TheVariants.{Routine}
-use Rattle.model.specs.declared.world.Irql.{Irql}
-use Rattle.model.specs.declared.world.Irql.TheVariants.{Passive, Dispatch as DispatchLevel}
 use Rattle.model.specs.declared.world.Packet.{Packet}
 use Rattle.model.specs.declared.world.Thread.{Thread}
-use Rattle.model.specs.Effect.{goes_on_cancelling}
-use Rattle.model.specs.Events.{with_thread, with_new_packet, serves_request, dpc_activation, unchanged, is_idle, can_issue, issued, issue_on, irql_of, cancel_of, cancel_on, cancelling, interrupted, interrupt_on, dpc_begun, dpc_on, startio_for, startio_from, startio_on, rooted, effect}
-use Rattle.model.specs.Queues.{StartState, head_of, without_first_to_start}
-use Rattle.model.specs.Set.{Set, dpc_of, startio_of}
+use Rattle.model.specs.Events.{Change, with_thread, with_new_packet, unchanged, is_idle, interrupted, interrupt_on, effect}
+use Rattle.model.specs.Set.{Set, dpc_of}
 use Rattle.model.specs.Trace.{Entry}
-use Rattle.model.specs.World.{new_packet, with_dpc, with_start, Shared, World, packet_of, is_queued, start_of}
+use Rattle.model.specs.World.{new_packet, with_dpc, Shared, World, is_queued}
 use Rattle.run_laws.proofs.Accepted.Keeps.{Keeps}
 use Rattle.run_laws.proofs.Alike.Frames.{AlikeFrames, IsLive}
 use Rattle.run_laws.proofs.Alike.Outcomes.{alike_same}
 use Rattle.run_laws.proofs.Alike.Stacks.{AlikeThread, AlikeThreads, AlikeAt, alike_at}
 use Rattle.run_laws.proofs.Alike.Worlds.{AlikeChange, AlikeWorld, put_alike, step_alike, threads_kept, unchanged_alike}
 use Rattle.run_laws.proofs.Past.LivePackets.{Rises, find, find_place, find_push}
-use Rattle.run_laws.proofs.States.Entering.{startio_activation}
+use Rattle.run_laws.proofs.Runs.Events.{Both, SameIdle, both_begin, both_nothing, cancelled_both, deferred_both, request_both, started_both}
+use Rattle.run_laws.proofs.Runs.Roots.{Root, Beside, issues, with_root}
 use Rattle.run_laws.proofs.States.Frames.{IsGood}
 use Rattle.run_laws.specs.ArrivingStates.{States}
 
@@ -42,12 +36,6 @@ module _ (set : Set) (states : States) where
   same_idle : (s : Shared) (x y : Thread) → AlikeThread set states s x y → is_idle x ≡ is_idle y
   same_idle s x y h =
       ap (λ (n : ℕ). nat_eq n 0) (same_lengths s None x.frames.items y.frames.items h.frames)
-
-  -- a thread on which a routine begins
-  rooted_alike : (s : Shared) (x y : Thread) (level : Irql) (a : Activation)
-      → AlikeThread set states s (rooted x level a) (rooted y level a)
-  rooted_alike s x y level a =
-      record { root = refl; frames = alike_same set states s None (Routine a ∷ []) }
 
 -- a packet that was issued before another one is live if it was
 issued_lives : (s : Shared) (d : ℕ) (device : Device) (major : Major) (argument : ℕ)
@@ -82,68 +70,32 @@ module _ (set : Set) (states : States) (threads : ℕ) (w : World) (past : List 
   puts s t x y before new =
       put_alike set states threads w past good keeps others alike s t x y before new
 
-  -- a packet is issued
-  issue_if : (t d : ℕ) (major : Major) (argument : ℕ) (x y : Thread) (device : Device)
-      (may : Bool)
-      → AlikeChange set states
-      (if may then issued set v t d x device major argument else unchanged v Refused)
-      (if may then issued set w t d y device major argument else unchanged w Refused)
-  issue_if t d major argument x y device false = stays Refused
-  issue_if t d major argument x y device true =
-      let a : Activation = serves_request set d device major w.shared.issued in
-      record {
-        worlds = puts (with_new_packet w.shared d device major argument) t (rooted x Passive a)
-            (rooted y Passive a)
-            (issued_lives w.shared d device major argument keeps.stands.tells.rises)
-            (rooted_alike set states (with_new_packet w.shared d device major argument) x y Passive
-            a);
-        reply = refl;
-      }
+  -- what was live is so beside a root that begins
+  root_lives : (root : Root) → Beside set w.shared root → (n : ℕ) → n < w.shared.issued
+      → IsLive root.shared n → IsLive w.shared n
+  root_lives root (issues h) =
+      issued_lives w.shared h.d h.device h.major h.argument keeps.stands.tells.rises
+  root_lives root _ = λ n low live. live
 
-  issue_alike : (t d : ℕ) (major : Major) (argument : ℕ) (o p : Option Thread)
-      (device : Option Device)
-      → AlikeAt set states w.shared o p
-      → AlikeChange set states (issue_on set v t d major argument o device)
-      (issue_on set w t d major argument p device)
-  issue_alike t d major argument None None device h = stays Refused
-  issue_alike t d major argument (Some x) (Some y) None h = stays Refused
-  issue_alike t d major argument (Some x) (Some y) (Some device) h =
-      rw (same_idle set states w.shared x y h)
-      (issue_if t d major argument x y device (is_idle y && can_issue w.shared))
-  issue_alike t d major argument _ _ device h = absurd h
-
-  -- IoCancelIrp begins
-  cancelling_alike : (t n : ℕ) (level : Irql) (x y : Thread) (o : Option Packet)
-      → AlikeChange set states (cancel_of v t n level x o) (cancel_of w t n level y o)
-  cancelling_alike t n level x y None = stays Finished
-  cancelling_alike t n level x y (Some p) =
+  both_alike : (t : ℕ) (c e : Change) → Both set w others t c e → AlikeChange set states c e
+  both_alike t c e (both_nothing reply right) = stays reply
+  both_alike t c e (both_begin x i root beside) =
       record {
-        worlds = puts w.shared t (cancelling x level n) (cancelling y level n) (λ n low live. live)
+        worlds = puts root.shared t (with_root x root) (with_root i.thread root)
+            (root_lives root beside)
             (record {
               root = refl;
-              frames = alike_same set states w.shared None (goes_on_cancelling n AcquireStep);
+              frames = alike_same set states root.shared None (root.frame ∷ []);
             });
         reply = refl;
       }
 
-  cancel_if : (t n : ℕ) (level : Irql) (x y : Thread) (may : Bool)
-      → AlikeChange set states
-      (if may then cancel_of v t n level x (packet_of w.shared n) else unchanged v Refused)
-      (if may then cancel_of w t n level y (packet_of w.shared n) else unchanged w Refused)
-  cancel_if t n level x y true = cancelling_alike t n level x y (packet_of w.shared n)
-  cancel_if t n level x y false = stays Refused
+  idle_both : (o p : Option Thread) → AlikeAt set states w.shared o p → SameIdle o p
+  idle_both None None h = tt
+  idle_both (Some x) (Some y) h = same_idle set states w.shared x y h
+  idle_both _ _ h = absurd h
 
-  cancel_alike : (t n : ℕ) (level : Option Irql) (o p : Option Thread)
-      → AlikeAt set states w.shared o p
-      → AlikeChange set states (cancel_on v t n level o) (cancel_on w t n level p)
-  cancel_alike t n level None None h = stays Refused
-  cancel_alike t n None (Some x) (Some y) h = stays Refused
-  cancel_alike t n (Some level) (Some x) (Some y) h =
-      rw (same_idle set states w.shared x y h)
-      (cancel_if t n level x y (is_idle y && nat_lt n w.shared.issued))
-  cancel_alike t n level _ _ h = absurd h
-
-  -- a DPC is queued, and begins
+  -- a DPC is queued
   interrupt_if : (d : ℕ) (queued : Bool)
       → AlikeChange set states (if queued then unchanged v Idle else interrupted v d)
       (if queued then unchanged w Idle else interrupted w d)
@@ -163,83 +115,19 @@ module _ (set : Set) (states : States) (threads : ℕ) (w : World) (past : List 
   interrupt_alike d None = stays Refused
   interrupt_alike d (Some routine) = interrupt_if d (is_queued w.shared d)
 
-  dpc_if : (t d routine : ℕ) (x y : Thread) (idle queued : Bool)
-      → AlikeChange set states
-      (if not idle then unchanged v Refused else
-      (if queued then dpc_begun set v t d x routine else unchanged v Idle))
-      (if not idle then unchanged w Refused else
-      (if queued then dpc_begun set w t d y routine else unchanged w Idle))
-  dpc_if t d routine x y false queued = stays Refused
-  dpc_if t d routine x y true false = stays Idle
-  dpc_if t d routine x y true true =
-      let a : Activation = dpc_activation set d routine in
-      record {
-        worlds = puts (with_dpc w.shared d false) t (rooted x DispatchLevel a)
-            (rooted y DispatchLevel a) (λ n low live. live)
-            (rooted_alike set states (with_dpc w.shared d false) x y DispatchLevel a);
-        reply = refl;
-      }
-
-  dpc_alike : (t d : ℕ) (o p : Option Thread) (routine : Option ℕ)
-      → AlikeAt set states w.shared o p
-      → AlikeChange set states (dpc_on set v t d o routine) (dpc_on set w t d p routine)
-  dpc_alike t d None None routine h = stays Refused
-  dpc_alike t d (Some x) (Some y) None h = stays Refused
-  dpc_alike t d (Some x) (Some y) (Some routine) h =
-      rw (same_idle set states w.shared x y h)
-      (dpc_if t d routine x y (is_idle y) (is_queued w.shared d))
-  dpc_alike t d _ _ routine h = absurd h
-
-  -- a StartIo routine begins
-  startio_first : (t d routine : ℕ) (x y : Thread) (start : StartState) (n : Option ℕ)
-      → AlikeChange set states (startio_for set v t d x routine start n)
-      (startio_for set w t d y routine start n)
-  startio_first t d routine x y start None = stays Idle
-  startio_first t d routine x y start (Some n) =
-      let s : Shared = with_start w.shared d (without_first_to_start start) in
-      let a : Activation = startio_activation set d routine n in
-      record {
-        worlds = puts s t (rooted x DispatchLevel a) (rooted y DispatchLevel a) (λ n low live. live)
-            (rooted_alike set states s x y DispatchLevel a);
-        reply = refl;
-      }
-
-  startio_has : (t d routine : ℕ) (x y : Thread) (start : Option StartState)
-      → AlikeChange set states (startio_from set v t d x routine start)
-      (startio_from set w t d y routine start)
-  startio_has t d routine x y None = stays Refused
-  startio_has t d routine x y (Some start) =
-      startio_first t d routine x y start (head_of start.start_list)
-
-  startio_if : (t d routine : ℕ) (x y : Thread) (idle : Bool)
-      → AlikeChange set states
-      (if idle then startio_from set v t d x routine (start_of w.shared d) else unchanged v Refused)
-      (if idle then startio_from set w t d y routine (start_of w.shared d) else unchanged w Refused)
-  startio_if t d routine x y true = startio_has t d routine x y (start_of w.shared d)
-  startio_if t d routine x y false = stays Refused
-
-  startio_alike : (t d : ℕ) (o p : Option Thread) (routine : Option ℕ)
-      → AlikeAt set states w.shared o p
-      → AlikeChange set states (startio_on set v t d o routine) (startio_on set w t d p routine)
-  startio_alike t d None None routine h = stays Refused
-  startio_alike t d (Some x) (Some y) None h = stays Refused
-  startio_alike t d (Some x) (Some y) (Some routine) h =
-      rw (same_idle set states w.shared x y h) (startio_if t d routine x y (is_idle y))
-  startio_alike t d _ _ routine h = absurd h
-
   -- whatever the event
   at : (t : ℕ) → AlikeAt set states w.shared (slice_get others t) (slice_get w.threads t)
   at t = alike_at set states w.shared others w.threads t alike
 
+  idle_at : (t : ℕ) → SameIdle (slice_get others t) (slice_get w.threads t)
+  idle_at t = idle_both (slice_get others t) (slice_get w.threads t) (at t)
+
   pub effects_alike : (e : Event) → AlikeChange set states (effect set v e) (effect set w e)
   effects_alike (Issue t d major argument) =
-      issue_alike t d major argument (slice_get others t) (slice_get w.threads t)
-      (slice_get set.devices d) (at t)
+      both_alike t _ _ (request_both set w others t (idle_at t) d major argument)
   effects_alike (CancelEvent t n level) =
-      cancel_alike t n (irql_of level) (slice_get others t) (slice_get w.threads t) (at t)
+      both_alike t _ _ (cancelled_both set w others t (idle_at t) n level)
   effects_alike (Interrupt d) = interrupt_alike d (dpc_of set d)
-  effects_alike (DpcEvent t d) =
-      dpc_alike t d (slice_get others t) (slice_get w.threads t) (dpc_of set d) (at t)
-  effects_alike (StartIoEvent t d) =
-      startio_alike t d (slice_get others t) (slice_get w.threads t) (startio_of set d) (at t)
+  effects_alike (DpcEvent t d) = both_alike t _ _ (deferred_both set w others t (idle_at t) d)
+  effects_alike (StartIoEvent t d) = both_alike t _ _ (started_both set w others t (idle_at t) d)
   effects_alike (Step t) = step_alike set states threads w past good keeps others alike t

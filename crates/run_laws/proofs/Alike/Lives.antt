@@ -8,7 +8,7 @@ use Rattle.model.specs.declared.event.Subject.TheVariants.{Packet as PacketSubje
 use Rattle.model.specs.declared.world.Packet.{Packet}
 use Rattle.model.specs.Action.{Action, Executes, Touches, TopsOut}
 use Rattle.model.specs.Effect.{top_of}
-use Rattle.model.specs.Events.{Change, settled}
+use Rattle.model.specs.Events.{Change}
 use Rattle.model.specs.Fault.{bug_if, topped, tops}
 use Rattle.model.specs.Run.{root_of}
 use Rattle.model.specs.Set.{Set}
@@ -21,7 +21,7 @@ use Rattle.run_laws.proofs.Holders.Runs.{top_holding}
 use Rattle.run_laws.proofs.Live.Claimed.{claims_live, entries_live}
 use Rattle.run_laws.proofs.Live.Kept.{touches_none}
 use Rattle.run_laws.proofs.Past.Packets.{Tells, found, gone_topped, untopped}
-use Rattle.run_laws.proofs.Runs.Events.{StepsFrame, Happens, steps}
+use Rattle.run_laws.proofs.Runs.Events.{StepsFrame, Happens}
 use Rattle.run_laws.proofs.States.Frames.{IsGood}
 use Rattle.run_laws.specs.ArrivingStates.{States}
 use Rattle.run_laws.proofs.States.Standing.{Standing, standing_kept}
@@ -92,8 +92,8 @@ module _ (set : Set) (states : States) (threads : ℕ) (w : World) (past : List 
       → IsLive c.world.shared n → IsLive w.shared n
   lives_before c happens n low live =
       let after : Standing set states c.world (recorded past by_thread c.actions) =
-      standing_kept set states w past good keeps.stands by_thread c
-      (goes_on_by set states threads w past good keeps by_thread c refl happens) in
+      standing_kept set states w past good keeps.stands by_thread c happens
+      (goes_on_by set states threads w past good keeps by_thread c refl happens).quiet in
       untopped_live w.shared past n (packet_of w.shared n) keeps.stands.tells low
       (still_untopped past by_thread c.actions n
       (live_untopped c.world.shared (recorded past by_thread c.actions) n
@@ -104,9 +104,8 @@ module _ (set : Set) (states : States) (threads : ℕ) (w : World) (past : List 
   touches_live h n o comes first low gone =
       let like : StepsFrame set w t = record h { outcome = o; comes = comes } in
       touched past by_thread o.actions n
-      (touches_none set states w past good keeps.stands keeps.sees by_thread
-      (settled set w t h.thread h.below o) keeps.held
-      (top_holding set states w past keeps.stands keeps.held t)
-      (claims_live set states w past good keeps.stands keeps.held keeps.claims t)
-      (entries_live set states w past good keeps.stands keeps.held keeps.claims) (steps like))
+      (touches_none set states w past good keeps.stands keeps.sees by_thread like keeps.held
+      (top_holding set states w past keeps.stands keeps.held t like)
+      (claims_live set states w past good keeps.stands keeps.held keeps.claims t like)
+      (entries_live set states w past good keeps.stands keeps.held keeps.claims))
       first (gone_topped w.shared past n keeps.stands.tells low gone)

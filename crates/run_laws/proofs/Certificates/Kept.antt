@@ -1,15 +1,13 @@
 -- Every activation of a run of an accepted set keeps its routine's certificate.
-use Rattle.std.proofs.Common.{◌≡◌, ℕ, zero, suc, ◌+◌, List, [], ◌∷◌, ◌++◌, Some, refl, ap, sym, ◌∙◌, subst, arith, false, true, ◌≤◌, inl, inr, None}
+use Rattle.std.proofs.Common.{◌≡◌, ℕ, zero, suc, ◌+◌, List, [], ◌∷◌, ◌++◌, Some, refl, ap, sym, ◌∙◌, subst, arith, true, ◌≤◌, inl, inr, None}
 use Rattle.std.specs.Prelude.{All, slice_get, slice_set}
 use Rattle.std.proofs.lemmas.List.{set-get_or, append-nil, append_assoc}
-use Rattle.model.specs.declared.event.Reply.{Reply}
 use Rattle.model.specs.declared.world.Activation.{Activation}
 use Rattle.model.specs.declared.world.Frame.{Frame}
 use Rattle.model.specs.declared.world.Frame.TheVariants.{Routine, Walk, Cancel as CancelFrame}
-use Rattle.model.specs.declared.world.Irql.TheVariants.{Passive, Dispatch as DispatchLevel}
-use Rattle.model.specs.Action.{Action}
+use Rattle.model.specs.declared.world.Irql.{Irql}
 use Rattle.model.specs.Effect.{Outcome, told_to, top_of}
-use Rattle.model.specs.Events.{Change, unchanged, rooted, serves_request, settled, standing, with_stack, with_thread, dpc_activation, cancelling}
+use Rattle.model.specs.Events.{Change, unchanged, settled, standing, with_stack, with_thread}
 use Rattle.model.specs.Run.{Run, actor_on, activations_after, frames_on, goes, tags_after, tags_on, top_tag}
 use Rattle.model.specs.Set.{Set}
 use Rattle.model.specs.declared.event.Reply.TheVariants.{Idle}
@@ -20,18 +18,18 @@ use Rattle.run_laws.proofs.Certificates.Steps.{frame_due, pays, told_alike}
 use Rattle.run_laws.proofs.Certificates.Tags.{Fits, IsKnown, Matched, Named, fits_known, named}
 use Rattle.run_laws.proofs.Certificates.Tally.{AllKnown, Tally, known_kept, one_of_known, turned}
 use Rattle.run_laws.proofs.Lists.{last_of}
-use Rattle.run_laws.proofs.Runs.Events.{StepsFrame, Happens, nothing, steps, issues, past_with, begins, begins_startio, begins_cancel}
+use Rattle.run_laws.proofs.Runs.Events.{StepsFrame, Happens, nothing, steps, past_with, begins}
 use Rattle.run_laws.proofs.Runs.Kept.{with_queued}
+use Rattle.run_laws.proofs.Runs.Roots.{Root, root_told, IdleThread, root_begun, with_root}
 use Rattle.run_laws.proofs.Runs.Threads.{frames_there, frames_put}
-use Rattle.run_laws.proofs.States.Entering.{begins_request, begins_dpc, startio_activation}
+use Rattle.run_laws.proofs.States.Begun.{RootFrame, root_cancels, root_enters}
 use Rattle.run_laws.proofs.States.Frames.{IsGood}
 use Rattle.run_laws.specs.ArrivingStates.{States}
-use Rattle.run_laws.proofs.States.Standing.{Standing, on_top, startio_enters}
+use Rattle.run_laws.proofs.States.Standing.{Standing, on_top, root_there}
 use Rattle.run_laws.proofs.Steps.Below.{stood}
 use Rattle.std.proofs.lemmas.Option.{get_or_from_slice_get}
 use Rattle.model.specs.declared.world.Thread.{Thread}
-use Rattle.model.specs.World.{Shared, World}
-use Rattle.model.specs.declared.world.CancelStep.TheVariants.{Acquire as AcquireStep}
+use Rattle.model.specs.World.{World}
 
 -- the tags of a thread whose top frame is known
 record TopTag (given : List Tag) (below : List Frame) (f : Frame) (row : List Tag) : Type 0 where
@@ -187,45 +185,36 @@ module _ (set : Set) (states : States) (good : IsGood set states) (r : Run) (t :
       follows)
 
   -- a frame stands on an idle thread: a routine's with its certificate left
-  begins_tally : (thread after : Thread) (s : Shared) (f : Frame) (actions : List Action)
-      (reply : Reply)
-      → slice_get r.world.threads t ≡ Some thread → thread.frames.items ≡ []
-      → after.frames.items ≡ f ∷ []
-      → executed_in actions ≡ 0
-      → IsFresh (frame_due set) set f
+  begins_tally : (i : IdleThread r.world t) (root : Root) → executed_in root.actions ≡ 0
+      → IsFresh (frame_due set) set root.frame
       → Tallied set
-      (goes set r t (recorded r.past (actor_on r t) actions)
-      (record {
-        world = with_thread r.world t s after;
-        actions = actions;
-        reply = reply;
-        over = false;
-      })).run
-  begins_tally thread after s f actions reply found idle items silent fresh =
-      let now : World = with_thread r.world t s after in
+      (goes set r t (recorded r.past (actor_on r t) root.actions)
+      (root_begun r.world t i.thread root)).run
+  begins_tally i root silent fresh =
+      let after : Thread = with_root i.thread root in
+      let now : World = with_thread r.world t root.shared after in
       let row : List Tag = tags_on r t in
-      let here : frames_on r.world t ≡ [] = frames_there r.world t thread found ∙ idle in
+      let here : frames_on r.world t ≡ [] = frames_there r.world t i.thread i.found ∙ i.idle in
       let matched : Matched tally.given [] row =
       subst (λ (frames : List Frame). Matched tally.given frames row) here (tally.matched t) in
-      let later : List Entry = recorded r.past (actor_on r t) actions in
+      let later : List Entry = recorded r.past (actor_on r t) root.actions in
       let acting : IsKnown tally.given (top_tag row) = idle_known tally.given row matched in
-      let follows : Follows (frame_due set) set tally.given later r.activations thread.frames.items
-      row (top_tag row) 0
-      after.frames.items =
-      follows_as set tally.given later r.activations 0 [] thread.frames.items row row
+      let follows : Follows (frame_due set) set tally.given later r.activations
+      i.thread.frames.items row (top_tag row) 0 (root.frame ∷ []) =
+      follows_as set tally.given later r.activations 0 [] i.thread.frames.items row row
       (top_tag row) (top_tag row)
-      (f ∷ []) after.frames.items (sym idle) refl refl (sym items)
+      (root.frame ∷ []) (root.frame ∷ []) (sym i.idle) refl refl refl
       (follows_idle (frame_due set) set tally.given later r.activations row (top_tag row)
-      (f ∷ []) matched (fresh, tt))
+      (root.frame ∷ []) matched (fresh, tt))
       in
       rw (
-        frames_there r.world t thread found,
-        frames_put r.world t s after thread found,
+        frames_there r.world t i.thread i.found,
+        frames_put r.world t root.shared after i.thread i.found,
       )
-      (turned (frame_due set) set r.world now r.tags r.activations r.past (actor_on r t) actions
-      thread after tally found refl acting
+      (turned (frame_due set) set r.world now r.tags r.activations r.past (actor_on r t)
+      root.actions i.thread after tally i.found refl acting
       (subst (λ (n : ℕ). Follows (frame_due set) set tally.given later r.activations
-      thread.frames.items row (top_tag row) n after.frames.items) (sym silent) follows))
+      i.thread.frames.items row (top_tag row) n (root.frame ∷ [])) (sym silent) follows))
 
   nothing_tally : Tallied set (goes set r t r.past (unchanged r.world Idle)).run
   nothing_tally =
@@ -240,31 +229,20 @@ module _ (set : Set) (states : States) (good : IsGood set states) (r : Run) (t :
       ap (λ (new : List Tag). slice_set r.tags t new) row ∙ set-get_or r.tags t [] in
       rw (tags, count_same r.activations (frames_on r.world t)) tally
 
+  root_fresh : {issued : ℕ} {level : Irql} {f : Frame} → RootFrame set states issued level f
+      → IsFresh (frame_due set) set f
+  root_fresh (root_enters a sort first root enters) = enters.due
+  root_fresh (root_cancels n low) = tt
+
   pub tally_kept : (c : Change) → Happens set r.world t c
       → Tallied set (goes set r t (past_with r t c) c).run
   tally_kept c (nothing reply right) = nothing_tally
   tally_kept c (steps h) = steps_tally h
-  tally_kept c (issues h) =
-      let n : ℕ = r.world.shared.issued in
-      let a : Activation = serves_request set h.d h.device h.major n in
-      begins_tally h.thread (rooted h.thread Passive a) c.world.shared (Routine a) c.actions
-      c.reply h.found h.idle refl refl
-      (begins_request set states good (n + 1) n (omega arith) h.d h.device h.major h.there).due
-  tally_kept c (begins h) =
-      let a : Activation = dpc_activation set h.d h.routine in
-      begins_tally h.thread (rooted h.thread DispatchLevel a) c.world.shared (Routine a) [] c.reply
-      h.found h.idle refl refl
-      (begins_dpc set states good r.world.shared.issued h.d h.routine h.there).due
-  tally_kept c (begins_startio h) =
-      let a : Activation = startio_activation set h.d h.routine h.n in
-      begins_tally h.thread (rooted h.thread DispatchLevel a) c.world.shared (Routine a) [] c.reply
-      h.found h.idle refl refl
-      (startio_enters set states r.world r.past good stands t h).due
-  tally_kept c (begins_cancel h) =
-      begins_tally h.thread (cancelling h.thread h.level h.n) r.world.shared
-      (CancelFrame (record { packet = h.n; next = AcquireStep })) [] c.reply h.found h.idle refl
-      refl
-      tt
+  tally_kept c (begins i root beside) =
+      begins_tally i root
+      (root_told set r.world.shared (λ actions. executed_in actions ≡ 0) refl (λ n stack. refl) root
+      beside)
+      (root_fresh (root_there set states r.world r.past good stands root beside))
 
 -- where a DPC is queued
 pub tally_queued : (set : Set) (r : Run) (d : ℕ) → Tallied set r

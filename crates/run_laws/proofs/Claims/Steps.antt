@@ -27,7 +27,7 @@ use Rattle.run_laws.proofs.Holders.Rights.{named_told}
 use Rattle.run_laws.proofs.Holders.Sums.{top_le}
 use Rattle.run_laws.proofs.Lists.{Each, each_after, each_append, each_before}
 use Rattle.run_laws.proofs.Runs.Events.{StepsFrame}
-use Rattle.run_laws.proofs.Runs.Threads.{each_frames, frames_there}
+use Rattle.run_laws.proofs.Runs.Threads.{of_steps, each_frames}
 use Rattle.run_laws.proofs.States.Fine.{StepLeaves}
 use Rattle.run_laws.proofs.States.Frames.{IsGood, Ready, state_of}
 use Rattle.run_laws.specs.ArrivingStates.{States}
@@ -153,9 +153,7 @@ module _ (set : Set) (states : States) (w : World) (past : List Entry) (good : I
   after = with_thread w t h.outcome.shared (with_stack h.thread (standing set h.below h.outcome))
 
   apart_there : Each (FrameApart states) (h.below ++ h.frame ∷ [])
-  apart_there =
-      subst (λ (frames : List Frame). Each (FrameApart states) frames)
-      (frames_there w t h.thread h.found ∙ h.frames) (c.apart t)
+  apart_there = of_steps w t (Each (FrameApart states)) h (c.apart t)
 
   pub apart_here : FrameApart states h.frame
   apart_here = (each_after (FrameApart states) h.below (h.frame ∷ []) apart_there).0

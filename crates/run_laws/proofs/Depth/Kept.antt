@@ -1,28 +1,28 @@
 -- No thread of an accepted set ever has more than 18 frames, so no step of a thread that is there
 -- is refused.
-use Rattle.std.proofs.Common.{◌≡◌, ℕ, ◌<◌, ◌≤◌, List, [], ◌∷◌, ◌++◌, length, Some, false, refl, sym, ◌∙◌, subst, arith, Option, true, inl, inr}
+use Rattle.std.proofs.Common.{◌≡◌, ℕ, ◌≤◌, List, [], ◌∷◌, ◌++◌, length, Some, false, refl, sym, subst, arith, Option, true, inl, inr}
 use Rattle.std.specs.Prelude.{slice_get}
 use Rattle.std.proofs.lemmas.Bool.{le-ltb}
 use Rattle.std.proofs.lemmas.Option.{slice_get_within}
 use Rattle.model.specs.declared.limits.TheConstants.{MAX_FRAMES}
 use Rattle.model.specs.declared.world.Frame.{Frame}
-use Rattle.model.specs.declared.world.Irql.TheVariants.{Passive, Dispatch as DispatchLevel}
+use Rattle.model.specs.declared.world.Irql.{Irql}
 use Rattle.model.specs.declared.world.Thread.{Thread}
 use Rattle.model.specs.Effect.{Outcome, top_of}
-use Rattle.model.specs.Events.{Change, rooted, dpc_activation, serves_request, standing, with_stack, with_thread, cancelling}
+use Rattle.model.specs.Events.{Change, settled, standing, with_stack, with_thread}
 use Rattle.model.specs.Run.{begun, frames_on}
 use Rattle.model.specs.Set.{Set}
 use Rattle.model.specs.Sound.{IsSound}
 use Rattle.model.specs.Trace.{Entry}
-use Rattle.model.specs.Queues.{without_first_to_start}
-use Rattle.model.specs.World.{Shared, World, with_dpc, with_start}
+use Rattle.model.specs.World.{Shared, World}
 use Rattle.run_laws.proofs.Depth.Falls.{Falls, falls_length, falls_before, falls_after, short, is_cancelling}
-use Rattle.run_laws.proofs.Runs.Events.{Happens, nothing, steps, issues, begins, begins_startio, begins_cancel}
-use Rattle.run_laws.proofs.Runs.Threads.{frames_there, frames_put, each_frames, idle_frames}
-use Rattle.run_laws.proofs.States.Entering.{begins_dpc, startio_activation}
+use Rattle.run_laws.proofs.Runs.Events.{Happens, StepsFrame, nothing, steps, begins}
+use Rattle.run_laws.proofs.Runs.Roots.{with_root}
+use Rattle.run_laws.proofs.Runs.Threads.{of_steps, frames_put, each_frames, idle_frames}
+use Rattle.run_laws.proofs.States.Begun.{RootFrame, root_cancels, root_enters}
 use Rattle.run_laws.proofs.States.Frames.{IsGood, Serves}
 use Rattle.run_laws.specs.ArrivingStates.{States}
-use Rattle.run_laws.proofs.States.Standing.{Standing, stands_there, on_top, startio_enters}
+use Rattle.run_laws.proofs.States.Standing.{Standing, stands_there, on_top, root_there}
 use Rattle.run_laws.proofs.Steps.Below.{stood}
 use Rattle.run_laws.proofs.Steps.Comes.{walks_gone, Comes, Cancels, takes_cancel, cancels, works_on_queues, works_on_waiting}
 use Rattle.model.specs.declared.world.Frame.TheVariants.{Routine, Walk, Cancel as CancelFrame}
@@ -76,6 +76,13 @@ module _ (set : Set) (states : States) (w : World) (t : ℕ) (falls : AllFall se
       each_frames w t s after (λ k frames. Falls (length set.devices) frames) thread found new
       (λ k apart. falls k)
 
+  root_falls : {issued : ℕ} {level : Irql} {f : Frame} → RootFrame set states issued level f
+      → Falls (length set.devices) (f ∷ [])
+  root_falls (root_enters a sort first root enters) =
+      let served : Serves set a.device a.driver = enters.ready.1.serves in
+      (slice_get_within set.devices a.device served.0 served.1, tt)
+  root_falls (root_cancels n low) = refl
+
   -- an event keeps them
   pub falls_event : (past : List Entry) (c : Change) → IsGood set states
       → Standing set states w past
@@ -84,8 +91,7 @@ module _ (set : Set) (states : States) (w : World) (t : ℕ) (falls : AllFall se
   falls_event past c good stands (steps h) =
       let o : Outcome = h.outcome in
       let before : Falls (length set.devices) (h.below ++ h.frame ∷ []) =
-      subst (λ (frames : List Frame). Falls (length set.devices) frames)
-      (frames_there w t h.thread h.found ∙ h.frames) (falls t) in
+      of_steps w t (Falls (length set.devices)) h (falls t) in
       let after : Falls (length set.devices) (standing set h.below o) =
       elim (stood set w.shared t h.below h.frame o h.comes) [
         | inl kept ↦
@@ -102,29 +108,9 @@ module _ (set : Set) (states : States) (w : World) (t : ℕ) (falls : AllFall se
       ]
       in
       falls_put o.shared h.thread (with_stack h.thread (standing set h.below o)) h.found after
-  falls_event past c good stands (issues h) =
-      let within : h.d < length set.devices = slice_get_within set.devices h.d h.device h.there in
-      falls_put c.world.shared h.thread
-      (rooted h.thread Passive (serves_request set h.d h.device h.major w.shared.issued)) h.found
-      (within, tt)
-  falls_event past c good stands (begins h) =
-      falls_put (with_dpc w.shared h.d false) h.thread
-      (rooted h.thread DispatchLevel (dpc_activation set h.d h.routine)) h.found (
-        (let served : Serves set h.d (dpc_activation set h.d h.routine).driver =
-            (begins_dpc set states good w.shared.issued h.d h.routine h.there).ready.1.serves in
-            slice_get_within set.devices h.d served.0 served.1),
-        tt,
-      )
-  falls_event past c good stands (begins_startio h) =
-      falls_put (with_start w.shared h.d (without_first_to_start h.start)) h.thread
-      (rooted h.thread DispatchLevel (startio_activation set h.d h.routine h.n)) h.found (
-        (let served : Serves set h.d (startio_activation set h.d h.routine h.n).driver =
-            (startio_enters set states w past good stands t h).ready.1.serves in
-            slice_get_within set.devices h.d served.0 served.1),
-        tt,
-      )
-  falls_event past c good stands (begins_cancel h) =
-      falls_put w.shared h.thread (cancelling h.thread h.level h.n) h.found refl
+  falls_event past c good stands (begins i root beside) =
+      falls_put root.shared i.thread (with_root i.thread root) i.found
+      (root_falls (root_there set states w past good stands root beside))
 
   -- no list is full
   not_full : (s : Shared) (past : List Entry) (under : Option Frame) (f : Frame) (o : Outcome)
@@ -137,18 +123,14 @@ module _ (set : Set) (states : States) (w : World) (t : ℕ) (falls : AllFall se
       cancel_full_of set s t under (CancelFrame c) o refl comes
 
   -- and passes no bound
-  pub within_bounds : (past : List Entry) (c : Change) → IsGood set states
-      → Standing set states w past
-      → Held set states w → Claimed set states w → AllFall set c.world → Happens set w t c
-      → c.over ≡ false
-  within_bounds past c good stands held claimed later (nothing reply right) = refl
-  within_bounds past c good stands held claimed later (issues h) = refl
-  within_bounds past c good stands held claimed later (begins h) = refl
-  within_bounds past c good stands held claimed later (begins_startio h) = refl
-  within_bounds past c good stands held claimed later (begins_cancel h) = refl
-  within_bounds past c good stands held claimed later (steps h) =
-      let few : length (frames_on c.world t) ≤ 18 = few_frames set c.world t good.sound later in
-      let same : frames_on c.world t ≡ standing set h.below h.outcome =
+  pub within_bounds : (past : List Entry) (h : StepsFrame set w t) → IsGood set states
+      → Standing set states w past → Held set states w → Claimed set states w
+      → AllFall set (settled set w t h.thread h.below h.outcome).world
+      → (settled set w t h.thread h.below h.outcome).over ≡ false
+  within_bounds past h good stands held claimed later =
+      let after : World = (settled set w t h.thread h.below h.outcome).world in
+      let few : length (frames_on after t) ≤ 18 = few_frames set after t good.sound later in
+      let same : frames_on after t ≡ standing set h.below h.outcome =
       frames_put w t h.outcome.shared (with_stack h.thread (standing set h.below h.outcome))
       h.thread h.found in
       let less : length (standing set h.below h.outcome) ≤ 18 =

@@ -1,13 +1,13 @@
 -- The replies of a run tell which packets have topped out: a packet that was issued is live exactly
 -- while no reply tells that it topped out.
-use Rattle.std.proofs.Common.{◌≡◌, ◌≤◌, ◌<◌, ◌+◌, ◌-◌, ℕ, zero, suc, List, [], ◌∷◌, length, take, Option, None, Some, Bool, true, false, refl, ap, sym, ◌∙◌, inl, inr, arith, subst}
-use Rattle.std.specs.Prelude.{◌||◌, ◌&&◌, not, nat_lt, is_none, is_some, slice_get, if◌then◌else◌}
+use Rattle.std.proofs.Common.{◌≡◌, ◌≤◌, ◌<◌, ◌+◌, ℕ, zero, suc, List, [], ◌∷◌, Option, None, Some, Bool, true, false, refl, ap, sym, ◌∙◌, inl, inr, arith, subst}
+use Rattle.std.specs.Prelude.{◌||◌, ◌&&◌, nat_lt, is_none, is_some, slice_get, if◌then◌else◌}
 use Rattle.std.proofs.lemmas.Bool.{cond_both}
 use Rattle.std.proofs.lemmas.Bool.Decides.{eqb_tells}
 use Rattle.model.specs.declared.event.Event.{Event}
-use Rattle.model.specs.declared.event.Event.TheVariants.{Issue, Cancel as CancelEvent, Interrupt, Dpc, StartIo, Step}
+use Rattle.model.specs.declared.event.Event.TheVariants.{Issue}
 use Rattle.model.specs.declared.event.Reply.{Reply}
-use Rattle.model.specs.declared.event.Reply.TheVariants.{Started, Stepped, Topped, Idle, Refused}
+use Rattle.model.specs.declared.event.Reply.TheVariants.{Started, Stepped, Finished, Topped, Idle, Refused}
 use Rattle.model.specs.declared.history.Entry.{Entry}
 use Rattle.model.specs.declared.history.TopOut.{TopOut}
 use Rattle.model.specs.declared.set.Device.{Device}
@@ -15,22 +15,20 @@ use Rattle.model.specs.declared.status.Major.{Major}
 use Rattle.model.specs.declared.status.Status.{Status}
 use Rattle.model.specs.declared.world.CancelStep.{CancelStep}
 use Rattle.model.specs.declared.world.Frame.{Frame}
-use Rattle.model.specs.declared.world.Irql.{Irql}
 use Rattle.model.specs.declared.world.Packet.{Packet}
 use Rattle.model.specs.declared.world.Thread.{Thread}
-use Rattle.model.specs.Effect.{Outcome, frame_effect, set_by, top_of}
-use Rattle.model.specs.Events.{Change, can_issue, cancel_of, cancel_on, dpc_begun, dpc_on, effect, finished_or, interrupt_on, interrupted, irql_of, is_idle, issue_on, issued, settled, standing, startio_for, startio_from, startio_on, step_thread, top_effect, unchanged, with_new_packet}
+use Rattle.model.specs.Effect.{Outcome, set_by, top_of}
+use Rattle.model.specs.Events.{Change, can_issue, effect, finished_or, is_idle, issue_on, issued, settled, standing, unchanged, with_new_packet}
 use Rattle.model.specs.History.{events_of, or_else, replies_from, replies_of, request_started, started_by, top_out_in, top_out_of}
-use Rattle.model.specs.Queues.{StartState, head_of}
-use Rattle.model.specs.Run.{Run, Answered, begun, refused, run, run_from, step, thread_of}
-use Rattle.model.specs.Set.{Set, dpc_of, startio_of}
-use Rattle.model.specs.World.{Shared, World, cancelled, completed, is_queued, left_location, mark_current, moved_up, new_packet, packet_of, sent_down, shared_with, start_of, with_armer, with_info, with_packet, without_packet}
+use Rattle.model.specs.Run.{Run, Answered, begun, refused, run, run_from, step}
+use Rattle.model.specs.Set.{Set}
+use Rattle.model.specs.World.{Shared, World, cancelled, completed, left_location, mark_current, moved_up, new_packet, packet_of, sent_down, shared_with, with_armer, with_info, with_packet, without_packet}
 use Rattle.run_laws.specs.ToldTops.{TopOutsAreTold}
 use Rattle.run_laws.proofs.Past.LivePackets.{Rises, find, find_place, find_push, find_remove, find_set, rises_push, rises_remove, rises_set}
 use Rattle.run_laws.proofs.Past.Packets.{absent, found, found_lt, lt_false, lt_more, lt_true, numbered}
-use Rattle.run_laws.proofs.Runs.Events.{Answers, goes_on_with, answers, set_in, answers_none}
+use Rattle.run_laws.proofs.Runs.Events.{Answers, Concerns, Happens, Sets, a_thread, begins, concerns, goes_on_with, answers, no_thread, nothing, queues, says_nothing, sets_nothing, set_in, steps, answers_none}
+use Rattle.run_laws.proofs.Runs.Roots.{Root, Beside, issues}
 use Rattle.run_laws.proofs.Steps.Comes.{Cancels, sets_flag, finds_empty, finds_none, calls_cancel, Comes, writes_info, marks_packet, exchanges, completes_packet, passes_down, calls_down, resumes_walk, walks_to, lends_to, walks_up, carries_up, tops_out, cancels, works_on_waiting}
-use Rattle.run_laws.proofs.Steps.Walk.{comes}
 use Rattle.run_laws.proofs.Tests.{and_false}
 
 -- what becomes of the live packets, of as many as were issued, where some top out: numbers still
@@ -188,101 +186,29 @@ module _ (set : Set) (w : World) (rises : Rises 0 w.shared.packets w.shared.issu
         gone = λ n. rw (finished_tops (standing set below o) o.reply n) (tells.gone n);
       }
 
-  -- of the top frame, if there is one
-  top_tells : (t : ℕ) (thread : Thread) (below : List Frame) (o : Option Frame)
-      → TellsOf (top_effect set w t thread below o)
-  top_tells t thread below None = same w.shared rises
-  top_tells t thread below (Some f) =
-      settled_tells t thread below (frame_effect set w.shared t (top_of below) f)
-      (frame_tells set w.shared t rises (top_of below) f
-      (frame_effect set w.shared t (top_of below) f)
-      (comes set w.shared t (top_of below) f))
+  -- nothing happens
+  nothing_tells : (reply : Reply) → says_nothing reply ≡ true → TellsOf (unchanged w reply)
+  nothing_tells Finished right = same w.shared rises
+  nothing_tells Idle right = same w.shared rises
+  nothing_tells Refused right = same w.shared rises
+  nothing_tells _ right = cc
 
-  -- of a thread, if there is one
-  thread_tells : (t : ℕ) (o : Option Thread) → TellsOf (step_thread set w t o)
-  thread_tells t None = same w.shared rises
-  thread_tells t (Some thread) =
-      top_tells t thread (take (length thread.frames.items - 1) thread.frames.items)
-      (slice_get thread.frames.items (length thread.frames.items - 1))
-
-  -- a packet is issued
-  issue_tells : (t d : ℕ) (major : Major) (argument : ℕ) (o : Option Thread)
-      (device : Option Device)
-      → TellsOf (issue_on set w t d major argument o device)
-  issue_tells t d major argument (Some thread) (Some device) =
-      cond_both (is_idle thread && can_issue w.shared)
-      (issued set w t d thread device major argument) (unchanged w Refused) TellsOf
-      (λ may. live_issued w.shared rises d device major argument)
-      (λ may_not. same w.shared rises)
-  issue_tells t d major argument _ _ = same w.shared rises
-
-  -- IoCancelIrp begins for a packet, if it is live
-  cancelling_tells : (t n : ℕ) (level : Irql) (thread : Thread) (o : Option Packet)
-      → TellsOf (cancel_of w t n level thread o)
-  cancelling_tells t n level thread None = same w.shared rises
-  cancelling_tells t n level thread (Some p) = same w.shared rises
-
-  -- on a thread, if there is one
-  cancel_on_tells : (t n : ℕ) (level : Option Irql) (o : Option Thread)
-      → TellsOf (cancel_on w t n level o)
-  cancel_on_tells t n (Some level) (Some thread) =
-      cond_both _ (cancel_of w t n level thread (packet_of w.shared n)) (unchanged w Refused)
-      TellsOf
-      (λ may. cancelling_tells t n level thread (packet_of w.shared n))
-      (λ may_not. same w.shared rises)
-  cancel_on_tells t n None (Some thread) = same w.shared rises
-  cancel_on_tells t n level None = same w.shared rises
-
-  -- a device interrupts
-  interrupt_tells : (d : ℕ) (routine : Option ℕ) → TellsOf (interrupt_on w d routine)
-  interrupt_tells d None = same w.shared rises
-  interrupt_tells d (Some routine) =
-      cond_both (is_queued w.shared d) (unchanged w Idle) (interrupted w d) TellsOf
-      (λ queued. same w.shared rises) (λ free. same w.shared rises)
-
-  -- a DPC begins
-  dpc_tells : (t d : ℕ) (o : Option Thread) (routine : Option ℕ)
-      → TellsOf (dpc_on set w t d o routine)
-  dpc_tells t d (Some thread) (Some routine) =
-      cond_both (not (is_idle thread)) (unchanged w Refused) _ TellsOf
-      (λ busy. same w.shared rises)
-      (λ idle. cond_both (is_queued w.shared d) (dpc_begun set w t d thread routine)
-      (unchanged w Idle) TellsOf (λ queued. same w.shared rises) (λ free. same w.shared rises))
-  dpc_tells t d _ _ = same w.shared rises
-
-  -- a StartIo routine begins for the first packet to start, if there is one
-  first_tells : (t d : ℕ) (thread : Thread) (routine : ℕ) (start : StartState) (n : Option ℕ)
-      → TellsOf (startio_for set w t d thread routine start n)
-  first_tells t d thread routine start None = same w.shared rises
-  first_tells t d thread routine start (Some n) = same w.shared rises
-
-  -- of what a device has for StartIo, if it has that
-  started_tells : (t d : ℕ) (thread : Thread) (routine : ℕ) (start : Option StartState)
-      → TellsOf (startio_from set w t d thread routine start)
-  started_tells t d thread routine None = same w.shared rises
-  started_tells t d thread routine (Some start) =
-      first_tells t d thread routine start (head_of start.start_list)
-
-  -- on a thread, if there is one
-  startio_tells : (t d : ℕ) (o : Option Thread) (routine : Option ℕ)
-      → TellsOf (startio_on set w t d o routine)
-  startio_tells t d (Some thread) (Some routine) =
-      cond_both (is_idle thread) (startio_from set w t d thread routine (start_of w.shared d))
-      (unchanged w Refused) TellsOf
-      (λ idle. started_tells t d thread routine (start_of w.shared d))
-      (λ busy. same w.shared rises)
-  startio_tells t d _ _ = same w.shared rises
+  -- a root begins
+  root_tells : (root : Root) → Beside set w.shared root → TellsTops w.shared root.shared root.reply
+  root_tells root (issues h) = live_issued w.shared rises h.d h.device h.major h.argument
+  root_tells root _ = same w.shared rises
 
   -- any event
-  effect_tells : (e : Event) → TellsOf (effect set w e)
-  effect_tells (Issue t d major argument) =
-      issue_tells t d major argument (slice_get w.threads t) (slice_get set.devices d)
-  effect_tells (CancelEvent t n level) =
-      cancel_on_tells t n (irql_of level) (slice_get w.threads t)
-  effect_tells (Interrupt d) = interrupt_tells d (dpc_of set d)
-  effect_tells (Dpc t d) = dpc_tells t d (slice_get w.threads t) (dpc_of set d)
-  effect_tells (StartIo t d) = startio_tells t d (slice_get w.threads t) (startio_of set d)
-  effect_tells (Step t) = thread_tells t (slice_get w.threads t)
+  happens_tells : (t : ℕ) (c : Change) → Happens set w t c → TellsOf c
+  happens_tells t c (nothing reply right) = nothing_tells reply right
+  happens_tells t c (steps h) =
+      settled_tells t h.thread h.below h.outcome
+      (frame_tells set w.shared t rises (top_of h.below) h.frame h.outcome h.comes)
+  happens_tells t c (begins i root beside) = root_tells root beside
+
+  sets_tells : (c : Change) → Sets set w c → TellsOf c
+  sets_tells c (sets_nothing reply right) = nothing_tells reply right
+  sets_tells c (queues d) = same w.shared rises
 
 -- the numbers of a run's live packets rise, and are below those of packets to come
 abbrev pub RunRises : Run → Type 0
@@ -306,18 +232,18 @@ module _ (set : Set) (r : Run) (rises : RunRises r) where
   set_tells c true tells = same r.world.shared rises
   set_tells c false tells = tells
 
-  -- to an event, by what it is about
-  step_by : (e : Event) (o : Option ℕ) → thread_of e ≡ o → Answer (step set r e)
-  step_by e (Some t) is =
-      answered_tells t (effect set r.world e) (step set r e) (effect_tells set r.world rises e)
-      (answers set r t e is)
-  step_by e None is =
-      subst Answer (sym (answers_none set r e is))
-      (set_tells (effect set r.world e) r.stopped (effect_tells set r.world rises e))
-
   -- to any event
+  concerned_tells : (e : Event) → Concerns set r.world e → Answer (step set r e)
+  concerned_tells e (a_thread t is happens) =
+      answered_tells t (effect set r.world e) (step set r e)
+      (happens_tells set r.world rises t (effect set r.world e) happens) (answers set r t e is)
+  concerned_tells e (no_thread is sets) =
+      subst Answer (sym (answers_none set r e is))
+      (set_tells (effect set r.world e) r.stopped
+      (sets_tells set r.world rises (effect set r.world e) sets))
+
   pub step_tells : (e : Event) → Answer (step set r e)
-  step_tells e = step_by e (thread_of e) refl
+  step_tells e = concerned_tells e (concerns set r.world e)
 
 module _ (set : Set) where
   -- the replies of a run from another one on tell what became of its live packets

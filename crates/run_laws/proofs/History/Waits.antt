@@ -15,7 +15,8 @@ use Rattle.model.specs.Run.{Run, Answered, begun, refused, run, run_from, step}
 use Rattle.model.specs.Set.{Set}
 use Rattle.model.specs.World.{Shared, World}
 use Rattle.run_laws.specs.Waits.{WaitingChangesNothing, says_unchanged}
-use Rattle.run_laws.proofs.Runs.Events.{StepsFrame, Happens, nothing, steps, Sets, sets_nothing, Concerns, a_thread, no_thread, concerns, Answers, goes_on_with, answers, set_in, answers_none}
+use Rattle.run_laws.proofs.Runs.Roots.{Root, Beside, issues}
+use Rattle.run_laws.proofs.Runs.Events.{StepsFrame, Happens, nothing, steps, begins, Sets, sets_nothing, Concerns, a_thread, no_thread, concerns, Answers, goes_on_with, answers, set_in, answers_none}
 use Rattle.run_laws.proofs.Steps.Comes.{Cancels, awaits_cancel, Comes, awaits_lock, cancels}
 
 -- a run with one event more
@@ -93,6 +94,10 @@ module _ (set : Set) (w : World) (t : ℕ) where
       ∙ ap (λ (threads : List Thread). record w { threads = threads })
       (set_back w.threads t h.thread h.found)
 
+  root_says : (root : Root) → Beside set w.shared root → says_unchanged root.reply ≡ true → ⊥
+  root_says root (issues h) says = cc
+  root_says root _ says = cc
+
   -- it is so after an event on a thread that says that nothing changes
   happens_same : (c : Change) → Happens set w t c → says_unchanged c.reply ≡ true → c.world ≡ w
   happens_same c (nothing reply right) says = refl
@@ -100,7 +105,7 @@ module _ (set : Set) (w : World) (t : ℕ) where
       settled_same h
       (step_stays set w.shared t (top_of h.below) h.frame h.outcome h.comes
       (finished_says (standing set h.below h.outcome) h.outcome.reply says))
-  happens_same c _ says = cc
+  happens_same c (begins i root beside) says = absurd (root_says root beside says)
 
 module _ (set : Set) (r : Run) where
   -- what a run answers to it leaves the world as it was

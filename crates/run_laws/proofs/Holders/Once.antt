@@ -12,7 +12,8 @@ use Rattle.model.specs.Trace.{Entry, Actor, recorded}
 use Rattle.model.specs.World.{Shared, World}
 use Rattle.run_laws.specs.TopsOnce.{times_topped}
 use Rattle.run_laws.proofs.Past.Packets.{Tells, found, untopped}
-use Rattle.run_laws.proofs.Runs.Events.{Happens, nothing, steps, issues, begins, begins_startio, begins_cancel}
+use Rattle.run_laws.proofs.Runs.Events.{Happens, nothing, steps, begins}
+use Rattle.run_laws.proofs.Runs.Roots.{root_told}
 use Rattle.run_laws.proofs.Steps.Comes.{Cancels, takes_cancel, Comes, tops_out, works_on_queues, cancels}
 use Rattle.run_laws.proofs.Steps.Queues.{queued_touches}
 use Rattle.run_laws.proofs.Tests.{if_one}
@@ -56,11 +57,9 @@ module _ (set : Set) (past : List Entry) (actor : Actor) (once : ToppedOnce past
   once_kept w c tells (nothing reply right) = once
   once_kept w c tells (steps h) =
       once_step w.shared (top_frame h.below) h.frame h.outcome tells h.comes
-  once_kept w c tells (begins h) = once
-  once_kept w c tells (begins_startio h) = once
-  once_kept w c tells (begins_cancel h) = once
-  once_kept w c tells (issues h) =
-      λ m. (omega (arith, once m))
+  once_kept w c tells (begins i root beside) =
+      root_told set w.shared (λ actions. ToppedOnce (recorded past actor actions)) once
+      (λ n stack m. omega (arith, once m)) root beside
 
 pub tops_at_most_once : (past : List Entry) → ToppedOnce past → (n : ℕ) → times_topped past n ≤ 1
 tops_at_most_once past once n =

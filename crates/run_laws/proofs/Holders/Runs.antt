@@ -7,17 +7,15 @@ use Rattle.model.specs.declared.instr.Return.TheVariants.{Stop}
 use Rattle.model.specs.declared.set.Sort.TheVariants.{Dispatch, StartIo}
 use Rattle.model.specs.declared.status.Status.{Status}
 use Rattle.model.specs.declared.world.Activation.{Activation}
-use Rattle.model.specs.declared.world.CancelStep.TheVariants.{Acquire as AcquireStep}
 use Rattle.model.specs.declared.world.Frame.{Frame}
 use Rattle.model.specs.declared.world.Frame.TheVariants.{Routine, Walk, Cancel as CancelFrame}
-use Rattle.model.specs.declared.world.Irql.TheVariants.{Passive, Dispatch as DispatchLevel}
 use Rattle.model.specs.declared.world.Packet.{Packet}
 use Rattle.model.specs.declared.world.Thread.{Thread}
 use Rattle.model.specs.Effect.{Outcome, operand_of, answered_in, top_of, kept_below, told_to}
-use Rattle.model.specs.Events.{with_thread, Change, standing, with_stack, rooted, serves_request, dpc_activation, cancelling}
+use Rattle.model.specs.Events.{Change, standing, with_stack, serves_request, dpc_activation}
 use Rattle.model.specs.Fault.{first_fault, topped}
 use Rattle.model.specs.LocalRule.{is_hold}
-use Rattle.model.specs.Queues.{StartState, idle, without_first_to_start}
+use Rattle.model.specs.Queues.{without_first_to_start}
 use Rattle.model.specs.Run.{Run, begun}
 use Rattle.model.specs.Set.{Set, instruction_at, sort_of}
 use Rattle.model.specs.Trace.{Entry, Actor}
@@ -35,8 +33,9 @@ use Rattle.run_laws.proofs.Holders.Walking.{first_walking, last_walking, none_wa
 use Rattle.run_laws.proofs.Lists.{last_split}
 use Rattle.run_laws.proofs.Past.LivePackets.{find, find_place, find_above}
 use Rattle.run_laws.proofs.Past.Packets.{Tells}
-use Rattle.run_laws.proofs.Runs.Events.{StepsFrame, Happens, nothing, steps, issues, begins, begins_startio, begins_cancel}
-use Rattle.run_laws.proofs.Runs.Kept.{GoesOnBy}
+use Rattle.run_laws.proofs.Runs.Events.{StepsFrame, Happens, nothing, steps, begins}
+use Rattle.run_laws.proofs.Runs.Roots.{Root, Beside, IdleThread, issues, root_begun, takes_dpc, takes_first, takes_nothing, with_root}
+use Rattle.run_laws.proofs.States.Begun.{startio_enters}
 use Rattle.run_laws.proofs.States.Entering.{begins_request, begins_dpc, startio_activation}
 use Rattle.run_laws.proofs.States.Fine.{StepLeaves, leaves_fine}
 use Rattle.run_laws.proofs.States.Frames.{IsGood, Ready, state_of, Runs}
@@ -44,7 +43,7 @@ use Rattle.run_laws.proofs.States.Obeyed.{returns_by}
 use Rattle.run_laws.proofs.States.OnTop.{OnTop, runs}
 use Rattle.run_laws.specs.ArrivingStates.{States}
 use Rattle.run_laws.proofs.States.Stacks.{Stands, Stacked, Replaces}
-use Rattle.run_laws.proofs.States.Standing.{Standing, stands_there, on_top, startio_enters}
+use Rattle.run_laws.proofs.States.Standing.{Standing, stands_there, on_top}
 use Rattle.run_laws.proofs.States.Told.{told_frame, told_last, last_same, told_is}
 use Rattle.run_laws.proofs.Steps.Below.{cancel_takes, stood}
 use Rattle.run_laws.proofs.Steps.Comes.{stops_walk, Comes, errs, cancels}
@@ -218,31 +217,72 @@ frees_slot set states w tokens t h = frees_of h.frame refl
 -- what an event does to the rights
 module _ (set : Set) (states : States) (w : World) (past : List Entry) (good : IsGood set states)
     (stands : Standing set states w past) (kept : Held set states w) where
-  -- a routine begins on an idle thread
-  begun_held : (t : ℕ) (s : Shared) (thread after : Thread) (f : Frame)
-      → slice_get w.threads t ≡ Some thread → thread.frames.items ≡ []
-      → after.frames.items ≡ f ∷ [] → ((n : ℕ) → frame_walks f n ≡ 0)
-      → ((n : ℕ) → frame_rights states f n + times_waiting set s n
+  -- a root has the right to no packet but to one that is new, or the first of a start list
+  root_even : (root : Root) → Beside set w.shared root → (n : ℕ)
+      → frame_rights states root.frame n + times_waiting set root.shared n
       + unheld (find w.shared.packets n)
-      ≡ times_waiting set w.shared n + unheld (find s.packets n))
-      → ((n : ℕ) → held (find s.packets n) ≡ held (find w.shared.packets n))
-      → Held set states (with_thread w t s after)
-  begun_held t s thread after f found idle items still even same =
+      ≡ times_waiting set w.shared n + unheld (find root.shared.packets n)
+  root_even root (issues h) n =
+      let m : ℕ = w.shared.issued in
+      let a : Activation = serves_request set h.d h.device h.major m in
+      let p : Packet = new_packet m h.d h.major h.argument h.device.stack in
+      let one : frame_rights states (Routine a) n ≡ (if nat_eq m n then 1 else 0) =
+      begun_rights set states (m + 1) a Dispatch m n
+      (begins_request set states good (m + 1) m (omega arith) h.d h.device h.major h.there) in
+      let packets : unheld (find (w.shared.packets ++ p ∷ []) n)
+      ≡ (if nat_eq m n then 1 else 0) + unheld (find w.shared.packets n) =
+      new_unheld w.shared p stands.tells.rises refl refl n in
+      let waits : times_waiting set root.shared n ≡ times_waiting set w.shared n =
+      new_waits w.shared p stands.tells.rises refl refl set root.shared refl refl refl refl n in
+      omega arith
+  root_even root (takes_dpc d routine there) n =
+      omega (
+        arith,
+        dpc_rights set states w.shared.issued (dpc_activation set d routine) n
+            (begins_dpc set states good w.shared.issued d routine there),
+      )
+  root_even root (takes_first h) n =
+      omega (
+        arith,
+        begun_rights set states w.shared.issued (startio_activation set h.d h.routine h.n) StartIo
+            h.n n (startio_enters set states good w.shared stands.fits h),
+        started_put set w.shared.starts h.d h.start (without_first_to_start h.start) n h.has,
+        times_first (waits_cancelable set h.d) h.start h.n n h.first,
+      )
+  root_even root (takes_nothing m level p there) n = omega arith
+
+  -- and is the I/O manager's for none
+  root_still : (root : Root) → Beside set w.shared root → (n : ℕ)
+      → (frame_walks root.frame n ≡ 0)
+      × (held (find root.shared.packets n) ≡ held (find w.shared.packets n))
+  root_still root (issues h) n = (
+    refl,
+    new_held w.shared
+        (new_packet w.shared.issued h.d h.major h.argument h.device.stack) stands.tells.rises refl
+        refl n,
+  )
+  root_still root _ n = (refl, refl)
+
+  root_held : (t : ℕ) (i : IdleThread w t) (root : Root) → Beside set w.shared root
+      → Held set states (root_begun w t i.thread root).world
+  root_held t i root beside =
+      let after : Thread = with_root i.thread root in
       record {
         rights = λ n.
             omega (
               arith,
               kept.rights n,
-              first_frame (λ f. frame_rights states f n) w.threads t thread after f found idle items,
-              even n,
+              first_frame (λ f. frame_rights states f n) w.threads t i.thread after root.frame i.found
+                  i.idle refl,
+              root_even root beside n,
             );
         walks = λ n.
             omega (
               arith,
-              first_walking set w.threads t thread after f n found idle items,
-              still n,
+              first_walking set w.threads t i.thread after root.frame n i.found i.idle refl,
+              (root_still root beside n).0,
               kept.walks n,
-              same n,
+              (root_still root beside n).1,
             );
       }
 
@@ -279,13 +319,13 @@ module _ (set : Set) (states : States) (w : World) (past : List Entry) (good : I
             omega arith
       ]
 
-  held_happens : OneTokenEach states w → (actor : Actor) (c : Change)
+  pub held_kept : OneTokenEach states w → (actor : Actor) (c : Change)
       → ((h : StepsFrame set w actor.thread) → IsLent set states (top_of h.below) h.frame)
       → ((h : StepsFrame set w actor.thread) → NextArmed set w.shared h.frame)
       → Happens set w actor.thread c
       → first_fault past actor c.actions ≡ None → Held set states c.world
-  held_happens tokens actor c lent next (nothing reply right) quiet = kept
-  held_happens tokens actor c lent next (steps h) quiet =
+  held_kept tokens actor c lent next (nothing reply right) quiet = kept
+  held_kept tokens actor c lent next (steps h) quiet =
       let o : Outcome = h.outcome in
       let t : ℕ = actor.thread in
       let on : OnTop set states w.shared h.frame = on_top set states w past good stands t h in
@@ -312,68 +352,15 @@ module _ (set : Set) (states : States) (w : World) (past : List Entry) (good : I
               walks_after set states w.shared t h.below h.frame o on h.comes step n,
             );
       }
-  held_happens tokens actor c lent next (issues h) quiet =
-      let m : ℕ = w.shared.issued in
-      let a : Activation = serves_request set h.d h.device h.major m in
-      let p : Packet = new_packet m h.d h.major h.argument h.device.stack in
-      begun_held actor.thread c.world.shared h.thread (rooted h.thread Passive a) (Routine a)
-      h.found h.idle refl (λ n. refl)
-      (λ n.
-      let one : frame_rights states (Routine a) n ≡ (if nat_eq m n then 1 else 0) =
-      begun_rights set states (m + 1) a Dispatch m n
-      (begins_request set states good (m + 1) m (omega arith) h.d h.device h.major h.there) in
-      let packets : unheld (find (w.shared.packets ++ p ∷ []) n)
-      ≡ (if nat_eq m n then 1 else 0) + unheld (find w.shared.packets n) =
-      new_unheld w.shared p stands.tells.rises refl refl n in
-      let waits : times_waiting set c.world.shared n ≡ times_waiting set w.shared n =
-      new_waits w.shared p stands.tells.rises refl refl set c.world.shared refl refl refl refl n in
-      omega arith)
-      (λ n. new_held w.shared p stands.tells.rises refl refl n)
-  held_happens tokens actor c lent next (begins h) quiet =
-      let a : Activation = dpc_activation set h.d h.routine in
-      begun_held actor.thread c.world.shared h.thread (rooted h.thread DispatchLevel a) (Routine a)
-      h.found h.idle refl (λ n. refl)
-      (λ n.
-      omega (
-        arith,
-        dpc_rights set states w.shared.issued a n (begins_dpc set states good w.shared.issued h.d h.routine h.there),
-      ))
-      (λ n. refl)
-  held_happens tokens actor c lent next (begins_startio h) quiet =
-      let a : Activation = startio_activation set h.d h.routine h.n in
-      let start : StartState = without_first_to_start h.start in
-      begun_held actor.thread c.world.shared h.thread (rooted h.thread DispatchLevel a) (Routine a)
-      h.found h.idle refl (λ n. refl)
-      (λ n.
-      omega (
-        arith,
-        begun_rights set states w.shared.issued a StartIo h.n n (startio_enters set states w past good stands actor.thread h),
-        started_put set w.shared.starts h.d h.start start n h.has,
-        times_first (waits_cancelable set h.d) h.start h.n n h.first,
-      ))
-      (λ n. refl)
-  -- IoCancelIrp begins: its frame has no packet
-  held_happens tokens actor c lent next (begins_cancel h) quiet =
-      begun_held actor.thread w.shared h.thread (cancelling h.thread h.level h.n)
-      (CancelFrame (record { packet = h.n; next = AcquireStep })) h.found h.idle refl (λ n. refl)
-      (λ n. omega arith) (λ n. refl)
+  held_kept tokens actor c lent next (begins i root beside) quiet =
+      root_held actor.thread i root beside
 
-  pub held_kept : OneTokenEach states w → (actor : Actor) (c : Change)
-      → ((h : StepsFrame set w actor.thread) → IsLent set states (top_of h.below) h.frame)
-      → ((h : StepsFrame set w actor.thread) → NextArmed set w.shared h.frame)
-      → GoesOnBy set w past actor c
-      → Held set states c.world
-  held_kept tokens actor c lent next on =
-      held_happens tokens actor c lent next on.happens on.quiet
-
-  pub completion_faults_none : (actor : Actor) (c : Change)
-      → Happens set w actor.thread c → fault_among is_completion past actor c.actions ≡ None
-  completion_faults_none actor c (nothing reply right) = refl
-  completion_faults_none actor c (steps h) =
+  pub completion_faults_none : (actor : Actor) (h : StepsFrame set w actor.thread)
+      → fault_among is_completion past actor h.outcome.actions ≡ None
+  completion_faults_none actor h =
       completion_faults set states w.shared past actor (top_of h.below) h.frame h.outcome
       (on_top set states w past good stands actor.thread h)
       (top_holding set states w past stands kept actor.thread h) h.comes
-  completion_faults_none actor c _ = refl
 
 -- before the first event
 pub idle_sum : (count : Frame → ℕ) (threads : ℕ)

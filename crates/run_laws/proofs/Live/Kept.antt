@@ -7,15 +7,14 @@ use Rattle.std.proofs.Common.{◌≡◌, ℕ, suc, ◌+◌, ◌-◌, ◌≤◌, 
 use Rattle.std.specs.Prelude.{slice_get}
 use Rattle.model.specs.declared.set.Sort.TheVariants.{Dpc, StartIo, Hold, Dispatch}
 use Rattle.model.specs.declared.status.Status.{Status}
-use Rattle.model.specs.declared.world.Activation.{Activation}
 use Rattle.model.specs.declared.world.CancelStep.{CancelStep}
 use Rattle.model.specs.declared.world.Frame.{Frame}
 use Rattle.model.specs.declared.world.Frame.TheVariants.{Routine, Walk, Cancel as CancelFrame}
-use Rattle.model.specs.declared.world.Irql.TheVariants.{Passive, Dispatch as DispatchLevel}
+use Rattle.model.specs.declared.world.Irql.{Irql}
 use Rattle.model.specs.declared.world.Packet.{Packet}
 use Rattle.model.specs.declared.world.Thread.{Thread}
 use Rattle.model.specs.Effect.{Outcome, told_to, top_of}
-use Rattle.model.specs.Events.{Change, rooted, serves_request, standing, with_stack, with_thread, dpc_activation, cancelling}
+use Rattle.model.specs.Events.{Change, standing, with_stack, with_thread}
 use Rattle.model.specs.Run.{begun, frames_on}
 use Rattle.model.specs.Set.{Set}
 use Rattle.model.specs.Trace.{Entry, Actor}
@@ -27,12 +26,13 @@ use Rattle.run_laws.proofs.Live.Sees.{deferred_sort, Seen, AllSeen, seen_append,
 use Rattle.run_laws.proofs.Live.Steps.{UnderLives, seen, touch_faults, ClaimsLive, EntriesLive}
 use Rattle.run_laws.proofs.Past.LivePackets.{find}
 use Rattle.run_laws.proofs.Past.Packets.{found}
-use Rattle.run_laws.proofs.Runs.Events.{StepsFrame, Happens, nothing, steps, issues, begins, begins_startio, begins_cancel}
-use Rattle.run_laws.proofs.Runs.Threads.{frames_there, each_frames, idle_frames}
-use Rattle.run_laws.proofs.States.Entering.{begins_request, begins_dpc, startio_activation}
+use Rattle.run_laws.proofs.Runs.Events.{StepsFrame, Happens, nothing, steps, begins}
+use Rattle.run_laws.proofs.Runs.Roots.{with_root}
+use Rattle.run_laws.proofs.Runs.Threads.{of_steps, each_frames, idle_frames}
+use Rattle.run_laws.proofs.States.Begun.{RootFrame, root_cancels, root_enters}
 use Rattle.run_laws.proofs.States.Frames.{IsGood}
 use Rattle.run_laws.specs.ArrivingStates.{States}
-use Rattle.run_laws.proofs.States.Standing.{Standing, on_top, startio_enters}
+use Rattle.run_laws.proofs.States.Standing.{Standing, on_top, root_there}
 use Rattle.run_laws.proofs.States.Told.{last_under}
 use Rattle.run_laws.proofs.Steps.Comes.{Cancels, takes_cancel, Comes, returns_status, cancels}
 use Rattle.run_laws.proofs.Steps.Below.{stood}
@@ -118,16 +118,23 @@ module _ (set : Set) (states : States) (w : World) (past : List Entry) (good : I
     (stands : Standing set states w past) (sees : Sees set states w) where
   -- the frame that steps sees what it stands on
   top_seen : (t : ℕ) (h : StepsFrame set w t) → AllSeen set states None (h.below ++ h.frame ∷ [])
-  top_seen t h =
-      subst (λ (frames : List Frame). AllSeen set states None frames)
-      (frames_there w t h.thread h.found
-      ∙ h.frames) (sees t)
+  top_seen t h = of_steps w t (AllSeen set states None) h (sees t)
 
   sees_put : (t : ℕ) (s : Shared) (thread after : Thread) → slice_get w.threads t ≡ Some thread
       → AllSeen set states None after.frames.items → Sees set states (with_thread w t s after)
   sees_put t s thread after there new =
       each_frames w t s after (λ k frames. AllSeen set states None frames) thread there new
       (λ k apart. sees k)
+
+  root_seen : {issued : ℕ} {level : Irql} {f : Frame} → RootFrame set states issued level f
+      → AllSeen set states None (f ∷ [])
+  root_seen (root_enters a Dispatch first root enters) = (inl enters.of_sort, tt)
+  root_seen (root_enters a StartIo first root enters) =
+      (inr (deferred_sort set a StartIo enters.of_sort refl), tt)
+  root_seen (root_enters a Dpc first root enters) =
+      (inr (deferred_sort set a Dpc enters.of_sort refl), tt)
+  root_seen (root_enters a _ first root enters) = absurd root
+  root_seen (root_cancels n low) = (tt, tt)
 
   -- an event keeps it
   pub sees_event : (t : ℕ) (c : Change) → Happens set w t c → Sees set states c.world
@@ -153,51 +160,22 @@ module _ (set : Set) (states : States) (w : World) (past : List Entry) (good : I
             (subst (λ (frames : List Frame). AllSeen set states None frames) stops.below_is
             (seen_below set states None h.below (h.frame ∷ []) here)))
       ])
-  sees_event t c (issues h) =
-      sees_put t c.world.shared h.thread
-      (rooted h.thread Passive (serves_request set h.d h.device h.major w.shared.issued))
-      h.found (
-        inl (begins_request set states good (w.shared.issued + 1) w.shared.issued (omega arith) h.d
-            h.device h.major
-            h.there).of_sort,
-        tt,
-      )
-  sees_event t c (begins h) =
-      sees_put t c.world.shared h.thread
-      (rooted h.thread DispatchLevel (dpc_activation set h.d h.routine)) h.found (
-        inr (deferred_sort set (dpc_activation set h.d h.routine) Dpc
-            (begins_dpc set states good w.shared.issued h.d h.routine h.there).of_sort refl),
-        tt,
-      )
-  sees_event t c (begins_cancel h) =
-      sees_put t w.shared h.thread (cancelling h.thread h.level h.n) h.found (tt, tt)
-  sees_event t c (begins_startio h) =
-      let a : Activation = startio_activation set h.d h.routine h.n in
-      sees_put t c.world.shared h.thread (rooted h.thread DispatchLevel a) h.found (
-        inr (deferred_sort set a StartIo
-            (startio_enters set states w past good stands t h).of_sort refl),
-        tt,
-      )
+  sees_event t c (begins i root beside) =
+      sees_put t root.shared i.thread (with_root i.thread root) i.found
+      (root_seen (root_there set states w past good stands root beside))
 
   -- and touches live packets alone
-  pub touches_none : (actor : Actor) (c : Change) → Held set states w
-      → ((h : StepsFrame set w actor.thread) → Holding set states w.shared past h.frame)
-      → ((h : StepsFrame set w actor.thread) → ClaimsLive states w.shared h.frame)
-      → EntriesLive w.shared
-      → Happens set w actor.thread c → fault_among is_touch past actor c.actions ≡ None
-  touches_none actor c kept holding claims entries_live (nothing reply right) = refl
-  touches_none actor c kept holding claims entries_live (issues h) = refl
-  touches_none actor c kept holding claims entries_live (begins h) = refl
-  touches_none actor c kept holding claims entries_live (begins_startio h) = refl
-  touches_none actor c kept holding claims entries_live (begins_cancel h) = refl
-  touches_none actor c kept holding claims entries_live (steps h) =
+  pub touches_none : (actor : Actor) (h : StepsFrame set w actor.thread) → Held set states w
+      → Holding set states w.shared past h.frame → ClaimsLive states w.shared h.frame
+      → EntriesLive w.shared → fault_among is_touch past actor h.outcome.actions ≡ None
+  touches_none actor h kept holding claims entries_live =
       touch_faults set states w.shared past actor (top_of h.below) h.frame h.outcome stands.tells
-      (on_top set states w past good stands actor.thread h) (holding h)
+      (on_top set states w past good stands actor.thread h) holding
       (subst (λ (under : Option Frame). Seen set states under h.frame) (last_is_top h.below)
       (seen_top set states None h.below (h.frame ∷ []) (top_seen actor.thread h)).0)
       (under_lives set states w actor.thread h.thread h.below h.frame (top_of h.below) kept h.found
       h.frames refl)
-      (claims h) entries_live h.comes
+      claims entries_live h.comes
 
 -- a completion routine that is lent a packet was handed that of the I/O manager's frame below it
 module _ (set : Set) (states : States) where
@@ -221,6 +199,4 @@ module _ (set : Set) (states : States) where
       subst (λ (under : Option Frame). IsLent set states under h.frame) (last_is_top h.below)
       (seen_lent (last_under None h.below) h.frame
       (seen_top set states None h.below (h.frame ∷ [])
-      (subst (λ (frames : List Frame). AllSeen set states None frames)
-      (frames_there w t h.thread h.found
-      ∙ h.frames) (sees t))).0)
+      (of_steps w t (AllSeen set states None) h (sees t))).0)

@@ -1,39 +1,35 @@
 -- Locks and levels are kept in every run of an accepted set: every thread holds the locks that the
 -- state of its top frame says.
-use Rattle.std.proofs.Common.{inl, inr, ◌≡◌, ◌≢◌, ◌+◌, ◌-◌, ℕ, List, [], ◌∷◌, ◌++◌, Option, None, Some, Bool, false, refl, ap, sym, ◌∙◌, subst, arith}
+use Rattle.std.proofs.Common.{inl, inr, ◌≡◌, ◌≢◌, ◌+◌, ◌-◌, ℕ, List, [], ◌∷◌, ◌++◌, Option, None, Some, Bool, false, refl, ap, sym, ◌∙◌, subst}
 use Rattle.std.specs.Prelude.{slice_get}
 use Rattle.std.proofs.lemmas.Bool.{ne_eqb}
 use Rattle.std.proofs.lemmas.List.{append-nil, append_assoc}
 use Rattle.model.specs.declared.event.Lock.{Lock}
 use Rattle.model.specs.declared.status.Status.{Status}
-use Rattle.model.specs.declared.set.Sort.TheVariants.{Dispatch, Dpc, StartIo}
 use Rattle.model.specs.declared.world.Activation.{Activation}
 use Rattle.model.specs.declared.world.Frame.{Frame}
 use Rattle.model.specs.declared.world.Frame.TheVariants.{Routine, Walk, Cancel as CancelFrame}
 use Rattle.model.specs.declared.world.Irql.{Irql}
-use Rattle.model.specs.declared.world.Irql.TheVariants.{Passive, Dispatch as DispatchLevel}
 use Rattle.model.specs.declared.world.Thread.{Thread}
-use Rattle.model.specs.declared.world.Value.TheVariants.{Blank, Ref}
-use Rattle.model.specs.Action.{Action, Acquires, Releases, Issues}
+use Rattle.model.specs.Action.{Action, Acquires, Releases}
 use Rattle.model.specs.Effect.{Outcome, operand_of, answered_in, top_of}
-use Rattle.model.specs.Events.{Change, standing, with_thread, with_stack, rooted, with_new_packet, serves_request, dpc_activation, cancelling}
+use Rattle.model.specs.Events.{Change, standing, with_thread, with_stack}
 use Rattle.model.specs.Fault.{holds_after, holds}
 use Rattle.model.specs.Run.{begun, root_of, frames_on}
 use Rattle.model.specs.Set.{Set, instruction_at}
 use Rattle.model.specs.Trace.{Entry, Actor, entry, recorded}
-use Rattle.model.specs.Queues.{without_first_to_start}
-use Rattle.model.specs.World.{Shared, World, with_dpc, with_start}
+use Rattle.model.specs.World.{Shared, World}
 use Rattle.run_laws.proofs.Locks.Says.{frame_says, top_says, free_says}
 use Rattle.run_laws.proofs.Locks.Steps.{begun_says, own, lock_faults}
-use Rattle.run_laws.proofs.Runs.Events.{StepsFrame, Happens, nothing, steps, issues, begins, begins_startio, begins_cancel}
-use Rattle.run_laws.proofs.Runs.Kept.{GoesOnBy}
+use Rattle.run_laws.proofs.Runs.Events.{StepsFrame, Happens, nothing, steps, begins}
+use Rattle.run_laws.proofs.Runs.Roots.{root_told, with_root}
 use Rattle.run_laws.proofs.Runs.Threads.{frames_there, each_frames, idle_frames}
-use Rattle.run_laws.proofs.States.Entering.{begins_request, begins_dpc, startio_activation}
+use Rattle.run_laws.proofs.States.Begun.{RootFrame, root_cancels, root_enters, root_free}
 use Rattle.run_laws.proofs.States.Frames.{state_of, IsGood}
 use Rattle.run_laws.proofs.States.Roots.{Low}
 use Rattle.run_laws.specs.ArrivingStates.{States}
 use Rattle.run_laws.proofs.States.Stacks.{Stands, Stacked}
-use Rattle.run_laws.proofs.States.Standing.{Standing, stands_there, on_top, low_there, startio_enters}
+use Rattle.run_laws.proofs.States.Standing.{Standing, stands_there, on_top, low_there, root_there}
 use Rattle.run_laws.proofs.States.Told.{told_frame, told_last, told_is}
 use Rattle.run_laws.proofs.Steps.Below.{stood}
 use Rattle.run_laws.proofs.Steps.Faults.{is_of_locks, fault_among}
@@ -160,61 +156,36 @@ module _ (set : Set) (states : States) (w : World) (past : List Entry) (good : I
             ∙ ap (λ (frames : List Frame). top_says states frames l) (sym gone.stands)
       ]
 
-  locks_happen : (actor : Actor) (c : Change) → Happens set w actor.thread c
+  root_says : {issued : ℕ} {level : Irql} {f : Frame} (l : Lock)
+      → RootFrame set states issued level f → frame_says states f l ≡ false
+  root_says {issued = issued} {level = level} l (root_enters a sort first root enters) =
+      begun_says set states issued a sort first l enters (root_free level sort _ root)
+  root_says l (root_cancels n low) = refl
+
+  pub locks_kept : (actor : Actor) (c : Change) → Happens set w actor.thread c
       → LocksAgree states c.world (recorded past actor c.actions)
-  locks_happen actor c (nothing reply right) = agree
-  locks_happen actor c (steps h) =
+  locks_kept actor c (nothing reply right) = agree
+  locks_kept actor c (steps h) =
       agree_after actor h.outcome.actions h.outcome.shared h.thread
       (with_stack h.thread (standing set h.below h.outcome)) h.found (stepped_locks actor h)
-  locks_happen actor c (issues h) =
-      let n : ℕ = w.shared.issued in
-      let a : Activation = serves_request set h.d h.device h.major n in
-      agree_after actor (Issues n h.device.stack ∷ [])
-      (with_new_packet w.shared h.d h.device h.major h.argument)
-      h.thread (rooted h.thread Passive a) h.found
-      (λ l. agree actor.thread l
+  locks_kept actor c (begins i root beside) =
+      agree_after actor root.actions root.shared i.thread (with_root i.thread root) i.found
+      (λ l. root_told set w.shared
+      (λ actions. holds (recorded past actor actions) actor.thread l ≡ holds past actor.thread l)
+      refl (λ n stack. refl) root beside
+      ∙ agree actor.thread l
       ∙ ap (λ (frames : List Frame). top_says states frames l)
-      (frames_there w actor.thread h.thread h.found ∙ h.idle)
-      ∙ sym (begun_says set states (n + 1) a Dispatch (Ref n) l
-      (begins_request set states good (n + 1) n (omega arith) h.d h.device h.major h.there) refl))
-  locks_happen actor c (begins h) =
-      let a : Activation = dpc_activation set h.d h.routine in
-      agree_after actor [] (with_dpc w.shared h.d false) h.thread (rooted h.thread DispatchLevel a)
-      h.found
-      (λ l. agree actor.thread l
-      ∙ ap (λ (frames : List Frame). top_says states frames l)
-      (frames_there w actor.thread h.thread h.found ∙ h.idle)
-      ∙ sym (begun_says set states w.shared.issued a Dpc Blank l
-      (begins_dpc set states good w.shared.issued h.d h.routine h.there) refl))
-  locks_happen actor c (begins_startio h) =
-      let a : Activation = startio_activation set h.d h.routine h.n in
-      agree_after actor [] (with_start w.shared h.d (without_first_to_start h.start)) h.thread
-      (rooted h.thread DispatchLevel a) h.found
-      (λ l. agree actor.thread l
-      ∙ ap (λ (frames : List Frame). top_says states frames l)
-      (frames_there w actor.thread h.thread h.found ∙ h.idle)
-      ∙ sym (begun_says set states w.shared.issued a StartIo (Ref h.n) l
-      (startio_enters set states w past good stands actor.thread h) refl))
-  locks_happen actor c (begins_cancel h) =
-      agree_after actor [] w.shared h.thread (cancelling h.thread h.level h.n) h.found
-      (λ l. agree actor.thread l
-      ∙ ap (λ (frames : List Frame). top_says states frames l)
-      (frames_there w actor.thread h.thread h.found ∙ h.idle))
+      (frames_there w actor.thread i.thread i.found ∙ i.idle)
+      ∙ sym (root_says l (root_there set states w past good stands root beside)))
 
-  pub locks_kept : (actor : Actor) (c : Change) → GoesOnBy set w past actor c
-      → LocksAgree states c.world (recorded past actor c.actions)
-  locks_kept actor c on = locks_happen actor c on.happens
-
-  pub lock_faults_none : (actor : Actor) (c : Change)
-      → actor.root ≡ root_of (slice_get w.threads actor.thread)
-      → Happens set w actor.thread c → fault_among is_of_locks past actor c.actions ≡ None
-  lock_faults_none actor c root (nothing reply right) = refl
-  lock_faults_none actor c root (steps h) =
+  pub lock_faults_none : (actor : Actor) → actor.root ≡ root_of (slice_get w.threads actor.thread)
+      → (h : StepsFrame set w actor.thread)
+      → fault_among is_of_locks past actor h.outcome.actions ≡ None
+  lock_faults_none actor root h =
       lock_faults set states w.shared past actor (top_of h.below) h.frame h.outcome
       (subst (λ (level : Irql). Low set level h.frame) (sym (root ∙ ap root_of h.found))
       (low_there set states w past good stands actor.thread h))
       (on_top set states w past good stands actor.thread h) (own_top actor.thread h) h.comes
-  lock_faults_none actor c root _ = refl
 
 -- before the first event
 pub locks_begun : (set : Set) (states : States) (threads : ℕ)

@@ -1,23 +1,20 @@
 -- In every run of a sound set, until it stops, the past tells what the world has.
-use Rattle.std.proofs.Common.{◌≡◌, ◌≤◌, ℕ, inl, inr, List, [], ◌∷◌, ◌++◌, length, Option, None, Some, Bool, true, false, sym, subst, ◌∙◌, arith}
+use Rattle.std.proofs.Common.{◌≡◌, ◌≤◌, ℕ, inl, inr, List, [], ◌∷◌, ◌++◌, length, Option, None, Some, Bool, true, false, sym, ◌∙◌, arith}
 use Rattle.std.specs.Prelude.{◌||◌, nat_lt, slice_get}
 use Rattle.std.proofs.lemmas.Bool.{cases_lt}
 use Rattle.model.specs.declared.event.Lock.{Lock}
 use Rattle.model.specs.declared.limits.TheConstants.{MAX_FRAMES}
 use Rattle.model.specs.declared.world.Frame.{Frame}
-use Rattle.model.specs.declared.world.Irql.TheVariants.{Passive, Dispatch as DispatchLevel}
 use Rattle.model.specs.declared.world.Packet.{Packet}
 use Rattle.model.specs.declared.world.Thread.{Thread}
-use Rattle.model.specs.declared.world.Value.TheVariants.{Ref}
-use Rattle.model.specs.Effect.{top_of, routine_of_device}
-use Rattle.model.specs.Events.{Change, cancelling, rooted, settled, with_thread, dpc_activation, serves_request, with_new_packet, with_stack, standing}
+use Rattle.model.specs.Effect.{top_of}
+use Rattle.model.specs.Events.{Change, settled, with_thread, with_stack, standing}
 use Rattle.model.specs.Fault.{first_fault, holds, armed, stack_size, completing, depth}
-use Rattle.model.specs.Queues.{without_first_to_start}
 use Rattle.model.specs.Run.{begun, Run, frames_on, run}
 use Rattle.model.specs.Set.{Set}
-use Rattle.model.specs.Sound.{IsSound, DeviceFits}
+use Rattle.model.specs.Sound.{IsSound}
 use Rattle.model.specs.Trace.{Entry, Actor, recorded}
-use Rattle.model.specs.World.{Shared, World, packet_of, with_dpc, with_start, entered}
+use Rattle.model.specs.World.{Shared, World, packet_of}
 use Rattle.run_laws.specs.PastTells.{PastTells, TellsOfPacket, PastTellsOfTheWorld}
 use Rattle.run_laws.proofs.Devices.{device_fits}
 use Rattle.run_laws.proofs.Lists.{Each, each_after, each_before}
@@ -28,9 +25,10 @@ use Rattle.run_laws.proofs.Past.Packets.{Tells, found, lt_true, tells_issue, tel
 use Rattle.run_laws.proofs.Past.Stacks.{Measured}
 use Rattle.run_laws.proofs.Past.Steps.{told_locks, told_packets}
 use Rattle.run_laws.proofs.Past.Walks.{WalkIssued, WalksIssued, step_issued, standing_issued, under_issued, walks_later}
-use Rattle.run_laws.proofs.Runs.Events.{Happens, StepsFrame, nothing, steps, issues, begins, begins_startio, begins_cancel}
+use Rattle.run_laws.proofs.Runs.Events.{Happens, StepsFrame, nothing, steps, begins}
 use Rattle.run_laws.proofs.Runs.Kept.{GoesOnBy, with_queued, kept_until}
-use Rattle.run_laws.proofs.Runs.Threads.{each_frames, frames_there, idle_frames}
+use Rattle.run_laws.proofs.Runs.Roots.{Root, Beside, issues, issued_more, with_root}
+use Rattle.run_laws.proofs.Runs.Threads.{of_steps, each_frames, idle_frames}
 use Rattle.run_laws.proofs.Tests.{or_right}
 
 -- what the threads share tells what the past tells, the I/O manager completes packets that were
@@ -62,8 +60,7 @@ module _ (set : Set) (w : World) (past : List Entry) (actor : Actor) (tells : Te
     (h : StepsFrame set w actor.thread) where
   frames_issued : Each (WalkIssued w.shared.issued) (h.below ++ h.frame ∷ [])
   frames_issued =
-      subst (λ (frames : List Frame). Each (WalkIssued w.shared.issued) frames)
-      (frames_there w actor.thread h.thread h.found ∙ h.frames) (tells.walks actor.thread)
+      of_steps w actor.thread (Each (WalkIssued w.shared.issued)) h (tells.walks actor.thread)
 
   below_issued : Each (WalkIssued w.shared.issued) h.below
   below_issued = each_before (WalkIssued w.shared.issued) h.below (h.frame ∷ []) frames_issued
@@ -101,6 +98,26 @@ module _ (set : Set) (w : World) (past : List Entry) (actor : Actor) (tells : Te
             (λ k apart. tells.few k);
       }
 
+-- a root begins
+pub root_tells : (set : Set) → IsSound set
+    → (s : Shared) (past : List Entry) (actor : Actor) (root : Root) → Tells s past
+    → Beside set s root → Tells root.shared (recorded past actor root.actions)
+root_tells set sound s past actor root tells (issues h) =
+    tells_issue s past tells h.d h.major h.argument h.device.stack
+    (device_fits set h.d h.device sound h.there).low
+root_tells set sound s past actor root tells _ = tells
+
+root_locks : (set : Set) (s : Shared) (past : List Entry) (actor : Actor) (root : Root)
+    → Owned s.locks past → Beside set s root
+    → Owned root.shared.locks (recorded past actor root.actions)
+root_locks set s past actor root owned (issues h) = owned
+root_locks set s past actor root owned _ = owned
+
+root_issued : (set : Set) (s : Shared) (root : Root) → Beside set s root
+    → WalkIssued root.shared.issued root.frame
+root_issued set s root (issues h) = tt
+root_issued set s root _ = tt
+
 pub telling_happens : (set : Set) → IsSound set
     → (w : World) (past : List Entry) (actor : Actor) (c : Change)
     → Telling w past → Happens set w actor.thread c → first_fault past actor c.actions ≡ None
@@ -109,58 +126,15 @@ pub telling_happens : (set : Set) → IsSound set
 telling_happens set sound w past actor c tells (nothing reply right) quiet within = tells
 telling_happens set sound w past actor c tells (steps h) quiet within =
     telling_step set w past actor tells h quiet within
-telling_happens set sound w past actor c tells (issues h) quiet within =
-    let fits : DeviceFits (length set.drivers) h.d h.device =
-    device_fits set h.d h.device sound h.there in
+telling_happens set sound w past actor c tells (begins i root beside) quiet within =
     record {
-      packets = tells_issue w.shared past tells.packets h.d h.major h.argument h.device.stack
-          fits.low;
-      locks = tells.locks;
-      walks = walks_put w actor.thread (with_new_packet w.shared h.d h.device h.major h.argument)
-          h.thread
-          (rooted h.thread Passive (serves_request set h.d h.device h.major w.shared.issued))
-          h.found
-          (omega arith) tells.walks (tt, tt);
-      few = each_frames w actor.thread (with_new_packet w.shared h.d h.device h.major h.argument)
-          (rooted h.thread Passive (serves_request set h.d h.device h.major w.shared.issued))
-          (λ k frames. length frames ≤ MAX_FRAMES) h.thread h.found (omega arith)
-          (λ k apart. tells.few k);
-    }
-telling_happens set sound w past actor c tells (begins h) quiet within =
-    record {
-      packets = tells.packets;
-      locks = tells.locks;
-      walks = walks_put w actor.thread (with_dpc w.shared h.d false) h.thread
-          (rooted h.thread DispatchLevel (dpc_activation set h.d h.routine)) h.found (omega arith)
-          tells.walks (tt, tt);
-      few = each_frames w actor.thread (with_dpc w.shared h.d false)
-          (rooted h.thread DispatchLevel (dpc_activation set h.d h.routine))
-          (λ k frames. length frames ≤ MAX_FRAMES) h.thread h.found (omega arith)
-          (λ k apart. tells.few k);
-    }
-telling_happens set sound w past actor c tells (begins_startio h) quiet within =
-    record {
-      packets = tells.packets;
-      locks = tells.locks;
-      walks = walks_put w actor.thread (with_start w.shared h.d (without_first_to_start h.start))
-          h.thread
-          (rooted h.thread DispatchLevel
-          (entered (routine_of_device (slice_get set.devices h.d)) h.routine h.d (Ref h.n)))
-          h.found (omega arith) tells.walks (tt, tt);
-      few = each_frames w actor.thread (with_start w.shared h.d (without_first_to_start h.start))
-          (rooted h.thread DispatchLevel
-          (entered (routine_of_device (slice_get set.devices h.d)) h.routine h.d (Ref h.n)))
-          (λ k frames. length frames ≤ MAX_FRAMES) h.thread h.found (omega arith)
-          (λ k apart. tells.few k);
-    }
-telling_happens set sound w past actor c tells (begins_cancel h) quiet within =
-    record {
-      packets = tells.packets;
-      locks = tells.locks;
-      walks = walks_put w actor.thread w.shared h.thread (cancelling h.thread h.level h.n) h.found
-          (omega arith) tells.walks (tt, tt);
-      few = each_frames w actor.thread w.shared (cancelling h.thread h.level h.n)
-          (λ k frames. length frames ≤ MAX_FRAMES) h.thread h.found (omega arith)
+      packets = root_tells set sound w.shared past actor root tells.packets beside;
+      locks = root_locks set w.shared past actor root tells.locks beside;
+      walks = walks_put w actor.thread root.shared i.thread (with_root i.thread root) i.found
+          (issued_more set w.shared root beside) tells.walks
+          (root_issued set w.shared root beside, tt);
+      few = each_frames w actor.thread root.shared (with_root i.thread root)
+          (λ k frames. length frames ≤ MAX_FRAMES) i.thread i.found (omega arith)
           (λ k apart. tells.few k);
     }
 

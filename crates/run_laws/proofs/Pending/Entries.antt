@@ -21,8 +21,9 @@ use Rattle.run_laws.proofs.Past.Packets.{found}
 use Rattle.run_laws.proofs.Pending.Events.{Attends}
 use Rattle.run_laws.proofs.Pending.Serving.{AllServe, FrameServes, MustServe, TagNames, UnderServes, first_served, served}
 use Rattle.run_laws.proofs.Pending.Threads.{TagOf, Tagged, TopServes, tagged_all, top_serves}
-use Rattle.run_laws.proofs.Runs.Events.{Happens, issues, nothing, steps, begins, begins_cancel, begins_startio}
-use Rattle.run_laws.proofs.Runs.Threads.{frames_there}
+use Rattle.run_laws.proofs.Runs.Events.{Happens, nothing, steps, begins}
+use Rattle.run_laws.proofs.Runs.Roots.{root_told}
+use Rattle.run_laws.proofs.Runs.Threads.{of_steps}
 use Rattle.model.specs.LocalRule.{is_completion}
 use Rattle.run_laws.proofs.States.Entering.{IsCompleting}
 use Rattle.run_laws.proofs.States.NoViews.{is_deferred}
@@ -195,17 +196,15 @@ module _ (set : Set) (states : States) (w : World) (past : List Entry) (actor : 
       → actor.tag ≡ top_tag (slice_index_or tags actor.thread []) → EntriesSay past
       → EntriesSay (recorded past actor c.actions)
   entries_event tags c known attends (nothing reply right) acts h = h
-  entries_event tags c known attends (issues i) acts h = (tt, h)
-  entries_event tags c known attends (begins i) acts h = h
-  entries_event tags c known attends (begins_startio i) acts h = h
-  entries_event tags c known attends (begins_cancel i) acts h = h
+  entries_event tags c known attends (begins i root beside) acts h =
+      root_told set w.shared (λ actions. EntriesSay (recorded past actor actions)) h
+      (λ n stack. (tt, h)) root beside
   entries_event tags c known attends (steps i) acts h =
       let row : List Tag = slice_index_or tags actor.thread [] in
       let top : TopServes set states w past None i.below i.frame row =
       top_serves set states w past None i.below i.frame row
-      (subst (λ (all : List Frame). AllServe set states w past None all row)
-      (frames_there w actor.thread i.thread i.found ∙ i.frames) (attends.serves_all actor.thread))
-      in
+      (of_steps w actor.thread (λ all. AllServe set states w past None all row) i
+      (attends.serves_all actor.thread)) in
       let under : Option Frame = last_under None i.below in
       frame_says under (top_of i.below) i.frame i.outcome
       (known_top set states w past known actor.thread i).on

@@ -2,6 +2,7 @@
 -- agreed on.
 use Rattle.std.proofs.Common.{◌≡◌, ◌≢◌, ℕ, suc, ◌+◌, ◌-◌, ◌<◌, ◌≤◌, inl, inr, List, [], ◌∷◌, ◌++◌, length, Option, None, Some, false, refl, ap, sym, ◌∙◌, subst, arith, Bool}
 use Rattle.std.specs.Prelude.{nat_eq, slice_get, slice_index_or, slice_set}
+use Rattle.std.specs.List.{list_any}
 use Rattle.std.proofs.lemmas.List.{append-nil, append_assoc, get_or-set_other, get_or-set_same, length-replicate, length-set, set-get_or}
 use Rattle.std.proofs.lemmas.Bool.{ne_eqb, cases_eq, eq-eqb}
 use Rattle.std.proofs.lemmas.Option.{slice_get_within}
@@ -10,15 +11,13 @@ use Rattle.model.specs.declared.set.Sort.TheVariants.{Dpc, StartIo}
 use Rattle.model.specs.declared.status.Status.{Status}
 use Rattle.model.specs.declared.world.Activation.{Activation}
 use Rattle.model.specs.declared.world.Frame.{Frame}
-use Rattle.model.specs.declared.world.Frame.TheVariants.{Routine, Walk, Cancel as CancelFrame}
-use Rattle.model.specs.declared.world.CancelStep.TheVariants.{Acquire as AcquireStep}
+use Rattle.model.specs.declared.world.Frame.TheVariants.{Routine, Walk}
 use Rattle.model.specs.LocalRule.{is_hold}
-use Rattle.model.specs.declared.world.Irql.TheVariants.{Passive, Dispatch as DispatchLevel}
 use Rattle.model.specs.declared.world.Packet.{Packet}
 use Rattle.model.specs.declared.world.Thread.{Thread}
 use Rattle.model.specs.Action.{Issues}
 use Rattle.model.specs.Effect.{Outcome, told_to, top_of}
-use Rattle.model.specs.Events.{Change, cancelling, issued, rooted, serves_request, standing, with_stack, with_thread, dpc_activation, unchanged}
+use Rattle.model.specs.Events.{Change, serves_request, standing, with_stack, with_thread, dpc_activation, unchanged}
 use Rattle.model.specs.Fault.{first_fault}
 use Rattle.model.specs.PendingAgreement.{was_marked}
 use Rattle.model.specs.Run.{begun, frames_on, new_tag, tags_after, top_tag}
@@ -35,19 +34,21 @@ use Rattle.run_laws.proofs.Holders.Sums.{stack_append}
 use Rattle.run_laws.proofs.Live.Sees.{deferred_sort}
 use Rattle.run_laws.proofs.Past.LivePackets.{find}
 use Rattle.run_laws.proofs.Pending.FramesServe.{Turned, frame_turned, same_over}
-use Rattle.run_laws.proofs.Pending.Returned.{AllAgree, agree_begun, agree_kept}
+use Rattle.run_laws.proofs.Pending.Returned.{AllAgree, agree_begun, agree_kept, is_return}
 use Rattle.run_laws.proofs.Pending.Serving.{AllServe, Current, FrameServes, KeepsAgreed, all_kept, served}
 use Rattle.run_laws.proofs.Pending.Threads.{Tagged, TopServes, walk_below_serves, all_on, all_told, row_same, tagged_all, tags_kept, top_serves}
 use Rattle.run_laws.proofs.Pending.TopDispatch.{begins_serving}
 use Rattle.run_laws.proofs.Pending.UsesServed.{BeginsServing, Settles, begun_serves, new_serving}
-use Rattle.run_laws.proofs.Runs.Events.{Happens, IssuesPacket, StepsFrame, issues, nothing, steps, begins, begins_cancel, begins_startio}
+use Rattle.run_laws.proofs.Runs.Events.{Happens, StepsFrame, nothing, steps, begins}
+use Rattle.run_laws.proofs.Runs.Roots.{Root, root_told, Beside, IdleThread, issues, root_begun, takes_dpc, takes_first, takes_nothing, with_root}
+use Rattle.run_laws.proofs.States.Begun.{startio_enters}
 use Rattle.run_laws.proofs.Runs.Kept.{with_queued}
 use Rattle.run_laws.proofs.Runs.Threads.{frames_put, frames_there, idle_frames, others_put, thread_put}
 use Rattle.run_laws.proofs.States.Entering.{begins_request, begins_dpc, startio_activation}
 use Rattle.run_laws.proofs.States.Fine.{StepLeaves, leaves_fine}
 use Rattle.run_laws.specs.ArrivingStates.{States}
 use Rattle.run_laws.proofs.States.Stacks.{Replaces, Stacked, Stands}
-use Rattle.run_laws.proofs.States.Standing.{on_top, stands_there, startio_enters}
+use Rattle.run_laws.proofs.States.Standing.{on_top, stands_there}
 use Rattle.run_laws.proofs.States.Told.{last_same, last_under, told_is, told_last}
 use Rattle.run_laws.proofs.Steps.Below.{StopsBelow, stood}
 use Rattle.run_laws.proofs.Uses.CurrentUses.{Others, agreed_finished, agreed_marked, current_others, linked_agrees, linked_waits}
@@ -443,20 +444,18 @@ module _ (set : Set) (states : States) (w : World) (past : List Entry) (tags : L
       ≡ Some (uses_opened past)
   issued_use n stack = rw (eq-eqb n n refl) refl
 
-  issue_attends : (h : IssuesPacket set w actor.thread)
-      → Settles states w past (issued set w actor.thread h.d h.thread h.device h.major
-      h.argument).world
-      (recorded past actor (Issues w.shared.issued h.device.stack ∷ []))
-      → Attends set states (issued set w actor.thread h.d h.thread h.device h.major
-      h.argument).world
-      (recorded past actor (Issues w.shared.issued h.device.stack ∷ []))
-      (tags_by (issued set w actor.thread h.d h.thread h.device h.major h.argument))
-  issue_attends h settles =
+  -- a root that begins serves the use of a packet that is new, or none
+  root_serves : (i : IdleThread w actor.thread) (root : Root) → Beside set w.shared root
+      → Settles states w past (root_begun w actor.thread i.thread root).world
+      (recorded past actor root.actions)
+      → FrameServes set states (root_begun w actor.thread i.thread root).world
+      (recorded past actor root.actions) None None root.frame
+      (new_tag set (recorded past actor root.actions) number root.frame)
+  root_serves i root (issues h) settles =
       let n : ℕ = w.shared.issued in
       let a : Activation = serves_request set h.d h.device h.major n in
-      let c : Change = issued set w actor.thread h.d h.thread h.device h.major h.argument in
-      let later : List Entry = recorded past actor c.actions in
-      let after : Thread = rooted h.thread Passive a in
+      let later_w : World = (root_begun w actor.thread i.thread root).world in
+      let later : List Entry = recorded past actor root.actions in
       let beginning : BeginsServing set states a n =
       begins_serving set states (n + 1) a n
       (begins_request set states known.good (n + 1) n (omega arith) h.d h.device h.major h.there) in
@@ -466,56 +465,55 @@ module _ (set : Set) (states : States) (w : World) (past : List Entry) (tags : L
       let tagged : new_tag set later number (Routine a)
       ≡ Activated number a.driver a.routine (Some v) =
       new_serving set states later number a n v beginning refl current.0 in
-      let before : frames_on w actor.thread ≡ [] = frames_there w actor.thread h.thread h.found
-      ∙ h.idle in
-      let now : frames_on c.world actor.thread ≡ Routine a ∷ [] =
-      frames_put w actor.thread c.world.shared after h.thread h.found in
-      subst (λ (all : List Frame). Attends set states c.world later
-      (slice_set tags actor.thread
-      (tags_after set later number all row (frames_on c.world actor.thread)))) (sym before)
-      (subst (λ (all : List Frame). Attends set states c.world later
-      (slice_set tags actor.thread (tags_after set later number [] row all))) (sym now)
-      (attend_put later c.world.shared h.thread after (new_tag set later number (Routine a) ∷ [])
-      h.found settles.keeps
-      (subst (λ (tag : Tag). AllServe set states c.world later None (Routine a ∷ []) (tag ∷ []))
-      (sym tagged) (
-        ((refl, refl), inl (begun_serves set states c.world later v a n beginning refl current)),
-        tt,
-      ))
-      (λ k apart m some. same_recorded past actor (Issues n h.device.stack ∷ []) m
-      (let other : nat_eq n m ≡ false =
-      ne_eqb n m (not_yet set states w past known.stands known.kept k m some) in rw other refl))
-      (agree_kept states w c.world past actor (Issues n h.device.stack ∷ []) settles.keeps refl
-      attends.agree)))
+      subst (λ (tag : Tag). FrameServes set states later_w later None None (Routine a) tag)
+      (sym tagged)
+      ((refl, refl), inl (begun_serves set states later_w later v a n beginning refl current))
+  root_serves i root (takes_dpc d routine there) settles = (
+    (refl, refl),
+    inr (deferred_sort set (dpc_activation set d routine) Dpc
+        (begins_dpc set states known.good w.shared.issued d routine there).of_sort refl),
+  )
+  root_serves i root (takes_first h) settles = (
+    (refl, refl),
+    inr (deferred_sort set (startio_activation set h.d h.routine h.n) StartIo
+        (startio_enters set states known.good w.shared known.stands.fits h).of_sort refl),
+  )
+  root_serves i root (takes_nothing n level p there) settles = refl
 
-  -- a frame begins on an idle thread that serves no use: a deferred routine's, or one of
-  -- IoCancelIrp
-  begun_attends : (s : Shared) (thread after : Thread) (f : Frame)
-      → slice_get w.threads actor.thread ≡ Some thread → thread.frames.items ≡ []
-      → after.frames.items ≡ f ∷ []
-      → FrameServes set states (with_thread w actor.thread s after) past None None f
-      (new_tag set past number f)
-      → Settles states w past (with_thread w actor.thread s after) past
-      → Attends set states (with_thread w actor.thread s after) past
-      (slice_set tags actor.thread
-      (tags_after set past number (frames_on w actor.thread) row
-      (frames_on (with_thread w actor.thread s after) actor.thread)))
-  begun_attends s thread after f found idle items serves settles =
-      let now_w : World = with_thread w actor.thread s after in
+  root_spares : (root : Root) → Beside set w.shared root → (k m : ℕ)
+      → 1 ≤ stack_sum (λ g. frame_rights states g m) (frames_on w k)
+      → SameUses past (recorded past actor root.actions) m
+  root_spares root (issues h) k m some =
+      same_recorded past actor root.actions m
+      (let other : nat_eq w.shared.issued m ≡ false =
+      ne_eqb w.shared.issued m (not_yet set states w past known.stands known.kept k m some) in
+      rw other refl)
+  root_spares root _ k m some = same_uses past m
+
+  root_attends : (i : IdleThread w actor.thread) (root : Root) → Beside set w.shared root
+      → Settles states w past (root_begun w actor.thread i.thread root).world
+      (recorded past actor root.actions)
+      → Attends set states (root_begun w actor.thread i.thread root).world
+      (recorded past actor root.actions) (tags_by (root_begun w actor.thread i.thread root))
+  root_attends i root beside settles =
+      let after : Thread = with_root i.thread root in
+      let later_w : World = (root_begun w actor.thread i.thread root).world in
+      let later : List Entry = recorded past actor root.actions in
       let before : frames_on w actor.thread ≡ [] =
-      frames_there w actor.thread thread found ∙ idle in
-      let now : frames_on now_w actor.thread ≡ f ∷ [] =
-      frames_put w actor.thread s after thread found ∙ items in
-      subst (λ (all : List Frame). Attends set states now_w past
+      frames_there w actor.thread i.thread i.found ∙ i.idle in
+      let now : frames_on later_w actor.thread ≡ root.frame ∷ [] =
+      frames_put w actor.thread root.shared after i.thread i.found in
+      subst (λ (all : List Frame). Attends set states later_w later
       (slice_set tags actor.thread
-      (tags_after set past number all row (frames_on now_w actor.thread)))) (sym before)
-      (subst (λ (all : List Frame). Attends set states now_w past
-      (slice_set tags actor.thread (tags_after set past number [] row all))) (sym now)
-      (attend_put past s thread after (new_tag set past number f ∷ []) found settles.keeps
-      (subst (λ (all : List Frame). AllServe set states now_w past None all
-      (new_tag set past number f ∷ [])) (sym items) (serves, tt))
-      (λ k apart m some. same_uses past m)
-      (agree_kept states w now_w past actor [] settles.keeps refl attends.agree)))
+      (tags_after set later number all row (frames_on later_w actor.thread)))) (sym before)
+      (subst (λ (all : List Frame). Attends set states later_w later
+      (slice_set tags actor.thread (tags_after set later number [] row all))) (sym now)
+      (attend_put later root.shared i.thread after (new_tag set later number root.frame ∷ [])
+      i.found settles.keeps (root_serves i root beside settles, tt)
+      (λ k apart m some. root_spares root beside k m some)
+      (agree_kept states w later_w past actor root.actions settles.keeps
+      (root_told set w.shared (λ actions. list_any is_return actions ≡ false) refl
+      (λ n stack. refl) root beside) attends.agree)))
 
   -- where a DPC is queued or isn't
   pub attends_queued : (d : ℕ) (queued : Bool) → UsesTell w past
@@ -570,33 +568,8 @@ module _ (set : Set) (states : States) (w : World) (past : List Entry) (tags : L
           attends)
       attends_by c (steps h) quiet known_later settles =
           step_attends h acts quiet known_later settles
-      attends_by c (issues h) quiet known_later settles = issue_attends h settles
-      attends_by c (begins h) quiet known_later settles =
-          let a : Activation = dpc_activation set h.d h.routine in
-          begun_attends c.world.shared h.thread (rooted h.thread DispatchLevel a) (Routine a)
-          h.found
-          h.idle refl (
-            (refl, refl),
-            inr (deferred_sort set a Dpc
-                (begins_dpc set states known.good w.shared.issued h.d h.routine h.there).of_sort
-                refl),
-          )
-          settles
-      attends_by c (begins_startio h) quiet known_later settles =
-          let a : Activation = startio_activation set h.d h.routine h.n in
-          begun_attends c.world.shared h.thread (rooted h.thread DispatchLevel a) (Routine a)
-          h.found
-          h.idle refl (
-            (refl, refl),
-            inr (deferred_sort set a StartIo
-                (startio_enters set states w past known.good known.stands actor.thread h).of_sort
-                refl),
-          )
-          settles
-      attends_by c (begins_cancel h) quiet known_later settles =
-          begun_attends w.shared h.thread (cancelling h.thread h.level h.n)
-          (CancelFrame (record { packet = h.n; next = AcquireStep })) h.found h.idle refl refl
-          settles
+      attends_by c (begins i root beside) quiet known_later settles =
+          root_attends i root beside settles
 
 -- before the first event
 pub attends_begun : (set : Set) (states : States) (threads : ℕ)

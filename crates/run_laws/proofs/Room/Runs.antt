@@ -1,23 +1,20 @@
 -- In every run of an accepted set who has the right to a packet has room for its device, who owns
 -- it finds its current location marked, and no packet is sent down past its last location.
-use Rattle.std.proofs.Common.{◌⊎◌, ◌≡◌, ◌≢◌, ℕ, ◌+◌, ◌-◌, ◌≤◌, inl, inr, List, [], ◌∷◌, ◌++◌, length, Option, None, Some, false, refl, ap, sym, ◌∙◌, subst, arith, Bool}
+use Rattle.std.proofs.Common.{◌⊎◌, ◌≡◌, ◌≢◌, ℕ, ◌+◌, ◌-◌, ◌≤◌, inl, inr, List, [], ◌∷◌, ◌++◌, length, Option, None, Some, refl, ap, sym, ◌∙◌, subst, arith, Bool}
 use Rattle.std.specs.Prelude.{nat_eq, slice_get, replicate, if◌then◌else◌}
 use Rattle.std.proofs.lemmas.Bool.{eq-eqb}
 use Rattle.std.proofs.lemmas.Bool.Decides.{eqb_tells}
 use Rattle.std.proofs.lemmas.List.{length-replicate}
 use Rattle.model.specs.declared.limits.TheConstants.{MAX_QUEUES}
-use Rattle.model.specs.declared.set.Device.{Device}
 use Rattle.model.specs.declared.status.Major.{Major}
 use Rattle.model.specs.declared.status.Status.{Status}
-use Rattle.model.specs.declared.world.Activation.{Activation}
 use Rattle.model.specs.declared.world.Frame.{Frame}
 use Rattle.model.specs.declared.world.Frame.TheVariants.{Walk}
-use Rattle.model.specs.declared.world.Irql.TheVariants.{Passive, Dispatch as DispatchLevel}
 use Rattle.model.specs.declared.world.Packet.{Packet}
 use Rattle.model.specs.declared.world.Thread.{Thread}
 use Rattle.model.specs.Effect.{Outcome, top_of, told_to}
-use Rattle.model.specs.Events.{Change, cancelling, standing, with_thread, with_stack, with_new_packet, rooted, serves_request, dpc_activation}
-use Rattle.model.specs.Queues.{StartState, idle, without_first_to_start}
+use Rattle.model.specs.Events.{Change, standing, with_thread, with_stack, with_new_packet, serves_request, dpc_activation}
+use Rattle.model.specs.Queues.{idle, without_first_to_start}
 use Rattle.model.specs.Run.{begun, frames_on}
 use Rattle.model.specs.Set.{Set}
 use Rattle.model.specs.Trace.{Entry, Actor}
@@ -41,13 +38,15 @@ use Rattle.run_laws.proofs.Room.Steps.{call_faults, room_step}
 use Rattle.run_laws.proofs.Room.Waiting.{FrameRoom, HasRoom, Keeps, RoomAt, WaitingRoom, start_put_room, waiting_kept}
 use Rattle.run_laws.proofs.Room.Ways.{WayUp, new_way, stays_same}
 use Rattle.run_laws.proofs.Room.Words.{names_device}
-use Rattle.run_laws.proofs.Runs.Events.{BeginsStartIo, StepsFrame, Happens, nothing, steps, issues, begins, begins_cancel, begins_startio}
-use Rattle.run_laws.proofs.Runs.Kept.{GoesOnBy, with_queued}
-use Rattle.run_laws.proofs.Runs.Threads.{frames_there, each_frames, idle_frames}
+use Rattle.run_laws.proofs.Runs.Events.{StepsFrame, Happens, nothing, steps, begins}
+use Rattle.run_laws.proofs.Runs.Kept.{with_queued}
+use Rattle.run_laws.proofs.Runs.Roots.{Root, Beside, IssuesPacket, TakesFirst, issues, takes_dpc, takes_first, takes_nothing, with_root}
+use Rattle.run_laws.proofs.States.Begun.{startio_enters}
+use Rattle.run_laws.proofs.Runs.Threads.{of_steps, each_frames, idle_frames}
 use Rattle.run_laws.proofs.States.Entering.{begins_request, begins_dpc, startio_activation}
 use Rattle.run_laws.proofs.States.Frames.{IsGood}
 use Rattle.run_laws.specs.ArrivingStates.{States}
-use Rattle.run_laws.proofs.States.Standing.{Standing, on_top, startio_enters}
+use Rattle.run_laws.proofs.States.Standing.{Standing, on_top}
 use Rattle.run_laws.proofs.States.Told.{told_last, told_is}
 use Rattle.run_laws.proofs.Steps.Below.{stood}
 use Rattle.run_laws.proofs.Steps.Faults.{is_call, fault_among}
@@ -133,23 +132,20 @@ module _ (set : Set) (states : States) (w : World) (past : List Entry) (good : I
   where
     room_there : (t : ℕ) (h : StepsFrame set w t)
         → Each (HasRoom set states w.shared) (h.below ++ h.frame ∷ [])
-    room_there t h =
-        subst (λ (frames : List Frame). Each (HasRoom set states w.shared) frames)
-        (frames_there w t h.thread h.found ∙ h.frames) (roomy.frames t)
+    room_there t h = of_steps w t (Each (HasRoom set states w.shared)) h (roomy.frames t)
 
     top_room : (t : ℕ) (h : StepsFrame set w t) → HasRoom set states w.shared h.frame
     top_room t h = (each_after (HasRoom set states w.shared) h.below (h.frame ∷ [])
         (room_there t h)).0
 
     -- nothing is sent down past its last location
-    pub call_faults_none : (actor : Actor) (c : Change) → Happens set w actor.thread c
-        → fault_among is_call past actor c.actions ≡ None
-    call_faults_none actor c (steps h) =
+    pub call_faults_none : (actor : Actor) (h : StepsFrame set w actor.thread)
+        → fault_among is_call past actor h.outcome.actions ≡ None
+    call_faults_none actor h =
         call_faults set states w.shared past actor (top_of h.below) h.frame h.outcome
         (on_top set states w past good stands actor.thread h)
         (top_holding set states w past stands holds actor.thread h) (top_room actor.thread h)
         h.comes
-    call_faults_none actor c _ = refl
 
     -- frames of each thread after an event
     threads_room : (t : ℕ) (s : Shared) (thread after : Thread)
@@ -168,13 +164,12 @@ module _ (set : Set) (states : States) (w : World) (past : List Entry) (good : I
           ways = ways;
         }
 
-    module _ (h : Device) (d : ℕ) (major : Major) (argument : ℕ)
-        (there : slice_get set.devices d ≡ Some h) where
+    module _ (h : IssuesPacket set w.shared) where
       abbrev packet : Packet
-      packet = new_packet w.shared.issued d major argument h.stack
+      packet = new_packet w.shared.issued h.d h.major h.argument h.device.stack
 
       abbrev after : Shared
-      after = with_new_packet w.shared d h major argument
+      after = with_new_packet w.shared h.d h.device h.major h.argument
 
       -- what is found then: the new packet, or another one as it was
       new_found : (n : ℕ) (q : Packet) → find after.packets n ≡ Some q
@@ -200,20 +195,20 @@ module _ (set : Set) (states : States) (w : World) (past : List Entry) (good : I
           ]
 
       -- the routine that begins has room for the new one
-      request_room : FrameRoom set states after (serves_request set d h major w.shared.issued)
+      request_room : FrameRoom set states after
+          (serves_request set h.d h.device h.major w.shared.issued)
       request_room =
           begins_asked set states (w.shared.issued + 1) after
-          (serves_request set d h major w.shared.issued) w.shared.issued
-          (begins_request set states good (w.shared.issued + 1) w.shared.issued (omega arith) d h
-          major
-          there)
+          (serves_request set h.d h.device h.major w.shared.issued) w.shared.issued
+          (begins_request set states good (w.shared.issued + 1) w.shared.issued (omega arith) h.d
+          h.device h.major h.there)
           (λ q at. elim (new_found w.shared.issued q at) [
             | inl g ↦
-                let stack : stack_at set d ≡ h.stack = ap stack_of there in
-                let low : 1 ≤ stack_at set d = some_stack set d h good.sound there in
-                let size : length packet.locations.items ≡ h.stack =
-                new_size w.shared.issued d major argument h.stack (omega arith) in
-                subst (RoomAt set d) (sym g.1) (omega arith)
+                let stack : stack_at set h.d ≡ h.device.stack = ap stack_of h.there in
+                let low : 1 ≤ stack_at set h.d = some_stack set h.d h.device good.sound h.there in
+                let size : length packet.locations.items ≡ h.device.stack =
+                new_size w.shared.issued h.d h.major h.argument h.device.stack (omega arith) in
+                subst (RoomAt set h.d) (sym g.1) (omega arith)
             | inr old ↦
                 let none : find w.shared.packets w.shared.issued ≡ None =
                 find_above 0 w.shared.packets w.shared.issued w.shared.issued stands.tells.rises
@@ -242,7 +237,8 @@ module _ (set : Set) (states : States) (w : World) (past : List Entry) (good : I
       request_ways n q at =
           elim (new_found n q at) [
             | inl g ↦
-                subst (WayUp set) (sym g.1) (new_way set w.shared.issued d major argument h.stack)
+                subst (WayUp set) (sym g.1)
+                (new_way set w.shared.issued h.d h.major h.argument h.device.stack)
             | inr old ↦ roomy.ways n q old
           ]
 
@@ -284,10 +280,10 @@ module _ (set : Set) (states : States) (w : World) (past : List Entry) (good : I
         room.waiting room.ways
 
     -- the StartIo routine that begins owns the first packet of the start list
-    startio_room : (t : ℕ) (h : BeginsStartIo set w t)
+    startio_room : (h : TakesFirst set w.shared)
         → FrameRoom set states (with_start w.shared h.d (without_first_to_start h.start))
         (startio_activation set h.d h.routine h.n)
-    startio_room t h =
+    startio_room h =
         let b : Bool = waits_cancelable set h.d in
         let gone : times_at b (without_first_to_start h.start) h.n
         + (if nat_eq h.n h.n then 1 else 0) ≡ times_at b h.start h.n =
@@ -297,64 +293,62 @@ module _ (set : Set) (states : States) (w : World) (past : List Entry) (good : I
         begins_started set states w.shared.issued
         (with_start w.shared h.d (without_first_to_start h.start))
         (startio_activation set h.d h.routine h.n) h.n
-        (startio_enters set states w past good stands t h)
+        (startio_enters set states good w.shared stands.fits h)
         (roomy.waiting.starts h.d h.n h.start h.has (omega arith))
 
-    pub roomy_kept : Claimed set states w → (actor : Actor) (c : Change)
+    -- a root has room for what it has the right to
+    root_room : (root : Root) → Beside set w.shared root
+        → HasRoom set states root.shared root.frame
+    root_room root (issues h) = request_room h
+    root_room root (takes_dpc d routine there) =
+        begins_idle set states w.shared.issued root.shared (dpc_activation set d routine) 0
+        (begins_dpc set states good w.shared.issued d routine there)
+    root_room root (takes_first h) = startio_room h
+    root_room root (takes_nothing n level p there) = tt
+
+    root_others : (root : Root) → Beside set w.shared root → (k n : ℕ)
+        → 1 ≤ stack_sum (λ g. frame_rights states g n) (frames_on w k) → Keeps w.shared root.shared n
+    root_others root (issues h) k n some =
+        old_keeps h n (not_yet set states w past stands holds k n some)
+    root_others root _ k n some = all_keep w.shared n
+
+    root_waiting : (root : Root) → Beside set w.shared root → WaitingRoom set root.shared
+    root_waiting root (issues h) = request_waiting h
+    root_waiting root (takes_first h) =
+        record {
+          queues = roomy.waiting.queues;
+          starts = start_put_room set w.shared roomy.waiting h.d h.start
+              (without_first_to_start h.start) h.has
+              (λ m some.
+              let gone : times_at (waits_cancelable set h.d) (without_first_to_start h.start) m
+              + (if nat_eq h.n m then 1 else 0)
+              ≡ times_at (waits_cancelable set h.d) h.start m =
+              times_first (waits_cancelable set h.d) h.start h.n m h.first in
+              roomy.waiting.starts h.d m h.start h.has (omega arith));
+          words = roomy.waiting.words;
+        }
+    root_waiting root _ =
+        record {
+          queues = roomy.waiting.queues;
+          starts = roomy.waiting.starts;
+          words = roomy.waiting.words;
+        }
+
+    root_ways : (root : Root) → Beside set w.shared root → AllWays set root.shared
+    root_ways root (issues h) = request_ways h
+    root_ways root _ = roomy.ways
+
+    pub roomy_kept : Claimed set states w → (actor : Actor)
         → ((h : StepsFrame set w actor.thread) → NextArmed set w.shared h.frame)
-        → GoesOnBy set w past actor c
-        → Roomy set states c.world
-    roomy_kept claimed actor c armed on = kept c on.happens
-      where
-        kept : (c : Change) → Happens set w actor.thread c → Roomy set states c.world
-        kept c (nothing reply right) = roomy
-        kept c (steps h) =
-            step_room actor h
-            (names_device set states w past good stands holds claimed actor.thread h) (armed h)
-        kept c (issues h) =
-            threads_room actor.thread (with_new_packet w.shared h.d h.device h.major h.argument)
-            h.thread
-            (rooted h.thread Passive (serves_request set h.d h.device h.major w.shared.issued))
-            h.found
-            (request_room h.device h.d h.major h.argument h.there, tt)
-            (λ k apart n some. old_keeps h.device h.d h.major h.argument h.there n
-            (not_yet set states w past stands holds k n some))
-            (request_waiting h.device h.d h.major h.argument h.there)
-            (request_ways h.device h.d h.major h.argument h.there)
-        kept c (begins_startio h) =
-            let start : StartState = without_first_to_start h.start in
-            threads_room actor.thread (with_start w.shared h.d start) h.thread
-            (rooted h.thread DispatchLevel (startio_activation set h.d h.routine h.n)) h.found
-            (startio_room actor.thread h, tt) (λ k apart n some. all_keep w.shared n)
-            (record {
-              queues = roomy.waiting.queues;
-              starts = start_put_room set w.shared roomy.waiting h.d h.start start h.has
-                  (λ m some.
-                  let gone : times_at (waits_cancelable set h.d) start m
-                  + (if nat_eq h.n m then 1 else 0)
-                  ≡ times_at (waits_cancelable set h.d) h.start m =
-                  times_first (waits_cancelable set h.d) h.start h.n m h.first in
-                  roomy.waiting.starts h.d m h.start h.has (omega arith));
-              words = roomy.waiting.words;
-            }) roomy.ways
-        kept c (begins h) =
-            let a : Activation = dpc_activation set h.d h.routine in
-            threads_room actor.thread (with_dpc w.shared h.d false) h.thread
-            (rooted h.thread DispatchLevel a) h.found (
-              begins_idle set states w.shared.issued (with_dpc w.shared h.d false) a 0
-                  (begins_dpc set states good w.shared.issued h.d h.routine h.there),
-              tt,
-            )
-            (λ k apart n some. all_keep w.shared n)
-            (record {
-              queues = roomy.waiting.queues;
-              starts = roomy.waiting.starts;
-              words = roomy.waiting.words;
-            }) roomy.ways
-        kept c (begins_cancel h) =
-            threads_room actor.thread w.shared h.thread (cancelling h.thread h.level h.n) h.found
-            (tt, tt)
-            (λ k apart n some. all_keep w.shared n) roomy.waiting roomy.ways
+        → (c : Change) → Happens set w actor.thread c → Roomy set states c.world
+    roomy_kept claimed actor armed c (nothing reply right) = roomy
+    roomy_kept claimed actor armed c (steps h) =
+        step_room actor h
+        (names_device set states w past good stands holds claimed actor.thread h) (armed h)
+    roomy_kept claimed actor armed c (begins i root beside) =
+        threads_room actor.thread root.shared i.thread (with_root i.thread root) i.found
+        (root_room root beside, tt) (λ k apart n some. root_others root beside k n some)
+        (root_waiting root beside) (root_ways root beside)
 
 -- where a DPC is queued or isn't
 pub roomy_queued : (set : Set) (states : States) (w : World) (d : ℕ) (queued : Bool)

@@ -1,8 +1,8 @@
--- What an event can be: nothing happens, the top frame of a thread steps, a packet is issued, a DPC
--- is queued or begins, a StartIo routine or IoCancelIrp begins; and what a run answers to it.
+-- What an event can be: nothing happens, the top frame of a thread steps, a root begins on an idle
+-- one, or a DPC is queued; and what a run answers to it.
 use Rattle.std.proofs.Common.{◌≡◌, ℕ, ◌-◌, List, [], ◌∷◌, ◌++◌, length, Option, None, Some, Bool, true, false, take, refl}
-use Rattle.std.specs.Prelude.{◌&&◌, not, nat_eq, nat_lt, slice_get, if◌then◌else◌}
-use Rattle.std.proofs.lemmas.Bool.{eqb-true, cond_both}
+use Rattle.std.specs.Prelude.{⊤, ◌&&◌, not, nat_eq, nat_lt, slice_get, if◌then◌else◌}
+use Rattle.std.proofs.lemmas.Bool.{eqb-true}
 use Rattle.model.specs.declared.event.Bug.{Bug}
 use Rattle.model.specs.declared.event.Event.{Event}
 use Rattle.model.specs.declared.event.Event.TheVariants.{Issue, Cancel as CancelEvent, Interrupt, Dpc, StartIo as StartIoEvent, Step}
@@ -16,7 +16,7 @@ use Rattle.model.specs.declared.world.Irql.{Irql}
 use Rattle.model.specs.declared.world.Packet.{Packet}
 use Rattle.model.specs.declared.world.Thread.{Thread}
 use Rattle.model.specs.Effect.{Outcome, frame_effect, top_of}
-use Rattle.model.specs.Events.{Change, settled, top_effect, step_thread, unchanged, issued, issue_on, is_idle, can_issue, irql_of, cancel_of, cancel_on, interrupted, interrupt_on, dpc_begun, dpc_on, effect, startio_begun, startio_for, startio_from, startio_on}
+use Rattle.model.specs.Events.{Change, settled, top_effect, step_thread, unchanged, issued, issue_on, is_idle, can_issue, irql_of, cancel_of, cancel_on, interrupted, interrupt_on, dpc_begun, dpc_on, effect, startio_for, startio_from, startio_on}
 use Rattle.model.specs.Fault.{first_fault}
 use Rattle.model.specs.Queues.{StartState, head_of}
 use Rattle.model.specs.Run.{Run, Answered, actor_on, goes, refused, stops, unless_wrong, unless_fault, thread_of, answered_on, step}
@@ -24,15 +24,27 @@ use Rattle.model.specs.Set.{Set, dpc_of, startio_of}
 use Rattle.model.specs.Trace.{Entry, recorded}
 use Rattle.model.specs.World.{World, is_queued, packet_of, start_of}
 use Rattle.run_laws.proofs.Lists.{last_split}
+use Rattle.run_laws.proofs.Runs.Roots.{Root, Beside, issues, takes_dpc, takes_first, takes_nothing, IdleThread, root_begun, request_root, dpc_root, startio_root, cancel_root}
 use Rattle.run_laws.proofs.Steps.Comes.{Comes}
 use Rattle.run_laws.proofs.Steps.Walk.{comes}
-use Rattle.run_laws.proofs.Tests.{and_left, and_right}
 
 -- a reply with which a run stops
 abbrev pub stops_run : Reply → Bool
 stops_run (BugCheckReply bug) = true
 stops_run (Wrong place) = true
 stops_run _ = false
+
+-- one that tells that nothing happened
+abbrev pub says_nothing : Reply → Bool
+says_nothing Finished = true
+says_nothing Idle = true
+says_nothing Refused = true
+says_nothing _ = false
+
+pub nothing_stops : (reply : Reply) → says_nothing reply ≡ true → stops_run reply ≡ false
+nothing_stops (BugCheckReply bug) right = cc
+nothing_stops (Wrong place) right = cc
+nothing_stops _ right = refl
 
 -- the top frame of a thread does a step
 pub record StepsFrame (set : Set) (w : World) (t : ℕ) : Type 0 where
@@ -44,67 +56,17 @@ pub record StepsFrame (set : Set) (w : World) (t : ℕ) : Type 0 where
   pub frames : thread.frames.items ≡ below ++ frame ∷ []
   pub comes : Comes set w.shared t (top_of below) frame outcome
 
--- a packet is issued on an idle thread
-pub record IssuesPacket (set : Set) (w : World) (t : ℕ) : Type 0 where
-  pub thread : Thread
-  pub d : ℕ
-  pub device : Device
-  pub major : Major
-  pub argument : ℕ
-  pub found : slice_get w.threads t ≡ Some thread
-  pub idle : thread.frames.items ≡ []
-  pub there : slice_get set.devices d ≡ Some device
-  pub room : can_issue w.shared ≡ true
-
--- the DPC of a device begins on an idle thread
-pub record BeginsDpc (set : Set) (w : World) (t : ℕ) : Type 0 where
-  pub thread : Thread
-  pub d : ℕ
-  pub routine : ℕ
-  pub found : slice_get w.threads t ≡ Some thread
-  pub idle : thread.frames.items ≡ []
-  pub there : dpc_of set d ≡ Some routine
-
--- the StartIo routine of a device begins on an idle thread, for the first packet of its start list
-pub record BeginsStartIo (set : Set) (w : World) (t : ℕ) : Type 0 where
-  pub thread : Thread
-  pub d : ℕ
-  pub routine : ℕ
-  pub start : StartState
-  pub n : ℕ
-  pub found : slice_get w.threads t ≡ Some thread
-  pub idle : thread.frames.items ≡ []
-  pub there : startio_of set d ≡ Some routine
-  pub has : start_of w.shared d ≡ Some start
-  pub first : head_of start.start_list ≡ Some n
-
--- IoCancelIrp begins on an idle thread, at a level, for a packet that is live
-pub record BeginsCancel (set : Set) (w : World) (t : ℕ) : Type 0 where
-  pub thread : Thread
-  pub n : ℕ
-  pub level : Irql
-  pub packet : Packet
-  pub found : slice_get w.threads t ≡ Some thread
-  pub idle : thread.frames.items ≡ []
-  pub there : packet_of w.shared n ≡ Some packet
-
 -- what an event on a thread can be, with the change that it makes
 pub data Happens (set : Set) (w : World) (t : ℕ) : Change → Type 0 where
-  nothing : (reply : Reply) → stops_run reply ≡ false → Happens set w t (unchanged w reply)
+  nothing : (reply : Reply) → says_nothing reply ≡ true → Happens set w t (unchanged w reply)
   steps : (h : StepsFrame set w t)
       → Happens set w t (settled set w t h.thread h.below h.outcome)
-  issues : (h : IssuesPacket set w t)
-      → Happens set w t (issued set w t h.d h.thread h.device h.major h.argument)
-  begins : (h : BeginsDpc set w t)
-      → Happens set w t (dpc_begun set w t h.d h.thread h.routine)
-  begins_startio : (h : BeginsStartIo set w t)
-      → Happens set w t (startio_begun set w t h.d h.thread h.routine h.n h.start)
-  begins_cancel : (h : BeginsCancel set w t)
-      → Happens set w t (cancel_of w t h.n h.level h.thread (Some h.packet))
+  begins : (i : IdleThread w t) (root : Root) → Beside set w.shared root
+      → Happens set w t (root_begun w t i.thread root)
 
 -- what one about no thread can be
 pub data Sets (set : Set) (w : World) : Change → Type 0 where
-  sets_nothing : (reply : Reply) → stops_run reply ≡ false → Sets set w (unchanged w reply)
+  sets_nothing : (reply : Reply) → says_nothing reply ≡ true → Sets set w (unchanged w reply)
   queues : (d : ℕ) → Sets set w (interrupted w d)
 
 -- an event is about a thread, or about none
@@ -138,127 +100,177 @@ module _ (set : Set) (w : World) (t : ℕ) where
   happens_step (Some thread) found =
       happens_top thread (slice_get thread.frames.items (length thread.frames.items - 1)) found refl
 
+-- the threads are both there, and are idle both or neither
+abbrev pub SameIdle : Option Thread → Option Thread → Type 0
+SameIdle None None = ⊤
+SameIdle (Some x) (Some y) = is_idle x ≡ is_idle y
+SameIdle _ _ = ⊥
+
+module _ (set : Set) (w : World) (others : List Thread) (t : ℕ) where
+  -- another world, whose threads share what those of this one do
+  abbrev v : World
+  v = record { threads = others; shared = w.shared }
+
+  -- what an event but a step can be on a thread of both: nothing, or the same root begins
+  pub data Both : Change → Change → Type 0 where
+    both_nothing : (reply : Reply) → says_nothing reply ≡ true
+        → Both (unchanged v reply) (unchanged w reply)
+    both_begin : (x : Thread) (i : IdleThread w t) (root : Root) → Beside set w.shared root
+        → Both (root_begun v t x root) (root_begun w t i.thread root)
+
   none_of_length : (frames : List Frame) → nat_eq (length frames) 0 ≡ true → frames ≡ []
   none_of_length [] h = refl
   none_of_length (f ∷ frames) h = let no : length (f ∷ frames) ≡ 0 =
       eqb-true (length (f ∷ frames)) 0 h in cc
 
-  happens_if : (d : ℕ) (major : Major) (argument : ℕ) (thread : Thread) (device : Device) (b : Bool)
-      → (is_idle thread && can_issue w.shared) ≡ b → slice_get w.threads t ≡ Some thread
-      → slice_get set.devices d ≡ Some device
-      → Happens set w t
-      (if b then issued set w t d thread device major argument else unchanged w Refused)
-  happens_if d major argument thread device false may found there = nothing Refused refl
-  happens_if d major argument thread device true may found there =
-      issues (record {
-        thread = thread;
-        d = d;
-        device = device;
-        major = major;
-        argument = argument;
-        found = found;
-        idle = none_of_length thread.frames.items (and_left _ _ may);
-        there = there;
-        room = and_right _ _ may;
-      })
+  module _ (x y : Thread) (found : slice_get w.threads t ≡ Some y) (same : is_idle x ≡ is_idle y)
+    where
+      abbrev Two : (World → Thread → Change) → Type 0
+      Two c = Both (c v x) (c w y)
 
-  happens_issue : (d : ℕ) (major : Major) (argument : ℕ) (o : Option Thread)
-      (device : Option Device)
-      → slice_get w.threads t ≡ o → slice_get set.devices d ≡ device
-      → Happens set w t (issue_on set w t d major argument o device)
-  happens_issue d major argument (Some thread) (Some device) found there =
-      happens_if d major argument thread device (is_idle thread && can_issue w.shared) refl found
-      there
-  happens_issue d major argument _ _ found there = nothing Refused refl
+      begin_both : (root : Root) → is_idle y ≡ true → Beside set w.shared root
+          → Two (λ u z. root_begun u t z root)
+      begin_both root is beside =
+          both_begin x (record {
+            thread = y;
+            found = found;
+            idle = none_of_length y.frames.items is;
+          }) root beside
 
-  happens_queued : (d routine : ℕ) (thread : Thread) (idle queued : Bool) → is_idle thread ≡ idle
-      → slice_get w.threads t ≡ Some thread → dpc_of set d ≡ Some routine
-      → Happens set w t
-      (if not idle then unchanged w Refused else
-      (if queued then dpc_begun set w t d thread routine else unchanged w Idle))
-  happens_queued d routine thread false queued is found there = nothing Refused refl
-  happens_queued d routine thread true false is found there = nothing Idle refl
-  happens_queued d routine thread true true is found there =
-      begins (record {
-        thread = thread;
-        d = d;
-        routine = routine;
-        found = found;
-        idle = none_of_length thread.frames.items is;
-        there = there;
-      })
+      when_both : (b : Bool) (c e : World → Thread → Change) → (b ≡ true → Two c) → Two e
+          → Two (λ u z. if b then c u z else e u z)
+      when_both true c e first second = first refl
+      when_both false c e first second = second
 
-  happens_dpc : (d : ℕ) (o : Option Thread) (routine : Option ℕ) → slice_get w.threads t ≡ o
-      → dpc_of set d ≡ routine
-      → Happens set w t (dpc_on set w t d o routine)
-  happens_dpc d (Some thread) (Some routine) found there =
-      happens_queued d routine thread (is_idle thread) (is_queued w.shared d) refl found there
-  happens_dpc d _ _ found there = nothing Refused refl
+      idle_both : (c : World → Thread → Bool → Change) (idle : Bool) → is_idle y ≡ idle
+          → Two (λ u z. c u z false) → (is_idle y ≡ true → Two (λ u z. c u z true))
+          → Two (λ u z. c u z idle)
+      idle_both c true is busy free = free is
+      idle_both c false is busy free = busy
 
-  happens_first : (d routine : ℕ) (thread : Thread) (start : StartState) (n : Option ℕ)
-      → slice_get w.threads t ≡ Some thread → is_idle thread ≡ true
-      → startio_of set d ≡ Some routine → start_of w.shared d ≡ Some start
-      → head_of start.start_list ≡ n
-      → Happens set w t (startio_for set w t d thread routine start n)
-  happens_first d routine thread start None found is there has first = nothing Idle refl
-  happens_first d routine thread start (Some n) found is there has first =
-      begins_startio (record {
-        thread = thread;
-        d = d;
-        routine = routine;
-        start = start;
-        n = n;
-        found = found;
-        idle = none_of_length thread.frames.items is;
-        there = there;
-        has = has;
-        first = first;
-      })
+      when_idle : (c : World → Thread → Bool → Change) → Two (λ u z. c u z false)
+          → (is_idle y ≡ true → Two (λ u z. c u z true)) → Two (λ u z. c u z (is_idle z))
+      when_idle c busy free = rw same (idle_both c (is_idle y) refl busy free)
 
-  happens_started : (d routine : ℕ) (thread : Thread) (start : Option StartState)
-      → slice_get w.threads t ≡ Some thread → is_idle thread ≡ true
-      → startio_of set d ≡ Some routine → start_of w.shared d ≡ start
-      → Happens set w t (startio_from set w t d thread routine start)
-  happens_started d routine thread None found is there has = nothing Refused refl
-  happens_started d routine thread (Some start) found is there has =
-      happens_first d routine thread start (head_of start.start_list) found is there has refl
+      issue_both : (d : ℕ) (major : Major) (argument : ℕ) (o : Option Device)
+          → slice_get set.devices d ≡ o
+          → Two (λ u z. issue_on set u t d major argument (Some z) o)
+      issue_both d major argument None there = both_nothing Refused refl
+      issue_both d major argument (Some device) there =
+          when_idle (λ u z idle. if idle && can_issue u.shared
+          then issued set u t d z device major argument else unchanged u Refused)
+          (both_nothing Refused refl)
+          (λ is. when_both (can_issue w.shared) (λ u z. issued set u t d z device major argument)
+          (λ u z. unchanged u Refused)
+          (λ room. begin_both (request_root set w.shared d device major argument) is
+          (issues (record {
+            d = d;
+            device = device;
+            major = major;
+            argument = argument;
+            there = there;
+            room = room;
+          }))) (both_nothing Refused refl))
 
-  happens_startio : (d : ℕ) (o : Option Thread) (routine : Option ℕ) → slice_get w.threads t ≡ o
-      → startio_of set d ≡ routine
-      → Happens set w t (startio_on set w t d o routine)
-  happens_startio d (Some thread) (Some routine) found there =
-      cond_both (is_idle thread) (startio_from set w t d thread routine (start_of w.shared d))
-      (unchanged w Refused) (Happens set w t)
-      (λ is. happens_started d routine thread (start_of w.shared d) found is there refl)
-      (λ busy. nothing Refused refl)
-  happens_startio d _ _ found there = nothing Refused refl
+      dpc_both : (d : ℕ) (o : Option ℕ) → dpc_of set d ≡ o
+          → Two (λ u z. dpc_on set u t d (Some z) o)
+      dpc_both d None there = both_nothing Refused refl
+      dpc_both d (Some routine) there =
+          when_idle (λ u z idle. if not idle then unchanged u Refused else
+          (if is_queued u.shared d then dpc_begun set u t d z routine else unchanged u Idle))
+          (both_nothing Refused refl)
+          (λ is. when_both (is_queued w.shared d) (λ u z. dpc_begun set u t d z routine)
+          (λ u z. unchanged u Idle)
+          (λ queued. begin_both (dpc_root set w.shared d routine) is
+          (takes_dpc d routine there))
+          (both_nothing Idle refl))
 
-  happens_cancelling : (n : ℕ) (level : Irql) (thread : Thread) (o : Option Packet)
-      → slice_get w.threads t ≡ Some thread → is_idle thread ≡ true → packet_of w.shared n ≡ o
-      → Happens set w t (cancel_of w t n level thread o)
-  happens_cancelling n level thread None found is there = nothing Finished refl
-  happens_cancelling n level thread (Some p) found is there =
-      begins_cancel (record {
-        thread = thread;
-        n = n;
-        level = level;
-        packet = p;
-        found = found;
-        idle = none_of_length thread.frames.items is;
-        there = there;
-      })
+      first_both : (d routine : ℕ) (start : StartState) (o : Option ℕ)
+          → startio_of set d ≡ Some routine → start_of w.shared d ≡ Some start
+          → head_of start.start_list ≡ o → is_idle y ≡ true
+          → Two (λ u z. startio_for set u t d z routine start o)
+      first_both d routine start None there has first is = both_nothing Idle refl
+      first_both d routine start (Some n) there has first is =
+          begin_both (startio_root set w.shared d routine n start) is (takes_first (record {
+            d = d;
+            routine = routine;
+            start = start;
+            n = n;
+            there = there;
+            has = has;
+            first = first;
+          }))
 
-  happens_cancel : (n : ℕ) (level : Option Irql) (o : Option Thread) → slice_get w.threads t ≡ o
-      → Happens set w t (cancel_on w t n level o)
-  happens_cancel n level None found = nothing Refused refl
-  happens_cancel n None (Some thread) found = nothing Refused refl
-  happens_cancel n (Some level) (Some thread) found =
-      cond_both (is_idle thread && nat_lt n w.shared.issued)
-      (cancel_of w t n level thread (packet_of w.shared n))
-      (unchanged w Refused) (Happens set w t)
-      (λ may. happens_cancelling n level thread (packet_of w.shared n) found (and_left _ _ may)
-      refl)
-      (λ may_not. nothing Refused refl)
+      start_both : (d routine : ℕ) (o : Option StartState) → startio_of set d ≡ Some routine
+          → start_of w.shared d ≡ o → is_idle y ≡ true
+          → Two (λ u z. startio_from set u t d z routine o)
+      start_both d routine None there has is = both_nothing Refused refl
+      start_both d routine (Some start) there has is =
+          first_both d routine start (head_of start.start_list) there has refl is
+
+      startio_both : (d : ℕ) (o : Option ℕ) → startio_of set d ≡ o
+          → Two (λ u z. startio_on set u t d (Some z) o)
+      startio_both d None there = both_nothing Refused refl
+      startio_both d (Some routine) there =
+          when_idle (λ u z idle. if idle then startio_from set u t d z routine (start_of u.shared d)
+          else unchanged u Refused) (both_nothing Refused refl)
+          (λ is. start_both d routine (start_of w.shared d) there refl is)
+
+      live_both : (n : ℕ) (level : Irql) (o : Option Packet) → packet_of w.shared n ≡ o
+          → is_idle y ≡ true → Two (λ u z. cancel_of u t n level z o)
+      live_both n level None there is = both_nothing Finished refl
+      live_both n level (Some p) there is =
+          begin_both (cancel_root w.shared n level) is
+          (takes_nothing n level p there)
+
+      cancel_both : (n : ℕ) (level : Option Irql) → Two (λ u z. cancel_on u t n level (Some z))
+      cancel_both n None = both_nothing Refused refl
+      cancel_both n (Some level) =
+          when_idle (λ u z idle. if idle && nat_lt n u.shared.issued
+          then cancel_of u t n level z (packet_of u.shared n) else unchanged u Refused)
+          (both_nothing Refused refl)
+          (λ is. when_both (nat_lt n w.shared.issued)
+          (λ u z. cancel_of u t n level z (packet_of w.shared n)) (λ u z. unchanged u Refused)
+          (λ low. live_both n level (packet_of w.shared n) refl is) (both_nothing Refused refl))
+
+  -- an event about a thread that is there in both or in neither
+  thread_both : (c : World → Option Thread → Change) (o p : Option Thread)
+      → slice_get w.threads t ≡ p → SameIdle o p → Both (c v None) (c w None)
+      → ((x y : Thread) → slice_get w.threads t ≡ Some y → is_idle x ≡ is_idle y
+      → Both (c v (Some x)) (c w (Some y)))
+      → Both (c v o) (c w p)
+  thread_both c None None found same none some = none
+  thread_both c (Some x) (Some y) found same none some = some x y found same
+  thread_both c _ _ found same none some = absurd same
+
+  module _ (same : SameIdle (slice_get others t) (slice_get w.threads t)) where
+    pub request_both : (d : ℕ) (major : Major) (argument : ℕ)
+        → Both (effect set v (Issue t d major argument)) (effect set w (Issue t d major argument))
+    request_both d major argument =
+        thread_both (λ u o. issue_on set u t d major argument o (slice_get set.devices d))
+        (slice_get others t) (slice_get w.threads t) refl same (both_nothing Refused refl)
+        (λ x y found idle. issue_both x y found idle d major argument (slice_get set.devices d)
+        refl)
+
+    pub deferred_both : (d : ℕ) → Both (effect set v (Dpc t d)) (effect set w (Dpc t d))
+    deferred_both d =
+        thread_both (λ u o. dpc_on set u t d o (dpc_of set d)) (slice_get others t)
+        (slice_get w.threads t) refl same (both_nothing Refused refl)
+        (λ x y found idle. dpc_both x y found idle d (dpc_of set d) refl)
+
+    pub started_both : (d : ℕ)
+        → Both (effect set v (StartIoEvent t d)) (effect set w (StartIoEvent t d))
+    started_both d =
+        thread_both (λ u o. startio_on set u t d o (startio_of set d)) (slice_get others t)
+        (slice_get w.threads t) refl same (both_nothing Refused refl)
+        (λ x y found idle. startio_both x y found idle d (startio_of set d) refl)
+
+    pub cancelled_both : (n level : ℕ)
+        → Both (effect set v (CancelEvent t n level)) (effect set w (CancelEvent t n level))
+    cancelled_both n level =
+        thread_both (λ u o. cancel_on u t n (irql_of level) o) (slice_get others t)
+        (slice_get w.threads t) refl same (both_nothing Refused refl)
+        (λ x y found idle. cancel_both x y found idle n (irql_of level))
 
 sets_if : (set : Set) (w : World) (d : ℕ) (queued : Bool)
     → Sets set w (if queued then unchanged w Idle else interrupted w d)
@@ -270,20 +282,30 @@ sets_interrupt : (set : Set) (w : World) (d : ℕ) (routine : Option ℕ)
 sets_interrupt set w d None = sets_nothing Refused refl
 sets_interrupt set w d (Some routine) = sets_if set w d (is_queued w.shared d)
 
-pub concerns : (set : Set) (w : World) (e : Event) → Concerns set w e
-concerns set w (Issue t d major argument) =
-    a_thread t refl
-    (happens_issue set w t d major argument (slice_get w.threads t) (slice_get set.devices d) refl
-    refl)
-concerns set w (CancelEvent t n level) =
-    a_thread t refl (happens_cancel set w t n (irql_of level) (slice_get w.threads t) refl)
-concerns set w (Interrupt d) = no_thread refl (sets_interrupt set w d (dpc_of set d))
-concerns set w (Dpc t d) =
-    a_thread t refl (happens_dpc set w t d (slice_get w.threads t) (dpc_of set d) refl refl)
-concerns set w (StartIoEvent t d) =
-    a_thread t refl
-    (happens_startio set w t d (slice_get w.threads t) (startio_of set d) refl refl)
-concerns set w (Step t) = a_thread t refl (happens_step set w t (slice_get w.threads t) refl)
+module _ (set : Set) (w : World) where
+  happens_one : (t : ℕ) (c d : Change) → Both set w w.threads t c d → Happens set w t d
+  happens_one t c d (both_nothing reply right) = nothing reply right
+  happens_one t c d (both_begin x i root beside) = begins i root beside
+
+  itself_idle : (o : Option Thread) → SameIdle o o
+  itself_idle None = tt
+  itself_idle (Some x) = refl
+
+  alone : (t : ℕ) → SameIdle (slice_get w.threads t) (slice_get w.threads t)
+  alone t = itself_idle (slice_get w.threads t)
+
+  pub concerns : (e : Event) → Concerns set w e
+  concerns (Issue t d major argument) =
+      a_thread t refl
+      (happens_one t _ _ (request_both set w w.threads t (alone t) d major argument))
+  concerns (CancelEvent t n level) =
+      a_thread t refl (happens_one t _ _ (cancelled_both set w w.threads t (alone t) n level))
+  concerns (Interrupt d) = no_thread refl (sets_interrupt set w d (dpc_of set d))
+  concerns (Dpc t d) =
+      a_thread t refl (happens_one t _ _ (deferred_both set w w.threads t (alone t) d))
+  concerns (StartIoEvent t d) =
+      a_thread t refl (happens_one t _ _ (started_both set w w.threads t (alone t) d))
+  concerns (Step t) = a_thread t refl (happens_step set w t (slice_get w.threads t) refl)
 
 -- what a run does with a change that an event would make on a thread
 abbrev pub past_with : Run → ℕ → Change → List Entry

@@ -1,5 +1,5 @@
 -- The threads of a world, where another stands in place of one.
-use Rattle.std.proofs.Common.{◌≡◌, ◌≢◌, ℕ, zero, suc, inl, inr, List, [], Option, Some, refl, ap, sym, subst}
+use Rattle.std.proofs.Common.{◌≡◌, ◌≢◌, ℕ, zero, suc, inl, inr, List, [], ◌∷◌, ◌++◌, ◌∙◌, Option, Some, refl, ap, sym, subst}
 use Rattle.std.specs.Prelude.{replicate, slice_get}
 use Rattle.std.proofs.lemmas.Bool.{cases_eq}
 use Rattle.model.specs.declared.world.Frame.{Frame}
@@ -7,12 +7,19 @@ use Rattle.model.specs.declared.world.Thread.{Thread}
 use Rattle.model.specs.Events.{with_thread}
 use Rattle.model.specs.Run.{frames_of, frames_on}
 use Rattle.model.specs.World.{Shared, World, idle_thread}
+use Rattle.model.specs.Set.{Set}
 use Rattle.run_laws.proofs.Lists.{set_same, set_other}
+use Rattle.run_laws.proofs.Runs.Events.{StepsFrame}
 
 module _ (w : World) (t : ℕ) where
   pub frames_there : (thread : Thread) → slice_get w.threads t ≡ Some thread
       → frames_on w t ≡ thread.frames.items
   frames_there thread found = ap frames_of found
+
+  -- what holds of all frames holds of those below the top one with it
+  pub of_steps : {set : Set} (P : List Frame → Type 0) (h : StepsFrame set w t)
+      → P (frames_on w t) → P (h.below ++ h.frame ∷ [])
+  of_steps P h holds = subst P (frames_there h.thread h.found ∙ h.frames) holds
 
   module _ (s : Shared) (after : Thread) where
     pub thread_put : (thread : Thread) → slice_get w.threads t ≡ Some thread

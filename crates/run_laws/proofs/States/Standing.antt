@@ -1,43 +1,40 @@
 -- Every run of an accepted set stands as it should: what is shared fits the set, the past tells of
 -- it, and each thread has frames that stand on one another, dispatch routines at PASSIVE_LEVEL.
 use Rattle.model.specs.declared.world.Frame.TheVariants.{Walk}
-use Rattle.std.proofs.Common.{◌<◌, ◌≡◌, ℕ, ◌+◌, ◌≤◌, List, [], ◌∷◌, ◌++◌, length, Option, None, Some, Bool, false, refl, sym, ◌∙◌, subst, arith, inl, ap, inr, append_assoc}
+use Rattle.std.proofs.Common.{◌<◌, ◌≡◌, ℕ, ◌+◌, ◌≤◌, List, [], ◌∷◌, ◌++◌, length, Option, None, Some, Bool, false, refl, ◌∙◌, subst, arith, inl, ap, inr, append_assoc}
 use Rattle.std.specs.Prelude.{slice_get}
 use Rattle.std.specs.List.{list_any}
 use Rattle.model.specs.declared.event.Reply.{Reply}
 use Rattle.model.specs.declared.event.Reply.TheVariants.{Stepped}
-use Rattle.model.specs.declared.set.Sort.TheVariants.{Dispatch, Dpc, StartIo}
 use Rattle.model.specs.declared.world.Frame.{Frame}
 use Rattle.model.specs.declared.world.Irql.{Irql}
-use Rattle.model.specs.declared.world.Irql.TheVariants.{Passive, Dispatch as DispatchLevel}
 use Rattle.model.specs.declared.world.Thread.{Thread}
-use Rattle.model.specs.declared.world.Value.TheVariants.{Blank}
 use Rattle.model.specs.Effect.{Outcome, top_of}
-use Rattle.model.specs.Events.{Change, standing, with_thread, with_stack, rooted, dpc_activation, with_new_packet, serves_request, finished_or, cancelling}
+use Rattle.model.specs.Events.{Change, standing, with_thread, with_stack, finished_or}
 use Rattle.model.specs.Fault.{first_fault}
 use Rattle.model.specs.Run.{begun, root_of, frames_of, frames_on}
 use Rattle.model.specs.Set.{Set}
-use Rattle.model.specs.Sound.{DeviceFits}
 use Rattle.model.specs.Trace.{Entry, Actor, recorded}
-use Rattle.model.specs.Queues.{StartState, without_first_to_start}
-use Rattle.model.specs.World.{Shared, World, new_packet, with_dpc, with_start}
-use Rattle.model.specs.declared.world.Activation.{Activation}
-use Rattle.run_laws.proofs.Devices.{device_fits}
+use Rattle.model.specs.Queues.{without_first_to_start}
+use Rattle.model.specs.declared.world.Packet.{Packet}
+use Rattle.model.specs.World.{Shared, World, new_packet}
 use Rattle.run_laws.proofs.Lists.{Each, each_push, each_append, each_before, each_after}
-use Rattle.run_laws.proofs.Past.Packets.{Tells, tells_issue, tells_nothing, found_lt, found}
+use Rattle.run_laws.proofs.Past.Packets.{Tells, tells_nothing}
+use Rattle.run_laws.proofs.Past.Runs.{root_tells}
 use Rattle.run_laws.proofs.Past.Steps.{told_packets}
 use Rattle.run_laws.proofs.Past.Walks.{UnderIssued, WalkIssued, under_issued}
-use Rattle.run_laws.proofs.Runs.Events.{BeginsStartIo, stops_run, StepsFrame, Happens, nothing, steps, issues, begins, begins_startio as startio_begins, begins_cancel}
-use Rattle.run_laws.proofs.Runs.Kept.{GoesOnBy, with_queued}
-use Rattle.run_laws.proofs.Runs.Threads.{frames_there, each_thread, each_frames, idle_frames}
-use Rattle.run_laws.proofs.States.Entering.{Begins, Enters, begins_request, begins_dpc, begins_startio, startio_activation}
+use Rattle.run_laws.proofs.Runs.Events.{nothing_stops, stops_run, StepsFrame, Happens, nothing, steps, begins}
+use Rattle.run_laws.proofs.Runs.Kept.{with_queued}
+use Rattle.run_laws.proofs.Runs.Roots.{Root, Beside, issues, takes_dpc, takes_first, takes_nothing, issued_more, with_root}
+use Rattle.run_laws.proofs.Runs.Threads.{of_steps, each_thread, each_frames, idle_frames}
+use Rattle.run_laws.proofs.States.Begun.{RootFrame, root_frame, root_low, root_stands}
 use Rattle.run_laws.proofs.States.Fine.{is_wrong, IsRight, is_right_step, StepLeaves, leaves_fine}
 use Rattle.run_laws.proofs.States.Fits.{queues_later, PacketLeads, Fits, new_leads, unused_fits, WordLeads, with_queues_fits}
 use Rattle.run_laws.proofs.States.Frames.{IsGood}
 use Rattle.run_laws.proofs.States.OnTop.{OnTop}
 use Rattle.run_laws.proofs.States.Roots.{Low, last_low, step_low, low_over}
 use Rattle.run_laws.specs.ArrivingStates.{States}
-use Rattle.run_laws.proofs.States.StartsFit.{StartFits, begun_fits, first_low, start_issued, start_put_fits, starts_later}
+use Rattle.run_laws.proofs.States.StartsFit.{begun_fits, start_issued, start_put_fits, starts_later}
 use Rattle.run_laws.proofs.States.Stacks.{Stacked, top_stands, replaced, stacked_later, walks_stand, walk_taken}
 use Rattle.run_laws.proofs.States.Told.{told_last, told_is}
 use Rattle.run_laws.proofs.Steps.Below.{StopsBelow, stood}
@@ -74,9 +71,7 @@ module _ (set : Set) (states : States) (w : World) (past : List Entry) (good : I
   -- the top frame of a thread that steps
   pub stands_there : (t : ℕ) (h : StepsFrame set w t)
       → Stacked set states w.shared.issued (h.below ++ h.frame ∷ [])
-  stands_there t h =
-      subst (λ (frames : List Frame). Stacked set states w.shared.issued frames)
-      (frames_there w t h.thread h.found ∙ h.frames) (stands.frames t)
+  stands_there t h = of_steps w t (Stacked set states w.shared.issued) h (stands.frames t)
 
   walks_below : (t : ℕ) (h : StepsFrame set w t) → UnderIssued w.shared.issued (top_of h.below)
   walks_below t h =
@@ -92,15 +87,20 @@ module _ (set : Set) (states : States) (w : World) (past : List Entry) (good : I
         stands = top_stands set states w.shared.issued h.below h.frame (stands_there t h);
       }
 
+  root_right : (root : Root) → Beside set w.shared root
+      → (list_any is_wrong root.actions ≡ false) × (stops_run root.reply ≡ false)
+  root_right root (issues h) = (refl, refl)
+  root_right root _ = (refl, refl)
+
   -- no event goes wrong, and none has a reply with which a run stops
   pub right_event : (t : ℕ) (c : Change) → Happens set w t c
       → (list_any is_wrong c.actions ≡ false) × (stops_run c.reply ≡ false)
-  right_event t c (nothing reply right) = (refl, right)
+  right_event t c (nothing reply right) = (refl, nothing_stops reply right)
   right_event t c (steps h) =
       let is : IsRight h.outcome =
       is_right_step set states w.shared t (top_of h.below) h.frame h.outcome (on_top t h) h.comes in
       (is.silent, finished_stops (standing set h.below h.outcome) h.outcome.reply is.right)
-  right_event t c _ = (refl, refl)
+  right_event t c (begins i root beside) = root_right root beside
 
   -- each thread where one has other frames
   frames_after : (t : ℕ) (s : Shared) (thread after : Thread) → slice_get w.threads t ≡ Some thread
@@ -157,14 +157,6 @@ module _ (set : Set) (states : States) (w : World) (past : List Entry) (good : I
       each_thread w t s after (λ k o. Each (Low set (root_of o)) (frames_of o)) thread found h
       (λ k apart. stands.roots k)
 
-  -- a StartIo routine that begins
-  pub startio_enters : (t : ℕ) (h : BeginsStartIo set w t)
-      → Begins set states w.shared.issued (startio_activation set h.d h.routine h.n) StartIo h.n
-  startio_enters t h =
-      begins_startio set states good w.shared.issued h.d h.routine h.n
-      (first_low w.shared.issued h.start
-      (start_issued set w.shared h.d h.start h.has stands.fits.starts) h.n h.first) h.there
-
   -- where a DPC is queued or isn't
   pub standing_queued : (d : ℕ) (queued : Bool) → Standing set states (with_queued w d queued) past
   standing_queued d queued =
@@ -184,120 +176,80 @@ module _ (set : Set) (states : States) (w : World) (past : List Entry) (good : I
         frames = stands.frames;
       }
 
-  pub standing_kept : (actor : Actor) (c : Change) → GoesOnBy set w past actor c
+  -- a root begins
+  root_fits : (root : Root) → Beside set w.shared root → Fits set root.shared
+  root_fits root (issues h) =
+      let n : ℕ = w.shared.issued in
+      let p : Packet = new_packet n h.d h.major h.argument h.device.stack in
+      record {
+        cells = stands.fits.cells;
+        spin = stands.fits.spin;
+        rows = stands.fits.rows;
+        completions = each_push (PacketLeads set) w.shared.packets p stands.fits.completions
+            (new_leads set n h.d h.major h.argument h.device.stack);
+        words = each_push (WordLeads set) w.shared.packets p stands.fits.words tt;
+        queued = queues_later set w.shared.queues n (n + 1) (omega arith) stands.fits.queued;
+        starts = starts_later set w.shared.starts n (n + 1) (omega arith) stands.fits.starts;
+        few = (let room : length w.shared.packets < MAX_LIVE_PACKETS =
+            ltb-true (length w.shared.packets) MAX_LIVE_PACKETS (and_left _ _ h.room) in
+            let one : length (p ∷ []) ≡ 1 = refl in
+            omega (arith, length-append w.shared.packets (p ∷ [])));
+      }
+  root_fits root (takes_first h) =
+      with_queues_fits set w.shared stands.fits w.shared.queues root.shared.starts
+      stands.fits.queued
+      (start_put_fits set w.shared h.d (without_first_to_start h.start)
+      (begun_fits w.shared.issued h.start
+      (start_issued set w.shared h.d h.start h.has stands.fits.starts)) stands.fits.starts)
+  root_fits root (takes_dpc d routine there) = (standing_queued d false).fits
+  root_fits root (takes_nothing n level p there) = stands.fits
+
+  pub root_there : (root : Root) → Beside set w.shared root
+      → RootFrame set states root.shared.issued root.level root.frame
+  root_there root beside =
+      root_frame set states good w.shared stands.fits past stands.tells root beside
+
+  pub standing_kept : (actor : Actor) (c : Change) → Happens set w actor.thread c
+      → first_fault past actor c.actions ≡ None
       → Standing set states c.world (recorded past actor c.actions)
-  standing_kept actor c on = kept c on.happens on.quiet
-    where
-      kept : (c : Change) → Happens set w actor.thread c → first_fault past actor c.actions ≡ None
-          → Standing set states c.world (recorded past actor c.actions)
-      kept c (nothing reply right) quiet = stands
-      kept c (steps h) quiet =
-          let o : Outcome = h.outcome in
-          let t : ℕ = actor.thread in
-          let leaves : StepLeaves set states w.shared h.frame o =
-          leaves_fine set states w.shared past actor stands.tells (top_of h.below) h.frame o
-          (on_top t h) quiet h.comes
-          in
-          let issued : o.shared.issued ≡ w.shared.issued = leaves.issued in
-          record {
-            fits = leaves.fits;
-            tells = told_packets set w.shared past actor (top_of h.below) h.frame o stands.tells
-                (walks_below t h) h.comes;
-            roots = roots_after t o.shared h.thread (with_stack h.thread (standing set h.below o))
-                h.found
-                (low_over set h.thread.root (standing set h.below o) (lows_after t h));
-            frames = frames_after t o.shared h.thread (with_stack h.thread (standing set h.below o))
-                h.found
-                (omega arith)
-                (rw issued (elim (stood set w.shared t h.below h.frame o h.comes) [
-                  | inl is ↦
-                      rw is (replaced set states w.shared.issued h.below h.frame o.told o.frames
-                      (stands_there t h) leaves.stands)
-                  | inr stops ↦
-                      rw stops.stands (walk_taken set states w.shared.issued stops.others stops.n
-                      h.frame
-                      (subst (λ (frames : List Frame). Stacked set states w.shared.issued frames)
-                      (stopped_before t h stops) (stands_there t h)))
-                ]));
-          }
-      kept c (issues h) quiet =
-          let n : ℕ = w.shared.issued in
-          let fits : DeviceFits (length set.drivers) h.d h.device =
-          device_fits set h.d h.device good.sound h.there in
-          let s : Shared = with_new_packet w.shared h.d h.device h.major h.argument in
-          record {
-            fits = record {
-              cells = stands.fits.cells;
-              spin = stands.fits.spin;
-              rows = stands.fits.rows;
-              completions = each_push (PacketLeads set) w.shared.packets
-                  (new_packet n h.d h.major h.argument h.device.stack) stands.fits.completions
-                  (new_leads set n h.d h.major h.argument h.device.stack);
-              words = each_push (WordLeads set) w.shared.packets
-                  (new_packet n h.d h.major h.argument h.device.stack) stands.fits.words tt;
-              queued = queues_later set w.shared.queues n (n + 1) (omega arith) stands.fits.queued;
-              starts = starts_later set w.shared.starts n (n + 1) (omega arith) stands.fits.starts;
-              few = (let room : length w.shared.packets < MAX_LIVE_PACKETS =
-                  ltb-true (length w.shared.packets) MAX_LIVE_PACKETS (and_left _ _ h.room) in
-                  let one : length (new_packet n h.d h.major h.argument h.device.stack ∷ [])
-                  ≡ 1 = refl in
-                  omega (
-                    arith,
-                    length-append w.shared.packets (new_packet n h.d h.major h.argument h.device.stack ∷ []),
-                  ));
-            };
-            tells = tells_issue w.shared past stands.tells h.d h.major h.argument h.device.stack
-                fits.low;
-            roots = roots_after actor.thread s h.thread
-                (rooted h.thread Passive (serves_request set h.d h.device h.major n)) h.found
-                ((λ is. refl), tt);
-            frames = frames_after actor.thread s h.thread
-                (rooted h.thread Passive (serves_request set h.d h.device h.major n)) h.found
-                (omega arith)
-                (begins_request set states good (n + 1) n (omega arith) h.d h.device h.major
-                h.there).ready;
-          }
-      kept c (startio_begins h) quiet =
-          let t : ℕ = actor.thread in
-          let fits : StartFits w.shared.issued h.start =
-          start_issued set w.shared h.d h.start h.has stands.fits.starts in
-          let after : StartState = without_first_to_start h.start in
-          let s : Shared = with_start w.shared h.d after in
-          let a : Activation = startio_activation set h.d h.routine h.n in
-          let thread : Thread = rooted h.thread DispatchLevel a in
-          let enters : Begins set states w.shared.issued a StartIo h.n =
-          startio_enters actor.thread h in
-          record {
-            fits = with_queues_fits set w.shared stands.fits w.shared.queues s.starts
-                stands.fits.queued
-                (start_put_fits set w.shared h.d after (begun_fits w.shared.issued h.start fits)
-                stands.fits.starts);
-            tells = stands.tells;
-            roots = roots_after t s h.thread thread h.found
-                ((λ is. (let no : StartIo ≡ Dispatch = sym enters.of_sort ∙ is in cc)), tt);
-            frames = frames_after t s h.thread thread h.found (omega arith) enters.ready;
-          }
-      kept c (begins_cancel h) quiet =
-          let t : ℕ = actor.thread in
-          let after : Thread = cancelling h.thread h.level h.n in
-          record {
-            fits = stands.fits;
-            tells = stands.tells;
-            roots = roots_after t w.shared h.thread after h.found (tt, tt);
-            frames = frames_after t w.shared h.thread after h.found (omega arith)
-                (found_lt w.shared h.n h.packet stands.tells.rises
-                (found w.shared h.n (Some h.packet) h.there));
-          }
-      kept c (begins h) quiet =
-          let t : ℕ = actor.thread in
-          let s : Shared = with_dpc w.shared h.d false in
-          let after : Thread = rooted h.thread DispatchLevel (dpc_activation set h.d h.routine) in
-          let enters : Enters set states s.issued (dpc_activation set h.d h.routine) Dpc Blank =
-          begins_dpc set states good s.issued h.d h.routine h.there in
-          record {
-            fits = (standing_queued h.d false).fits;
-            tells = stands.tells;
-            roots = roots_after t s h.thread after h.found
-                ((λ is. (let no : Dpc ≡ Dispatch = sym enters.of_sort ∙ is in cc)), tt);
-            frames = frames_after t s h.thread after h.found (omega arith) enters.ready;
-          }
+  standing_kept actor c (nothing reply right) quiet = stands
+  standing_kept actor c (steps h) quiet =
+      let o : Outcome = h.outcome in
+      let t : ℕ = actor.thread in
+      let leaves : StepLeaves set states w.shared h.frame o =
+      leaves_fine set states w.shared past actor stands.tells (top_of h.below) h.frame o
+      (on_top t h) quiet h.comes
+      in
+      let issued : o.shared.issued ≡ w.shared.issued = leaves.issued in
+      record {
+        fits = leaves.fits;
+        tells = told_packets set w.shared past actor (top_of h.below) h.frame o stands.tells
+            (walks_below t h) h.comes;
+        roots = roots_after t o.shared h.thread (with_stack h.thread (standing set h.below o))
+            h.found
+            (low_over set h.thread.root (standing set h.below o) (lows_after t h));
+        frames = frames_after t o.shared h.thread (with_stack h.thread (standing set h.below o))
+            h.found
+            (omega arith)
+            (rw issued (elim (stood set w.shared t h.below h.frame o h.comes) [
+              | inl is ↦
+                  rw is (replaced set states w.shared.issued h.below h.frame o.told o.frames
+                  (stands_there t h) leaves.stands)
+              | inr stops ↦
+                  rw stops.stands (walk_taken set states w.shared.issued stops.others stops.n
+                  h.frame
+                  (subst (λ (frames : List Frame). Stacked set states w.shared.issued frames)
+                  (stopped_before t h stops) (stands_there t h)))
+            ]));
+      }
+  standing_kept actor c (begins i root beside) quiet =
+      let t : ℕ = actor.thread in
+      record {
+        fits = root_fits root beside;
+        tells = root_tells set good.sound w.shared past actor root stands.tells beside;
+        roots = roots_after t root.shared i.thread (with_root i.thread root) i.found
+            (root_low set states (root_there root beside));
+        frames = frames_after t root.shared i.thread (with_root i.thread root) i.found
+            (issued_more set w.shared root beside)
+            (root_stands set states (root_there root beside));
+      }

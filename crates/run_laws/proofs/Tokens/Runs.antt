@@ -4,11 +4,11 @@ use Rattle.std.specs.Prelude.{replicate, slice_get, slice_set, if◌then◌else�
 use Rattle.std.proofs.lemmas.Bool.{cases_eq}
 use Rattle.model.specs.declared.set.Sort.TheVariants.{StartIo}
 use Rattle.model.specs.declared.world.Activation.{Activation}
-use Rattle.model.specs.declared.world.Frame.TheVariants.{Routine, Walk, Cancel as CancelFrame}
+use Rattle.model.specs.declared.world.Frame.TheVariants.{Routine, Walk}
 use Rattle.model.specs.declared.world.Irql.TheVariants.{Dispatch as DispatchLevel}
 use Rattle.model.specs.declared.world.Thread.{Thread}
 use Rattle.model.specs.Effect.{Outcome, top_of}
-use Rattle.model.specs.Events.{Change, dpc_activation, rooted, serves_request, settled, standing, with_stack, cancelling}
+use Rattle.model.specs.Events.{Change, rooted, settled, standing, with_stack}
 use Rattle.model.specs.Queues.{StartState, head_of, idle, without_first_to_start, without_head}
 use Rattle.model.specs.Run.{begun}
 use Rattle.model.specs.Set.{Set}
@@ -19,19 +19,20 @@ use Rattle.run_laws.specs.OneToken.{frame_tokens, start_tokens, tokens}
 use Rattle.run_laws.proofs.Holders.Runs.{idle_sum, top_changed}
 use Rattle.run_laws.proofs.Holders.Sums.{first_frame, last_sum, stack_append}
 use Rattle.run_laws.proofs.Lists.{each_at, each_same, set_other, set_same}
-use Rattle.run_laws.proofs.Runs.Events.{BeginsStartIo, Happens, StepsFrame, begins, begins_startio as startio_begins, issues, nothing, steps, begins_cancel}
-use Rattle.run_laws.proofs.Runs.Kept.{GoesOnBy, with_queued}
+use Rattle.run_laws.proofs.Runs.Events.{Happens, StepsFrame, begins, nothing, steps}
+use Rattle.run_laws.proofs.Runs.Roots.{Root, Beside, TakesFirst, IdleThread, issues, root_begun, startio_root, takes_dpc, takes_first, takes_nothing, with_root}
+use Rattle.run_laws.proofs.States.Begun.{startio_enters}
+use Rattle.run_laws.proofs.Runs.Kept.{with_queued}
 use Rattle.run_laws.proofs.States.Entering.{Begins, begins_dpc, begins_request, startio_activation}
 use Rattle.run_laws.proofs.States.Frames.{IsGood, state_of}
 use Rattle.run_laws.specs.ArrivingStates.{States}
-use Rattle.run_laws.proofs.States.Standing.{Standing, on_top, startio_enters}
+use Rattle.run_laws.proofs.States.Standing.{Standing, on_top}
 use Rattle.run_laws.proofs.States.Told.{told_last, told_is}
 use Rattle.run_laws.proofs.Tokens.Steps.{EvenFor, TokenStep, begun_tokens, frame_told_tokens, other_tokens, own_tokens, token_step}
 use Rattle.run_laws.proofs.Tokens.Sums.{OneTokenEach, few_tokens}
 use Rattle.run_laws.proofs.Steps.Below.{stood}
 use Rattle.std.proofs.lemmas.List.{append-nil}
 use Rattle.model.specs.declared.world.Frame.{Frame}
-use Rattle.model.specs.declared.world.CancelStep.TheVariants.{Acquire as AcquireStep}
 
 -- StartIo begins for the first packet of a start list
 without_first : (entries : List ℕ) (n : ℕ) → head_of entries ≡ Some n
@@ -42,34 +43,32 @@ without_first (m ∷ entries) n first = omega arith
 module _ (set : Set) (states : States) (w : World) (past : List Entry) (good : IsGood set states)
     (stands : Standing set states w past) (each : OneTokenEach states w) where
   -- a frame without a token stands on an idle thread, and what the devices have is as before
-  begun_each : (t : ℕ) (thread after : Thread) (f : Frame) (now : World)
-      → slice_get w.threads t ≡ Some thread → thread.frames.items ≡ []
-      → after.frames.items ≡ f ∷ [] → now.threads ≡ slice_set w.threads t after
-      → now.shared.starts ≡ w.shared.starts
-      → ((d : ℕ) → frame_tokens states d f ≡ 0) → OneTokenEach states now
-  begun_each t thread after f now found idle items threads starts none =
+  begun_each : (t : ℕ) (i : IdleThread w t) (root : Root)
+      → root.shared.starts ≡ w.shared.starts
+      → ((d : ℕ) → frame_tokens states d root.frame ≡ 0)
+      → OneTokenEach states (root_begun w t i.thread root).world
+  begun_each t i root starts none =
       record {
         one = λ d start there.
-            rw threads (omega (
+            omega (
               arith,
               each.one d start (had d start there),
-              first_frame (λ g. frame_tokens states d g) w.threads t thread after f found idle items,
+              first_frame (λ g. frame_tokens states d g) w.threads t i.thread
+                  (with_root i.thread root) root.frame i.found i.idle refl,
               none d,
-            ));
+            );
         idle = λ d start there free. each.idle d start (had d start there) free;
       }
     where
-      had : (d : ℕ) (start : StartState) → start_of now.shared d ≡ Some start
+      had : (d : ℕ) (start : StartState) → start_of root.shared d ≡ Some start
           → start_of w.shared d ≡ Some start
       had d start there = ap (λ (lists : List StartState). slice_get lists d) (sym starts) ∙ there
 
   -- the StartIo routine of a device begins: the token goes from the start list to its frame
-  startio_each : (t : ℕ) (h : BeginsStartIo set w t) (now : World)
-      → now.threads ≡ slice_set w.threads t
-      (rooted h.thread DispatchLevel (startio_activation set h.d h.routine h.n))
-      → now.shared.starts ≡ slice_set w.shared.starts h.d (without_first_to_start h.start)
-      → OneTokenEach states now
-  startio_each t h now threads starts =
+  startio_each : (t : ℕ) (i : IdleThread w t) (h : TakesFirst set w.shared)
+      → OneTokenEach states
+      (root_begun w t i.thread (startio_root set w.shared h.d h.routine h.n h.start)).world
+  startio_each t i h =
       record {
         one = λ d start there. elim (cases_eq h.d d) [
           | inl same ↦ one_here d start there same
@@ -84,23 +83,24 @@ module _ (set : Set) (states : States) (w : World) (past : List Entry) (good : I
       a : Activation
       a = startio_activation set h.d h.routine h.n
 
+      now : World
+      now = (root_begun w t i.thread (startio_root set w.shared h.d h.routine h.n h.start)).world
+
       sum : (d : ℕ) → thread_sum (λ f. frame_tokens states d f) now.threads
           ≡ frame_tokens states d (Routine a) + thread_sum (λ f. frame_tokens states d f) w.threads
-      sum d = rw threads (first_frame (λ f. frame_tokens states d f) w.threads t h.thread
-          (rooted h.thread DispatchLevel a) (Routine a) h.found h.idle refl)
+      sum d = first_frame (λ f. frame_tokens states d f) w.threads t i.thread
+          (rooted i.thread DispatchLevel a) (Routine a) i.found i.idle refl
 
       had : (d : ℕ) (start : StartState) → start_of now.shared d ≡ Some start → h.d ≢ d
           → start_of w.shared d ≡ Some start
       had d start there apart =
-          sym (ap (λ (lists : List StartState). slice_get lists d) starts
-          ∙ set_other w.shared.starts h.d d (without_first_to_start h.start) apart) ∙ there
+          sym (set_other w.shared.starts h.d d (without_first_to_start h.start) apart) ∙ there
 
       is : (d : ℕ) (start : StartState) → start_of now.shared d ≡ Some start → h.d ≡ d
           → without_first_to_start h.start ≡ start
       is d start there same =
           let put : start_of now.shared d ≡ Some (without_first_to_start h.start) =
-          ap (λ (lists : List StartState). slice_get lists d) starts
-          ∙ rw (← same) (set_same w.shared.starts h.d h.start (without_first_to_start h.start)
+          rw (← same) (set_same w.shared.starts h.d h.start (without_first_to_start h.start)
           h.has) in
           let both : Some (without_first_to_start h.start) ≡ Some start = sym put ∙ there in
           cc
@@ -119,7 +119,7 @@ module _ (set : Set) (states : States) (w : World) (past : List Entry) (good : I
           → tokens states now.threads d start ≡ (if start.busy then 1 else 0)
       one_here d start there same =
           let enters : Begins set states w.shared.issued a StartIo h.n =
-          startio_enters set states w past good stands t h in
+          startio_enters set states good w.shared stands.fits h in
           let has : (state_of states a).token ≡ true =
           ap (λ state. state.token) enters.start in
           let own : frame_tokens states d (Routine a) ≡ 1 =
@@ -207,32 +207,25 @@ module _ (set : Set) (states : States) (w : World) (past : List Entry) (good : I
           (lower_tokens t h d).0 h.frame h.outcome.frames h.found h.frames
           (lower_tokens t h d).1 (lower_tokens t h d).2
 
-  tokens_happen : (actor : Actor) (c : Change) → Happens set w actor.thread c
-      → OneTokenEach states c.world
-  tokens_happen actor c (nothing reply right) = each
-  tokens_happen actor c (steps h) = stepped_each actor.thread h
-  tokens_happen actor c (issues h) =
+  root_each : (t : ℕ) (i : IdleThread w t) (root : Root) → Beside set w.shared root
+      → OneTokenEach states (root_begun w t i.thread root).world
+  root_each t i root (issues h) =
       let n : ℕ = w.shared.issued in
-      begun_each actor.thread h.thread _ (Routine (serves_request set h.d h.device h.major n))
-      c.world
-      h.found h.idle refl refl refl
+      begun_each t i root refl
       (begun_tokens (begins_request set states good (n + 1) n (omega arith) h.d h.device h.major
       h.there)
       refl)
-  tokens_happen actor c (begins h) =
-      begun_each actor.thread h.thread _ (Routine (dpc_activation set h.d h.routine)) c.world
-      h.found
-      h.idle refl refl refl
-      (begun_tokens (begins_dpc set states good w.shared.issued h.d h.routine h.there) refl)
-  tokens_happen actor c (startio_begins h) = startio_each actor.thread h c.world refl refl
-  tokens_happen actor c (begins_cancel h) =
-      begun_each actor.thread h.thread (cancelling h.thread h.level h.n)
-      (CancelFrame (record { packet = h.n; next = AcquireStep })) c.world h.found h.idle refl refl
-      refl (λ d. refl)
+  root_each t i root (takes_dpc d routine there) =
+      begun_each t i root refl
+      (begun_tokens (begins_dpc set states good w.shared.issued d routine there) refl)
+  root_each t i root (takes_first h) = startio_each t i h
+  root_each t i root (takes_nothing n level p there) = begun_each t i root refl (λ d. refl)
 
-  pub tokens_kept : (actor : Actor) (c : Change) → GoesOnBy set w past actor c
+  pub tokens_kept : (actor : Actor) (c : Change) → Happens set w actor.thread c
       → OneTokenEach states c.world
-  tokens_kept actor c on = tokens_happen actor c on.happens
+  tokens_kept actor c (nothing reply right) = each
+  tokens_kept actor c (steps h) = stepped_each actor.thread h
+  tokens_kept actor c (begins i root beside) = root_each actor.thread i root beside
 
 -- before the first event
 pub tokens_begun : (set : Set) (states : States) (threads : ℕ)

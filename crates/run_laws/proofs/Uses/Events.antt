@@ -5,13 +5,12 @@ use Rattle.std.specs.Prelude.{nat_lt, slice_set}
 use Rattle.std.proofs.lemmas.Bool.Decides.{eqb_tells}
 use Rattle.model.specs.declared.world.Activation.{Activation}
 use Rattle.model.specs.declared.world.Frame.{Frame}
+use Rattle.model.specs.declared.world.Irql.TheVariants.{Passive}
 use Rattle.model.specs.declared.world.Frame.TheVariants.{Routine, Walk, Cancel as CancelFrame}
-use Rattle.model.specs.declared.world.Irql.TheVariants.{Passive, Dispatch as DispatchLevel}
 use Rattle.model.specs.declared.world.Packet.{Packet}
 use Rattle.model.specs.declared.world.Thread.{Thread}
-use Rattle.model.specs.Action.{Action, Issues}
 use Rattle.model.specs.Effect.{Outcome, top_of}
-use Rattle.model.specs.Events.{Change, cancelling, rooted, serves_request, standing, with_new_packet, with_stack, dpc_activation}
+use Rattle.model.specs.Events.{Change, standing, with_stack}
 use Rattle.model.specs.Fault.{first_fault}
 use Rattle.model.specs.Run.{frames_on}
 use Rattle.model.specs.Set.{Set}
@@ -21,10 +20,10 @@ use Rattle.run_laws.proofs.Holders.Lent.{hold_sort}
 use Rattle.run_laws.proofs.Holders.Runs.{top_holding}
 use Rattle.run_laws.proofs.Holders.Sums.{Held}
 use Rattle.run_laws.proofs.Past.LivePackets.{find, find_above, find_push}
-use Rattle.run_laws.proofs.Runs.Events.{Happens, IssuesPacket, StepsFrame, issues, nothing, steps, begins, begins_cancel, begins_startio}
-use Rattle.run_laws.proofs.Runs.Threads.{frames_there}
+use Rattle.run_laws.proofs.Runs.Events.{Happens, StepsFrame, nothing, steps, begins}
+use Rattle.run_laws.proofs.Runs.Roots.{Root, Beside, IdleThread, issues, root_begun, with_root}
+use Rattle.run_laws.proofs.Runs.Threads.{of_steps, frames_there}
 use Rattle.run_laws.proofs.States.Frames.{IsGood, Ready, state_of}
-use Rattle.run_laws.proofs.States.Entering.{startio_activation}
 use Rattle.run_laws.specs.ArrivingStates.{States}
 use Rattle.run_laws.proofs.States.Stacks.{Stacked, Stands}
 use Rattle.run_laws.proofs.States.Standing.{Standing, on_top, stands_there}
@@ -51,7 +50,6 @@ use Rattle.model.specs.declared.status.Status.TheVariants.{Success}
 use Rattle.model.specs.Effect.{answered, answered_in, operand_of}
 use Rattle.model.specs.Set.{instruction_at, member, sort_of}
 use Rattle.run_laws.proofs.States.Entering.{sort_there}
-use Rattle.model.specs.declared.world.CancelStep.TheVariants.{Acquire as AcquireStep}
 use Rattle.model.specs.declared.instr.Return.TheVariants.{Stop}
 use Rattle.run_laws.proofs.Uses.TopFrames.{FrameOn, KnownTop, steps_routine, steps_walk}
 use Rattle.run_laws.proofs.Uses.Traced.{same_recorded, same_uses, traced_begun, traced_recorded}
@@ -152,8 +150,7 @@ module _ (set : Set) (states : States) (w : World) (past : List Entry)
         top = on_top set states w past known.good known.stands t h;
         holding = top_holding set states w past known.stands known.kept t h;
         seen = (seen_top set states None h.below (h.frame ∷ [])
-            (subst (λ (frames : List Frame). AllSeen set states None frames)
-            (frames_there w t h.thread h.found ∙ h.frames) (known.sees t))).0;
+            (of_steps w t (AllSeen set states None) h (known.sees t))).0;
         on = frame_on set states w.shared.issued h.below h.frame
             (stands_there set states w past known.good known.stands t h);
         lends = known.lends;
@@ -263,30 +260,41 @@ module _ (set : Set) (states : States) (w : World) (past : List Entry)
       ap (λ (frames : List Frame). late_in states returned n None frames) begun in
       omega (arith, late_set states returned n w.threads t thread after found)
 
-  -- a packet is issued
-  issue_turns : (actor : Actor) (h : IssuesPacket set w actor.thread) (n : ℕ) → WorldTurns states w
-      (record {
-        threads = slice_set w.threads actor.thread
-            (rooted h.thread Passive (serves_request set h.d h.device h.major w.shared.issued));
-        shared = with_new_packet w.shared h.d h.device h.major h.argument;
-      }) past (recorded past actor (Issues w.shared.issued h.device.stack ∷ [])) n
-  issue_turns actor h n =
-      let t : ℕ = actor.thread in
+  -- a root begins: a packet is new, or all are as before
+  quiet_turns : (actor : Actor) (i : IdleThread w actor.thread) (root : Root)
+      → root.shared.packets ≡ w.shared.packets → (n : ℕ)
+      → WorldTurns states w (root_begun w actor.thread i.thread root).world past
+      (recorded past actor []) n
+  quiet_turns actor i root packets n =
+      turn_recorded past actor [] n (find w.shared.packets n) (find root.shared.packets n)
+      (late_in_world states w n)
+      (late_in_world states (root_begun w actor.thread i.thread root).world n)
+      (apart_becomes past past n (find w.shared.packets n) (find root.shared.packets n)
+      (λ returned. late_marks states returned n w.threads)
+      (λ returned. late_marks states returned n
+      (slice_set w.threads actor.thread (with_root i.thread root)))
+      (same_uses past n) (ap (λ (ps : List Packet). find ps n) packets)
+      (λ p there. root_late actor.thread i.thread (with_root i.thread root) root.frame n i.found
+      i.idle refl p.pending_returned))
+
+  root_turns : (actor : Actor) (i : IdleThread w actor.thread) (root : Root)
+      → Beside set w.shared root → (n : ℕ)
+      → WorldTurns states w (root_begun w actor.thread i.thread root).world past
+      (recorded past actor root.actions) n
+  root_turns actor i root (issues h) n =
       let m : ℕ = w.shared.issued in
-      let a : Activation = serves_request set h.d h.device h.major m in
       let p : Packet = new_packet m h.d h.major h.argument h.device.stack in
-      let thread : Thread = rooted h.thread Passive a in
+      let thread : Thread = with_root i.thread root in
       let packets : List Packet = w.shared.packets ++ p ∷ [] in
-      let actions : List Action = Issues m h.device.stack ∷ [] in
-      let threads : List Thread = slice_set w.threads t thread in
+      let threads : List Thread = slice_set w.threads actor.thread thread in
       let before : Option Packet = find w.shared.packets n in
       let late : Bool → ℕ = λ returned. late_marks states returned n w.threads in
       let lately : Bool → ℕ = λ returned. late_marks states returned n threads in
       let same : (returned : Bool) → lately returned ≡ late returned =
-      root_late t h.thread thread (Routine a) n h.found h.idle refl in
+      root_late actor.thread i.thread thread root.frame n i.found i.idle refl in
       let push : find packets n ≡ _ = find_push 0 w.shared.packets m p known.stands.tells.rises refl
       n in
-      turn_recorded past actor actions n before (find packets n) (late_of late before)
+      turn_recorded past actor root.actions n before (find packets n) (late_of late before)
       (late_of lately (find packets n))
       (elim (eqb_tells m n) [
         | inl e ↦
@@ -304,27 +312,12 @@ module _ (set : Set) (states : States) (w : World) (past : List Entry)
               sized = rw e.0 refl;
             })
         | inr e ↦
-            apart_becomes past (recorded past actor actions) n before (find packets n) late lately
-            (same_recorded past actor actions n (rw e.0 refl)) (push ∙ rw e.0 refl)
+            apart_becomes past (recorded past actor root.actions) n before (find packets n) late
+            lately
+            (same_recorded past actor root.actions n (rw e.0 refl)) (push ∙ rw e.0 refl)
             (λ q there. same q.pending_returned)
       ])
-
-  -- a frame begins on an idle thread for no request
-  root_turns : (actor : Actor) (after : World) (thread begun : Thread) (f : Frame)
-      → slice_get w.threads actor.thread ≡ Some thread → thread.frames.items ≡ []
-      → begun.frames.items ≡ f ∷ []
-      → after.threads ≡ slice_set w.threads actor.thread begun
-      → after.shared.packets ≡ w.shared.packets → (n : ℕ)
-      → WorldTurns states w after past (recorded past actor []) n
-  root_turns actor after thread begun f found idle items threads packets n =
-      turn_recorded past actor [] n (find w.shared.packets n) (find after.shared.packets n)
-      (late_in_world states w n) (late_in_world states after n)
-      (apart_becomes past past n (find w.shared.packets n) (find after.shared.packets n)
-      (λ returned. late_marks states returned n w.threads)
-      (λ returned. late_marks states returned n after.threads)
-      (same_uses past n) (ap (λ (ps : List Packet). find ps n) packets)
-      (λ p there. ap (λ (ts : List Thread). late_marks states p.pending_returned n ts) threads
-      ∙ root_late actor.thread thread begun f n found idle items p.pending_returned))
+  root_turns actor i root _ n = quiet_turns actor i root refl n
 
   -- an event
   pub event_turns : (actor : Actor) (c : Change) → Happens set w actor.thread c
@@ -339,18 +332,7 @@ module _ (set : Set) (states : States) (w : World) (past : List Entry)
       (λ returned. late_marks states returned n w.threads)
       (same_uses past n) refl (λ p there. refl))
   event_turns actor c (steps h) quiet n = frame_turns actor h quiet n
-  event_turns actor c (issues h) quiet n = issue_turns actor h n
-  event_turns actor c (begins h) quiet n =
-      let a : Activation = dpc_activation set h.d h.routine in
-      root_turns actor c.world h.thread (rooted h.thread DispatchLevel a) (Routine a) h.found h.idle
-      refl refl refl n
-  event_turns actor c (begins_startio h) quiet n =
-      let a : Activation = startio_activation set h.d h.routine h.n in
-      root_turns actor c.world h.thread (rooted h.thread DispatchLevel a) (Routine a) h.found h.idle
-      refl refl refl n
-  event_turns actor c (begins_cancel h) quiet n =
-      root_turns actor c.world h.thread (cancelling h.thread h.level h.n)
-      (CancelFrame (record { packet = h.n; next = AcquireStep })) h.found h.idle refl refl refl n
+  event_turns actor c (begins i root beside) quiet n = root_turns actor i root beside n
 
 -- what is agreed on in a world, in the words of the turns
 module _ (states : States) (w : World) (past : List Entry) where
