@@ -15,10 +15,10 @@ use Rattle.text.specs.Major.{major_of}
 use Rattle.text.specs.Number.{number_in, number_value, numbered_in, sized}
 use Rattle.text.specs.declared.number.Numeral.TheVariants.{Other}
 use Rattle.text.specs.declared.class.TheConstants.{MAX_NAME}
-use Rattle.model.specs.declared.instr.Instr.TheVariants.{Const, Move, Clear, Add, Subtract, JumpIfZero, JumpIfLess, Jump, Loop, Load, Store, LoadPaged, StorePaged, Get, Put, Mark, Acquire, Release, Insert, Remove, Unlink, Arm, Disarm, IfCancel, Start, Take, Begin, Dequeue, Pass, Call, Complete, IfPending, Ret}
 use Rattle.model.specs.declared.instr.Return.TheVariants.{WithStatus, Lower}
 use Rattle.asm_line.specs.Cursor.{Reading, beginning, called, capped, cell, cell_of, constant, constant_of, field, label, lock_of, major, name, name_of, name_or_end, next_of, number, numbered, one, optional_name, paged_cell, queue, ranged, register, register_of, returned, returned_by, so_far, sort, spin_lock, status, then_read, three, token, turns, turns_of, two, word}
-use Rattle.asm_line.specs.Instruction.{instruction, on_devices, on_packets, on_queues}
+use Rattle.forms.specs.InstructionForm.{Operand, ARegister, ACell, APagedCell, ASpinLock, AConstant, ATurns, AField, AStatus, AQueue, ALabel, ARoutine, AReturn, Form, Makes, forms}
+use Rattle.asm_line.specs.Instruction.{in_forms, instruction, made, operand}
 use Rattle.asm_line.specs.Line.{body, body_of, device, ended, if_ended, if_in_range, labelled, line_of, line_with, queue as queue_line, step}
 use Rattle.asm_line.specs.Words.{field_of, sort_of, status_of}
 use Rattle.asm_line.specs.declared.cursor.Cursor.{Cursor}
@@ -307,56 +307,38 @@ returned_by_usual t c =
 returned_usual : Telling returned
 returned_usual = token_usual returned_by returned_by_usual
 
-on_packets_usual : (t : List ℕ) (c : Cursor) → Tells (t ∷ c.tokens) (on_packets t c)
-on_packets_usual t c =
-    pick t (codes "get") c _ _ refl (three_usual Get register_usual register_usual field_usual)
-    (pick t (codes "put") c _ _ refl (two_usual Put register_usual register_usual)
-    (pick t (codes "mark") c _ _ refl (one_usual Mark register_usual)
-    (pick t (codes "disarm") c _ _ refl (two_usual Disarm register_usual label_usual)
-    (pick t (codes "ifcancel") c _ _ refl (two_usual IfCancel register_usual label_usual)
-    (pick t (codes "pass") c _ _ refl (one_usual Pass register_usual)
-    (pick t (codes "call") c _ _ refl (two_usual Call register_usual called_usual)
-    (pick t (codes "complete") c _ _ refl (two_usual Complete register_usual status_usual)
-    (pick t (codes "ifpending") c _ _ refl (two_usual IfPending register_usual label_usual)
-    (pick t (codes "ret") c _ _ refl (one_usual Ret returned_usual) tt)))))))))
+operand_usual : (first : Operand) → Telling (operand first)
+operand_usual ARegister = register_usual
+operand_usual ACell = cell_usual
+operand_usual APagedCell = paged_cell_usual
+operand_usual ASpinLock = spin_lock_usual
+operand_usual AConstant = constant_usual
+operand_usual ATurns = turns_usual
+operand_usual AField = field_usual
+operand_usual AStatus = status_usual
+operand_usual AQueue = queue_usual
+operand_usual ALabel = label_usual
+operand_usual ARoutine = called_usual
+operand_usual AReturn = returned_usual
 
-on_queues_usual : (t : List ℕ) (c : Cursor) → Tells (t ∷ c.tokens) (on_queues t c)
-on_queues_usual t c =
-    pick t (codes "insert") c _ _ refl (two_usual Insert register_usual queue_usual)
-    (pick t (codes "remove") c _ _ refl (three_usual Remove register_usual queue_usual label_usual)
-    (pick t (codes "unlink") c _ _ refl (two_usual Unlink register_usual queue_usual)
-    (pick t (codes "arm") c _ _ refl (two_usual Arm register_usual queue_usual)
-    (pick t (codes "start") c _ _ refl (one_usual Start register_usual)
-    (pick t (codes "take") c _ _ refl (two_usual Take register_usual label_usual)
-    (pick t (codes "begin") c _ _ refl (one_usual Begin register_usual)
-    (pick t (codes "next") c _ _ refl (kept _)
-    (pick t (codes "dequeue") c _ _ refl (one_usual Dequeue register_usual)
-    (on_packets_usual t c)))))))))
+made_usual : (operands : List Operand) (makes : Makes operands) → Telling (made operands makes)
+made_usual [] makes = kept makes
+made_usual (first ∷ operands) makes =
+    then_usual (λ value. made operands (makes value)) (operand_usual first)
+    (λ value. made_usual operands (makes value))
 
-on_devices_usual : (t : List ℕ) (c : Cursor) → Tells (t ∷ c.tokens) (on_devices t c)
-on_devices_usual t c =
-    pick t (codes "load") c _ _ refl (two_usual Load register_usual cell_usual)
-    (pick t (codes "store") c _ _ refl (two_usual Store cell_usual register_usual)
-    (pick t (codes "loadp") c _ _ refl (two_usual LoadPaged register_usual paged_cell_usual)
-    (pick t (codes "storep") c _ _ refl (two_usual StorePaged paged_cell_usual register_usual)
-    (pick t (codes "acquire") c _ _ refl (one_usual Acquire spin_lock_usual)
-    (pick t (codes "release") c _ _ refl (one_usual Release spin_lock_usual)
-    (pick t (codes "acqc") c _ _ refl (kept _)
-    (pick t (codes "relc") c _ _ refl (kept _) (on_queues_usual t c))))))))
+forms_usual : (t : List ℕ) (c : Cursor) (fs : List Form)
+    → list_all (λ (form : Form). is_usual form.word) fs ≡ true
+    → Tells (t ∷ c.tokens) (in_forms fs t c)
+forms_usual t c [] known = tt
+forms_usual t c (form ∷ fs) known =
+    let parts = and_parts (is_usual form.word) (list_all (λ (form : Form). is_usual form.word) fs)
+    known in
+    pick t form.word c (made form.operands form.makes) (in_forms fs t c) parts.0
+    (made_usual form.operands form.makes) (forms_usual t c fs parts.1)
 
 instruction_usual : (t : List ℕ) (c : Cursor) → Tells (t ∷ c.tokens) (instruction t c)
-instruction_usual t c =
-    pick t (codes "const") c _ _ refl (two_usual Const register_usual constant_usual)
-    (pick t (codes "mov") c _ _ refl (two_usual Move register_usual register_usual)
-    (pick t (codes "clear") c _ _ refl (one_usual Clear register_usual)
-    (pick t (codes "add") c _ _ refl (two_usual Add register_usual register_usual)
-    (pick t (codes "sub") c _ _ refl (two_usual Subtract register_usual register_usual)
-    (pick t (codes "jz") c _ _ refl (two_usual JumpIfZero register_usual label_usual)
-    (pick t (codes "jlt") c _ _ refl
-    (three_usual JumpIfLess register_usual register_usual label_usual)
-    (pick t (codes "jmp") c _ _ refl (one_usual Jump label_usual)
-    (pick t (codes "loop") c _ _ refl (one_usual Loop turns_usual)
-    (pick t (codes "end") c _ _ refl (kept _) (on_devices_usual t c))))))))))
+instruction_usual t c = forms_usual t c forms refl
 
 -- a line
 device_usual : Telling device

@@ -3,7 +3,8 @@
 ghost use Rattle.std.specs.Prelude.{IfSome};
 ghost use Rattle.model.specs.Sound.{OperandFits};
 ghost use Rattle.asm_line.specs.Cursor.{Reads};
-ghost use Rattle.asm_line.specs.Instruction.{instruction, on_devices, on_packets, on_queues};
+ghost use Rattle.forms.specs.InstructionForm.{cell_forms, packet_forms, queue_forms};
+ghost use Rattle.asm_line.specs.Instruction.{in_forms, instruction};
 ghost use Rattle.asm_line.specs.Line.{QueueNoted};
 
 use crate::cursor::Cursor;
@@ -43,18 +44,18 @@ pub fn instruction(word: &[u8], at: &mut Cursor<'_>) -> Option<Instr>
     if is(word, b"loop") {
         return Some(Instr::Loop(at.turns()?));
     }
-    if is(word, b"end") {
-        return Some(Instr::End);
-    }
-    on_devices(word, at)
+    on_cells(word, at)
 }
 
-/// What is done with the device's locks and cells, its queues, or packets.
-fn on_devices(word: &[u8], at: &mut Cursor<'_>) -> Option<Instr>
-    ensures read { Reads result at.new (on_devices word.now at.old) }
+/// What is done with the device's cells and a packet's fields, its locks and queues, or packets.
+fn on_cells(word: &[u8], at: &mut Cursor<'_>) -> Option<Instr>
+    ensures read { Reads result at.new (in_forms cell_forms word.now at.old) }
     ensures fits { IfSome result OperandFits }
     ensures noted { IfSome result (QueueNoted at.new.used) }
 {
+    if is(word, b"end") {
+        return Some(Instr::End);
+    }
     if is(word, b"load") {
         return Some(Instr::Load(at.register()?, at.cell()?));
     }
@@ -67,6 +68,24 @@ fn on_devices(word: &[u8], at: &mut Cursor<'_>) -> Option<Instr>
     if is(word, b"storep") {
         return Some(Instr::StorePaged(at.paged_cell()?, at.register()?));
     }
+    if is(word, b"get") {
+        return Some(Instr::Get(at.register()?, at.register()?, at.field()?));
+    }
+    if is(word, b"put") {
+        return Some(Instr::Put(at.register()?, at.register()?));
+    }
+    if is(word, b"mark") {
+        return Some(Instr::Mark(at.register()?));
+    }
+    on_queues(word, at)
+}
+
+/// What is done with the device's locks and queues, or with packets.
+fn on_queues(word: &[u8], at: &mut Cursor<'_>) -> Option<Instr>
+    ensures read { Reads result at.new (in_forms queue_forms word.now at.old) }
+    ensures fits { IfSome result OperandFits }
+    ensures noted { IfSome result (QueueNoted at.new.used) }
+{
     if is(word, b"acquire") {
         return Some(Instr::Acquire(at.spin_lock()?));
     }
@@ -79,15 +98,6 @@ fn on_devices(word: &[u8], at: &mut Cursor<'_>) -> Option<Instr>
     if is(word, b"relc") {
         return Some(Instr::ReleaseCancel);
     }
-    on_queues(word, at)
-}
-
-/// What is done with the device's queues and its current packet, or with packets.
-fn on_queues(word: &[u8], at: &mut Cursor<'_>) -> Option<Instr>
-    ensures read { Reads result at.new (on_queues word.now at.old) }
-    ensures fits { IfSome result OperandFits }
-    ensures noted { IfSome result (QueueNoted at.new.used) }
-{
     if is(word, b"insert") {
         return Some(Instr::Insert(at.register()?, at.queue()?));
     }
@@ -100,6 +110,21 @@ fn on_queues(word: &[u8], at: &mut Cursor<'_>) -> Option<Instr>
     if is(word, b"arm") {
         return Some(Instr::Arm(at.register()?, at.queue()?));
     }
+    if is(word, b"disarm") {
+        return Some(Instr::Disarm(at.register()?, at.label()?));
+    }
+    on_packets(word, at)
+}
+
+/// What is done with packets.
+fn on_packets(word: &[u8], at: &mut Cursor<'_>) -> Option<Instr>
+    ensures read { Reads result at.new (in_forms packet_forms word.now at.old) }
+    ensures fits { IfSome result OperandFits }
+    ensures noted { IfSome result (QueueNoted at.new.used) }
+{
+    if is(word, b"ifcancel") {
+        return Some(Instr::IfCancel(at.register()?, at.label()?));
+    }
     if is(word, b"start") {
         return Some(Instr::Start(at.register()?));
     }
@@ -111,33 +136,6 @@ fn on_queues(word: &[u8], at: &mut Cursor<'_>) -> Option<Instr>
     }
     if is(word, b"next") {
         return Some(Instr::Next);
-    }
-    if is(word, b"dequeue") {
-        return Some(Instr::Dequeue(at.register()?));
-    }
-    on_packets(word, at)
-}
-
-/// What is done with packets.
-fn on_packets(word: &[u8], at: &mut Cursor<'_>) -> Option<Instr>
-    ensures read { Reads result at.new (on_packets word.now at.old) }
-    ensures fits { IfSome result OperandFits }
-    ensures noted { IfSome result (QueueNoted at.new.used) }
-{
-    if is(word, b"get") {
-        return Some(Instr::Get(at.register()?, at.register()?, at.field()?));
-    }
-    if is(word, b"put") {
-        return Some(Instr::Put(at.register()?, at.register()?));
-    }
-    if is(word, b"mark") {
-        return Some(Instr::Mark(at.register()?));
-    }
-    if is(word, b"disarm") {
-        return Some(Instr::Disarm(at.register()?, at.label()?));
-    }
-    if is(word, b"ifcancel") {
-        return Some(Instr::IfCancel(at.register()?, at.label()?));
     }
     if is(word, b"pass") {
         return Some(Instr::Pass(at.register()?));
@@ -153,6 +151,9 @@ fn on_packets(word: &[u8], at: &mut Cursor<'_>) -> Option<Instr>
     }
     if is(word, b"ret") {
         return Some(Instr::Ret(at.returned()?));
+    }
+    if is(word, b"dequeue") {
+        return Some(Instr::Dequeue(at.register()?));
     }
     None
 }
