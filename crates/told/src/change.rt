@@ -1,6 +1,5 @@
 //! What an event changed, in words.
 
-use crate::acting::Acting;
 use crate::book::Book;
 use crate::columns::thread_of;
 use crate::line::Moment;
@@ -11,6 +10,7 @@ use model::event::{Event, Lock, OfDevice, Reply};
 use model::instr::{Instr, Return};
 use model::view::{FrameView, LiveView, PacketView};
 use model::world::CancelStep;
+use pending_uses::acting::Acting;
 use std::alloc::AllocError;
 
 /// Adds what an event changed.

@@ -1,0 +1,8 @@
+pub mod Acting
+pub mod Agreement
+pub mod Disagreeing
+pub mod Knowing
+pub mod Noted
+pub mod Noting
+pub mod Rows
+pub mod Settling
