@@ -55,7 +55,7 @@ fn other_owner(thread: u8, owner: Option<Option<u8>>) -> Option<u8>
 pub fn waits_for(machine: &Checked, thread: u8) -> Option<u8>
     ensures { result ≡ waits_for machine.now.set machine.now.world thread }
 {
-    let top = machine.threads().get(thread as usize)?.frames().last()?;
+    let top = top_frame(machine, thread)?;
     let lock = sought_by(machine, top)?;
     other_owner(thread, machine.shared().owner(lock))
 }

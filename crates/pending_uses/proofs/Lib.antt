@@ -1,6 +1,6 @@
-pub mod Acting
 pub mod Agreement
 pub mod Disagreeing
+pub mod Doing
 pub mod Knowing
 pub mod Noted
 pub mod Noting

@@ -34,7 +34,7 @@ use Rattle.pending_uses.specs.Acts.{actions_of, use_step}
 use Rattle.pending_uses.specs.Knowing.{Knows}
 use Rattle.pending_uses.specs.Ledger.{LedgerState, Notes, NotesIf, NotesOn, Tells, TellsOn, row_settled, rows_of, served_on, servers_of, settled}
 use Rattle.pending_uses.specs.Uses.{DoesAll, UsesState, stack_at}
-use Rattle.pending_uses.proofs.Acting.{told_by}
+use Rattle.pending_uses.proofs.Doing.{told_by}
 use Rattle.pending_uses.proofs.Knowing.{KnownOn, counted_all, known_all, uses_in}
 use Rattle.pending_uses.proofs.Noting.{Counted, WasOpened, counted_begun, served_by}
 use Rattle.pending_uses.proofs.Rows.{AllOpened, Fits, actor_opened, after_fits, after_opened, after_stands, all_later, row_absent, row_there, rows_get, rows_none, rows_set, served_there, set_back, set_past, settled_same}

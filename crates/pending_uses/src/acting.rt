@@ -4,12 +4,13 @@ ghost use Rattle.std.specs.Prelude.{◌≡◌, Some, option_and_then};
 ghost use Rattle.model.specs.World.{packet_in, register};
 ghost use Rattle.pending_uses.specs.Acting.{acting_by, acting_in, instruction_of, packet_at, packet_by, packet_register};
 
+use crate::standing::{instruction_at, packet_in, top_frame};
 use checked::Checked;
 use checked_parts::{Frame, Managing};
 use driver_set::{DriverSet, Instr, Register};
 use model::event::Event;
 use model::view::FrameView;
-use model::world::{Activation, Value};
+use model::world::Activation;
 
 /// A frame that acts, before it does.
 #[derive(Clone, Copy)]
@@ -26,8 +27,7 @@ pub struct Acting {
 fn instruction_of(set: &DriverSet, frame: &Frame) -> Option<Instr>
     ensures { result ≡ instruction_of set.now frame.now }
 {
-    let a = frame.activation()?;
-    set.instruction(a.driver, a.routine, a.position)
+    instruction_at(set, frame.activation()?)
 }
 
 /// The register with the packet that an instruction is about.
@@ -50,16 +50,6 @@ fn packet_register(instr: &Instr) -> Option<Register>
         | Instr::Call(r, _)
         | Instr::Complete(r, _)
         | Instr::IfPending(r, _) => Some(r),
-        _ => None,
-    }
-}
-
-/// The packet that a value refers to: one that was issued.
-fn packet_in(machine: &Checked, value: Value) -> Option<u64>
-    ensures { result ≡ packet_in machine.now.world.shared value }
-{
-    match value {
-        Value::Ref(n) if machine.shared().is_issued(n) => Some(n),
         _ => None,
     }
 }
@@ -121,7 +111,7 @@ pub fn acting_in(machine: &Checked, event: &Event) -> Option<Acting>
 {
     match *event {
         Event::Step { thread } => {
-            let top = machine.threads().get(thread as usize)?.frames().last()?;
+            let top = top_frame(machine, thread)?;
             Some(acting_by(machine, top))
         }
         _ => None,

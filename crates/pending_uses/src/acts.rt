@@ -1,18 +1,17 @@
 //! What an event does to uses of stack locations.
 
-ghost use Rattle.std.specs.Prelude.{◌≡◌, Some, option_map};
-ghost use Rattle.model.specs.Effect.{top_of};
-ghost use Rattle.model.specs.Run.{frames_on};
-ghost use Rattle.model.specs.World.{completion_of, current_location, packet_in, packet_of};
+ghost use Rattle.std.specs.Prelude.{◌≡◌, Some};
+ghost use Rattle.model.specs.World.{completion_of, current_location, packet_of};
 ghost use Rattle.pending_uses.specs.Acts.{frame_uses, instruction_uses, leaves_packet, live_in, onward_of, status_by, use_step};
 
+use crate::standing::{instruction_at, packet_in, top_frame};
 use checked::Checked;
 use checked_parts::{Frame, status_in};
 use driver_set::{Instr, Register, Return, Sort};
 use irp::Packet;
 use model::event::Event;
 use model::status::Status;
-use model::world::{Activation, Value};
+use model::world::Activation;
 
 /// What completion does when it has left a location.
 #[derive(Clone, Copy)]
@@ -40,16 +39,6 @@ pub enum UseStep {
     Leave(u64, Onward),
     /// A dispatch routine returns a status.
     Return(Status),
-}
-
-/// The packet that a value refers to: one that was issued.
-fn packet_in(machine: &Checked, value: Value) -> Option<u64>
-    ensures { result ≡ packet_in machine.now.world.shared value }
-{
-    match value {
-        Value::Ref(n) if machine.shared().is_issued(n) => Some(n),
-        _ => None,
-    }
 }
 
 /// The live packet in a register.
@@ -128,7 +117,7 @@ fn frame_uses(machine: &Checked, frame: &Frame) -> UseStep
     ensures { result ≡ frame_uses machine.now.set machine.now.world.shared (Some frame.now) }
 {
     if let Some(a) = frame.activation() {
-        return match machine.set().instruction(a.driver, a.routine, a.position) {
+        return match instruction_at(machine.set(), a) {
             Some(instr) => instruction_uses(machine, a, &instr),
             None => UseStep::Nothing,
         };
@@ -137,14 +126,6 @@ fn frame_uses(machine: &Checked, frame: &Frame) -> UseStep
         Some(n) => leaves_packet(machine, n),
         None => UseStep::Nothing,
     }
-}
-
-/// The frame on the top of a thread.
-fn top_frame(machine: &Checked, thread: u8) -> Option<&Frame>
-    ensures { option_map (λ frame. frame.now) result
-        ≡ top_of (frames_on machine.now.world thread) }
-{
-    machine.threads().get(thread as usize)?.frames().last()
 }
 
 /// What an event does to uses of stack locations, before it is applied, if it isn't refused.

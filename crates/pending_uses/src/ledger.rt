@@ -1,12 +1,12 @@
 //! What is carried along a run for its audit.
 
 ghost use Rattle.std.specs.Prelude.{true, ◌≡◌, ◌++◌, [], IfOk, OnOk, length, option_to_list, replicate, slice_get};
-ghost use Rattle.model.specs.Run.{frames_on, thread_of};
 ghost use Rattle.pending_uses.specs.Ledger.{new_server, of_server, served_as, settled, settled_at, settled_place, stays};
 ghost use Rattle.pending_uses.specs.Uses.{disagreeing_at, disagreeing_from};
 ghost use Rattle.run_laws.specs.Waits.{says_unchanged};
 
 use crate::acts::{Onward, UseStep};
+use crate::standing::{frames_on, thread_of};
 use crate::uses::{LocationUse, Note, Uses};
 use checked::Checked;
 use checked_parts::Frame;
@@ -167,30 +167,6 @@ impl Model for Ledger {
     } };
 }
 
-/// The thread that an event is about.
-fn thread_of(event: &Event) -> Option<u8>
-    ensures { result ≡ thread_of event.now }
-{
-    match *event {
-        Event::Issue { thread, .. }
-        | Event::Cancel { thread, .. }
-        | Event::Dpc { thread, .. }
-        | Event::StartIo { thread, .. }
-        | Event::Step { thread } => Some(thread),
-        Event::Interrupt { .. } => None,
-    }
-}
-
-/// The frames of a thread.
-fn frames_on(machine: &Checked, thread: u8) -> &[Frame]
-    ensures { result.now ≡ frames_on machine.now.world thread }
-{
-    match machine.threads().get(thread as usize) {
-        Some(thread) => thread.frames(),
-        None => &[],
-    }
-}
-
 /// Whether a reply says that nothing has changed.
 fn says_unchanged(reply: &Reply) -> bool
     ensures { result ≡ says_unchanged reply.now }
@@ -318,7 +294,11 @@ impl Ledger {
         let Some(row) = self.row_list.get_mut(thread as usize) else {
             return Ok(());
         };
-        row.settle(machine.set(), &self.known, frames_on(machine, thread))
+        row.settle(
+            machine.set(),
+            &self.known,
+            frames_on(machine, thread as usize),
+        )
     }
 
     /// Notes what an event on a thread did.

@@ -7,4 +7,5 @@ pub mod acting;
 pub mod acts;
 pub mod laws;
 pub mod ledger;
+pub mod standing;
 pub mod uses;

@@ -13,6 +13,5 @@ mod words;
 
 pub use book::Book;
 pub use change::add_change;
-pub use columns::thread_of;
 pub use line::Moment;
 pub use teller::Teller;
