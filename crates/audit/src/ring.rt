@@ -10,6 +10,7 @@ use driver_set::Instr;
 use model::event::Lock;
 use model::limits::MAX_THREADS;
 use model::world::{Activation, CancelStep};
+use pending_uses::standing::{instruction_at, top_frame};
 
 /// The lock that an instruction acquires, for the device of an activation.
 fn acquired_by(a: &Activation, instr: &Instr) -> Option<Lock>
@@ -27,7 +28,7 @@ fn sought_by(machine: &Checked, frame: &Frame) -> Option<Lock>
     ensures { result ≡ sought_by machine.now.set frame.now }
 {
     if let Some(a) = frame.activation() {
-        return match machine.set().instruction(a.driver, a.routine, a.position) {
+        return match instruction_at(machine.set(), a) {
             Some(instr) => acquired_by(a, &instr),
             None => None,
         };
