@@ -9,22 +9,20 @@ use Rattle.model.specs.declared.event.Place.{Place}
 use Rattle.model.specs.declared.event.Reply.TheVariants.{Bug as BugCheckReply, Refused, Stepped, Wrong}
 use Rattle.model.specs.declared.world.CancelStep.{CancelStep}
 use Rattle.model.specs.declared.world.Frame.{Frame}
-use Rattle.model.specs.declared.world.Irql.TheVariants.{Passive, Dispatch as DispatchLevel}
-use Rattle.model.specs.declared.world.Value.TheVariants.{Ref}
 use Rattle.model.specs.Action.{Action}
-use Rattle.model.specs.Effect.{Outcome, routine_of_device, top_of}
-use Rattle.model.specs.Events.{Change, cancelling, dpc_activation, effect, finished_or, rooted, serves_request, standing, with_new_packet, with_stack}
-use Rattle.model.specs.Queues.{without_first_to_start}
+use Rattle.model.specs.Effect.{Outcome, top_of}
+use Rattle.model.specs.Events.{Change, effect, finished_or, standing, with_stack}
 use Rattle.model.specs.Fault.{first_fault}
 use Rattle.model.specs.Run.{Answered, Run, actor_on, begun, frames_on, goes, refused, run, step, stops, tags_after, tags_on, thread_of}
 use Rattle.model.specs.Set.{Set}
 use Rattle.model.specs.Trace.{Actor, Entry, Serving, Tag, recorded, uses_opened}
-use Rattle.model.specs.World.{Shared, World, entered, with_dpc, with_start}
+use Rattle.model.specs.World.{Shared, World}
 use Rattle.run_laws.specs.Waits.{says_unchanged}
 use Rattle.run_laws.proofs.History.Waits.{run_more, waits_same}
 use Rattle.run_laws.proofs.Lists.{set_other}
-use Rattle.run_laws.proofs.Runs.Events.{Answers, Concerns, Happens, Sets, a_thread, answers, answers_none, begins, begins_cancel, begins_startio, concerns, fault_with, goes_on_with, issues, no_thread, nothing, past_with, queues, refuses_over, refuses_stopped, set_in, sets_nothing, steps, stops_for, stops_wrong}
+use Rattle.run_laws.proofs.Runs.Events.{Answers, Concerns, Happens, Sets, a_thread, answers, answers_none, begins, concerns, fault_with, goes_on_with, no_thread, nothing, past_with, queues, refuses_over, refuses_stopped, set_in, sets_nothing, steps, stops_for, stops_wrong}
 use Rattle.run_laws.proofs.Runs.Kept.{kept_run}
+use Rattle.run_laws.proofs.Runs.Roots.{Beside, Root, issues, with_root}
 use Rattle.run_laws.proofs.Runs.Threads.{idle_frames, others_put}
 use Rattle.run_laws.proofs.Steps.Comes.{Cancels, Comes, awaits_cancel, awaits_lock, cancels}
 use Rattle.run_laws.proofs.Uses.Traced.{opened_recorded, traced_begun}
@@ -61,21 +59,16 @@ module _ (set : Set) (w : World) (t : ℕ) where
   others_stand c (nothing reply right) k apart = refl
   others_stand c (steps h) k apart =
       others_put w t h.outcome.shared (with_stack h.thread (standing set h.below h.outcome)) k apart
-  others_stand c (issues h) k apart =
-      others_put w t (with_new_packet w.shared h.d h.device h.major h.argument)
-      (rooted h.thread Passive (serves_request set h.d h.device h.major w.shared.issued)) k apart
-  others_stand c (begins h) k apart =
-      others_put w t (with_dpc w.shared h.d false)
-      (rooted h.thread DispatchLevel (dpc_activation set h.d h.routine)) k apart
-  others_stand c (begins_startio h) k apart =
-      others_put w t (with_start w.shared h.d (without_first_to_start h.start))
-      (rooted h.thread DispatchLevel
-      (entered (routine_of_device (slice_get set.devices h.d)) h.routine h.d (Ref h.n))) k apart
-  others_stand c (begins_cancel h) k apart =
-      others_put w t w.shared (cancelling h.thread h.level h.n) k apart
+  others_stand c (begins i root beside) k apart =
+      others_put w t root.shared (with_root i.thread root) k apart
 
--- a step that says that nothing changes makes no action
+-- a step, or a root that begins, which says that nothing changes makes no action
 module _ (set : Set) (s : Shared) (t : ℕ) where
+  silent_root : (root : Root) → Beside set s root → says_unchanged root.reply ≡ true
+      → root.actions ≡ []
+  silent_root root (issues h) says = cc
+  silent_root root _ says = refl
+
   silent_cancel : (n : ℕ) (stage : CancelStep) (o : Outcome) → Cancels set s t n stage o
       → says_unchanged o.reply ≡ true → o.actions ≡ []
   silent_cancel n stage o (awaits_cancel owner its other) says = refl
@@ -99,7 +92,7 @@ silent_event set w t c (nothing reply right) says = refl
 silent_event set w t c (steps h) says =
     silent_step set w.shared t (top_of h.below) h.frame h.outcome h.comes
     (finished_says (standing set h.below h.outcome) h.outcome.reply says)
-silent_event set w t c _ says = cc
+silent_event set w t c (begins i root beside) says = silent_root set w.shared t root beside says
 
 module _ (set : Set) (r : Run) (t : ℕ) (tagged : Tagged r) where
   actor_served : WasOpened (uses_opened r.past) (served_by (actor_on r t).tag)
