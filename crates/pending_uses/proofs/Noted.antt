@@ -23,8 +23,9 @@ use Rattle.model.specs.World.{Shared, World, entered, with_dpc, with_start}
 use Rattle.run_laws.specs.Waits.{says_unchanged}
 use Rattle.run_laws.proofs.History.Waits.{run_more, waits_same}
 use Rattle.run_laws.proofs.Lists.{set_other}
-use Rattle.run_laws.proofs.Runs.Events.{Answers, Concerns, Happens, Sets, a_thread, answers, answers_none, begins, begins_cancel, begins_startio, concerns, fault_with, goes_on_with, issues, no_thread, nothing, past_with, queues, refuses_over, refuses_stopped, set_in, sets_nothing, steps, stops_for, stops_wrong}
+use Rattle.run_laws.proofs.Runs.Events.{Answers, Concerns, Happens, Sets, a_thread, answers, answers_none, begins, concerns, fault_with, goes_on_with, no_thread, nothing, past_with, queues, refuses_over, refuses_stopped, set_in, sets_nothing, steps, stops_for, stops_wrong}
 use Rattle.run_laws.proofs.Runs.Kept.{kept_run}
+use Rattle.run_laws.proofs.Runs.Roots.{Beside, Root, issues, with_root}
 use Rattle.run_laws.proofs.Runs.Threads.{idle_frames, others_put}
 use Rattle.run_laws.proofs.Steps.Comes.{Cancels, Comes, awaits_cancel, awaits_lock, cancels}
 use Rattle.run_laws.proofs.Uses.Traced.{opened_recorded, traced_begun}
@@ -61,18 +62,8 @@ module _ (set : Set) (w : World) (t : ℕ) where
   others_stand c (nothing reply right) k apart = refl
   others_stand c (steps h) k apart =
       others_put w t h.outcome.shared (with_stack h.thread (standing set h.below h.outcome)) k apart
-  others_stand c (issues h) k apart =
-      others_put w t (with_new_packet w.shared h.d h.device h.major h.argument)
-      (rooted h.thread Passive (serves_request set h.d h.device h.major w.shared.issued)) k apart
-  others_stand c (begins h) k apart =
-      others_put w t (with_dpc w.shared h.d false)
-      (rooted h.thread DispatchLevel (dpc_activation set h.d h.routine)) k apart
-  others_stand c (begins_startio h) k apart =
-      others_put w t (with_start w.shared h.d (without_first_to_start h.start))
-      (rooted h.thread DispatchLevel
-      (entered (routine_of_device (slice_get set.devices h.d)) h.routine h.d (Ref h.n))) k apart
-  others_stand c (begins_cancel h) k apart =
-      others_put w t w.shared (cancelling h.thread h.level h.n) k apart
+  others_stand c (begins i root beside) k apart =
+      others_put w t root.shared (with_root i.thread root) k apart
 
 -- a step that says that nothing changes makes no action
 module _ (set : Set) (s : Shared) (t : ℕ) where
@@ -93,13 +84,19 @@ finished_says [] Stepped says = cc
 finished_says [] _ says = says
 finished_says (f ∷ frames) reply says = says
 
+silent_root : (set : Set) (s : Shared) (root : Root) → Beside set s root
+    → says_unchanged root.reply ≡ true → root.actions ≡ []
+silent_root set s root (issues h) says = cc
+silent_root set s root _ says = cc
+
 silent_event : (set : Set) (w : World) (t : ℕ) (c : Change) → Happens set w t c
     → says_unchanged c.reply ≡ true → c.actions ≡ []
 silent_event set w t c (nothing reply right) says = refl
 silent_event set w t c (steps h) says =
     silent_step set w.shared t (top_of h.below) h.frame h.outcome h.comes
     (finished_says (standing set h.below h.outcome) h.outcome.reply says)
-silent_event set w t c _ says = cc
+silent_event set w t c (begins i root beside) says =
+    silent_root set w.shared root beside says
 
 module _ (set : Set) (r : Run) (t : ℕ) (tagged : Tagged r) where
   actor_served : WasOpened (uses_opened r.past) (served_by (actor_on r t).tag)
@@ -260,20 +257,27 @@ module _ (set : Set) (r : Run) (t : ℕ) (tagged : Tagged r) (l m : LedgerState)
         ∙ ap (λ (tags : List Tag). rows_of (slice_set r.tags t
         (tags_after set past r.activations (frames_on r.world t) tags (frames_on w t)))) (sym own)
 
+    -- where frames of the same kinds stand
+    pub row_fits : (w : World)
+        → ((row : List Tag) → slice_get r.tags t ≡ Some row → Fits (frames_on w t) row)
+        → (o : Option (List Tag)) → slice_get r.tags t ≡ o
+        → row_settled set w m.uses t l.rows (slice_get l.rows t) ≡ l.rows
+    row_fits w fits None there =
+        let gone : slice_get l.rows t ≡ None =
+        ap (λ rows. slice_get rows t) tells.rows ∙ rows_none r.tags t there in
+        ap (λ o. row_settled set w m.uses t l.rows o) gone
+    row_fits w fits (Some row) there =
+        let found : slice_get l.rows t ≡ Some (servers_of row) =
+        ap (λ rows. slice_get rows t) tells.rows ∙ rows_get r.tags t row there in
+        ap (λ o. row_settled set w m.uses t l.rows o) found
+        ∙ ap (λ servers. slice_set l.rows t servers)
+        (settled_same set m.uses (frames_on w t) row (fits row there))
+        ∙ set_back l.rows t (servers_of row) found
+
     -- where the frames stay
     row_kept : (o : Option (List Tag)) → slice_get r.tags t ≡ o
         → row_settled set r.world m.uses t l.rows (slice_get l.rows t) ≡ l.rows
-    row_kept None there =
-        let gone : slice_get l.rows t ≡ None =
-        ap (λ rows. slice_get rows t) tells.rows ∙ rows_none r.tags t there in
-        ap (λ o. row_settled set r.world m.uses t l.rows o) gone
-    row_kept (Some row) there =
-        let found : slice_get l.rows t ≡ Some (servers_of row) =
-        ap (λ rows. slice_get rows t) tells.rows ∙ rows_get r.tags t row there in
-        ap (λ o. row_settled set r.world m.uses t l.rows o) found
-        ∙ ap (λ servers. slice_set l.rows t servers)
-        (settled_same set m.uses (frames_on r.world t) row (tagged.fits t row there))
-        ∙ set_back l.rows t (servers_of row) found
+    row_kept o there = row_fits r.world (tagged.fits t) o there
 
     -- what is known of the uses
     uses_known : (c : Change) (actions : List Action) → uses_in c.actions ≡ actions
@@ -287,7 +291,7 @@ module _ (set : Set) (r : Run) (t : ℕ) (tagged : Tagged r) (l m : LedgerState)
         (subst (λ (xs : List Action). DoesAll (served_on l.rows t) xs l.uses m.uses) (sym is) does))
 
     -- the run goes on
-    tells_goes : (c : Change) (actions : List Action) → uses_in c.actions ≡ actions
+    pub tells_goes : (c : Change) (actions : List Action) → uses_in c.actions ≡ actions
         → DoesAll (served_on l.rows t) actions l.uses m.uses
         → m.rows ≡ row_settled set c.world m.uses t l.rows (slice_get l.rows t)
         → Tells (goes set r t (past_with r t c) c).run m
