@@ -1,6 +1,7 @@
 pub mod Agreement
 pub mod Disagreeing
 pub mod Doing
+pub mod GoingOn
 pub mod Knowing
 pub mod Noted
 pub mod Noting

@@ -1,5 +1,6 @@
 //! Laws of pending returns. Nothing runs here.
 
+ghost use Rattle.pending_uses.specs.GoingOn.{GoingOnKeepsLedgers};
 ghost use Rattle.pending_uses.specs.Pending.{AcceptedRunsShowNoDisagreement, AgreementTells};
 
 use run_laws::pending_returns_agree;
@@ -15,3 +16,9 @@ pub fn accepted_runs_show_no_disagreement()
 {
     pending_returns_agree();
 }
+
+/// Steps of a thread that change nothing but the activation on its top leave a ledger that tells a
+/// run as it is: it tells the run with them added too.
+pub fn going_on_keeps_ledgers()
+    ensures { GoingOnKeepsLedgers }
+{}
