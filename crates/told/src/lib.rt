@@ -9,6 +9,7 @@ mod change;
 mod columns;
 mod disagreement;
 mod line;
+mod places;
 mod teller;
 mod words;
 
