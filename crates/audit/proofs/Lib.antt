@@ -1,12 +1,4 @@
-pub mod Acting
-pub mod Agreement
-pub mod Disagreeing
 pub mod Found
 pub mod Holding
-pub mod Knowing
 pub mod Leaving
-pub mod Noted
-pub mod Noting
 pub mod Refusals
-pub mod Rows
-pub mod Settling

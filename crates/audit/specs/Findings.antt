@@ -11,10 +11,10 @@ use Rattle.model.specs.Typable.{IsTypable}
 use Rattle.model.specs.World.{World}
 use Rattle.audit.specs.declared.findings.Findings.{Findings}
 use Rattle.audit.specs.declared.left.LeftLock.{LeftLock}
-use Rattle.audit.specs.Ledger.{Disagreeing, LedgerState, NoneIfAccepted}
+use Rattle.pending_uses.specs.Ledger.{Disagreeing, LedgerState, NoneIfAccepted}
 use Rattle.audit.specs.Left.{left_locks}
 use Rattle.audit.specs.Naming.{lost_packets}
-use Rattle.audit.specs.Pending.{disagreeing, uses_of}
+use Rattle.pending_uses.specs.Pending.{disagreeing, uses_of}
 use Rattle.audit.specs.Ring.{is_in_ring}
 
 -- a thread, if it waits in a ring; those of so many; and all of them: no run has more threads

@@ -1,12 +1,7 @@
-pub mod Acts
 pub mod Findings
-pub mod Knowing
 pub mod Laws
-pub mod Ledger
 pub mod Left
 pub mod Naming
-pub mod Pending
 pub mod Refusal
 pub mod Ring
 pub mod Sites
-pub mod Uses

@@ -4,13 +4,13 @@ ghost use Rattle.std.specs.Prelude.{◌≡◌, ◌++◌, IfOk, OnOk};
 ghost use Rattle.audit.specs.Findings.{AreFindings, any_of, ring_at, ringed_threads};
 
 use crate::laws::{accepted_runs_leave_no_lock, accepted_runs_lose_no_packet};
-use crate::ledger::Ledger;
 use crate::left::{LeftLock, left_locks};
 use crate::naming::lost_packets;
 use crate::ring::is_in_ring;
-use crate::uses::LocationUse;
 use checked::Checked;
 use model::limits::MAX_THREADS;
+use pending_uses::ledger::Ledger;
+use pending_uses::uses::LocationUse;
 use std::alloc::{AllocError, Global};
 
 /// What is amiss in a machine's world, and in the run that led to it.

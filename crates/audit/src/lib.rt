@@ -3,13 +3,10 @@
 //! what a definition over its world says.
 #![tactic(auto)]
 
-pub mod acts;
 pub mod findings;
 pub mod laws;
-pub mod ledger;
 pub mod left;
 pub mod naming;
 pub mod refusal;
 pub mod ring;
 pub mod sites;
-pub mod uses;

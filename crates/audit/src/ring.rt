@@ -10,6 +10,7 @@ use driver_set::Instr;
 use model::event::Lock;
 use model::limits::MAX_THREADS;
 use model::world::{Activation, CancelStep};
+use pending_uses::standing::{instruction_at, top_frame};
 
 /// The lock that an instruction acquires, for the device of an activation.
 fn acquired_by(a: &Activation, instr: &Instr) -> Option<Lock>
@@ -27,7 +28,7 @@ fn sought_by(machine: &Checked, frame: &Frame) -> Option<Lock>
     ensures { result ≡ sought_by machine.now.set frame.now }
 {
     if let Some(a) = frame.activation() {
-        return match machine.set().instruction(a.driver, a.routine, a.position) {
+        return match instruction_at(machine.set(), a) {
             Some(instr) => acquired_by(a, &instr),
             None => None,
         };
@@ -55,7 +56,7 @@ fn other_owner(thread: u8, owner: Option<Option<u8>>) -> Option<u8>
 pub fn waits_for(machine: &Checked, thread: u8) -> Option<u8>
     ensures { result ≡ waits_for machine.now.set machine.now.world thread }
 {
-    let top = machine.threads().get(thread as usize)?.frames().last()?;
+    let top = top_frame(machine, thread)?;
     let lock = sought_by(machine, top)?;
     other_owner(thread, machine.shared().owner(lock))
 }

@@ -11,6 +11,7 @@ use checked_parts::Frame;
 use devqueue::DeviceQueue;
 use model::limits::{MAX_QUEUES, REGISTERS};
 use model::world::{Activation, Armer};
+use pending_uses::standing::frames_on;
 use std::alloc::{AllocError, Global};
 
 /// A place that names a packet.
@@ -116,16 +117,6 @@ fn add_place(
     add_frame(sites, n, thread, place, &frames[place])
 }
 
-/// The frames of a thread: none where there is no such thread.
-fn frames_of(machine: &Checked, thread: usize) -> &[Frame]
-    ensures { result.now ≡ frames_on machine.now.world thread }
-{
-    match machine.threads().get(thread) {
-        Some(its) => its.frames(),
-        None => &[],
-    }
-}
-
 /// Adds the places in the frames of a thread that name a packet.
 fn add_frames(
     sites: &mut Vec<Site>,
@@ -136,7 +127,7 @@ fn add_frames(
     ensures { OnOk result (sites.new.items ≡ sites.old.items ++ frames_below machine.now.world n
         thread (length (frames_on machine.now.world thread))) }
 {
-    let frames = frames_of(machine, thread);
+    let frames = frames_on(machine, thread);
     for place in 0..frames.len() {
         add_place(sites, n, thread, place, frames)?;
     }

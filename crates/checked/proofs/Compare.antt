@@ -102,7 +102,7 @@ stack_back thread below f split = rw (root_more thread.root below f [], ← spli
 abbrev with_threads : Shared → List Thread → World
 with_threads s threads = record { threads = threads; shared = s }
 
-put_back : (w : World) (t : ℕ) (thread : Thread) → slice_get w.threads t ≡ Some thread
+pub put_back : (w : World) (t : ℕ) (thread : Thread) → slice_get w.threads t ≡ Some thread
     → with_thread w t w.shared thread ≡ w
 put_back w t thread there = ap (with_threads w.shared) (set_back w.threads t thread there)
 

@@ -3,5 +3,6 @@ pub mod Stacks
 pub mod Devices
 pub mod Known
 pub mod Effects
+pub mod GoingOn
 pub mod Compare
 pub mod Runs

@@ -48,7 +48,7 @@ module _ (set : Set) (s : Shared) (n : ℕ) (thread : Thread) (below : List Fram
   abbrev pub written : Frame → List Frame
   written g = refill (length thread.frames.items) thread.frames.items (below ++ g ∷ [])
 
-  written_top : (g : Frame) → written g ≡ below ++ g ∷ []
+  pub written_top : (g : Frame) → written g ≡ below ++ g ∷ []
   written_top g =
       refill_all thread.frames.items (below ++ g ∷ []) (length-append below (g ∷ []) ∙ split.1)
 

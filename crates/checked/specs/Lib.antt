@@ -1,2 +1,3 @@
+pub mod GoingOn
 pub mod Instruction
 pub mod Step

@@ -1,12 +1,13 @@
 //! Steps of a frame, and what it is told.
 
-ghost use Rattle.std.specs.Prelude.{◌≡◌, Some};
+ghost use Rattle.std.specs.Prelude.{◌≡◌, ◌≤◌, Some};
+ghost use Rattle.checked.specs.GoingOn.{FrameGoes};
 ghost use Rattle.checked.specs.Step.{told_frame};
 ghost use Rattle.checked_parts.specs.Left.{frame_now};
 ghost use Rattle.checked_parts.specs.Ran.{left_of};
 ghost use Rattle.model.specs.Effect.{operand_of, answered_in, answered};
 
-use crate::routine;
+use crate::{routine, running};
 use checked_parts::{Frame, Managing, Ran, Runner, Shared};
 use driver_set::{DriverSet, Instr};
 use model::status::Status;
@@ -28,6 +29,18 @@ pub fn step(
         Some(Managing::Cancels(canceller)) => shared.cancel(set, runner, canceller),
         None => routine::step(set, shared, runner, below, frame.activation_mut()),
     }
+}
+
+/// Lets a frame go on by itself, where it is a routine's, for at most so many steps, and answers how
+/// many.
+pub fn go_on(frame: &mut Frame, set: &DriverSet, count: usize) -> usize
+    ensures few { result ≤ count }
+    ensures goes { FrameGoes set.now frame.old result frame.new }
+{
+    if frame.manager().is_some() {
+        return 0;
+    }
+    running::run(set, frame.activation_mut(), count)
 }
 
 /// A frame is told the status that a lower driver returned, if it is a routine's.

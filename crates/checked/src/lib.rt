@@ -6,6 +6,7 @@ mod frame;
 mod local;
 pub mod machine;
 mod routine;
+mod running;
 mod state;
 mod system;
 mod thread;

@@ -1,40 +1,39 @@
-//! Instructions that change nothing but their activation.
+//! Instructions that change nothing but their activation. Where one isn't made, its operands are
+//! wrong, and nothing has changed.
 
-ghost use Rattle.std.specs.Prelude.{◌≡◌, ◌<◌};
+ghost use Rattle.std.specs.Prelude.{◌≡◌, ◌<◌, [], ℕ, IsTrue, Option, false};
 ghost use Rattle.model.specs.declared.limits.TheConstants.{MAX_INSTRUCTIONS};
-ghost use Rattle.checked.specs.Instruction.{LeavesShared};
-ghost use Rattle.model.specs.Effect.{number_effect, jump_effect, loop_effect, end_effect, sum_of, difference_of, is_zero_at, is_less_at};
-ghost use Rattle.model.specs.World.{next, at_label, with_register, innermost};
+ghost use Rattle.model.specs.declared.world.Frame.{Frame};
+ghost use Rattle.checked.specs.GoingOn.{Makes, SameRoutine};
+ghost use Rattle.model.specs.Effect.{difference_of, end_effect, goes_on, instruction_effect, is_less_at, is_zero_at, jump_effect, loop_effect, number_effect, sum_of};
+ghost use Rattle.model.specs.Set.{Set};
+ghost use Rattle.model.specs.World.{Shared, at_label, innermost, next, with_register};
 
-use checked_parts::{Ran, number_in, wrong_at};
-use driver_set::{Register, Turns};
-use model::event::Reply;
+use checked_parts::number_in;
+use driver_set::{Instr, Register, Turns};
 use model::limits::MAX_LOOPS;
 use model::world::{Activation, OpenLoop, Value};
 
 /// The register becomes this value.
-pub fn set(r: Register, value: Value, a: &mut Activation) -> Ran
+pub fn set(r: Register, value: Value, a: &mut Activation)
     requires { a.old.position < MAX_INSTRUCTIONS }
-    ensures activation { a.new ≡ next (with_register a.old r value) }
-    ensures ran { result ≡ Ran.Stays Reply.Stepped }
+    ensures { a.new ≡ next (with_register a.old r value) }
 {
     a.registers[r.index()] = value;
     a.position += 1;
-    Ran::Stays(Reply::Stepped)
 }
 
 /// The register becomes a number that was computed, if its operands were numbers.
-fn set_number(r: Register, number: Option<u64>, a: &mut Activation) -> Ran
+fn set_number(r: Register, number: Option<u64>, a: &mut Activation) -> bool
     requires { a.old.position < MAX_INSTRUCTIONS }
-    ensures { LeavesShared a.old (λ u. number_effect u a.old r number) a.new result }
+    ensures { Makes a.old (λ u. number_effect u a.old r number) a.new result }
 {
     match number {
         Some(number) => {
-            a.registers[r.index()] = Value::Num(number);
-            a.position += 1;
-            Ran::Stays(Reply::Stepped)
+            set(r, Value::Num(number), a);
+            true
         }
-        None => Ran::Stays(wrong_at(a)),
+        None => false,
     }
 }
 
@@ -57,48 +56,45 @@ fn difference(a: &Activation, r: Register, s: Register) -> Option<u64>
 }
 
 /// `add r s`: r becomes the sum.
-pub fn add(r: Register, s: Register, a: &mut Activation) -> Ran
+pub fn add(r: Register, s: Register, a: &mut Activation) -> bool
     requires { a.old.position < MAX_INSTRUCTIONS }
-    ensures { LeavesShared a.old (λ u. number_effect u a.old r (sum_of a.old r s)) a.new result }
+    ensures { Makes a.old (λ u. number_effect u a.old r (sum_of a.old r s)) a.new result }
 {
     let number = sum(a, r, s);
     set_number(r, number, a)
 }
 
 /// `sub r s`: r becomes the difference.
-pub fn subtract(r: Register, s: Register, a: &mut Activation) -> Ran
+pub fn subtract(r: Register, s: Register, a: &mut Activation) -> bool
     requires { a.old.position < MAX_INSTRUCTIONS }
-    ensures { LeavesShared a.old (λ u. number_effect u a.old r (difference_of a.old r s)) a.new
-        result }
+    ensures { Makes a.old (λ u. number_effect u a.old r (difference_of a.old r s)) a.new result }
 {
     let number = difference(a, r, s);
     set_number(r, number, a)
 }
 
 /// Goes to the label.
-pub fn jump(label: u16, a: &mut Activation) -> Ran
-    ensures activation { a.new ≡ at_label a.old label }
-    ensures ran { result ≡ Ran.Stays Reply.Stepped }
+pub fn jump(label: u16, a: &mut Activation)
+    ensures { a.new ≡ at_label a.old label }
 {
     a.position = label;
-    Ran::Stays(Reply::Stepped)
 }
 
 /// Goes to the label where a test says so, if its operands were numbers.
-fn jump_if(label: u16, test: Option<bool>, a: &mut Activation) -> Ran
+fn jump_if(label: u16, test: Option<bool>, a: &mut Activation) -> bool
     requires { a.old.position < MAX_INSTRUCTIONS }
-    ensures { LeavesShared a.old (λ u. jump_effect u a.old label test) a.new result }
+    ensures { Makes a.old (λ u. jump_effect u a.old label test) a.new result }
 {
     match test {
         Some(true) => {
             a.position = label;
-            Ran::Stays(Reply::Stepped)
+            true
         }
         Some(false) => {
             a.position += 1;
-            Ran::Stays(Reply::Stepped)
+            true
         }
-        None => Ran::Stays(wrong_at(a)),
+        None => false,
     }
 }
 
@@ -118,56 +114,79 @@ fn is_less(a: &Activation, r: Register, s: Register) -> Option<bool>
 }
 
 /// `jz r L`: jumps if r is 0.
-pub fn jump_if_zero(r: Register, label: u16, a: &mut Activation) -> Ran
+pub fn jump_if_zero(r: Register, label: u16, a: &mut Activation) -> bool
     requires { a.old.position < MAX_INSTRUCTIONS }
-    ensures { LeavesShared a.old (λ u. jump_effect u a.old label (is_zero_at a.old r)) a.new
-        result }
+    ensures { Makes a.old (λ u. jump_effect u a.old label (is_zero_at a.old r)) a.new result }
 {
     let test = is_zero(a, r);
     jump_if(label, test, a)
 }
 
 /// `jlt r s L`: jumps if r is less than s.
-pub fn jump_if_less(r: Register, s: Register, label: u16, a: &mut Activation) -> Ran
+pub fn jump_if_less(r: Register, s: Register, label: u16, a: &mut Activation) -> bool
     requires { a.old.position < MAX_INSTRUCTIONS }
-    ensures { LeavesShared a.old (λ u. jump_effect u a.old label (is_less_at a.old r s)) a.new
-        result }
+    ensures { Makes a.old (λ u. jump_effect u a.old label (is_less_at a.old r s)) a.new result }
 {
     let test = is_less(a, r, s);
     jump_if(label, test, a)
 }
 
-/// `loop n`: opens a loop of n turns.
-pub fn open_loop(turns: Turns, a: &mut Activation) -> Ran
+/// `loop n`: opens a loop of n turns, if there is room for it.
+pub fn open_loop(turns: Turns, a: &mut Activation) -> bool
     requires { a.old.position < MAX_INSTRUCTIONS }
-    ensures { LeavesShared a.old (λ u. loop_effect u a.old turns) a.new result }
+    ensures { Makes a.old (λ u. loop_effect u a.old turns) a.new result }
 {
     if a.loops.len() >= MAX_LOOPS {
-        return Ran::Stays(wrong_at(a));
+        return false;
     }
     a.position += 1;
     a.loops.push(OpenLoop {
         start: a.position,
         turns: turns.count(),
     });
-    Ran::Stays(Reply::Stepped)
+    true
 }
 
-/// `end`: goes back to the start of the innermost loop's body, or closes the loop.
-pub fn end_turn(a: &mut Activation) -> Ran
+/// `end`: goes back to the start of the innermost loop's body, or closes the loop, if one is open.
+pub fn end_turn(a: &mut Activation) -> bool
     requires { a.old.position < MAX_INSTRUCTIONS }
-    ensures { LeavesShared a.old (λ u. end_effect u a.old (innermost a.old)) a.new result }
+    ensures { Makes a.old (λ u. end_effect u a.old (innermost a.old)) a.new result }
 {
     let place = a.loops.len().saturating_sub(1);
     let Some(innermost) = a.loops.get_mut(place) else {
-        return Ran::Stays(wrong_at(a));
+        return false;
     };
     if innermost.turns <= 1 {
         a.loops.truncate(place);
         a.position += 1;
-        return Ran::Stays(Reply::Stepped);
+        return true;
     }
     innermost.turns -= 1;
     a.position = innermost.start;
-    Ran::Stays(Reply::Stepped)
+    true
+}
+
+/// Executes an instruction that changes nothing but its activation. False, and nothing has changed,
+/// where it is another one, or its operands are wrong.
+pub fn execute(instruction: Instr, a: &mut Activation) -> bool
+    requires { a.old.position < MAX_INSTRUCTIONS }
+    ensures goes { IsTrue result → (set : Set) (s : Shared) (t : ℕ) (under : Option Frame)
+        → instruction_effect set s t under a.old instruction ≡ goes_on s a.new [] }
+    ensures same { SameRoutine a.old a.new }
+    ensures other { result ≡ false → a.new ≡ a.old }
+{
+    match instruction {
+        Instr::Const(r, number) => set(r, Value::Num(u64::from(number)), a),
+        Instr::Move(r, s) => set(r, a.registers[s.index()], a),
+        Instr::Clear(r) => set(r, Value::Blank, a),
+        Instr::Jump(label) => jump(label, a),
+        Instr::Add(r, s) => return add(r, s, a),
+        Instr::Subtract(r, s) => return subtract(r, s, a),
+        Instr::JumpIfZero(r, label) => return jump_if_zero(r, label, a),
+        Instr::JumpIfLess(r, s, label) => return jump_if_less(r, s, label, a),
+        Instr::Loop(turns) => return open_loop(turns, a),
+        Instr::End => return end_turn(a),
+        _ => return false,
+    }
+    true
 }

@@ -1,18 +1,19 @@
 //! Steps of a routine.
 
-ghost use Rattle.std.specs.Prelude.{◌≡◌, ◌<◌};
+ghost use Rattle.std.specs.Prelude.{◌≡◌, ◌<◌, if◌then◌else◌};
 ghost use Rattle.model.specs.declared.limits.TheConstants.{MAX_INSTRUCTIONS};
 ghost use Rattle.checked.specs.Instruction.{instruction_now};
 ghost use Rattle.checked_parts.specs.Left.{frame_now};
-ghost use Rattle.checked_parts.specs.Ran.{left_of, LeavesOver};
+ghost use Rattle.checked_parts.specs.Ran.{left_of, wrong_reply, LeavesOver};
 ghost use Rattle.model.specs.declared.world.Frame.TheVariants.{Routine as RoutineFrame};
 ghost use Rattle.model.specs.Effect.{return_effect, top_of};
 ghost use Rattle.model.specs.Set.{sort_of};
+ghost use Rattle.model.specs.World.{at_label, next, with_register};
 
 use crate::local;
 use checked_parts::shared::locks::spin_lock;
 use checked_parts::{Frame, Ran, Runner, Shared, status_in, wrong_at};
-use driver_set::{DriverSet, Instr, Return, Sort};
+use driver_set::{DriverSet, Instr, Register, Return, Sort};
 use model::event::{Lock, Reply};
 use model::world::{Activation, Value};
 
@@ -37,6 +38,36 @@ fn leave(set: &DriverSet, shared: &mut Shared, below: &[Frame], a: &Activation, 
     }
 }
 
+/// The register becomes this value.
+fn assign(r: Register, value: Value, a: &mut Activation) -> Ran
+    requires { a.old.position < MAX_INSTRUCTIONS }
+    ensures activation { a.new ≡ next (with_register a.old r value) }
+    ensures ran { result ≡ Ran.Stays Reply.Stepped }
+{
+    local::set(r, value, a);
+    Ran::Stays(Reply::Stepped)
+}
+
+/// Goes to the label.
+fn jump(label: u16, a: &mut Activation) -> Ran
+    ensures activation { a.new ≡ at_label a.old label }
+    ensures ran { result ≡ Ran.Stays Reply.Stepped }
+{
+    local::jump(label, a);
+    Ran::Stays(Reply::Stepped)
+}
+
+/// What an instruction leaves that changes nothing but its activation: it was made, or is wrong.
+fn made(made: bool, a: &Activation) -> Ran
+    ensures { result ≡ Ran.Stays (if made then Reply.Stepped else wrong_reply a.now) }
+{
+    if made {
+        Ran::Stays(Reply::Stepped)
+    } else {
+        Ran::Stays(wrong_at(a))
+    }
+}
+
 /// Executes one instruction of a thread's routine, which stands over the frames `below`.
 fn execute(
     set: &DriverSet,
@@ -51,16 +82,16 @@ fn execute(
         ≡ instruction_now set.now shared.old runner below.now a.old instruction }
 {
     match instruction {
-        Instr::Const(r, number) => local::set(r, Value::Num(u64::from(number)), a),
-        Instr::Move(r, s) => local::set(r, a.registers[s.index()], a),
-        Instr::Clear(r) => local::set(r, Value::Blank, a),
-        Instr::Add(r, s) => local::add(r, s, a),
-        Instr::Subtract(r, s) => local::subtract(r, s, a),
-        Instr::JumpIfZero(r, label) => local::jump_if_zero(r, label, a),
-        Instr::JumpIfLess(r, s, label) => local::jump_if_less(r, s, label, a),
-        Instr::Jump(label) => local::jump(label, a),
-        Instr::Loop(turns) => local::open_loop(turns, a),
-        Instr::End => local::end_turn(a),
+        Instr::Const(r, number) => assign(r, Value::Num(u64::from(number)), a),
+        Instr::Move(r, s) => assign(r, a.registers[s.index()], a),
+        Instr::Clear(r) => assign(r, Value::Blank, a),
+        Instr::Add(r, s) => made(local::add(r, s, a), a),
+        Instr::Subtract(r, s) => made(local::subtract(r, s, a), a),
+        Instr::JumpIfZero(r, label) => made(local::jump_if_zero(r, label, a), a),
+        Instr::JumpIfLess(r, s, label) => made(local::jump_if_less(r, s, label, a), a),
+        Instr::Jump(label) => jump(label, a),
+        Instr::Loop(turns) => made(local::open_loop(turns, a), a),
+        Instr::End => made(local::end_turn(a), a),
         Instr::Load(r, cell) => shared.load(r, cell, a),
         Instr::Store(cell, r) => shared.store(cell, r, a),
         Instr::LoadPaged(r, cell) => shared.load_paged(runner, r, cell, a),

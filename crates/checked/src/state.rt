@@ -1,6 +1,7 @@
 //! What a machine holds beside the set that it runs.
 
 ghost use Rattle.std.specs.Prelude.{◌≡◌, ◌≤◌, false, length, IfOk};
+ghost use Rattle.checked.specs.GoingOn.{GoesOn};
 ghost use Rattle.checked.specs.Step.{machine_of, state_now};
 ghost use Rattle.model.specs.Machine.{AppliesWhole};
 ghost use Rattle.model.specs.Sound.{IsSound};
@@ -61,6 +62,22 @@ impl State {
         the_past_tells_of_the_world();
         owning_tells();
         self.advance(set, event)
+    }
+
+    /// Lets the routine on the top of a thread go on by itself for at most so many steps, and answers
+    /// how many. None after the run has stopped.
+    pub fn go_on(&mut self, set: &DriverSet, thread: u8, count: usize) -> usize
+        requires { IsSound set.now }
+        ensures few { result ≤ count }
+        ensures goes { GoesOn thread (machine_of set.now self.old) result
+            (machine_of set.now self.new) }
+    {
+        if self.halted {
+            return 0;
+        }
+        the_past_tells_of_the_world();
+        owning_tells();
+        self.current.go_on(set, thread, count)
     }
 
     /// The same by what the state holds, and not by the trace of its run.

@@ -2,6 +2,7 @@
 
 ghost use Rattle.std.specs.Prelude.{◌≡◌, ◌≤◌, IfOk, IfSome, slice_get};
 ghost use Rattle.model.specs.declared.limits.TheConstants.{MAX_STACK};
+ghost use Rattle.checked.specs.GoingOn.{WorldGoes};
 ghost use Rattle.checked.specs.Step.{ended, event_now, step_now};
 ghost use Rattle.model.specs.Events.{cancel_on, irql_of};
 ghost use Rattle.model.specs.View.{due_at, packet_at, thread_at};
@@ -250,6 +251,18 @@ impl System {
         let root = entered(driver_of(set, device), routine, device, Value::Ref(n));
         self.thread_list[thread as usize].begin(Irql::Dispatch, Frame::routine(root));
         Reply::Started(n)
+    }
+
+    /// Lets the routine on the top of a thread go on by itself for at most so many steps, and answers
+    /// how many.
+    pub fn go_on(&mut self, set: &DriverSet, thread: u8, count: usize) -> usize
+        ensures few { result ≤ count }
+        ensures goes { WorldGoes set.now self.old thread result self.new }
+    {
+        let Some(runner) = self.thread_list.get_mut(thread as usize) else {
+            return 0;
+        };
+        runner.go_on(set, count)
     }
 
     /// A step of a thread's top frame.

@@ -1,6 +1,7 @@
 //! A thread: its frames, and their steps.
 
-ghost use Rattle.std.specs.Prelude.{◌≡◌, ◌-◌, ◌∷◌, [], Some, true, length, take};
+ghost use Rattle.std.specs.Prelude.{◌≡◌, ◌≤◌, ◌-◌, ◌∷◌, [], Some, true, length, take};
+ghost use Rattle.checked.specs.GoingOn.{ThreadGoes};
 ghost use Rattle.checked.specs.Step.{thread_now};
 ghost use Rattle.model.specs.Effect.{told_to};
 ghost use Rattle.model.specs.Events.{is_idle, with_stack, finished_or};
@@ -117,6 +118,18 @@ impl Thread {
             Reply::Stepped => Reply::Finished,
             _ => reply,
         }
+    }
+
+    /// Lets the routine on top, if one stands there, go on by itself for at most so many steps, and
+    /// answers how many.
+    pub fn go_on(&mut self, set: &DriverSet, count: usize) -> usize
+        ensures few { result ≤ count }
+        ensures goes { ThreadGoes set.now self.old result self.new }
+    {
+        let Some((top, _below)) = self.frames.as_mut_slice().split_last_mut() else {
+            return 0;
+        };
+        frame::go_on(top, set, count)
     }
 
     /// A step of the top frame of the thread of this number, if it has one.

@@ -10,8 +10,10 @@ use model::event::{Event, Lock, OfDevice, Reply};
 use model::instr::Instr;
 use model::limits::SPIN_LOCKS;
 use model::view::FrameView;
+use pending_uses::acting::Acting;
+use pending_uses::standing::thread_of;
 use std::alloc::{AllocError, Global};
-use told::{Acting, Book, Moment, thread_of};
+use told::{Book, Moment};
 
 /// Events that are drawn, at most. The last of them is kept for what stops the run.
 pub const MOST_ROWS: usize = 500;

@@ -6,8 +6,8 @@ use checked::Checked;
 use model::instr::Instr;
 use model::view::FrameView;
 use model::world::{CancelStep, Value};
+use pending_uses::acting::Acting;
 use std::alloc::{AllocError, Global};
-use told::Acting;
 
 /// What holds a packet.
 #[derive(Clone, Copy, PartialEq, Eq)]

@@ -3,7 +3,8 @@
 use model::event::Reply;
 use model::instr::Instr;
 use model::view::{FrameView, LiveView, PacketView};
-use told::{Acting, Moment};
+use pending_uses::acting::Acting;
+use told::Moment;
 
 /// Whether an event is drawn: what begins, ends, moves a packet, marks it, completes it or cancels
 /// it, what takes or frees a lock, the first turn of a wait, and what stops the run. Told by the

@@ -4,8 +4,9 @@ use checked::Checked;
 use model::event::{Event, Reply};
 use model::instr::{Instr, Return};
 use model::view::FrameView;
+use pending_uses::acting::Acting;
 use std::alloc::AllocError;
-use told::{Acting, Book, Moment, add_change};
+use told::{Book, Moment, add_change};
 
 /// Adds where the frame stands that acts: its routine and the line of its instruction, or what the
 /// I/O manager does. Where a routine begins in the event, its name.

@@ -4,7 +4,8 @@ use model::event::{Event, Reply};
 use model::instr::Instr;
 use model::view::{FrameView, LiveView, PacketView};
 use model::world::CancelStep;
-use told::{Acting, Moment};
+use pending_uses::acting::Acting;
+use told::Moment;
 
 /// The sign of an event in its row.
 #[derive(Clone, Copy, PartialEq, Eq)]

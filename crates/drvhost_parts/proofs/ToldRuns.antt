@@ -6,9 +6,9 @@ use Rattle.std.specs.List.{list_any}
 use Rattle.std.specs.Prelude.{IfSome, codes}
 use Rattle.std.specs.Io.KnownBytes.{Appends}
 use Rattle.audit.specs.declared.findings.Findings.{Findings}
-use Rattle.audit.specs.Acts.{use_step}
+use Rattle.pending_uses.specs.Acts.{use_step}
 use Rattle.audit.specs.Findings.{AreFindings, any_of, has_findings}
-use Rattle.audit.specs.Ledger.{LedgerState, Tells as TellsRun, TellsOn}
+use Rattle.pending_uses.specs.Ledger.{LedgerState, Tells as TellsRun, TellsOn}
 use Rattle.audit.specs.Left.{left_locks}
 use Rattle.audit.specs.Naming.{lost_packets}
 use Rattle.interleave.specs.declared.read.Repeated.{Repeated}

@@ -1,8 +1,8 @@
 //! Runs that are told in words.
 
 ghost use Rattle.std.specs.Prelude.{◌≡◌, ◌+◌, ◌++◌, ◌∷◌, ◌<◌, ◌≤◌, ◌^◌, ◌||◌, List, ℕ, [], IfOk, IfSome, MatchOption, OnOk, codes, if◌then◌else◌, replicate, true};
-ghost use Rattle.audit.specs.Acts.{use_step};
-ghost use Rattle.audit.specs.Ledger.{Tells as TellsRun, TellsOn};
+ghost use Rattle.pending_uses.specs.Acts.{use_step};
+ghost use Rattle.pending_uses.specs.Ledger.{Tells as TellsRun, TellsOn};
 ghost use Rattle.interleave.specs.Listing.{IsWithinLimits};
 ghost use Rattle.model.specs.Machine.{AppliesWhole, ShowsWhole};
 ghost use Rattle.model.specs.Run.{begun};
@@ -14,15 +14,15 @@ ghost use Rattle.drvhost_parts.specs.Told.{HasTold, IsRunTold, IsTold, ToldNext,
 use crate::fault::End;
 use crate::follow::{is_last, next_run, rest_of};
 use crate::tell::Detail;
-use audit::acts::use_step;
 use audit::findings::Findings;
-use audit::ledger::Ledger;
 use checked::Checked;
 use interleave::events::Upcoming;
 use interleave::read::Repeated;
 use interleave::schedule::Schedule;
 use model::event::{Event, Reply};
 use packet_holders::Rights;
+use pending_uses::acts::use_step;
+use pending_uses::ledger::Ledger;
 use report::event_number::EventNumber;
 use report::lines::Lines;
 use run_laws::waiting_changes_nothing;

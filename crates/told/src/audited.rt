@@ -5,9 +5,7 @@ use crate::disagreement::{Place, add_note, add_place, opened_place};
 use crate::line::Moment;
 use crate::places::{add_holders, add_sites};
 use crate::words::{add_lock, reason_words, status_name};
-use audit::acts::UseStep;
 use audit::findings::Findings;
-use audit::ledger::Ledger;
 use audit::refusal::Reason;
 use audit::ring::waits_for;
 use checked::Checked;
@@ -15,6 +13,8 @@ use irp::Packet;
 use model::event::{Event, Reply};
 use model::history::TopOut;
 use packet_holders::Rights;
+use pending_uses::acts::UseStep;
+use pending_uses::ledger::Ledger;
 use std::alloc::{AllocError, Global};
 
 /// An event that was refused.

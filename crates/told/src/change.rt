@@ -1,8 +1,6 @@
 //! What an event changed, in words.
 
-use crate::acting::Acting;
 use crate::book::Book;
-use crate::columns::thread_of;
 use crate::line::Moment;
 use crate::words::{add_lock, cause_of, check_name, major_name, reason_words, status_name};
 use audit::ring::waits_for;
@@ -11,6 +9,8 @@ use model::event::{Event, Lock, OfDevice, Reply};
 use model::instr::{Instr, Return};
 use model::view::{FrameView, LiveView, PacketView};
 use model::world::CancelStep;
+use pending_uses::acting::Acting;
+use pending_uses::standing::thread_of;
 use std::alloc::AllocError;
 
 /// Adds what an event changed.

@@ -3,19 +3,8 @@
 use crate::words::add_number;
 use checked::Checked;
 use model::event::Event;
+use pending_uses::standing::thread_of;
 use std::alloc::AllocError;
-
-/// The thread that an event is about.
-pub fn thread_of(event: &Event) -> Option<u8> {
-    match *event {
-        Event::Issue { thread, .. }
-        | Event::Cancel { thread, .. }
-        | Event::Dpc { thread, .. }
-        | Event::StartIo { thread, .. }
-        | Event::Step { thread } => Some(thread),
-        Event::Interrupt { .. } => None,
-    }
-}
 
 /// Adds a column for each thread: its number where the event is about it, else whether it has
 /// frames.

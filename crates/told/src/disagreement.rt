@@ -3,11 +3,11 @@
 use crate::book::Book;
 use crate::line::Moment;
 use crate::words::status_name;
-use audit::acts::UseStep;
-use audit::uses::Note;
 use checked::Checked;
 use model::event::Event;
 use model::view::{FrameView, PacketView};
+use pending_uses::acts::UseStep;
+use pending_uses::uses::Note;
 use std::alloc::AllocError;
 
 /// A stack location: the device that is asked there, and its number; the first is the top driver's.

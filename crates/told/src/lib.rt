@@ -1,8 +1,7 @@
 //! A run told event by event: which frame acts, where it stands in the text, and in words what its
-//! step changed. What acts and where is by contract; the words are plain code round it.
+//! step changed. What acts is by contract; the words are plain code round it.
 #![tactic(auto)]
 
-mod acting;
 mod audited;
 mod book;
 mod change;
@@ -13,9 +12,7 @@ mod places;
 mod teller;
 mod words;
 
-pub use acting::{Acting, acting_in};
 pub use book::Book;
 pub use change::add_change;
-pub use columns::thread_of;
 pub use line::Moment;
 pub use teller::Teller;

@@ -1,9 +1,8 @@
 //! The words of an event.
 
 ghost use Rattle.std.specs.Prelude.{◌≡◌};
-ghost use Rattle.told.specs.Acting.{acting_in};
+ghost use Rattle.pending_uses.specs.Acting.{acting_in};
 
-use crate::acting::{Acting, acting_in};
 use crate::book::Book;
 use crate::columns::add_columns;
 use audit::refusal::{Reason, why_refused};
@@ -12,6 +11,7 @@ use model::event::Event;
 use model::instr::Instr;
 use model::view::{FrameView, PacketView};
 use model::world::CancelStep;
+use pending_uses::acting::{Acting, acting_in};
 use std::alloc::AllocError;
 
 /// Where the columns, the place and the words begin, if what stands before them is no longer.

@@ -4,12 +4,12 @@ use crate::audited::{Audited, add_audit};
 use crate::book::Book;
 use crate::change::add_change;
 use crate::line::{Moment, add_event};
-use audit::acts::UseStep;
 use audit::findings::Findings;
-use audit::ledger::Ledger;
 use checked::Checked;
 use model::event::{Event, Reply};
 use packet_holders::Rights;
+use pending_uses::acts::UseStep;
+use pending_uses::ledger::Ledger;
 use std::alloc::{AllocError, Global};
 
 /// What tells a run: how the text calls things, what is noted for the audit, and the words that were

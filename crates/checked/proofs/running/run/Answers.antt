@@ -1,0 +1,30 @@
+use Rattle.std.proofs.Common.{◌≡◌, ◌∙◌, ◌+◌, suc, Some, ap, arith, refl, sym}
+use Rattle.std.specs.Prelude.{slice_get}
+use Rattle.std.proofs.lemmas.Option.{slice_get-get_or}
+use Rattle.model.specs.declared.instr.Instr.{Instr}
+use Rattle.checked.proofs.GoingOn.{goes_more}
+use Rattle.checked.specs.GoingOn.{stays}
+use Rattle.checked.proofs.running.run.Goals as goal
+
+pub returns-in_default-clause-goes : goal.returns-in_default-clause-goes
+returns-in_default-clause-goes c = stays
+
+pub loop-made-init : goal.loop-made-init
+loop-made-init c = (stays, refl, refl)
+
+pub loop-made-preserved : goal.loop-made-preserved
+loop-made-preserved c =
+    let i : Instr = c.in-Some-get.instruction.now in
+    let here : slice_get c.in-Some.code.now c.loop-made.a.position ≡ Some i =
+    slice_get-get_or c.in-Some.code.now c.loop-made.a.position i
+    c.in-Some-get.ensures.lookup.3.0
+    ∙ ap (λ (j : Instr). Some j) (sym c.in-Some-get.ensures.lookup.1) in
+    let count : c.loop-made.made + 1 ≡ suc c.loop-made.made = omega arith in (
+      rw count
+          (goes_more c.args.set.now c.args.a.now c.in-Some.code.now c.in-Some.ensures.code
+          c.loop-made.made c.loop-made.a c.loop-made.invariant.0 c.loop-made.invariant.1
+          c.loop-made.invariant.2 i here c.execute.new.a
+          (c.if-not-execute.ensures.goes refl c.args.set.now) c.execute.ensures.same),
+      c.execute.ensures.same.driver ∙ c.loop-made.invariant.1,
+      c.execute.ensures.same.routine ∙ c.loop-made.invariant.2,
+    )

@@ -1,0 +1,80 @@
+-- Steps of a thread whose top routine goes on by itself.
+use Rattle.std.specs.Prelude.{ℕ, ◌≡◌, ◌++◌, ◌∷◌, [], suc, Bool, true, false, List, Option, Some, slice_get}
+use Rattle.model.specs.declared.event.Event.TheVariants.{Step}
+use Rattle.model.specs.declared.event.Reply.TheVariants.{Stepped}
+use Rattle.model.specs.declared.world.Activation.{Activation}
+use Rattle.model.specs.declared.world.Frame.{Frame}
+use Rattle.model.specs.declared.world.Frame.TheVariants.{Routine}
+use Rattle.model.specs.declared.world.Thread.{Thread}
+use Rattle.model.specs.Effect.{Outcome, frame_effect, goes_on, goes_wrong}
+use Rattle.model.specs.Events.{with_thread}
+use Rattle.model.specs.Machine.{AppliesWhole, Machine}
+use Rattle.model.specs.Set.{Set}
+use Rattle.model.specs.World.{Shared, World}
+
+-- it is an activation of the same routine on the same device
+pub record SameRoutine (a b : Activation) : Type 0 where
+  pub driver : b.driver ≡ a.driver
+  pub routine : b.routine ≡ a.routine
+  pub device : b.device ≡ a.device
+
+-- an instruction with this outcome was made, whatever is shared: that stays. Or it is wrong there,
+-- and the activation stays
+abbrev pub Makes : Activation → (Shared → Outcome) → Activation → Bool → Type 0
+Makes a o b true = ((s : Shared) → o s ≡ goes_on s b []) × SameRoutine a b
+Makes a o b false = ((s : Shared) → o s ≡ goes_wrong s a) × (b ≡ a)
+
+-- a step of the one is that it becomes the other, whatever is shared, whoever runs, and over
+-- whatever frame
+pub record GoesAlone (set : Set) (a b : Activation) : Type 0 where
+  pub goes : (s : Shared) (t : ℕ) (under : Option Frame)
+      → frame_effect set s t under (Routine a) ≡ goes_on s b []
+  pub same : SameRoutine a b
+
+-- a routine has gone on by itself so many steps
+pub data RoutineGoes (set : Set) (a : Activation) : ℕ → Activation → Type 0 where
+  stays : RoutineGoes set a 0 a
+  steps : (k : ℕ) (b c : Activation) → RoutineGoes set a k b → GoesAlone set b c
+      → RoutineGoes set a (suc k) c
+
+-- a frame that has gone on by itself so many steps, where it is a routine's, or has stayed
+pub data FrameGoes (set : Set) (f : Frame) : ℕ → Frame → Type 0 where
+  frame_rests : FrameGoes set f 0 f
+  frame_runs : (a b : Activation) (k : ℕ) → f ≡ Routine a → RoutineGoes set a k b
+      → FrameGoes set f k (Routine b)
+
+-- a thread with these frames, and a routine on top
+abbrev pub with_top : Thread → List Frame → Activation → Thread
+with_top x below a = record x { frames = record { items = below ++ Routine a ∷ [] } }
+
+-- a thread on whose top a routine has gone on by itself so many steps, or which has stayed
+pub data ThreadGoes (set : Set) (x : Thread) : ℕ → Thread → Type 0 where
+  rests : ThreadGoes set x 0 x
+  runs : (below : List Frame) (a b : Activation) (k : ℕ)
+      → x.frames.items ≡ below ++ Routine a ∷ [] → RoutineGoes set a k b
+      → ThreadGoes set x k (with_top x below b)
+
+-- a world on whose thread a routine has gone on by itself so many steps, or which has stayed
+pub data WorldGoes (set : Set) (w : World) (t : ℕ) : ℕ → World → Type 0 where
+  world_rests : WorldGoes set w t 0 w
+  world_runs : (x y : Thread) (k : ℕ) → slice_get w.threads t ≡ Some x → ThreadGoes set x k y
+      → WorldGoes set w t k (with_thread w t w.shared y)
+
+-- the world after such a step of a thread: nothing but the activation on its top is another
+pub record StepsAlone (set : Set) (w : World) (t : ℕ) (v : World) : Type 0 where
+  pub thread : Thread
+  pub below : List Frame
+  pub before : Activation
+  pub now : Activation
+  pub there : slice_get w.threads t ≡ Some thread
+  pub stack : thread.frames.items ≡ below ++ Routine before ∷ []
+  pub alone : GoesAlone set before now
+  pub left : v ≡ with_thread w t w.shared (with_top thread below now)
+
+-- so many steps of a thread are applied, one after another: each replies that the thread stepped,
+-- and changes nothing but the activation on its top
+pub data GoesOn (t : ℕ) (m : Machine) : ℕ → Machine → Type 0 where
+  none : GoesOn t m 0 m
+  more : (k : ℕ) (n o : Machine) → GoesOn t m k n → AppliesWhole n (Step t) o Stepped
+      → StepsAlone n.set n.world t o.world
+      → GoesOn t m (suc k) o

@@ -1,0 +1,45 @@
+//! A routine that goes on by itself for some steps.
+
+ghost use Rattle.std.specs.Prelude.{◌≡◌, ◌≤◌, ℕ, IfSome, length, slice_get};
+ghost use Rattle.model.specs.declared.limits.TheConstants.{MAX_INSTRUCTIONS};
+ghost use Rattle.model.specs.Set.{instruction_at};
+ghost use Rattle.checked.specs.GoingOn.{RoutineGoes};
+
+use crate::local;
+use driver_set::{DriverSet, Instr};
+use model::limits::DEFAULT_ROUTINE;
+use model::world::Activation;
+
+/// The code of a routine of a driver. None of the default routine.
+fn code_of(set: &DriverSet, driver: u8, routine: u8) -> Option<&[Instr]>
+    ensures code { IfSome result (λ code. (p : ℕ)
+        → instruction_at set.now driver routine p ≡ slice_get code.now p) }
+    ensures short { IfSome result (λ code. length code.now ≤ MAX_INSTRUCTIONS) }
+{
+    if routine == DEFAULT_ROUTINE {
+        return None;
+    }
+    let driver = set.drivers().get(driver as usize)?;
+    let routine = driver.routines.as_slice().get(routine as usize)?;
+    Some(routine.code.as_slice())
+}
+
+/// Executes instructions of a routine that change nothing but its activation, one after another, at
+/// most so many: up to the first other one, or one whose operands are wrong. It answers how many.
+pub fn run(set: &DriverSet, a: &mut Activation, count: usize) -> usize
+    ensures few { result ≤ count }
+    ensures goes { RoutineGoes set.now a.old result a.new }
+{
+    let Some(code) = code_of(set, a.driver, a.routine) else {
+        return 0;
+    };
+    for made in 0..count {
+        let Some(instruction) = code.get(a.position as usize) else {
+            return made;
+        };
+        if !local::execute(*instruction, a) {
+            return made;
+        }
+    }
+    count
+}
