@@ -20,6 +20,7 @@ use interleave::events::Upcoming;
 use interleave::read::Repeated;
 use interleave::schedule::Schedule;
 use model::event::{Event, Reply};
+use packet_holders::Rights;
 use pending_uses::acts::use_step;
 use pending_uses::ledger::Ledger;
 use report::event_number::EventNumber;
@@ -67,7 +68,8 @@ pub(crate) fn tell_run(
         &mut text,
     )?;
     let found = Findings::of(alloc, machine, &ledger)?;
-    teller.tell_audit(alloc, machine, &found, &ledger)?;
+    let rights = Rights::of(alloc, machine.set())?;
+    teller.tell_audit(alloc, machine, &found, &ledger, rights.as_ref())?;
     add_audit(teller.words(), &mut text)?;
     Ok(Told {
         text,

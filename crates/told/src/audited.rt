@@ -3,16 +3,16 @@
 use crate::book::Book;
 use crate::disagreement::{Place, add_note, add_place, opened_place};
 use crate::line::Moment;
+use crate::places::{add_holders, add_sites};
 use crate::words::{add_lock, reason_words, status_name};
 use audit::findings::Findings;
 use audit::refusal::Reason;
 use audit::ring::waits_for;
-use audit::sites::{Site, sites_of};
 use checked::Checked;
 use irp::Packet;
 use model::event::{Event, Reply};
 use model::history::TopOut;
-use model::set::QueueName;
+use packet_holders::Rights;
 use pending_uses::acts::UseStep;
 use pending_uses::ledger::Ledger;
 use std::alloc::{AllocError, Global};
@@ -101,8 +101,8 @@ impl Audited {
     }
 }
 
-/// Adds the audit of a run: what topped out, what lives and where it is named, what was found amiss,
-/// and the events that were refused.
+/// Adds the audit of a run: what topped out, what lives and where it is named, or who holds it where
+/// rights are known, what was found amiss, and the events that were refused.
 pub(crate) fn add_audit(
     alloc: Global,
     words: &mut String,
@@ -111,11 +111,12 @@ pub(crate) fn add_audit(
     audited: &Audited,
     found: &Findings,
     ledger: &Ledger,
+    rights: Option<&Rights>,
 ) -> Result<(), AllocError> {
     add_topped(words, audited)?;
     for number in 0..machine.shared().issued() {
         if let Some(packet) = machine.shared().live_packet(number) {
-            add_live(alloc, words, book, machine, packet)?;
+            add_live(alloc, words, book, machine, packet, rights)?;
         }
     }
     add_findings(words, book, machine, found)?;
@@ -204,13 +205,15 @@ fn add_refused(words: &mut String, audited: &Audited) -> Result<(), AllocError> 
     Ok(())
 }
 
-/// Adds a live packet: its locations with their marks, and the places that name it.
+/// Adds a live packet: its locations with their marks, and the places that name it; which of them
+/// holds it by right, where that is known.
 fn add_live(
     alloc: Global,
     words: &mut String,
     book: &Book<'_>,
     machine: &Checked,
     packet: &Packet,
+    rights: Option<&Rights>,
 ) -> Result<(), AllocError> {
     let n = packet.number();
     write!(words, "packet {n} is live at location {}", packet.depth())?;
@@ -225,59 +228,9 @@ fn add_live(
             })?;
         }
     }
-    let sites = sites_of(alloc, machine, n)?;
-    for site in sites.iter() {
-        words.push_str("; ")?;
-        add_site(words, book, machine, *site)?;
+    match rights {
+        Some(rights) => add_holders(alloc, words, book, machine, rights, n)?,
+        None => add_sites(alloc, words, book, machine, n)?,
     }
     words.push_str("\n")
-}
-
-/// Adds a place.
-fn add_site(
-    words: &mut String,
-    book: &Book<'_>,
-    machine: &Checked,
-    site: Site,
-) -> Result<(), AllocError> {
-    match site {
-        Site::Register {
-            thread,
-            frame,
-            register,
-        } => write!(words, "in r{register} of frame {frame} of thread {thread}"),
-        Site::Completing { thread, .. } => write!(words, "completed on thread {thread}"),
-        Site::Queue { device, queue } => {
-            words.push_str("in queue ")?;
-            book.add_device(words, device)?;
-            words.push_str(".")?;
-            match machine.set().devices().get(device as usize) {
-                Some(its) => book.add_queue(words, its.driver, queue),
-                None => Ok(()),
-            }
-        }
-        Site::StartList { device } => add_list(words, book, "start list", device),
-        Site::DeviceQueue { device } => add_list(words, book, "device queue", device),
-        Site::Slot { device } => add_list(words, book, "current slot", device),
-        Site::CancelWord(armer) => {
-            words.push_str("its cancel routine is set, of ")?;
-            book.add_device(words, armer.device)?;
-            match armer.queue {
-                QueueName::Declared(queue) => {
-                    words.push_str(".")?;
-                    match machine.set().devices().get(armer.device as usize) {
-                        Some(its) => book.add_queue(words, its.driver, queue),
-                        None => Ok(()),
-                    }
-                }
-                QueueName::DeviceQueue => words.push_str("'s device queue"),
-            }
-        }
-    }
-}
-
-/// Adds a list of a device.
-fn add_list(words: &mut String, book: &Book<'_>, name: &str, device: u8) -> Result<(), AllocError> {
-    write!(words, "in the {name} of ")?;
-    book.add_device(words, device)
 }

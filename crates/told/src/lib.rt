@@ -8,6 +8,7 @@ mod change;
 mod columns;
 mod disagreement;
 mod line;
+mod places;
 mod teller;
 mod words;
 

@@ -7,6 +7,7 @@ use crate::line::{Moment, add_event};
 use audit::findings::Findings;
 use checked::Checked;
 use model::event::{Event, Reply};
+use packet_holders::Rights;
 use pending_uses::acts::UseStep;
 use pending_uses::ledger::Ledger;
 use std::alloc::{AllocError, Global};
@@ -97,7 +98,8 @@ impl<'a> Teller<'a> {
         )
     }
 
-    /// Makes the words of the audit, by what was found in the machine and the ledger after the run.
+    /// Makes the words of the audit, by what was found in the machine and the ledger after the run,
+    /// and by the rights to packets, where the set is accepted.
     ///
     /// # Errors
     ///
@@ -108,6 +110,7 @@ impl<'a> Teller<'a> {
         machine: &Checked,
         found: &Findings,
         ledger: &Ledger,
+        rights: Option<&Rights>,
     ) -> Result<(), AllocError> {
         self.words.clear();
         add_audit(
@@ -118,6 +121,7 @@ impl<'a> Teller<'a> {
             &self.audited,
             found,
             ledger,
+            rights,
         )
     }
 
