@@ -1,6 +1,6 @@
 -- The actions of an event that are about uses are those of what it does to the uses.
-use Rattle.std.proofs.Common.{◌≡◌, ◌∙◌, ℕ, ◌-◌, List, [], ◌∷◌, length, take, Bool, true, false, Option, None, Some, refl, sym, ap, inl, inr, ◌⊎◌, cond}
-use Rattle.std.specs.Prelude.{◌&&◌, not, is_none, nat_eq, nat_lt, slice_get, if◌then◌else◌}
+use Rattle.std.proofs.Common.{◌≡◌, ℕ, ◌-◌, List, [], ◌∷◌, length, take, Bool, true, false, Option, None, Some, refl, ap, inl, inr, ◌⊎◌, cond}
+use Rattle.std.specs.Prelude.{◌&&◌, nat_eq, nat_lt, slice_get, if◌then◌else◌}
 use Rattle.model.specs.declared.event.Event.{Event}
 use Rattle.model.specs.declared.event.Event.TheVariants.{Issue as IssueEvent, Cancel as CancelEvent, Interrupt, Dpc as DpcEvent, StartIo as StartIoEvent, Step}
 use Rattle.model.specs.declared.event.Lock.{Lock}
@@ -30,14 +30,13 @@ use Rattle.model.specs.declared.world.OpenLoop.{OpenLoop}
 use Rattle.model.specs.declared.world.Packet.{Packet}
 use Rattle.model.specs.declared.world.Thread.{Thread}
 use Rattle.model.specs.Action.{Action, Leaves, Ups}
-use Rattle.model.specs.Effect.{Outcome, acquire_effect, acquire_owned, arm_effect, arm_packet, ask_effect, ask_packet, begin_effect, call_effect, call_packet, cancel_acquires, cancel_armed, cancel_calls, cancel_exchanges, cancel_flags, cancel_step, complete_effect, complete_packet, continued, dequeue_effect, difference_of, disarm_effect, disarm_packet, end_effect, frame_effect, get_effect, get_packet, insert_effect, instruction_effect, is_less_at, is_zero_at, jump_effect, lending, let_on, load_effect, load_paged_effect, look_effect, look_packet, loop_effect, mark_effect, mark_packet, next_disarmed, next_effect, next_waiting, next_packet, number_effect, pass_effect, pass_packet, put_effect, put_packet, release_effect, remove_effect, remove_from, return_effect, return_lower, routine_effect, routine_of_device, sort_of_completion, spin_lock, start_effect, start_packet, start_waiting, stopped, store_effect, store_paged_effect, sum_of, take_effect, take_from, top_of, unlink_effect, walk_from, walk_packet, walk_up}
-use Rattle.model.specs.Events.{Change, can_issue, cancel_of, cancel_on, dpc_begun, dpc_on, effect, irql_of, is_idle, issue_on, issued, startio_begun, startio_for, startio_from, startio_on, step_thread, top_effect, unchanged}
+use Rattle.model.specs.Effect.{Outcome, acquire_effect, arm_effect, arm_packet, ask_effect, ask_packet, begin_effect, call_effect, call_packet, cancel_acquires, cancel_armed, cancel_calls, cancel_exchanges, cancel_flags, cancel_step, complete_effect, complete_packet, continued, dequeue_effect, difference_of, disarm_effect, disarm_packet, end_effect, frame_effect, get_effect, get_packet, insert_effect, instruction_effect, is_less_at, is_zero_at, jump_effect, lending, let_on, load_effect, load_paged_effect, look_effect, look_packet, loop_effect, mark_effect, mark_packet, next_disarmed, next_effect, next_waiting, next_packet, number_effect, pass_effect, pass_packet, put_effect, put_packet, release_effect, remove_effect, return_effect, return_lower, routine_effect, sort_of_completion, spin_lock, start_effect, start_packet, start_waiting, store_effect, store_paged_effect, sum_of, take_effect, take_from, top_of, unlink_effect, walk_from, walk_packet, walk_up}
+use Rattle.model.specs.Events.{Change, can_issue, cancel_of, cancel_on, dpc_on, effect, irql_of, is_idle, issue_on, startio_for, startio_from, startio_on, step_thread, top_effect}
 use Rattle.model.specs.Queues.{StartState, head_of}
 use Rattle.model.specs.Run.{frames_of, thread_of}
-use Rattle.model.specs.Set.{Set, cancel_routine_named, cancel_routine_of, dpc_of, has_cancel, instruction_at, lower_of, sort_of, startio_of}
+use Rattle.model.specs.Set.{Set, cancel_routine_of, dpc_of, instruction_at, lower_of, sort_of, startio_of}
 use Rattle.model.specs.World.{Shared, World, completion_of, current_location, innermost, is_marked, is_queued, left_location, number_in, owner_of, packet_in, packet_of, queue_of, register, start_of, status_in}
-use Rattle.pending_uses.specs.declared.acts.UseStep.{UseStep}
-use Rattle.pending_uses.specs.declared.acts.Onward.TheVariants.{Up, UpMarked, Out}
+use Rattle.pending_uses.specs.declared.acts.Onward.TheVariants.{Up, UpMarked}
 use Rattle.pending_uses.specs.Acts.{actions_of, calls_packet, found_live, frame_uses, instruction_uses, leave_actions, leaves_packet, live_of, marks_packet, onward_of, returns_status, status_by, use_step}
 use Rattle.pending_uses.proofs.Knowing.{uses_in}
 

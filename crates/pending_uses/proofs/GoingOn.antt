@@ -1,9 +1,8 @@
 -- A ledger tells a run with steps added that change nothing but the activation on a thread's top.
-use Rattle.std.proofs.Common.{◌≡◌, ◌∙◌, ℕ, suc, ◌+◌, List, [], ◌∷◌, ◌++◌, Option, Some, arith, refl, sym, ap, subst, append_assoc, replicate}
+use Rattle.std.proofs.Common.{◌≡◌, ◌∙◌, ◌<◌, ℕ, suc, ◌+◌, List, [], ◌∷◌, ◌++◌, Option, Some, arith, refl, sym, ap, subst, append_assoc, replicate, length}
 use Rattle.std.specs.Prelude.{slice_get, slice_set}
-use Rattle.std.proofs.lemmas.List.{append-nil, replicate_more}
-use Rattle.checked.proofs.GoingOn.{found_set}
-use Rattle.checked.proofs.Stacks.{root_more}
+use Rattle.std.proofs.lemmas.List.{append-nil, get_or-set_same, length-set, replicate_more}
+use Rattle.std.proofs.lemmas.Option.{slice_get_within, slice_get-get_or}
 use Rattle.checked.specs.GoingOn.{GoesOn, StepsAlone, more, none, with_top}
 use Rattle.model.specs.declared.event.Event.{Event}
 use Rattle.model.specs.declared.event.Event.TheVariants.{Step}
@@ -15,7 +14,7 @@ use Rattle.model.specs.declared.world.Irql.{Irql}
 use Rattle.model.specs.declared.world.Thread.{Thread}
 use Rattle.model.specs.Action.{Action, Executes}
 use Rattle.model.specs.Effect.{goes_on, top_of}
-use Rattle.model.specs.Events.{Change, effect, settled, with_thread}
+use Rattle.model.specs.Events.{Change, effect, root_over, settled, with_thread}
 use Rattle.model.specs.Machine.{AppliesWhole, Machine, ShowsWhole}
 use Rattle.model.specs.Run.{Answered, Run, begun, frames_of, frames_on, goes, run, step}
 use Rattle.model.specs.Set.{Set}
@@ -28,6 +27,22 @@ use Rattle.pending_uses.proofs.Knowing.{uses_in}
 use Rattle.pending_uses.proofs.Noted.{Tagged, row_fits, tagged_run, tells_goes}
 use Rattle.pending_uses.proofs.Rows.{Fits, TagFits}
 use Rattle.pending_uses.specs.Ledger.{LedgerState, Tells, row_settled}
+
+-- what is written at a place is found there
+found_set : (threads : List Thread) (t : ℕ) (x y : Thread)
+    → slice_get threads t ≡ Some x → slice_get (slice_set threads t y) t ≡ Some y
+found_set threads t x y found =
+    let within : t < length threads = slice_get_within threads t x found in
+    let still : t < length (slice_set threads t y) =
+    rw (length-set threads t y) within in
+    slice_get-get_or (slice_set threads t y) t y still
+    ∙ ap (λ (z : Thread). Some z) (get_or-set_same threads t y y within)
+
+-- the level of a thread with a frame is its own
+root_more : (root : Irql) (below : List Frame) (f : Frame) (frames : List Frame)
+    → root_over root (below ++ f ∷ frames) ≡ root
+root_more root [] f frames = refl
+root_more root (b ∷ below) f frames = refl
 
 -- another activation on top is a routine's frame as well
 top_fits : (a b : Activation) (tag : Tag) → TagFits (Routine a) tag → TagFits (Routine b) tag

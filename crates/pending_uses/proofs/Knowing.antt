@@ -1,11 +1,11 @@
 -- A ledger knows on, action by action.
-use Rattle.std.proofs.Common.{◌≡◌, ◌∙◌, ℕ, ◌+◌, ◌<◌, ◌≤◌, List, [], ◌∷◌, ◌++◌, Bool, true, false, Option, None, Some, refl, sym, ap, length, drop, inl, inr, arith}
-use Rattle.std.specs.Prelude.{nat_eq, slice_get, option_to_list, if◌then◌else◌}
+use Rattle.std.proofs.Common.{◌≡◌, ◌∙◌, ℕ, ◌+◌, ◌<◌, ◌≤◌, List, [], ◌∷◌, ◌++◌, Bool, false, Option, None, Some, refl, sym, ap, length, drop, inl, inr, arith}
+use Rattle.std.specs.Prelude.{nat_eq, slice_get, if◌then◌else◌}
 use Rattle.std.proofs.lemmas.Bool.Decides.{eqb_tells}
 use Rattle.std.proofs.lemmas.List.{append-nil, length-append}
 use Rattle.model.specs.declared.status.Status.{Status}
 use Rattle.model.specs.Action.{Action, Executes, Issues, Calls, Ups, Marks, Leaves, Returns}
-use Rattle.model.specs.PendingAgreement.{is_use, marks_left, serves, status_in, statuses_returned, was_marked}
+use Rattle.model.specs.PendingAgreement.{is_use, marks_left, serves, statuses_returned}
 use Rattle.model.specs.Trace.{Activated, Actor, Entry, Managing, Serving, Tag, current_use, entry, opens, recorded, use_of, uses, uses_opened}
 use Rattle.run_laws.proofs.Tests.{and_false}
 use Rattle.run_laws.proofs.Uses.Traced.{opens_more, traced_entry}

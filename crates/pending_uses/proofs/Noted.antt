@@ -1,5 +1,5 @@
 -- A ledger that tells a run and notes an event tells the run with the event added.
-use Rattle.std.proofs.Common.{◌≡◌, ◌≢◌, ◌∙◌, ℕ, zero, suc, ◌≤◌, List, [], ◌∷◌, ◌++◌, Bool, true, false, Option, None, Some, refl, sym, ap, subst, inl, inr, ◌⊎◌, arith}
+use Rattle.std.proofs.Common.{◌≡◌, ◌≢◌, ◌∙◌, ℕ, zero, suc, ◌≤◌, List, [], ◌∷◌, ◌++◌, Bool, true, false, Option, None, Some, refl, sym, ap, subst, inl, inr}
 use Rattle.std.specs.Prelude.{slice_get, slice_index_or, slice_set, replicate, if◌then◌else◌}
 use Rattle.std.proofs.lemmas.Bool.{cases_eq}
 use Rattle.model.specs.declared.event.Event.{Event}
@@ -15,7 +15,7 @@ use Rattle.model.specs.Events.{Change, effect, finished_or, standing, with_stack
 use Rattle.model.specs.Fault.{first_fault}
 use Rattle.model.specs.Run.{Answered, Run, actor_on, begun, frames_on, goes, refused, run, step, stops, tags_after, tags_on, thread_of}
 use Rattle.model.specs.Set.{Set}
-use Rattle.model.specs.Trace.{Actor, Entry, Serving, Tag, recorded, uses_opened}
+use Rattle.model.specs.Trace.{Entry, Serving, Tag, uses_opened}
 use Rattle.model.specs.World.{Shared, World}
 use Rattle.run_laws.specs.Waits.{says_unchanged}
 use Rattle.run_laws.proofs.History.Waits.{run_more, waits_same}
@@ -30,7 +30,7 @@ use Rattle.pending_uses.specs.declared.acts.UseStep.{UseStep}
 use Rattle.pending_uses.specs.declared.ledger.Server.{Server}
 use Rattle.pending_uses.specs.Acts.{actions_of, use_step}
 use Rattle.pending_uses.specs.Knowing.{Knows}
-use Rattle.pending_uses.specs.Ledger.{LedgerState, Notes, NotesIf, NotesOn, Tells, TellsOn, row_settled, rows_of, served_on, servers_of, settled}
+use Rattle.pending_uses.specs.Ledger.{LedgerState, Notes, NotesIf, NotesOn, Tells, TellsOn, row_settled, rows_of, served_on, servers_of}
 use Rattle.pending_uses.specs.Uses.{DoesAll, UsesState, stack_at}
 use Rattle.pending_uses.proofs.Doing.{told_by}
 use Rattle.pending_uses.proofs.Knowing.{KnownOn, counted_all, known_all, uses_in}
@@ -62,13 +62,8 @@ module _ (set : Set) (w : World) (t : ℕ) where
   others_stand c (begins i root beside) k apart =
       others_put w t root.shared (with_root i.thread root) k apart
 
--- a step, or a root that begins, which says that nothing changes makes no action
+-- a step that says that nothing changes makes no action
 module _ (set : Set) (s : Shared) (t : ℕ) where
-  silent_root : (root : Root) → Beside set s root → says_unchanged root.reply ≡ true
-      → root.actions ≡ []
-  silent_root root (issues h) says = cc
-  silent_root root _ says = refl
-
   silent_cancel : (n : ℕ) (stage : CancelStep) (o : Outcome) → Cancels set s t n stage o
       → says_unchanged o.reply ≡ true → o.actions ≡ []
   silent_cancel n stage o (awaits_cancel owner its other) says = refl
@@ -86,13 +81,19 @@ finished_says [] Stepped says = cc
 finished_says [] _ says = says
 finished_says (f ∷ frames) reply says = says
 
+silent_root : (set : Set) (s : Shared) (root : Root) → Beside set s root
+    → says_unchanged root.reply ≡ true → root.actions ≡ []
+silent_root set s root (issues h) says = cc
+silent_root set s root _ says = cc
+
 silent_event : (set : Set) (w : World) (t : ℕ) (c : Change) → Happens set w t c
     → says_unchanged c.reply ≡ true → c.actions ≡ []
 silent_event set w t c (nothing reply right) says = refl
 silent_event set w t c (steps h) says =
     silent_step set w.shared t (top_of h.below) h.frame h.outcome h.comes
     (finished_says (standing set h.below h.outcome) h.outcome.reply says)
-silent_event set w t c (begins i root beside) says = silent_root set w.shared t root beside says
+silent_event set w t c (begins i root beside) says =
+    silent_root set w.shared root beside says
 
 module _ (set : Set) (r : Run) (t : ℕ) (tagged : Tagged r) where
   actor_served : WasOpened (uses_opened r.past) (served_by (actor_on r t).tag)
@@ -253,20 +254,27 @@ module _ (set : Set) (r : Run) (t : ℕ) (tagged : Tagged r) (l m : LedgerState)
         ∙ ap (λ (tags : List Tag). rows_of (slice_set r.tags t
         (tags_after set past r.activations (frames_on r.world t) tags (frames_on w t)))) (sym own)
 
+    -- where frames of the same kinds stand
+    pub row_fits : (w : World)
+        → ((row : List Tag) → slice_get r.tags t ≡ Some row → Fits (frames_on w t) row)
+        → (o : Option (List Tag)) → slice_get r.tags t ≡ o
+        → row_settled set w m.uses t l.rows (slice_get l.rows t) ≡ l.rows
+    row_fits w fits None there =
+        let gone : slice_get l.rows t ≡ None =
+        ap (λ rows. slice_get rows t) tells.rows ∙ rows_none r.tags t there in
+        ap (λ o. row_settled set w m.uses t l.rows o) gone
+    row_fits w fits (Some row) there =
+        let found : slice_get l.rows t ≡ Some (servers_of row) =
+        ap (λ rows. slice_get rows t) tells.rows ∙ rows_get r.tags t row there in
+        ap (λ o. row_settled set w m.uses t l.rows o) found
+        ∙ ap (λ servers. slice_set l.rows t servers)
+        (settled_same set m.uses (frames_on w t) row (fits row there))
+        ∙ set_back l.rows t (servers_of row) found
+
     -- where the frames stay
     row_kept : (o : Option (List Tag)) → slice_get r.tags t ≡ o
         → row_settled set r.world m.uses t l.rows (slice_get l.rows t) ≡ l.rows
-    row_kept None there =
-        let gone : slice_get l.rows t ≡ None =
-        ap (λ rows. slice_get rows t) tells.rows ∙ rows_none r.tags t there in
-        ap (λ o. row_settled set r.world m.uses t l.rows o) gone
-    row_kept (Some row) there =
-        let found : slice_get l.rows t ≡ Some (servers_of row) =
-        ap (λ rows. slice_get rows t) tells.rows ∙ rows_get r.tags t row there in
-        ap (λ o. row_settled set r.world m.uses t l.rows o) found
-        ∙ ap (λ servers. slice_set l.rows t servers)
-        (settled_same set m.uses (frames_on r.world t) row (tagged.fits t row there))
-        ∙ set_back l.rows t (servers_of row) found
+    row_kept o there = row_fits r.world (tagged.fits t) o there
 
     -- what is known of the uses
     uses_known : (c : Change) (actions : List Action) → uses_in c.actions ≡ actions
@@ -280,7 +288,7 @@ module _ (set : Set) (r : Run) (t : ℕ) (tagged : Tagged r) (l m : LedgerState)
         (subst (λ (xs : List Action). DoesAll (served_on l.rows t) xs l.uses m.uses) (sym is) does))
 
     -- the run goes on
-    tells_goes : (c : Change) (actions : List Action) → uses_in c.actions ≡ actions
+    pub tells_goes : (c : Change) (actions : List Action) → uses_in c.actions ≡ actions
         → DoesAll (served_on l.rows t) actions l.uses m.uses
         → m.rows ≡ row_settled set c.world m.uses t l.rows (slice_get l.rows t)
         → Tells (goes set r t (past_with r t c) c).run m

@@ -1,20 +1,18 @@
 -- What an entry more in a trace says of the uses, and that a ledger knows it.
-use Rattle.std.proofs.Common.{◌≡◌, ◌∙◌, ℕ, zero, suc, ◌+◌, ◌<◌, ◌≤◌, ◌≢◌, List, [], ◌∷◌, ◌++◌, Bool, true, false, Option, None, Some, refl, sym, ap, length, drop, inl, inr, arith}
-use Rattle.std.specs.Prelude.{⊤, ◌&&◌, ◌||◌, nat_eq, slice_get, slice_set, option_to_list, if◌then◌else◌}
-use Rattle.std.proofs.lemmas.Bool.{eq-eqb, eqb-true}
+use Rattle.std.proofs.Common.{◌≡◌, ◌∙◌, ℕ, zero, suc, ◌+◌, ◌<◌, ◌≢◌, List, [], ◌∷◌, ◌++◌, Bool, true, false, Option, None, Some, refl, ap, length, inl, inr, arith}
+use Rattle.std.specs.Prelude.{⊤, ◌&&◌, ◌||◌, nat_eq, slice_get, option_to_list, if◌then◌else◌}
+use Rattle.std.proofs.lemmas.Bool.{eq-eqb}
 use Rattle.std.proofs.lemmas.Bool.Decides.{eqb_tells}
-use Rattle.std.proofs.lemmas.List.{append-nil, length-append}
 use Rattle.model.specs.declared.status.Status.{Status}
-use Rattle.model.specs.Action.{Action, Executes, Acquires, Releases, TouchesPaged, Touches, Issues, Calls, Ups, Completes, Continues, Lends, Exchanges, Marks, Leaves, Returns, TopsOut, GoesWrong}
-use Rattle.model.specs.PendingAgreement.{is_use, leaves_use, marks_left, serves, statuses_returned, was_marked}
-use Rattle.model.specs.Trace.{Activated, Actor, Entry, Managing, Serving, Tag, current_use, entry, opens, recorded, uses, uses_opened}
+use Rattle.model.specs.Action.{Executes, Marks, Leaves, Returns}
+use Rattle.model.specs.PendingAgreement.{is_use, marks_left, serves, statuses_returned, was_marked}
+use Rattle.model.specs.Trace.{Activated, Actor, Entry, Managing, Serving, Tag, current_use, entry, uses, uses_opened}
 use Rattle.run_laws.proofs.Tests.{and_false}
 use Rattle.run_laws.proofs.Uses.Fates.{Traced}
-use Rattle.run_laws.proofs.Uses.Traced.{opens_more, traced_entry}
 use Rattle.pending_uses.specs.declared.uses.Note.{Note}
-use Rattle.pending_uses.specs.Knowing.{Knows, note_of, note_with, notes_of}
-use Rattle.pending_uses.specs.Pending.{opened_by, uses_of}
-use Rattle.pending_uses.specs.Uses.{Does, DoesAll, UsesState, blank, current_at, left, marked, note_of_packet, noted, noted_at, noted_serving, returned, stack_at}
+use Rattle.pending_uses.specs.Knowing.{note_of, note_with, notes_of}
+use Rattle.pending_uses.specs.Pending.{uses_of}
+use Rattle.pending_uses.specs.Uses.{left, marked, note_of_packet, noted, noted_at, noted_serving, returned}
 
 -- the use that a tag serves, if it serves one
 abbrev pub served_by : Tag → Option Serving

@@ -1,6 +1,6 @@
 -- What stands for the tags of frames, when other frames stand.
-use Rattle.std.proofs.Common.{◌≡◌, ◌≢◌, ◌∙◌, ℕ, zero, suc, ◌+◌, ◌-◌, ◌<◌, ◌≤◌, List, [], ◌∷◌, ◌++◌, Bool, true, false, Option, None, Some, refl, sym, ap, length, inl, inr, arith, subst}
-use Rattle.std.specs.Prelude.{⊤, slice_get, slice_index_or, slice_set, if◌then◌else◌}
+use Rattle.std.proofs.Common.{◌≡◌, ◌∙◌, ℕ, zero, suc, ◌-◌, ◌<◌, ◌≤◌, List, [], ◌∷◌, Option, None, Some, refl, ap, length, arith}
+use Rattle.std.specs.Prelude.{⊤, slice_get, slice_index_or, slice_set}
 use Rattle.model.specs.declared.set.Sort.{Sort}
 use Rattle.model.specs.declared.set.Sort.TheVariants.{Cancel, Dispatch, Dpc, Hold, Propagate, StartIo}
 use Rattle.model.specs.declared.world.Activation.{Activation}
@@ -16,8 +16,8 @@ use Rattle.run_laws.proofs.Uses.Fates.{Falls}
 use Rattle.pending_uses.specs.declared.ledger.Server.{Server}
 use Rattle.pending_uses.specs.declared.ledger.Server.TheVariants.{Manager, Routine}
 use Rattle.pending_uses.specs.Knowing.{Knows}
-use Rattle.pending_uses.specs.Ledger.{new_server, of_row, of_server, row_settled, rows_of, served_as, served_in, served_on, server_of, servers_of, serving_as, settled, settled_as, stays}
-use Rattle.pending_uses.specs.Uses.{UsesState, current_at, stack_at}
+use Rattle.pending_uses.specs.Ledger.{new_server, of_server, rows_of, served_as, served_in, served_on, server_of, servers_of, serving_as, settled, settled_as}
+use Rattle.pending_uses.specs.Uses.{UsesState, current_at}
 use Rattle.pending_uses.proofs.Noting.{Counted, WasOpened, served_by}
 
 -- frames with their tags: an activation's is a routine's frame, and no other

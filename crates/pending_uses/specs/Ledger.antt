@@ -1,6 +1,6 @@
 -- What is carried along a run: what is known of the uses of stack locations, and which use each frame
 -- serves that stands.
-use Rattle.std.specs.Prelude.{ℕ, ◌≡◌, ◌-◌, ◌++◌, ◌∷◌, Bool, true, false, List, [], length, Option, None, Some, option_map, slice_get, slice_index_or, slice_set, if◌then◌else◌}
+use Rattle.std.specs.Prelude.{ℕ, ◌≡◌, ◌-◌, ◌++◌, ◌∷◌, Bool, true, false, List, [], length, Option, None, Some, slice_get, slice_index_or, slice_set, if◌then◌else◌}
 use Rattle.model.specs.declared.event.Event.{Event}
 use Rattle.model.specs.declared.event.Reply.{Reply}
 use Rattle.model.specs.declared.set.Sort.{Sort}
@@ -11,7 +11,7 @@ use Rattle.model.specs.declared.world.Frame.TheVariants.{Routine as RoutineFrame
 use Rattle.model.specs.declared.world.Value.{Value}
 use Rattle.model.specs.declared.world.Value.TheVariants.{Ref}
 use Rattle.model.specs.Machine.{reply_to}
-use Rattle.model.specs.Run.{Run, frames_on, run, thread_of}
+use Rattle.model.specs.Run.{Run, frames_on, run}
 use Rattle.model.specs.Set.{Set, sort_of}
 use Rattle.model.specs.Sound.{IsSound}
 use Rattle.model.specs.Trace.{Activated, Managing, Serving, Tag}
