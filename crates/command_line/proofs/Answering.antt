@@ -2,12 +2,13 @@
 use Rattle.std.proofs.Common.{◌≡◌, ◌≢◌, ◌∙◌, ◌⊎◌, ap, ℕ, ◌+◌, List, [], ◌∷◌, Option, None, true, string_bytes, arith, inl, inr, refl, subst}
 use Rattle.std.proofs.KnownBytes.{Appends-nil, Keeps-refl}
 use Rattle.clap.specs.Words.{Text, subcommand_of, takes}
-use Rattle.drvhost_parts.specs.Answer.{Answer}
-use Rattle.drvhost_parts.specs.Device.{Bytes, Closed, Holds, IsSuppliedAs, MayBeClosed, Supply, Unknown}
-use Rattle.drvhost_parts.specs.Ends.{Answers, Ends, HoldsRun, IsCheckOf, IsExplainedOf, IsHostOf, IsListOf, IsRewriteOf, IsTraceOf, OutOfMemory, ReadFailed, Rightly, WriteFailed}
+use Rattle.inputs_outputs.specs.Answer.{Answer}
+use Rattle.inputs_outputs.specs.Device.{Bytes, Closed, Holds, IsSuppliedAs, MayBeClosed, Supply, Unknown}
+use Rattle.inputs_outputs.specs.Ends.{Answers, Ends, HoldsRun, IsCheckOf, IsExplainedOf, IsListOf, IsRewriteOf, IsTraceOf, OutOfMemory, ReadFailed, Rightly, WriteFailed}
+use Rattle.drvhost_parts.specs.Served.{IsHostOf}
 use Rattle.drvhost_parts.specs.Told.{IsDrawOf, IsTellOf}
 use Rattle.drvhost_parts.specs.declared.tell.Detail.{Detail}
-use Rattle.drvhost_parts.specs.declared.verification.Verification.{Verification}
+use Rattle.inputs_outputs.specs.declared.verification.Verification.{Verification}
 use Rattle.command_line.specs.declared.job.Job.{Job}
 use Rattle.command_line.specs.declared.job.JobFault.{JobFault}
 use Rattle.command_line.specs.declared.job.JobFault.TheVariants.{Memory, Usage}

@@ -2,11 +2,11 @@
 use Rattle.std.proofs.Common.{◌≡◌, ◌∙◌, ◌+◌, ◌⊎◌, ℕ, List, [], Option, None, Some, ap, inl, inr, refl, subst, sym}
 use Rattle.std.proofs.lemmas.List.{append-nil}
 use Rattle.std.specs.Io.KnownBytes.{Appends}
-use Rattle.drvhost_parts.specs.declared.fault.End.TheVariants.{Complete}
-use Rattle.drvhost_parts.specs.Answer.{Answer, ended}
-use Rattle.drvhost_parts.specs.Device.{Bytes, Closed, IsSuppliedAs, Supply, TakesBeginning, Unknown}
-use Rattle.drvhost_parts.specs.Ends.{Answers, Ends, IsRewriteOf, OutOfMemory, ReadFailed, Rightly, TakesImage, WriteFailed}
-use Rattle.drvhost_parts.proofs.Images.{image_some}
+use Rattle.inputs_outputs.specs.declared.fault.End.TheVariants.{Complete}
+use Rattle.inputs_outputs.specs.Answer.{Answer, ended}
+use Rattle.inputs_outputs.specs.Device.{Bytes, Closed, IsSuppliedAs, Supply, TakesBeginning, Unknown}
+use Rattle.inputs_outputs.specs.Ends.{Answers, Ends, IsRewriteOf, OutOfMemory, ReadFailed, Rightly, TakesImage, WriteFailed}
+use Rattle.set_answers.proofs.Images.{image_some}
 use Rattle.command_line.specs.Files.{Has, IsWritten, Stores, blank, contents_of}
 use Rattle.command_line.specs.Program.{LeavesFiles, RewritesFile, WritesFile}
 use Rattle.command_line.proofs.Answering.{rewrite_known}

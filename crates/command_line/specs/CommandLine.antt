@@ -10,12 +10,12 @@ use Rattle.command_line.specs.declared.job.Job.{Job}
 use Rattle.command_line.specs.declared.job.Job.TheVariants.{Check, Explain, ExplainRule, List as ListJob, Rewrite, Version, Trace, Tell, Draw, Host}
 use Rattle.command_line.specs.declared.job.JobFault.{JobFault}
 use Rattle.command_line.specs.declared.job.JobFault.TheVariants.{Usage, Memory}
-use Rattle.drvhost_parts.specs.declared.explaining.Extent.{Extent}
-use Rattle.drvhost_parts.specs.declared.explaining.Extent.TheVariants.{First, Each}
+use Rattle.set_answers.specs.declared.explaining.Extent.{Extent}
+use Rattle.set_answers.specs.declared.explaining.Extent.TheVariants.{First, Each}
 use Rattle.drvhost_parts.specs.declared.tell.Detail.{Detail}
 use Rattle.drvhost_parts.specs.declared.tell.Detail.TheVariants.{Quiet, Whole}
-use Rattle.drvhost_parts.specs.declared.verification.Verification.{Verification}
-use Rattle.drvhost_parts.specs.declared.verification.Verification.TheVariants.{Required, Skipped}
+use Rattle.inputs_outputs.specs.declared.verification.Verification.{Verification}
+use Rattle.inputs_outputs.specs.declared.verification.Verification.TheVariants.{Required, Skipped}
 
 -- the name of a file, which has to be there
 abbrev pub file_argument : Text → Rule

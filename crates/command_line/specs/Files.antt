@@ -1,6 +1,6 @@
 -- What a file has to give that is opened when it is first read, and what one has that is written.
 use Rattle.std.specs.Prelude.{ℕ, ⊤, ◌≡◌, ◌≢◌, ◌⊎◌, List, [], Option, None, Some}
-use Rattle.drvhost_parts.specs.Device.{Bytes, Closed, Supply, Unknown}
+use Rattle.inputs_outputs.specs.Device.{Bytes, Closed, Supply, Unknown}
 
 -- how many reads of it, or writes to it, failed: none before it is opened
 abbrev pub failures_of : {A : Type 0} → (A → ℕ) → Option A → ℕ

@@ -1,7 +1,7 @@
 -- What an output shows as a sink.
 use Rattle.std.specs.Prelude.{ℕ, List, [], Option, None, Some}
-use Rattle.drvhost_parts.specs.declared.device.Writer.{Writer}
-use Rattle.drvhost_parts.specs.Outside.{writer_contents, writer_failures}
+use Rattle.inputs_outputs.specs.declared.device.Writer.{Writer}
+use Rattle.inputs_outputs.specs.Outside.{writer_contents, writer_failures}
 use Rattle.command_line.specs.declared.files.Output.{Output}
 
 module _ {A : Type 0} where

@@ -5,11 +5,12 @@ use Rattle.std.specs.Global.{Global, Vec}
 use Rattle.std.specs.declared.io.ErrorKind.{ErrorKind}
 use Rattle.std.specs.declared.io.ErrorKind.TheVariants.{OutOfMemory}
 use Rattle.clap.specs.Words.{Text, fault_of, subcommand_of, takes}
-use Rattle.drvhost_parts.specs.Answer.{Answer, IsRuleExplained, IsUnopened, IsVersion}
-use Rattle.drvhost_parts.specs.Device.{MayBeClosed, Supply}
-use Rattle.drvhost_parts.specs.declared.verification.Verification.{Verification}
-use Rattle.drvhost_parts.specs.declared.verification.Verification.TheVariants.{Required}
-use Rattle.drvhost_parts.specs.Ends.{HoldsRun, IsCheckOf, IsExplainedOf, IsHostOf, IsListOf, IsRewriteOf, IsTraceOf}
+use Rattle.inputs_outputs.specs.Answer.{Answer, IsRuleExplained, IsUnopened, IsVersion}
+use Rattle.inputs_outputs.specs.Device.{MayBeClosed, Supply}
+use Rattle.inputs_outputs.specs.declared.verification.Verification.{Verification}
+use Rattle.inputs_outputs.specs.declared.verification.Verification.TheVariants.{Required}
+use Rattle.inputs_outputs.specs.Ends.{HoldsRun, IsCheckOf, IsExplainedOf, IsListOf, IsRewriteOf, IsTraceOf}
+use Rattle.drvhost_parts.specs.Served.{IsHostOf}
 use Rattle.drvhost_parts.specs.Told.{IsDrawOf, IsTellOf}
 use Rattle.command_line.specs.declared.answer.Way.{Way}
 use Rattle.command_line.specs.declared.answer.Way.TheVariants.{BySchedule, InWords, AsPicture, ByWorkers}

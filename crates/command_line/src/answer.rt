@@ -2,24 +2,24 @@
 
 ghost use Rattle.std.specs.Prelude.{◌≡◌, ◌+◌, ◌<◌, ◌^◌, ◌⊎◌, ℕ, List, Option, drop, map, string_bytes};
 ghost use Rattle.command_line.specs.Program.{IsAnswerTo, IsAnswerToLost, IsJobOf, IsOfNamed, IsProgram, IsRunBy, Opens, OpensFor, OpensToTrace, IsQuietly, JobStores, ProgramOpens, ProgramStores, RewritesFile, WordsStore, verification_of};
-ghost use Rattle.drvhost_parts.specs.Device.{CanCount, Says};
-ghost use Rattle.drvhost_parts.specs.Ends.{Answers, HoldsRun, IsCheckOf, IsExplainedOf, IsListOf, IsRewriteOf};
+ghost use Rattle.inputs_outputs.specs.Device.{CanCount, Says};
+ghost use Rattle.inputs_outputs.specs.Ends.{Answers, HoldsRun, IsCheckOf, IsExplainedOf, IsListOf, IsRewriteOf};
 
 use crate::files::{Files, Later, Pending};
 use crate::job::{Job, JobFault, Workers, refuse_unknown_words, refuse_words};
-use drvhost_parts::check::check;
-use drvhost_parts::device::{Sink, Source};
 use drvhost_parts::draw::draw;
-use drvhost_parts::explaining::{Extent, explain};
 use drvhost_parts::host::host;
-use drvhost_parts::list::list;
-use drvhost_parts::rewriting::rewrite;
-use drvhost_parts::rule::explain_rule;
 use drvhost_parts::tell::{Detail, tell};
 use drvhost_parts::trace::trace;
-use drvhost_parts::unopened::tell_unopened;
-use drvhost_parts::verification::Verification;
-use drvhost_parts::version::version;
+use inputs_outputs::device::{Sink, Source};
+use inputs_outputs::unopened::tell_unopened;
+use inputs_outputs::verification::Verification;
+use set_answers::check::check;
+use set_answers::explaining::{Extent, explain};
+use set_answers::list::list;
+use set_answers::rewriting::rewrite;
+use set_answers::rule::explain_rule;
+use set_answers::version::version;
 use std::alloc::Global;
 use std::io::ErrorKind;
 use std::sync::Wait;

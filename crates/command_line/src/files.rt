@@ -2,10 +2,10 @@
 
 ghost use Rattle.std.specs.Prelude.{◌≡◌, ◌+◌, ◌<◌, ◌^◌, ◌↔◌, ℕ, IsTrue, List, None, Option};
 ghost use Rattle.std.specs.Io.KnownBytes.{Keeps};
-ghost use Rattle.drvhost_parts.specs.Device.{Closed, IsSuppliedAs, Supply, Unknown};
+ghost use Rattle.inputs_outputs.specs.Device.{Closed, IsSuppliedAs, Supply, Unknown};
 ghost use Rattle.command_line.specs.Files.{blank, contents_given, contents_of, failures_of, supply_of, Stores};
 
-use drvhost_parts::device::{Failed, Reader, Sink, Source, Writer};
+use inputs_outputs::device::{Failed, Reader, Sink, Source, Writer};
 use std::fs::{self, File};
 use std::io::Write;
 

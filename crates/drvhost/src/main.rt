@@ -4,7 +4,7 @@
 
 use command_line::answer::answer;
 use command_line::files::Disk;
-use drvhost_parts::device::Writer;
+use inputs_outputs::device::Writer;
 use std::env;
 use std::io::ErrorKind;
 use std::process::ExitCode;

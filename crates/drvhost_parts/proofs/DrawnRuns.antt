@@ -6,8 +6,8 @@ use Rattle.model.specs.declared.event.Reply.{Reply}
 use Rattle.model.specs.Machine.{AppliesWhole, Machine, ShowsWhole, reply_to}
 use Rattle.model.specs.Run.{run}
 use Rattle.model.specs.Set.{Set}
-use Rattle.drvhost_parts.specs.declared.fault.End.TheVariants.{Complete, Stopped}
-use Rattle.drvhost_parts.specs.Answer.{ended, is_last, replies}
+use Rattle.inputs_outputs.specs.declared.fault.End.TheVariants.{Complete, Stopped}
+use Rattle.inputs_outputs.specs.Answer.{ended, is_last, replies}
 use Rattle.drvhost_parts.specs.Told.{IsRunDrawn, replies_by}
 use Rattle.drvhost_parts.proofs.ToldRuns.{next_replies}
 

@@ -11,15 +11,15 @@ use Rattle.model.specs.Set.{Set}
 use Rattle.report.specs.declared.word.Word.{Word}
 use Rattle.report.specs.Reply.{reply_line}
 use Rattle.report.specs.Word.{word_line, word_lines, word_of}
-use Rattle.drvhost_parts.specs.declared.fault.End.TheVariants.{Complete, Stopped}
-use Rattle.drvhost_parts.specs.declared.fault.Fault.TheVariants.{Write}
+use Rattle.inputs_outputs.specs.declared.fault.End.TheVariants.{Complete, Stopped}
+use Rattle.inputs_outputs.specs.declared.fault.Fault.TheVariants.{Write}
 use Rattle.drvhost_parts.specs.declared.running.Replies.{Replies}
-use Rattle.drvhost_parts.specs.Answer.{Answer, ended, is_last, replies, reply_lines, trace_of}
-use Rattle.drvhost_parts.specs.Device.{Adds, TakesBeginning}
-use Rattle.drvhost_parts.specs.Fault.{Goes}
+use Rattle.inputs_outputs.specs.Answer.{Answer, ended, is_last, replies, reply_lines, trace_of}
+use Rattle.inputs_outputs.specs.Device.{Adds, TakesBeginning}
+use Rattle.inputs_outputs.specs.Fault.{Goes}
 use Rattle.drvhost_parts.specs.Repeats.{AreReplies, RepeatsBy, told_by}
-use Rattle.drvhost_parts.proofs.Judging.{Certified, certified_all, certified_more, certified_part}
-use Rattle.drvhost_parts.proofs.Writing.{adds_none}
+use Rattle.set_answers.proofs.Judging.{Certified, certified_all, certified_more, certified_part}
+use Rattle.inputs_outputs.proofs.Writing.{adds_none}
 
 -- the run of one event more
 pub run_more : (set : Set) (r : Run) (events : List Event) (e : Event)

@@ -1,13 +1,5 @@
-pub mod Writing
 pub mod Serving
-pub mod Jobs
 pub mod Repeating
 pub mod Following
-pub mod Judging
-pub mod One
-pub mod Explained
-pub mod Files
-pub mod Wording
-pub mod Images
 pub mod ToldRuns
 pub mod DrawnRuns

@@ -7,13 +7,13 @@ use Rattle.model.specs.declared.history.Command.{Command}
 use Rattle.model.specs.Set.{Set}
 use Rattle.hosting.specs.declared.hosted.Hosted.{Hosted}
 use Rattle.hosting.specs.Told.{Hosts}
-use Rattle.drvhost_parts.specs.declared.fault.End.{End}
-use Rattle.drvhost_parts.specs.declared.fault.Fault.TheVariants.{Write}
-use Rattle.drvhost_parts.specs.Answer.{Answer, IsServed, command_line, command_lines, ended, replay_end, replay_line, served_as}
-use Rattle.drvhost_parts.specs.Device.{Adds, Supply, TakesBeginning}
-use Rattle.drvhost_parts.specs.Ends.{IsServedOf}
-use Rattle.drvhost_parts.specs.Fault.{Goes, ReadsScript}
-use Rattle.drvhost_parts.proofs.Writing.{adds_breaks, adds_line, adds_more}
+use Rattle.inputs_outputs.specs.declared.fault.End.{End}
+use Rattle.inputs_outputs.specs.declared.fault.Fault.TheVariants.{Write}
+use Rattle.inputs_outputs.specs.Answer.{Answer, ended}
+use Rattle.drvhost_parts.specs.Served.{IsServed, IsServedOf, command_line, command_lines, replay_end, replay_line, served_as}
+use Rattle.inputs_outputs.specs.Device.{Adds, Supply, TakesBeginning}
+use Rattle.inputs_outputs.specs.Fault.{Goes, ReadsScript}
+use Rattle.inputs_outputs.proofs.Writing.{adds_breaks, adds_line, adds_more}
 
 -- the next command's line
 pub next_command : (commands : List (Option Reply)) (i : ℕ) (d : Option Reply)

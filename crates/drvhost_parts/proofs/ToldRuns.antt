@@ -31,22 +31,22 @@ use Rattle.model.specs.World.{World}
 use Rattle.report.specs.Fault.{schedule_fault_line}
 use Rattle.run_laws.specs.Waits.{WaitingChangesNothing, says_unchanged}
 use Rattle.report.specs.Verdict.{refusal_line}
-use Rattle.drvhost_parts.specs.declared.fault.End.{End}
-use Rattle.drvhost_parts.specs.declared.fault.End.TheVariants.{Complete, Stopped}
-use Rattle.drvhost_parts.specs.declared.fault.Fault.{Fault}
-use Rattle.drvhost_parts.specs.declared.fault.Fault.TheVariants.{Read, Write, Memory, Text, Image, Schedule as OfSchedule, Script as OfScript}
+use Rattle.inputs_outputs.specs.declared.fault.End.{End}
+use Rattle.inputs_outputs.specs.declared.fault.End.TheVariants.{Complete, Stopped}
+use Rattle.inputs_outputs.specs.declared.fault.Fault.{Fault}
+use Rattle.inputs_outputs.specs.declared.fault.Fault.TheVariants.{Read, Write, Memory, Text, Image, Schedule as OfSchedule, Script as OfScript}
 use Rattle.drvhost_parts.specs.declared.show.Showing.{Showing}
 use Rattle.drvhost_parts.specs.declared.tell.Detail.{Detail}
 use Rattle.drvhost_parts.specs.declared.telling.Told.{Told}
-use Rattle.drvhost_parts.specs.Answer.{Answer, IsRefused, IsToRun, ended, faulty, is_last, replies}
-use Rattle.drvhost_parts.specs.Device.{Supply, TakesBeginning}
-use Rattle.drvhost_parts.specs.declared.verification.Verification.{Verification}
-use Rattle.drvhost_parts.specs.Ends.{HoldsRun}
-use Rattle.drvhost_parts.specs.Fault.{Goes, ReadsSchedule, ReadsSet}
+use Rattle.inputs_outputs.specs.Answer.{Answer, IsRefused, IsToRun, ended, faulty, is_last, replies}
+use Rattle.inputs_outputs.specs.Device.{Supply, TakesBeginning}
+use Rattle.inputs_outputs.specs.declared.verification.Verification.{Verification}
+use Rattle.inputs_outputs.specs.Ends.{HoldsRun}
+use Rattle.inputs_outputs.specs.Fault.{Goes, ReadsSchedule, ReadsSet}
 use Rattle.drvhost_parts.specs.Repeats.{awaited}
 use Rattle.drvhost_parts.specs.Told.{HasTold, IsRunShown, IsRunTold, IsScheduleShown, IsShownRunOf, IsTold, Tells, ToldNext, count_left, happens_again, is_left_out, left_again, past_by, replies_by, reply_head, run_to_end, times_again, told_end, told_line, world_by}
 use Rattle.drvhost_parts.proofs.Following.{counted, run_more}
-use Rattle.drvhost_parts.proofs.Writing.{keeps_same}
+use Rattle.inputs_outputs.proofs.Writing.{keeps_same}
 
 -- a machine shows a run of which these events are still to come: what is told of their replies
 -- behind a text tells the whole run

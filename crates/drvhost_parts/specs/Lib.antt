@@ -1,8 +1,3 @@
-pub mod Device
-pub mod Answer
-pub mod Fault
 pub mod Repeats
-pub mod Ends
+pub mod Served
 pub mod Told
-pub mod Laws
-pub mod Outside

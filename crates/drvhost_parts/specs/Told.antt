@@ -17,19 +17,19 @@ use Rattle.model.specs.Trace.{Entry}
 use Rattle.model.specs.World.{World}
 use Rattle.report.specs.Fault.{schedule_fault_line}
 use Rattle.report.specs.Reply.{reply_line}
-use Rattle.drvhost_parts.specs.declared.fault.End.{End}
-use Rattle.drvhost_parts.specs.declared.fault.End.TheVariants.{Complete, Stopped}
-use Rattle.drvhost_parts.specs.declared.fault.Fault.{Fault}
-use Rattle.drvhost_parts.specs.declared.fault.Fault.TheVariants.{Read, Write, Memory, Text, Image, Schedule as OfSchedule, Script as OfScript}
+use Rattle.inputs_outputs.specs.declared.fault.End.{End}
+use Rattle.inputs_outputs.specs.declared.fault.End.TheVariants.{Complete, Stopped}
+use Rattle.inputs_outputs.specs.declared.fault.Fault.{Fault}
+use Rattle.inputs_outputs.specs.declared.fault.Fault.TheVariants.{Read, Write, Memory, Text, Image, Schedule as OfSchedule, Script as OfScript}
 use Rattle.drvhost_parts.specs.declared.show.Showing.{Showing}
 use Rattle.drvhost_parts.specs.declared.show.Showing.TheVariants.{InWords, AsPicture}
 use Rattle.drvhost_parts.specs.declared.tell.Detail.{Detail}
 use Rattle.drvhost_parts.specs.declared.tell.Detail.TheVariants.{Whole, Quiet}
 use Rattle.drvhost_parts.specs.declared.telling.Told.{Told}
-use Rattle.drvhost_parts.specs.declared.verification.Verification.{Verification}
-use Rattle.drvhost_parts.specs.Answer.{Answer, IsTraced, ended, faulty, is_last, replies}
-use Rattle.drvhost_parts.specs.Device.{Holds, Supply}
-use Rattle.drvhost_parts.specs.Ends.{IsOfSupply}
+use Rattle.inputs_outputs.specs.declared.verification.Verification.{Verification}
+use Rattle.inputs_outputs.specs.Answer.{Answer, IsTraced, ended, faulty, is_last, replies}
+use Rattle.inputs_outputs.specs.Device.{Holds, Supply}
+use Rattle.inputs_outputs.specs.Ends.{IsOfSupply}
 
 -- the line of the trace for an event, without its end: its number, and what the run answered
 abbrev pub reply_head : ℕ → Reply → List ℕ

@@ -1,13 +1,13 @@
 //! A run drawn as a picture.
 
 ghost use Rattle.std.specs.Prelude.{◌≡◌, ◌+◌, ◌⊎◌};
-ghost use Rattle.drvhost_parts.specs.Device.{CanCount, Says};
-ghost use Rattle.drvhost_parts.specs.Ends.{Answers, HoldsRun};
+ghost use Rattle.inputs_outputs.specs.Device.{CanCount, Says};
+ghost use Rattle.inputs_outputs.specs.Ends.{Answers, HoldsRun};
 ghost use Rattle.drvhost_parts.specs.Told.{IsDrawOf};
 
-use crate::device::{Sink, Source};
 use crate::show::{Showing, show};
-use crate::verification::Verification;
+use inputs_outputs::device::{Sink, Source};
+use inputs_outputs::verification::Verification;
 use std::alloc::Global;
 
 /// Runs a driver set by a schedule as [`trace`](crate::trace::trace) does, and writes the run as

@@ -4,7 +4,7 @@ ghost use Rattle.std.specs.Prelude.{◌≡◌, [], IfOk};
 ghost use Rattle.std.specs.List.{list_any};
 ghost use Rattle.interleave.specs.Listing.{IsWithinLimits};
 ghost use Rattle.model.specs.Machine.{ShowsWhole};
-ghost use Rattle.drvhost_parts.specs.Answer.{ended, is_last};
+ghost use Rattle.inputs_outputs.specs.Answer.{ended, is_last};
 ghost use Rattle.drvhost_parts.specs.Told.{IsRunDrawn, replies_by};
 
 use crate::follow::is_last;

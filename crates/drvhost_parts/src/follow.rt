@@ -4,15 +4,15 @@ ghost use Rattle.std.specs.Prelude.{◌≡◌, ◌+◌, ◌++◌, ◌∷◌, ◌
 ghost use Rattle.interleave.specs.Listing.{IsWithinLimits};
 ghost use Rattle.model.specs.declared.event.Event.{Event};
 ghost use Rattle.report.specs.Word.{word_lines};
-ghost use Rattle.drvhost_parts.specs.Answer.{is_last, ran, reply_lines};
-ghost use Rattle.drvhost_parts.specs.Device.{Adds, CanCount, TakesBeginning};
-ghost use Rattle.drvhost_parts.specs.Fault.{Goes, reads_failed, writes_failed};
+ghost use Rattle.inputs_outputs.specs.Answer.{is_last, ran, reply_lines};
+ghost use Rattle.inputs_outputs.specs.Device.{Adds, CanCount, TakesBeginning};
+ghost use Rattle.inputs_outputs.specs.Fault.{Goes, reads_failed, writes_failed};
 ghost use Rattle.drvhost_parts.specs.Repeats.{awaited};
 
-use crate::device::Sink;
-use crate::fault::{End, Fault};
 use crate::running::Machine;
-use crate::transfer::make_room;
+use inputs_outputs::device::Sink;
+use inputs_outputs::fault::{End, Fault};
+use inputs_outputs::transfer::make_room;
 use interleave::events::Upcoming;
 use interleave::read::Repeated;
 use interleave::schedule::Schedule;

@@ -6,7 +6,7 @@ ghost use Rattle.model.specs.declared.event.Event.TheVariants.{Step};
 ghost use Rattle.model.specs.Machine.{Shows, ShowsWhole};
 ghost use Rattle.model.specs.Set.{Set};
 ghost use Rattle.run_laws.specs.Waits.{says_unchanged};
-ghost use Rattle.drvhost_parts.specs.Answer.{is_last};
+ghost use Rattle.inputs_outputs.specs.Answer.{is_last};
 ghost use Rattle.drvhost_parts.specs.Repeats.{RepeatsBy, settled, told_by};
 
 use checked::Checked;

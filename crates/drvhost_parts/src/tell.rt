@@ -1,13 +1,13 @@
 //! A run told for people, and its audit.
 
 ghost use Rattle.std.specs.Prelude.{◌≡◌, ◌+◌, ◌⊎◌};
-ghost use Rattle.drvhost_parts.specs.Device.{CanCount, Says};
-ghost use Rattle.drvhost_parts.specs.Ends.{Answers, HoldsRun};
+ghost use Rattle.inputs_outputs.specs.Device.{CanCount, Says};
+ghost use Rattle.inputs_outputs.specs.Ends.{Answers, HoldsRun};
 ghost use Rattle.drvhost_parts.specs.Told.{IsTellOf};
 
-use crate::device::{Sink, Source};
 use crate::show::{Showing, show};
-use crate::verification::Verification;
+use inputs_outputs::device::{Sink, Source};
+use inputs_outputs::verification::Verification;
 use std::alloc::Global;
 
 /// Of which events of a run a line is told.

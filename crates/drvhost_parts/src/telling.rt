@@ -7,15 +7,15 @@ ghost use Rattle.interleave.specs.Listing.{IsWithinLimits};
 ghost use Rattle.model.specs.Machine.{AppliesWhole, ShowsWhole};
 ghost use Rattle.model.specs.Run.{begun};
 ghost use Rattle.run_laws.specs.Waits.{says_unchanged};
-ghost use Rattle.drvhost_parts.specs.Answer.{ended};
+ghost use Rattle.inputs_outputs.specs.Answer.{ended};
 ghost use Rattle.drvhost_parts.specs.Repeats.{awaited};
 ghost use Rattle.drvhost_parts.specs.Told.{HasTold, IsRunTold, IsTold, ToldNext, count_left, happens_again, is_left_out, left_again, reply_head, times_again, told_line};
 
-use crate::fault::End;
 use crate::follow::{is_last, next_run, rest_of};
 use crate::tell::Detail;
 use audit::findings::Findings;
 use checked::Checked;
+use inputs_outputs::fault::End;
 use interleave::events::Upcoming;
 use interleave::read::Repeated;
 use interleave::schedule::Schedule;

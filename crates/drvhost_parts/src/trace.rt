@@ -2,25 +2,25 @@
 
 ghost use Rattle.std.specs.Prelude.{◌≡◌, ◌+◌, ◌⊎◌, [], IfOk};
 ghost use Rattle.interleave.specs.Listing.{IsWithinLimits};
-ghost use Rattle.drvhost_parts.specs.Device.{CanCount, Says};
+ghost use Rattle.inputs_outputs.specs.Device.{CanCount, Says};
 ghost use Rattle.model.specs.Typable.{IsTypable};
-ghost use Rattle.drvhost_parts.specs.Answer.{IsIfAccepted, IsToRun, IsTraced};
-ghost use Rattle.drvhost_parts.specs.Ends.{Answers, HoldsRun, IsRunOf, IsTraceOf};
-ghost use Rattle.drvhost_parts.specs.Fault.{Goes, ReadsSchedule, reads_failed, writes_failed};
+ghost use Rattle.inputs_outputs.specs.Answer.{IsIfAccepted, IsToRun, IsTraced};
+ghost use Rattle.inputs_outputs.specs.Ends.{Answers, HoldsRun, IsRunOf, IsTraceOf};
+ghost use Rattle.inputs_outputs.specs.Fault.{Goes, ReadsSchedule, reads_failed, writes_failed};
 
-use crate::check::refuse;
-use crate::device::{Sink, Source};
-use crate::fault::{End, Fault, finish, no_memory, of_schedule};
 use crate::follow::follow;
-use crate::reading::read_set;
-use crate::transfer::{read_whole, write_lines};
-use crate::verification::Verification;
 use checked::Checked;
 use image::DriverSet;
+use inputs_outputs::device::{Sink, Source};
+use inputs_outputs::fault::{End, Fault, finish, no_memory, of_schedule};
+use inputs_outputs::reading::read_set;
+use inputs_outputs::transfer::{read_whole, write_lines};
+use inputs_outputs::verification::Verification;
 use interleave::parse::parse_schedule;
 use interleave::schedule::Schedule;
 use machine::World;
 use report::lines::Lines;
+use set_answers::check::refuse;
 use std::alloc::{AllocError, Global};
 use verifier::{Accepted, verify};
 

@@ -1,10 +1,10 @@
 -- What the exported functions answer.
 use Rattle.std.specs.Prelude.{ℕ, ◌≡◌, ◌⊎◌, List, length, nat_eq, if◌then◌else◌, Option, None, Some, Result, Ok, Err}
-use Rattle.drvhost_parts.specs.declared.verification.Verification.{Verification}
-use Rattle.drvhost_parts.specs.declared.verification.Verification.TheVariants.{Required, Skipped}
-use Rattle.drvhost_parts.specs.Answer.{Answer, IsRuleExplained}
-use Rattle.drvhost_parts.specs.Device.{Bytes}
-use Rattle.drvhost_parts.specs.Ends.{IsExplainedOf, IsTraceOf}
+use Rattle.inputs_outputs.specs.declared.verification.Verification.{Verification}
+use Rattle.inputs_outputs.specs.declared.verification.Verification.TheVariants.{Required, Skipped}
+use Rattle.inputs_outputs.specs.Answer.{Answer, IsRuleExplained}
+use Rattle.inputs_outputs.specs.Device.{Bytes}
+use Rattle.inputs_outputs.specs.Ends.{IsExplainedOf, IsTraceOf}
 use Rattle.model.specs.declared.abs.Rule.{Rule}
 use Rattle.model.specs.declared.memory.OutOfMemory.{OutOfMemory}
 use Rattle.pafteis_parts.specs.Delivery.{bytes_of, placed}

@@ -1,13 +1,12 @@
 //! Bytes in, bytes out.
 
 ghost use Rattle.std.specs.Prelude.{◌≡◌};
-ghost use Rattle.drvhost_parts.specs.Answer.{IsVersion};
-ghost use Rattle.drvhost_parts.specs.Device.{Bytes};
-ghost use Rattle.drvhost_parts.specs.Ends.{IsCheckOf, IsListOf, IsRewriteOf};
+ghost use Rattle.inputs_outputs.specs.Answer.{IsVersion};
+ghost use Rattle.inputs_outputs.specs.Device.{Bytes};
+ghost use Rattle.inputs_outputs.specs.Ends.{IsCheckOf, IsListOf, IsRewriteOf};
 ghost use Rattle.pafteis.specs.Called.{Answers, ExplainsRule, ExplainsSet, IsCheckedAs, Puts, Traces};
 
-use drvhost_parts::explaining::Extent;
-use drvhost_parts::verification::Verification;
+use inputs_outputs::verification::Verification;
 use model::memory::OutOfMemory;
 use pafteis_parts::answers;
 use pafteis_parts::delivery::deliver;
@@ -15,6 +14,7 @@ use pafteis_parts::returned::Told;
 use pafteis_values::rule::rule_of;
 use pafteis_values::verdict::VerdictValue;
 use pafteis_world::admitting::judge;
+use set_answers::explaining::Extent;
 use std::alloc::Global;
 
 /// The status where an argument is a number that names nothing.

@@ -1,16 +1,16 @@
 //! The program's answers, over bytes in memory. An error comes only where a growth was refused.
 
 ghost use Rattle.std.specs.Prelude.{IfOk};
-ghost use Rattle.drvhost_parts.specs.Answer.{IsRuleExplained, IsVersion};
-ghost use Rattle.drvhost_parts.specs.Device.{Bytes};
-ghost use Rattle.drvhost_parts.specs.Ends.{IsCheckOf, IsExplainedOf, IsListOf, IsRewriteOf, IsTraceOf};
+ghost use Rattle.inputs_outputs.specs.Answer.{IsRuleExplained, IsVersion};
+ghost use Rattle.inputs_outputs.specs.Device.{Bytes};
+ghost use Rattle.inputs_outputs.specs.Ends.{IsCheckOf, IsExplainedOf, IsListOf, IsRewriteOf, IsTraceOf};
 
 use crate::returned::{Told, collected};
-use drvhost_parts::device::{Reader, Source, Writer};
-use drvhost_parts::explaining::Extent;
-use drvhost_parts::verification::Verification;
+use inputs_outputs::device::{Reader, Source, Writer};
+use inputs_outputs::verification::Verification;
 use model::abs::Rule;
 use model::memory::OutOfMemory;
+use set_answers::explaining::Extent;
 use std::alloc::Global;
 
 /// The verdict on the set that a text or an image names.
@@ -20,7 +20,7 @@ pub fn check(alloc: Global, set: &[u8]) -> Result<Told, OutOfMemory>
     let mut source = Reader::new(Some(set));
     let mut output = Writer::new(Vec::new(alloc));
     let mut errors = Writer::new(Vec::new(alloc));
-    let exit = drvhost_parts::check::check(alloc, &mut source, &mut output, &mut errors);
+    let exit = set_answers::check::check(alloc, &mut source, &mut output, &mut errors);
     collected(exit, source.failures(), 0, output, errors)
 }
 
@@ -31,7 +31,7 @@ pub fn explain(alloc: Global, extent: Extent, set: &[u8]) -> Result<Told, OutOfM
     let mut source = Reader::new(Some(set));
     let mut output = Writer::new(Vec::new(alloc));
     let mut errors = Writer::new(Vec::new(alloc));
-    let exit = drvhost_parts::explaining::explain(
+    let exit = set_answers::explaining::explain(
         alloc,
         extent,
         &mut source,
@@ -47,7 +47,7 @@ pub fn explain_rule(alloc: Global, rule: Rule) -> Result<Told, OutOfMemory>
 {
     let mut output = Writer::new(Vec::new(alloc));
     let mut errors = Writer::new(Vec::new(alloc));
-    let exit = drvhost_parts::rule::explain_rule(alloc, rule, &mut output, &mut errors);
+    let exit = set_answers::rule::explain_rule(alloc, rule, &mut output, &mut errors);
     collected(exit, 0, 0, output, errors)
 }
 
@@ -82,7 +82,7 @@ pub fn list(alloc: Global, set: &[u8]) -> Result<Told, OutOfMemory>
     let mut source = Reader::new(Some(set));
     let mut output = Writer::new(Vec::new(alloc));
     let mut errors = Writer::new(Vec::new(alloc));
-    let exit = drvhost_parts::list::list(alloc, &mut source, &mut output, &mut errors);
+    let exit = set_answers::list::list(alloc, &mut source, &mut output, &mut errors);
     collected(exit, source.failures(), 0, output, errors)
 }
 
@@ -93,7 +93,7 @@ pub fn rewrite(alloc: Global, set: &[u8]) -> Result<Told, OutOfMemory>
     let mut source = Reader::new(Some(set));
     let mut output = Writer::new(Vec::new(alloc));
     let mut errors = Writer::new(Vec::new(alloc));
-    let exit = drvhost_parts::rewriting::rewrite(alloc, &mut source, &mut output, &mut errors);
+    let exit = set_answers::rewriting::rewrite(alloc, &mut source, &mut output, &mut errors);
     collected(exit, source.failures(), 0, output, errors)
 }
 
@@ -103,6 +103,6 @@ pub fn version(alloc: Global) -> Result<Told, OutOfMemory>
 {
     let mut output = Writer::new(Vec::new(alloc));
     let mut errors = Writer::new(Vec::new(alloc));
-    let exit = drvhost_parts::version::version(&mut output, &mut errors);
+    let exit = set_answers::version::version(&mut output, &mut errors);
     collected(exit, 0, 0, output, errors)
 }

@@ -1,11 +1,11 @@
 //! What the program answers where the words of its command line name no job.
 
 ghost use Rattle.std.specs.Prelude.{◌≡◌};
-ghost use Rattle.drvhost_parts.specs.Device.{Unknown};
+ghost use Rattle.inputs_outputs.specs.Device.{Unknown};
 
 use command_line::answer::answer;
 use command_line::files::{Files, Output};
-use drvhost_parts::device::{Reader, Sink, Source, Writer};
+use inputs_outputs::device::{Reader, Sink, Source, Writer};
 use std::alloc::{AllocError, Global};
 use std::io::ErrorKind;
 use std::sync::Wait;

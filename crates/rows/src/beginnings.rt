@@ -2,11 +2,11 @@
 //! a name, or as what it says. The digests are those of what an independent program answers.
 
 use crate::images::QUEUED;
-use drvhost_parts::check::check;
-use drvhost_parts::device::{Reader, Writer};
 use drvhost_parts::trace::trace;
-use drvhost_parts::verification::Verification;
+use inputs_outputs::device::{Reader, Writer};
+use inputs_outputs::verification::Verification;
 use md5::{Digest, Md5};
+use set_answers::check::check;
 use std::alloc::{AllocError, Global};
 use std::test::Fail;
 

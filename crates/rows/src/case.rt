@@ -1,8 +1,8 @@
 //! What `trace` writes of a set.
 
-use drvhost_parts::device::{Reader, Sink, Source, Writer};
 use drvhost_parts::trace::trace;
-use drvhost_parts::verification::Verification;
+use inputs_outputs::device::{Reader, Sink, Source, Writer};
+use inputs_outputs::verification::Verification;
 use std::alloc::Global;
 
 /// What the trace of a schedule writes, where it ends well and nothing is told.

@@ -1,11 +1,11 @@
 //! What the words of a command line name.
 
 use command_line::job::{Job, JobFault, refuse_words};
-use drvhost_parts::device::Writer;
-use drvhost_parts::explaining::Extent;
 use drvhost_parts::tell::Detail;
-use drvhost_parts::verification::Verification;
+use inputs_outputs::device::Writer;
+use inputs_outputs::verification::Verification;
 use model::abs::Rule;
+use set_answers::explaining::Extent;
 use std::alloc::Global;
 use std::test::Fail;
 

@@ -2,9 +2,9 @@
 //! they go on as if nothing had happened.
 
 ghost use Rattle.std.specs.Prelude.{◌≡◌, Some};
-ghost use Rattle.drvhost_parts.specs.Device.{Unknown};
+ghost use Rattle.inputs_outputs.specs.Device.{Unknown};
 
-use drvhost_parts::device::{Failed, Sink, Source};
+use inputs_outputs::device::{Failed, Sink, Source};
 use std::alloc::Global;
 
 /// A source of bytes in memory.

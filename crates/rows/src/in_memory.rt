@@ -1,12 +1,12 @@
 //! The program's answers in memory, and in a buffer, as the library for C has them.
 
-use drvhost_parts::explaining::Extent;
-use drvhost_parts::verification::Verification;
+use inputs_outputs::verification::Verification;
 use model::abs::Rule;
 use model::memory::OutOfMemory;
 use pafteis_parts::answers::{check, explain, explain_rule, list, rewrite, trace, version};
 use pafteis_parts::delivery::deliver;
 use pafteis_parts::returned::Told;
+use set_answers::explaining::Extent;
 
 /// A driver that completes each read at once, and a device of it.
 const ECHO: &[u8] =

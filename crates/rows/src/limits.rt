@@ -1,10 +1,10 @@
 //! An accepted set at the limits. The digests are those of what an independent program answers.
 
 use crate::case::traced;
-use drvhost_parts::check::check;
-use drvhost_parts::device::{Reader, Writer};
-use drvhost_parts::verification::Verification;
+use inputs_outputs::device::{Reader, Writer};
+use inputs_outputs::verification::Verification;
 use md5::{Digest, Md5};
+use set_answers::check::check;
 use std::alloc::{AllocError, Global};
 use std::test::Fail;
 

@@ -1,8 +1,8 @@
 //! Two workers that serve a script side by side.
 
-use drvhost_parts::device::{Reader, Writer};
 use drvhost_parts::host::host;
 use host_rows::pace::Pace;
+use inputs_outputs::device::{Reader, Writer};
 use std::alloc::Global;
 use std::process::Abort;
 

@@ -5,9 +5,9 @@ ghost use Rattle.std.specs.Prelude.{◌≡◌};
 
 use crate::devices::is_failing;
 use crate::failures::{LINES, SCHEDULE, TEXT};
-use drvhost_parts::device::{Reader, Sink, Source, Writer};
 use drvhost_parts::trace::trace;
-use drvhost_parts::verification::Verification;
+use inputs_outputs::device::{Reader, Sink, Source, Writer};
+use inputs_outputs::verification::Verification;
 use std::alloc::Global;
 use std::io;
 use std::io::{ErrorKind, Read, Write};

@@ -1,14 +1,14 @@
 //! Images that `rewrite` writes, over files in memory.
 
 ghost use Rattle.std.specs.Prelude.{◌≡◌};
-ghost use Rattle.drvhost_parts.specs.Device.{Unknown};
+ghost use Rattle.inputs_outputs.specs.Device.{Unknown};
 
 use crate::answers::given;
 use crate::failures::TEXT;
 use crate::images::{OLD_ONE_READ, ONE_READ};
 use command_line::answer::answer;
 use command_line::files::{Files, Output};
-use drvhost_parts::device::{Reader, Sink, Source, Writer};
+use inputs_outputs::device::{Reader, Sink, Source, Writer};
 use std::alloc::Global;
 use std::sync::Wait;
 use std::thread::Threads;

@@ -1,8 +1,8 @@
 //! A rule in words, over a writer that fails at each call in turn.
 
 use crate::devices::Narrow;
-use drvhost_parts::rule::explain_rule;
 use model::abs::Rule;
+use set_answers::rule::explain_rule;
 
 /// What is written of a rule about cancellation.
 const CANCEL_STATE: &[u8] = b"V12 CancelState

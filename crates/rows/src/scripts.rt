@@ -1,7 +1,7 @@
 //! How many commands a script may have.
 
-use drvhost_parts::device::{Reader, Writer};
 use drvhost_parts::host::host;
+use inputs_outputs::device::{Reader, Writer};
 use std::alloc::{AllocError, Global};
 use std::sync::Wait;
 use std::thread::Threads;

@@ -3,7 +3,7 @@
 
 use crate::case::traced;
 use crate::images::QUEUED;
-use drvhost_parts::verification::Verification;
+use inputs_outputs::verification::Verification;
 use md5::{Digest, Md5};
 use std::alloc::{AllocError, Global};
 use std::test::Fail;

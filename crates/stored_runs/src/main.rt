@@ -7,7 +7,7 @@
 mod shelf;
 
 use command_line::answer::answer;
-use drvhost_parts::device::Writer;
+use inputs_outputs::device::Writer;
 use shelf::Shelf;
 use std::alloc::{AllocError, Global};
 use std::fs::{self, Files};

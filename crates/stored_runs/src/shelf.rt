@@ -1,10 +1,10 @@
 //! The files beside the program.
 
 ghost use Rattle.std.specs.Prelude.{◌≡◌};
-ghost use Rattle.drvhost_parts.specs.Device.{Unknown};
+ghost use Rattle.inputs_outputs.specs.Device.{Unknown};
 
 use command_line::files::{Files, Output};
-use drvhost_parts::device::{Reader, Sink, Source};
+use inputs_outputs::device::{Reader, Sink, Source};
 use std::fs::{self, File};
 
 /// The files of a system, which counts those that are opened, and the reads and writes of them that

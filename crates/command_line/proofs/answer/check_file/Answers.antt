@@ -1,5 +1,5 @@
 use Rattle.std.proofs.Common.{arith}
-use Rattle.drvhost_parts.specs.Ends.{IsCheckOf}
+use Rattle.inputs_outputs.specs.Ends.{IsCheckOf}
 use Rattle.command_line.proofs.Answering.{answers_rightly, check_known}
 use Rattle.command_line.proofs.answer.check_file.Goals as goal
 

@@ -1,6 +1,6 @@
 use Rattle.std.proofs.Common.{arith, inl, inr}
-use Rattle.drvhost_parts.specs.Answer.{IsUnopened}
-use Rattle.drvhost_parts.specs.Ends.{IsExplainedOf}
+use Rattle.inputs_outputs.specs.Answer.{IsUnopened}
+use Rattle.inputs_outputs.specs.Ends.{IsExplainedOf}
 use Rattle.command_line.specs.Program.{IsOfNamed}
 use Rattle.command_line.proofs.Answering.{answers_rightly, closed_known, explain_known}
 use Rattle.command_line.proofs.answer.explain_file.Goals as goal

@@ -1,6 +1,6 @@
 use Rattle.std.proofs.Common.{◌≡◌, ◌∙◌, None, Some, List, ℕ, arith, ap, subst, sym}
-use Rattle.drvhost_parts.specs.Device.{Supply}
-use Rattle.drvhost_parts.specs.Ends.{IsRewriteOf}
+use Rattle.inputs_outputs.specs.Device.{Supply}
+use Rattle.inputs_outputs.specs.Ends.{IsRewriteOf}
 use Rattle.command_line.specs.Files.{Stores, contents_of, failures_of}
 use Rattle.command_line.proofs.Answering.{answers_quietly, rewrite_known}
 use Rattle.command_line.proofs.Rewritten.{rewrites_none, rewrites_some, then_other, unopened_target}

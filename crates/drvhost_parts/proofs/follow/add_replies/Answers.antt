@@ -1,8 +1,8 @@
 use Rattle.std.proofs.Common.{◌≡◌, ◌∙◌, ◌-◌, ap, arith, replicate, rules, sym}
 use Rattle.std.proofs.lemmas.Result.{err_from_is_err_and}
-use Rattle.drvhost_parts.specs.Answer.{reply_lines}
+use Rattle.inputs_outputs.specs.Answer.{reply_lines}
 use Rattle.drvhost_parts.proofs.Following.{lines_word, next_reply}
-use Rattle.drvhost_parts.proofs.Judging.{certified_all, certified_more, certified_part}
+use Rattle.set_answers.proofs.Judging.{certified_all, certified_more, certified_part}
 use Rattle.drvhost_parts.proofs.follow.add_replies.Goals as goal
 
 pub returns-in_err-add_reply-clause-broken : goal.returns-in_err-add_reply-clause-broken

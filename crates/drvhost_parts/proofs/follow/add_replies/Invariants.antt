@@ -1,6 +1,6 @@
 use Rattle.std.proofs.Common.{◌≡◌, ◌+◌, ◌-◌, ◌≤◌, replicate}
-use Rattle.drvhost_parts.specs.Answer.{reply_lines}
-use Rattle.drvhost_parts.proofs.Judging.{Certified}
+use Rattle.inputs_outputs.specs.Answer.{reply_lines}
+use Rattle.set_answers.proofs.Judging.{Certified}
 use Rattle.drvhost_parts.proofs.follow.add_replies.Given as goal
 
 abbrev pub invariant-loop : goal.invariant-loop

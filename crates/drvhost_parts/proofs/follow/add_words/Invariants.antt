@@ -1,6 +1,6 @@
 use Rattle.std.proofs.Common.{◌≡◌, ◌+◌}
 use Rattle.report.specs.Word.{word_lines}
-use Rattle.drvhost_parts.proofs.Judging.{Certified}
+use Rattle.set_answers.proofs.Judging.{Certified}
 use Rattle.drvhost_parts.proofs.follow.add_words.Given as goal
 
 abbrev pub invariant-loop-left : goal.invariant-loop-left

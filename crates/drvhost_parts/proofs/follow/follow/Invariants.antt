@@ -1,7 +1,7 @@
 use Rattle.std.proofs.Common.{◌≡◌, ◌+◌, ◌≤◌, length}
 use Rattle.std.specs.Prelude.{IfSome}
 use Rattle.model.specs.Run.{begun}
-use Rattle.drvhost_parts.specs.Answer.{replies}
+use Rattle.inputs_outputs.specs.Answer.{replies}
 use Rattle.drvhost_parts.specs.Repeats.{awaited}
 use Rattle.drvhost_parts.proofs.Following.{Followed}
 use Rattle.drvhost_parts.proofs.follow.follow.Given as goal

@@ -1,9 +1,10 @@
 use Rattle.std.proofs.Common.{arith, refl}
-use Rattle.drvhost_parts.specs.declared.fault.Fault.TheVariants.{Memory}
-use Rattle.drvhost_parts.specs.Ends.{IsHostOf, OutOfMemory}
-use Rattle.drvhost_parts.specs.Fault.{fault_told, reads_failed, told_of, writes_failed}
-use Rattle.drvhost_parts.proofs.Jobs.{ends_of}
-use Rattle.drvhost_parts.proofs.Writing.{keeps_same}
+use Rattle.inputs_outputs.specs.declared.fault.Fault.TheVariants.{Memory}
+use Rattle.inputs_outputs.specs.Ends.{OutOfMemory}
+use Rattle.drvhost_parts.specs.Served.{IsHostOf}
+use Rattle.inputs_outputs.specs.Fault.{fault_told, reads_failed, told_of, writes_failed}
+use Rattle.inputs_outputs.proofs.Jobs.{ends_of}
+use Rattle.inputs_outputs.proofs.Writing.{keeps_same}
 use Rattle.drvhost_parts.proofs.host.host.Goals as goal
 
 pub returns-in-Ok-clause-answers : goal.returns-in-Ok-clause-answers

@@ -1,5 +1,5 @@
-use Rattle.drvhost_parts.specs.Ends.{IsServedOf}
-use Rattle.drvhost_parts.proofs.Jobs.{goes_rightly}
+use Rattle.drvhost_parts.specs.Served.{IsServedOf}
+use Rattle.inputs_outputs.proofs.Jobs.{goes_rightly}
 use Rattle.drvhost_parts.proofs.Serving.{IsServedAs, served_right}
 use Rattle.drvhost_parts.proofs.host.host_accepted.Goals as goal
 

@@ -1,7 +1,7 @@
 use Rattle.std.proofs.Common.{inr}
-use Rattle.drvhost_parts.specs.Answer.{IsIfAccepted, IsRefused}
-use Rattle.drvhost_parts.specs.Ends.{IsServedOf}
-use Rattle.drvhost_parts.proofs.Jobs.{goes_refused, goes_rightly}
+use Rattle.inputs_outputs.specs.Answer.{IsIfAccepted, IsRefused}
+use Rattle.drvhost_parts.specs.Served.{IsServedOf}
+use Rattle.inputs_outputs.proofs.Jobs.{goes_refused, goes_rightly}
 use Rattle.drvhost_parts.proofs.host.host_verified.Goals as goal
 
 pub returns-in-Err-clause-goes : goal.returns-in-Err-clause-goes

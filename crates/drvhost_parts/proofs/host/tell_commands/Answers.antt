@@ -1,6 +1,6 @@
 use Rattle.std.proofs.Common.{rules}
 use Rattle.std.proofs.lemmas.Result.{err_from_is_err_and}
-use Rattle.drvhost_parts.proofs.Judging.{certified_broken, certified_line, certified_room}
+use Rattle.set_answers.proofs.Judging.{certified_broken, certified_line, certified_room}
 use Rattle.drvhost_parts.proofs.Serving.{next_command}
 use Rattle.drvhost_parts.proofs.host.tell_commands.Goals as goal
 

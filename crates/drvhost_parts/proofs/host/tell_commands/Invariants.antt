@@ -1,6 +1,6 @@
 use Rattle.std.proofs.Common.{◌≡◌, drop}
-use Rattle.drvhost_parts.specs.Answer.{command_lines}
-use Rattle.drvhost_parts.proofs.Judging.{Certified}
+use Rattle.drvhost_parts.specs.Served.{command_lines}
+use Rattle.set_answers.proofs.Judging.{Certified}
 use Rattle.drvhost_parts.proofs.host.tell_commands.Given as goal
 
 abbrev pub invariant-loop-told : goal.invariant-loop-told

@@ -1,10 +1,10 @@
 use Rattle.std.proofs.Common.{[], ℕ, List, Err, Ok, subst, sym}
 use Rattle.std.proofs.lemmas.Result.{err_from_is_err_and}
-use Rattle.drvhost_parts.specs.Answer.{IsTraced}
-use Rattle.drvhost_parts.specs.Device.{Holds}
+use Rattle.inputs_outputs.specs.Answer.{IsTraced}
+use Rattle.inputs_outputs.specs.Device.{Holds}
 use Rattle.drvhost_parts.specs.Told.{IsShownOf, IsShownRunOf}
-use Rattle.drvhost_parts.proofs.Files.{set_read}
-use Rattle.drvhost_parts.proofs.Jobs.{bytes_unread, right_on, set_unread}
+use Rattle.inputs_outputs.proofs.Files.{set_read}
+use Rattle.inputs_outputs.proofs.Jobs.{bytes_unread, right_on, set_unread}
 use Rattle.drvhost_parts.proofs.ToldRuns.{holds_run, tells_rightly, told_broken, told_written, untold}
 use Rattle.drvhost_parts.proofs.show.show_set.Goals as goal
 

@@ -1,6 +1,6 @@
 use Rattle.std.proofs.Common.{inl, inr, subst}
 use Rattle.model.specs.Set.{Set}
-use Rattle.drvhost_parts.specs.Answer.{IsIfAccepted, IsRefused}
+use Rattle.inputs_outputs.specs.Answer.{IsIfAccepted, IsRefused}
 use Rattle.drvhost_parts.specs.Told.{IsShownRunOf, Tells}
 use Rattle.drvhost_parts.proofs.ToldRuns.{refusal_told, tells_rightly}
 use Rattle.drvhost_parts.proofs.show.shown_verified.Goals as goal

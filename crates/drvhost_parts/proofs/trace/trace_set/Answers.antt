@@ -1,8 +1,8 @@
 use Rattle.std.proofs.Common.{[], Err, Ok}
 use Rattle.std.proofs.lemmas.Result.{err_from_is_err_and}
-use Rattle.drvhost_parts.specs.Answer.{IsTraced}
-use Rattle.drvhost_parts.specs.Ends.{IsRunOf, IsTraceOf}
-use Rattle.drvhost_parts.proofs.Jobs.{goes_broken, goes_left, goes_rightly, goes_written, right_on, set_unread}
+use Rattle.inputs_outputs.specs.Answer.{IsTraced}
+use Rattle.inputs_outputs.specs.Ends.{IsRunOf, IsTraceOf}
+use Rattle.inputs_outputs.proofs.Jobs.{goes_broken, goes_left, goes_rightly, goes_written, right_on, set_unread}
 use Rattle.drvhost_parts.proofs.trace.trace_set.Goals as goal
 
 pub returns-in_err-set-clause-goes : goal.returns-in_err-set-clause-goes

@@ -1,0 +1,3 @@
+pub mod Writing
+pub mod Jobs
+pub mod Files

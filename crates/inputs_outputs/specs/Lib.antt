@@ -1,0 +1,5 @@
+pub mod Device
+pub mod Answer
+pub mod Fault
+pub mod Ends
+pub mod Outside

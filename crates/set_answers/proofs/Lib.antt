@@ -1,0 +1,5 @@
+pub mod Judging
+pub mod One
+pub mod Explained
+pub mod Wording
+pub mod Images

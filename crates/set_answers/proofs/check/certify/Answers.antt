@@ -1,0 +1,41 @@
+use Rattle.std.proofs.Common.{◌∙◌, ◌+◌, ◌++◌, drop, ap, rules, sym}
+use Rattle.std.proofs.lemmas.Result.{err_from_is_err_and}
+use Rattle.model.specs.Certificate.{certificate_of}
+use Rattle.report.specs.Verdict.{certificate_line}
+use Rattle.inputs_outputs.specs.Answer.{routine_lines}
+use Rattle.set_answers.proofs.Judging.{certified_broken, certified_line, certified_room, next_routine, routine_there}
+use Rattle.set_answers.proofs.check.certify.Goals as goal
+
+pub returns-in_err-make_room-clause-broken : goal.returns-in_err-make_room-clause-broken
+returns-in_err-make_room-clause-broken g c =
+    let p = err_from_is_err_and c.from_residual.result c.from_residual.ensures.1 in
+    rw (p.1, ← c.as_slice-routines.ensures)
+    (certified_broken _ _ _ _ _ _ _ c.loop-place.invariant.certified
+    c.in_err-make_room.ensures.broken)
+
+pub cert-certificate-requires : goal.cert-certificate-requires
+cert-certificate-requires g c =
+    routine_there c.args.accepted.now c.args.number c.loop-place.place c.args.driver.now
+    c.index-routines-place.result c.requires.driver
+    (rw (← c.as_slice-routines.ensures) c.loop-place-test.true)
+
+pub loop-place-preserved : goal.loop-place-preserved
+loop-place-preserved g c =
+    let set = c.args.accepted.now in
+    let number = c.args.number in
+    let place = c.loop-place.place in
+    let routine = c.index-routines-place.result in
+    let later = routine_lines set number (place + 1)
+    (drop (place + 1) c.as_slice-routines.result.now) in
+    let next = next_routine set number place c.as_slice-routines.result.now routine
+    c.loop-place-test.true
+    ∙ ap (λ r. certificate_line number place r.sort (certificate_of set number place) ++ later)
+    (sym c.index-routines-place.is) in
+    record {
+      fine = search rules;
+      certified =
+          rw (c.certificate.ensures, c.cert-certificate.ensures)
+          (certified_line _ _ _ _ _ _ _ _
+          (certified_room _ _ _ _ _ _ _ _ c.loop-place.invariant.certified
+          c.in_ok-make_room.ensures.written) next);
+    }

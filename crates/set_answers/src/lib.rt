@@ -1,0 +1,12 @@
+//! What the program answers of the driver set of one file, over any devices: the verdict on it,
+//! explained or not, its listing and its image; and a rule in words, and which program this is.
+#![tactic(auto)]
+
+pub mod check;
+pub mod explaining;
+pub mod laws;
+pub mod list;
+pub mod rewriting;
+pub mod rule;
+mod task;
+pub mod version;
