@@ -77,8 +77,8 @@ others_of set states w sites = filter (λ site. not (holds set states w site)) s
 abbrev pub right_sites : Set → States → World → ℕ → ℕ → List Site
 right_sites set states w devices n = right_of set states w (sites_of w devices n)
 
--- what is found is so by the states that arrive: there is one table of them at most, at positions of
--- routines, and exactly one where the set is accepted
+-- what is found is so by the states that arrive: at positions of routines there is one table of
+-- them at most, and exactly one where the set is accepted
 abbrev pub IsStateAt : Set → ℕ → ℕ → ℕ → Option Abs → Type 0
 IsStateAt set driver number p found =
     (states : States) → StatesArrive set states → found ≡ state_at set states driver number p

@@ -43,8 +43,8 @@ pub(crate) fn state_at(
     }
 }
 
-/// The state that arrives at a position of the default routine: its packet is new at first, and then
-/// completed.
+/// The state that arrives at a position of the default routine: its packet is new at first, and
+/// then completed.
 fn default_state(set: &DriverSet, driver: u8, position: u16) -> Option<Abs>
     ensures { IsStateAt set.now driver default_number position result }
 {

@@ -101,8 +101,8 @@ impl Audited {
     }
 }
 
-/// Adds the audit of a run: what topped out, what lives and where it is named, or who holds it where
-/// rights are known, what was found amiss, and the events that were refused.
+/// Adds the audit of a run: what topped out, what lives and where it is named (who holds it, where
+/// rights are known), what was found amiss, and the events that were refused.
 pub(crate) fn add_audit(
     alloc: Global,
     words: &mut String,
