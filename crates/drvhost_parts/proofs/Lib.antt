@@ -10,4 +10,5 @@ pub mod Files
 pub mod Wording
 pub mod Images
 pub mod ToldRuns
+pub mod ToldAlone
 pub mod DrawnRuns
