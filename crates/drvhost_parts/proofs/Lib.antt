@@ -2,4 +2,5 @@ pub mod Serving
 pub mod Repeating
 pub mod Following
 pub mod ToldRuns
+pub mod ToldAlone
 pub mod DrawnRuns

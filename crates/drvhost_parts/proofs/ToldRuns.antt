@@ -6,9 +6,8 @@ use Rattle.std.specs.List.{list_any}
 use Rattle.std.specs.Prelude.{IfSome, codes}
 use Rattle.std.specs.Io.KnownBytes.{Appends}
 use Rattle.audit.specs.declared.findings.Findings.{Findings}
-use Rattle.pending_uses.specs.Acts.{use_step}
 use Rattle.audit.specs.Findings.{AreFindings, any_of, has_findings}
-use Rattle.pending_uses.specs.Ledger.{LedgerState, Tells as TellsRun, TellsOn}
+use Rattle.pending_uses.specs.Ledger.{LedgerState, Tells as TellsRun}
 use Rattle.audit.specs.Left.{left_locks}
 use Rattle.audit.specs.Naming.{lost_packets}
 use Rattle.interleave.specs.declared.read.Repeated.{Repeated}
@@ -44,7 +43,7 @@ use Rattle.inputs_outputs.specs.declared.verification.Verification.{Verification
 use Rattle.inputs_outputs.specs.Ends.{HoldsRun}
 use Rattle.inputs_outputs.specs.Fault.{Goes, ReadsSchedule, ReadsSet}
 use Rattle.drvhost_parts.specs.Repeats.{awaited}
-use Rattle.drvhost_parts.specs.Told.{HasTold, IsRunShown, IsRunTold, IsScheduleShown, IsShownRunOf, IsTold, Tells, ToldNext, count_left, happens_again, is_left_out, left_again, past_by, replies_by, reply_head, run_to_end, times_again, told_end, told_line, world_by}
+use Rattle.drvhost_parts.specs.Told.{HasTold, LedgerGoesOn, IsRunShown, IsRunTold, IsScheduleShown, IsShownRunOf, IsTold, Tells, ToldNext, count_left, happens_again, is_left_out, left_again, past_by, replies_by, reply_head, run_to_end, times_again, told_end, told_line, world_by}
 use Rattle.drvhost_parts.proofs.Following.{counted, run_more}
 use Rattle.inputs_outputs.proofs.Writing.{keeps_same}
 
@@ -107,7 +106,7 @@ module _ (detail : Detail) (set : Set) (threads : ℕ) (events : List Event) (m 
     (reply : Reply)
     (t : Telling detail set threads events m l number (e ∷ rest) text)
     (ran : AppliesWhole m e n reply)
-    (noted : TellsOn n.set n.world e (use_step m.set m.world e) reply l k)
+    (noted : LedgerGoesOn m e l k)
     (is : more ≡ text ++ told_line detail number reply words) where
   replied : reply ≡ reply_to set threads t.past e
   replied =
@@ -117,16 +116,10 @@ module _ (detail : Detail) (set : Set) (threads : ℕ) (events : List Event) (m 
   -- the ledger tells the run with the event added
   noted_on : TellsRun (run set threads (t.past ++ e ∷ [])) k
   noted_on =
-      let same : n.set ≡ set = ran.set ∙ t.same in
-      let shows : ShowsWhole n threads (t.past ++ e ∷ []) = ran.shows threads t.past t.shows in
-      let before : use_step m.set m.world e ≡ use_step set (run set threads t.past).world e =
-      ap (λ (w : World). use_step m.set w e) t.shows.world
-      ∙ ap (λ (s : Set). use_step s (run s threads t.past).world e) t.same in
-      let after : n.world ≡ (run set threads (t.past ++ e ∷ [])).world =
-      shows.world ∙ ap (λ (s : Set). (run s threads (t.past ++ e ∷ [])).world) same in
-      let on : TellsOn set n.world e (use_step m.set m.world e) reply l k =
-      subst (λ (s : Set). TellsOn s n.world e (use_step m.set m.world e) reply l k) same noted in
-      on threads t.past before replied after t.tells
+      let before : TellsRun (run m.set threads t.past) l =
+      subst (λ (s : Set). TellsRun (run s threads t.past) l) (sym t.same) t.tells in
+      subst (λ (s : Set). TellsRun (run s threads (t.past ++ e ∷ [])) k) t.same
+      (noted threads t.past t.shows before)
 
   told_behind : (tail : List Reply)
       → replies set (run set threads t.past) (e ∷ rest) ≡ reply ∷ tail → (later : List ℕ)
@@ -264,7 +257,7 @@ unchanged_again (Wrong place) is = absurd (false≢true is)
 -- the same event several times in a row
 module _ (detail : Detail) (set : Set) (threads : ℕ) (events : List Event) (m n : Machine)
     (l k : LedgerState) (e : Event) (reply : Reply) (ran : AppliesWhole m e n reply)
-    (noted : TellsOn n.set n.world e (use_step m.set m.world e) reply l k) (kept : k ≡ l)
+    (noted : LedgerGoesOn m e l k) (kept : k ≡ l)
     (law : WaitingChangesNothing) (same : says_unchanged reply ≡ true)
     (on : is_last reply ≡ false) where
   -- the machine and the ledger as they were before the event show the run with it
@@ -318,13 +311,13 @@ module _ (detail : Detail) (set : Set) (threads : ℕ) (events : List Event) (m 
       x) whole all)
 
 -- what is left of a run of equal events
-left_events : (e : Event) (rest : Option Repeated) (later : List Event)
+pub left_events : (e : Event) (rest : Option Repeated) (later : List Event)
     → IfSome rest (λ run. run.event ≡ e)
     → awaited rest later ≡ replicate (count_left rest) e ++ later
 left_events e None later equal = refl
 left_events e (Some left) later equal = ap (λ (x : Event). replicate left.count x ++ later) equal
 
-left_length : (rest : Option Repeated) (later : List Event)
+pub left_length : (rest : Option Repeated) (later : List Event)
     → count_left rest + length later ≡ length (awaited rest later)
 left_length None later = omega arith
 left_length (Some equal) later = sym (counted equal.count equal.event later)
@@ -334,7 +327,7 @@ pub telling_rest : (detail : Detail) (set : Set) (threads : ℕ) (events : List 
     (l k : LedgerState) (number : ℕ) (e : Event) (rest : Option Repeated) (later : List Event)
     (text more words added : List ℕ) (reply : Reply)
     → Telling detail set threads events m l number (e ∷ awaited rest later) text
-    → AppliesWhole m e n reply → TellsOn n.set n.world e (use_step m.set m.world e) reply l k
+    → AppliesWhole m e n reply → LedgerGoesOn m e l k
     → (says_unchanged reply ≡ true → k ≡ l) → WaitingChangesNothing → is_last reply ≡ false
     → IfSome rest (λ run. run.event ≡ e)
     → more ≡ text ++ told_line detail number reply words
@@ -473,7 +466,7 @@ pub next_on : (detail : Detail) (set : Set) (threads : ℕ) (events : List Event
     (l k : LedgerState) (number : ℕ) (e : Event) (rest : Option Repeated) (later : List Event)
     (text more : List ℕ) (reply : Reply)
     → Telling detail set threads events m l number (e ∷ awaited rest later) text
-    → AppliesWhole m e n reply → TellsOn n.set n.world e (use_step m.set m.world e) reply l k
+    → AppliesWhole m e n reply → LedgerGoesOn m e l k
     → (says_unchanged reply ≡ true → k ≡ l) → WaitingChangesNothing → is_last reply ≡ false
     → IfSome rest (λ run. run.event ≡ e) → ToldNext detail number reply rest text more
     → Telling detail set threads events n k (number + 1 + times_again reply rest)

@@ -4,13 +4,16 @@ use Rattle.std.specs.Prelude.{ℕ, ⊤, ◌≡◌, ◌+◌, ◌-◌, ◌++◌, �
 use Rattle.std.specs.List.{list_any}
 use Rattle.audit.specs.Findings.{has_findings}
 use Rattle.pending_uses.specs.Ledger.{LedgerState, Tells as TellsRun}
+use Rattle.checked.specs.GoingOn.{GoesOn}
 use Rattle.interleave.specs.declared.read.Repeated.{Repeated}
 use Rattle.interleave.specs.declared.schedule.Schedule.{Schedule}
 use Rattle.interleave.specs.declared.schedule.ScheduleFault.{ScheduleFault}
 use Rattle.interleave.specs.Listing.{schedule_in}
 use Rattle.model.specs.declared.event.Event.{Event}
+use Rattle.model.specs.declared.event.Event.TheVariants.{Step}
 use Rattle.model.specs.declared.event.Reply.{Reply}
 use Rattle.model.specs.declared.event.Reply.TheVariants.{Started, Stepped, Finished, Topped, Waited, Idle, Refused, Bug, Wrong}
+use Rattle.model.specs.Machine.{Machine, ShowsWhole}
 use Rattle.model.specs.Run.{Run, begun, run, step}
 use Rattle.model.specs.Set.{Set}
 use Rattle.model.specs.Trace.{Entry}
@@ -97,6 +100,25 @@ pub record ToldNext (detail : Detail) (number : ℕ) (reply : Reply) (rest : Opt
   pub added : List ℕ
   pub whole : more ≡ (text ++ told_line detail number reply words) ++ added
   pub again : IsTold detail (number + 1) (replicate (times_again reply rest) reply) added
+
+-- a ledger that tells a run that a machine shows becomes one that tells that run with an event added
+abbrev pub LedgerGoesOn : Machine → Event → LedgerState → LedgerState → Type 0
+LedgerGoesOn m e l k =
+    (threads : ℕ) (events : List Event) → ShowsWhole m threads events
+    → TellsRun (run m.set threads events) l → TellsRun (run m.set threads (events ++ e ∷ [])) k
+
+-- an event was applied so many times, each time as a step that changes nothing but the activation on
+-- its thread's top; never, where it is no step
+abbrev pub GoesAlone : Event → Machine → ℕ → Machine → Type 0
+GoesAlone (Step t) m k n = GoesOn t m k n
+GoesAlone e m k n = (k ≡ 0) × (n ≡ m)
+
+-- so many such steps are told, the first of which has this number: nothing in quiet, and else a line
+-- of one
+abbrev pub ToldAlone : Detail → ℕ → ℕ → List ℕ → List ℕ → Type 0
+ToldAlone Quiet number k text more = more ≡ text
+ToldAlone Whole number k text more =
+    (k ≡ 1) × ((words : List ℕ) × (more ≡ text ++ told_line Whole number Stepped words))
 
 -- a run after these events, or after the first of them that stops it
 abbrev pub run_to_end : Set → Run → List Event → Run

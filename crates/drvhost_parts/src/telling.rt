@@ -3,13 +3,14 @@
 ghost use Rattle.std.specs.Prelude.{◌≡◌, ◌+◌, ◌++◌, ◌∷◌, ◌<◌, ◌≤◌, ◌^◌, ◌||◌, List, ℕ, [], IfOk, IfSome, MatchOption, OnOk, codes, if◌then◌else◌, replicate, true};
 ghost use Rattle.pending_uses.specs.Acts.{use_step};
 ghost use Rattle.pending_uses.specs.Ledger.{Tells as TellsRun, TellsOn};
+ghost use Rattle.checked.specs.GoingOn.{GoesOn};
 ghost use Rattle.interleave.specs.Listing.{IsWithinLimits};
 ghost use Rattle.model.specs.Machine.{AppliesWhole, ShowsWhole};
 ghost use Rattle.model.specs.Run.{begun};
 ghost use Rattle.run_laws.specs.Waits.{says_unchanged};
 ghost use Rattle.inputs_outputs.specs.Answer.{ended};
 ghost use Rattle.drvhost_parts.specs.Repeats.{awaited};
-ghost use Rattle.drvhost_parts.specs.Told.{HasTold, IsRunTold, IsTold, ToldNext, count_left, happens_again, is_left_out, left_again, reply_head, times_again, told_line};
+ghost use Rattle.drvhost_parts.specs.Told.{GoesAlone, HasTold, IsRunTold, IsTold, ToldAlone, ToldNext, count_left, happens_again, is_left_out, left_again, reply_head, times_again, told_line};
 
 use crate::follow::{is_last, next_run, rest_of};
 use crate::tell::Detail;
@@ -20,14 +21,17 @@ use interleave::events::Upcoming;
 use interleave::read::Repeated;
 use interleave::schedule::Schedule;
 use model::event::{Event, Reply};
+use model::view::FrameView;
 use packet_holders::Rights;
 use pending_uses::acts::use_step;
+use pending_uses::laws::going_on_keeps_ledgers;
 use pending_uses::ledger::Ledger;
+use pending_uses::standing::top_frame;
 use report::event_number::EventNumber;
 use report::lines::Lines;
 use run_laws::waiting_changes_nothing;
 use std::alloc::{AllocError, Global};
-use told::{Moment, Teller};
+use told::{Happened, Moment, Teller};
 
 /// What stands before the words of the audit.
 const AUDIT: &[u8] = b"\naudit\n";
@@ -108,10 +112,16 @@ fn tell_events(
         text.new.items) }
 {
     waiting_changes_nothing();
+    going_on_keeps_ledgers();
     let mut number = EventNumber::first();
     let mut upcoming = schedule.events.upcoming();
     let mut rest = None;
     while let Some(next) = next_event(rest, &mut upcoming) {
+        let made = go_ahead(teller, machine, &mut number, &next, detail, lines, text)?;
+        if made > 0 {
+            rest = rest_of(next.event, count_left(&next.rest) + 1 - made);
+            continue;
+        }
         let answered = tell_next(
             alloc,
             teller,
@@ -197,12 +207,13 @@ fn tell_next(
     let step = use_step(machine, &next.event);
     let reply = machine.apply(&next.event);
     ledger.note(alloc, step, &next.event, &reply, machine)?;
-    teller.note(&moment, step, &next.event, &reply, machine)?;
     let happened = Happened {
         event: next.event,
         moment,
+        step,
         reply,
     };
+    teller.note(&happened, machine)?;
     add_event(
         teller,
         machine,
@@ -224,12 +235,89 @@ fn tell_next(
     })
 }
 
-/// An event that has happened, and what is told of it as it was before.
-#[derive(Clone, Copy)]
-struct Happened {
-    event: Event,
-    moment: Moment,
-    reply: Reply,
+/// How many events are left of a run.
+fn count_left(rest: &Option<Repeated>) -> usize
+    ensures { result ≡ count_left rest.now }
+{
+    match rest {
+        Some(run) => run.count,
+        None => 0,
+    }
+}
+
+/// Lets the threads of the events that come next go on by themselves, as far as they are equal
+/// steps: in quiet as many as can be made so, of which nothing is told, and else the first, of which
+/// a line is told. It answers how many were made.
+fn go_ahead(
+    teller: &mut Teller<'_>,
+    machine: &mut Checked,
+    number: &mut EventNumber,
+    next: &Next,
+    detail: Detail,
+    lines: &mut Lines,
+    text: &mut Vec<u8>,
+) -> Result<usize, AllocError>
+    requires { number.old + 1 + count_left next.now.rest < 2 ^ 64 }
+    ensures few { IfOk result (λ made. made ≤ count_left next.now.rest + 1) }
+    ensures number { IfOk result (λ made. number.new ≡ number.old + made) }
+    ensures goes { IfOk result (λ made.
+        GoesAlone next.now.event machine.old made machine.new) }
+    ensures told { IfOk result (λ made. 1 ≤ made
+        → ToldAlone detail number.old made text.old.items text.new.items) }
+    ensures none { IfOk result (λ made. made ≡ 0
+        → (machine.new ≡ machine.old) × (text.new.items ≡ text.old.items)) }
+{
+    let Event::Step { thread } = next.event else {
+        return Ok(0);
+    };
+    match detail {
+        Detail::Quiet => {
+            let made = machine.go_on(thread, count_left(&next.rest) + 1);
+            number.advance_many(made as u64);
+            teller.pass(made as u64);
+            Ok(made)
+        }
+        Detail::Whole => tell_alone(teller, machine, number, thread, lines, text),
+    }
+}
+
+/// Lets a thread make a step by itself, and tells it. It answers how many were made: one, or none.
+fn tell_alone(
+    teller: &mut Teller<'_>,
+    machine: &mut Checked,
+    number: &mut EventNumber,
+    thread: u8,
+    lines: &mut Lines,
+    text: &mut Vec<u8>,
+) -> Result<usize, AllocError>
+    requires { number.old + 1 < 2 ^ 64 }
+    ensures few { IfOk result (λ made. made ≤ 1) }
+    ensures number { IfOk result (λ made. number.new ≡ number.old + made) }
+    ensures goes { IfOk result (λ made. GoesOn thread machine.old made machine.new) }
+    ensures told { IfOk result (λ made. 1 ≤ made
+        → ToldAlone Detail.Whole number.old made text.old.items text.new.items) }
+    ensures none { IfOk result (λ made. made ≡ 0
+        → (machine.new ≡ machine.old) × (text.new.items ≡ text.old.items)) }
+{
+    let Some(place) = top_place(machine, thread) else {
+        return Ok(0);
+    };
+    if machine.go_on(thread, 1) == 0 {
+        return Ok(0);
+    }
+    let head = head_of(number, &Reply::Stepped, lines);
+    teller.tell_alone(head.len(), thread, place, machine)?;
+    add_line(head, teller.words(), text)?;
+    number.advance();
+    Ok(1)
+}
+
+/// Where the frame on the top of a thread stands.
+fn top_place(machine: &Checked, thread: u8) -> Option<FrameView> {
+    match top_frame(machine, thread) {
+        Some(frame) => Some(frame.view()),
+        None => None,
+    }
 }
 
 /// Whether an event is told for the first time, or again as it was told last.
@@ -243,12 +331,10 @@ enum Turn {
 fn times_again(reply: &Reply, rest: &Option<Repeated>) -> usize
     ensures { result ≡ times_again reply.now rest.now }
 {
-    if !happens_again(reply) {
-        return 0;
-    }
-    match rest {
-        Some(run) => run.count,
-        None => 0,
+    if happens_again(reply) {
+        count_left(rest)
+    } else {
+        0
     }
 }
 
@@ -328,8 +414,7 @@ fn make_words(
     if matches!(turn, Turn::Again) && teller.is_behind(head) {
         return Ok(());
     }
-    let moment = &happened.moment;
-    teller.tell(head, &happened.event, moment, &happened.reply, machine)
+    teller.tell(head, happened, machine)
 }
 
 /// The line of the trace for an event, without its end.

@@ -100,6 +100,19 @@ impl EventNumber {
         }
     }
 
+    /// Goes on by so many.
+    #[inline]
+    pub fn advance_many(&mut self, count: u64)
+        requires { self.old + count < 2 ^ 64 }
+        ensures { self.new ≡ self.old + count }
+    {
+        match count {
+            0 => {}
+            1 => self.advance(),
+            _ => self.renew(self.number + count),
+        }
+    }
+
     /// Goes on by ten, from a number that ends in 0.
     #[inline]
     pub(crate) fn advance_by_ten(&mut self)

@@ -2,7 +2,7 @@
 
 use crate::book::Book;
 use crate::disagreement::{Place, add_note, add_place, opened_place};
-use crate::line::Moment;
+use crate::line::Happened;
 use crate::places::{add_holders, add_sites};
 use crate::words::{add_lock, reason_words, status_name};
 use audit::findings::Findings;
@@ -10,7 +10,7 @@ use audit::refusal::Reason;
 use audit::ring::waits_for;
 use checked::Checked;
 use irp::Packet;
-use model::event::{Event, Reply};
+use model::event::Reply;
 use model::history::TopOut;
 use packet_holders::Rights;
 use pending_uses::acts::UseStep;
@@ -52,19 +52,11 @@ impl Audited {
     }
 
     /// Notes the location of which the next event opens a use, if it does.
-    fn note_opened(
-        &mut self,
-        moment: &Moment,
-        step: UseStep,
-        event: &Event,
-        reply: &Reply,
-        machine: &Checked,
-    ) -> Result<(), AllocError> {
-        if matches!(step, UseStep::Issue(_) | UseStep::Call(_))
-            && !matches!(reply, Reply::Waited | Reply::Idle | Reply::Refused)
+    fn note_opened(&mut self, happened: &Happened, machine: &Checked) -> Result<(), AllocError> {
+        if matches!(happened.step, UseStep::Issue(_) | UseStep::Call(_))
+            && !matches!(happened.reply, Reply::Waited | Reply::Idle | Reply::Refused)
         {
-            self.opened
-                .push(opened_place(step, event, moment, machine))?;
+            self.opened.push(opened_place(happened, machine))?;
         }
         Ok(())
     }
@@ -72,16 +64,13 @@ impl Audited {
     /// Notes the next event.
     pub(crate) fn note(
         &mut self,
-        moment: &Moment,
-        step: UseStep,
-        event: &Event,
-        reply: &Reply,
+        happened: &Happened,
         machine: &Checked,
     ) -> Result<(), AllocError> {
-        self.note_opened(moment, step, event, reply, machine)?;
+        self.note_opened(happened, machine)?;
         let number = self.events;
         self.events = number.wrapping_add(1);
-        match *reply {
+        match happened.reply {
             Reply::Topped {
                 packet,
                 status,
@@ -93,7 +82,7 @@ impl Audited {
             })?,
             Reply::Refused => self.refused.push(Refused {
                 number,
-                reason: moment.reason,
+                reason: happened.moment.reason,
             })?,
             _ => {}
         }

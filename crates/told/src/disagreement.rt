@@ -1,7 +1,7 @@
 //! What the audit says of uses of stack locations, in words.
 
 use crate::book::Book;
-use crate::line::Moment;
+use crate::line::{Happened, Moment};
 use crate::words::status_name;
 use checked::Checked;
 use model::event::Event;
@@ -42,15 +42,10 @@ fn called_place(moment: &Moment, machine: &Checked) -> Option<Place> {
 }
 
 /// The location of which an event opened a use, if it is known.
-pub(crate) fn opened_place(
-    step: UseStep,
-    event: &Event,
-    moment: &Moment,
-    machine: &Checked,
-) -> Option<Place> {
-    match (step, *event) {
+pub(crate) fn opened_place(happened: &Happened, machine: &Checked) -> Option<Place> {
+    match (happened.step, happened.event) {
         (UseStep::Issue(_), Event::Issue { device, .. }) => Some(Place { device, number: 1 }),
-        (UseStep::Call(_), _) => called_place(moment, machine),
+        (UseStep::Call(_), _) => called_place(&happened.moment, machine),
         _ => None,
     }
 }

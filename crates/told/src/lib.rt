@@ -14,5 +14,5 @@ mod words;
 
 pub use book::Book;
 pub use change::add_change;
-pub use line::Moment;
+pub use line::{Happened, Moment};
 pub use teller::Teller;

@@ -7,11 +7,12 @@ use crate::book::Book;
 use crate::columns::add_columns;
 use audit::refusal::{Reason, why_refused};
 use checked::Checked;
-use model::event::Event;
+use model::event::{Event, Reply};
 use model::instr::Instr;
 use model::view::{FrameView, PacketView};
 use model::world::CancelStep;
 use pending_uses::acting::{Acting, acting_in};
+use pending_uses::acts::UseStep;
 use std::alloc::AllocError;
 
 /// Where the columns, the place and the words begin, if what stands before them is no longer.
@@ -54,6 +55,16 @@ impl Moment {
     }
 }
 
+/// An event that has happened: what it was before, what it did to uses of stack locations, and the
+/// reply to it.
+#[derive(Clone, Copy)]
+pub struct Happened {
+    pub event: Event,
+    pub moment: Moment,
+    pub step: UseStep,
+    pub reply: Reply,
+}
+
 /// The packet that a step is about, if words on it say how the packet was before it.
 fn packet_before(machine: &Checked, acting: &Acting) -> Option<PacketView> {
     let is_told = match acting.frame {
@@ -69,22 +80,34 @@ fn packet_before(machine: &Checked, acting: &Acting) -> Option<PacketView> {
     }
 }
 
-/// Adds the columns and the place of an event behind a head of so many bytes, its number and the
-/// reply; and behind them what it changed, if these words say anything.
+/// Adds the columns of an event behind a head of so many bytes, its number and the reply.
+pub(crate) fn add_front(
+    words: &mut String,
+    head: usize,
+    event: &Event,
+    machine: &Checked,
+) -> Result<(), AllocError> {
+    pad(words, head, COLUMNS)?;
+    add_columns(words, machine, event)?;
+    words.push_str("  ")
+}
+
+/// Adds the columns and the place of an event behind a head of so many bytes; and behind them what
+/// it changed, if these words say anything.
 pub(crate) fn add_event(
     words: &mut String,
     head: usize,
     book: &Book<'_>,
-    event: &Event,
-    moment: &Moment,
+    happened: &Happened,
     machine: &Checked,
     change: &str,
 ) -> Result<(), AllocError> {
-    pad(words, head, COLUMNS)?;
-    add_columns(words, machine, event)?;
-    words.push_str("  ")?;
+    add_front(words, head, &happened.event, machine)?;
     let start = words.len();
-    add_place(words, book, moment)?;
+    match happened.moment.acting {
+        Some(acting) => add_place(words, book, acting.frame)?,
+        None => words.push_str("-")?,
+    }
     if change.is_empty() {
         return Ok(());
     }
@@ -99,13 +122,14 @@ fn pad(words: &mut String, has: usize, width: usize) -> Result<(), AllocError> {
     words.push_str(BLANKS.get(..blanks).unwrap_or(BLANKS))
 }
 
-/// Adds where the frame that acts stands: the routine and the line of its instruction, or what the
+/// Adds where a frame that acts stands: the routine and the line of its instruction, or what the
 /// I/O manager does.
-fn add_place(words: &mut String, book: &Book<'_>, moment: &Moment) -> Result<(), AllocError> {
-    let Some(acting) = moment.acting else {
-        return words.push_str("-");
-    };
-    match acting.frame {
+pub(crate) fn add_place(
+    words: &mut String,
+    book: &Book<'_>,
+    frame: FrameView,
+) -> Result<(), AllocError> {
+    match frame {
         FrameView::Routine {
             driver,
             routine,

@@ -3,14 +3,21 @@
 use crate::audited::{Audited, add_audit};
 use crate::book::Book;
 use crate::change::add_change;
-use crate::line::{Moment, add_event};
+use crate::line::{Happened, add_event, add_front, add_place};
 use audit::findings::Findings;
 use checked::Checked;
-use model::event::{Event, Reply};
+use model::event::Event;
+use model::view::FrameView;
 use packet_holders::Rights;
-use pending_uses::acts::UseStep;
 use pending_uses::ledger::Ledger;
 use std::alloc::{AllocError, Global};
+
+/// Whose columns stand ready: those of a thread's step, behind so many bytes.
+#[derive(Clone, Copy)]
+struct Ahead {
+    head: usize,
+    thread: u8,
+}
 
 /// What tells a run: how the text calls things, what is noted for the audit, and the words that were
 /// made last.
@@ -23,6 +30,10 @@ pub struct Teller<'a> {
     head: usize,
     /// What the last event changed.
     change: String,
+    /// The columns of the last step that a thread's routine made by itself.
+    front: String,
+    /// Of which step they are; of none, where another event came since.
+    ahead: Option<Ahead>,
 }
 
 impl<'a> Teller<'a> {
@@ -38,24 +49,19 @@ impl<'a> Teller<'a> {
             words: String::new(alloc),
             head: 0,
             change: String::new(alloc),
+            front: String::new(alloc),
+            ahead: None,
         })
     }
 
-    /// Notes the next event, by what it was before, what it does to uses of stack locations, the
-    /// reply to it, and the machine after it.
+    /// Notes the next event, by the machine after it.
     ///
     /// # Errors
     ///
     /// When memory runs out.
-    pub fn note(
-        &mut self,
-        moment: &Moment,
-        step: UseStep,
-        event: &Event,
-        reply: &Reply,
-        machine: &Checked,
-    ) -> Result<(), AllocError> {
-        self.audited.note(moment, step, event, reply, machine)
+    pub fn note(&mut self, happened: &Happened, machine: &Checked) -> Result<(), AllocError> {
+        self.ahead = None;
+        self.audited.note(happened, machine)
     }
 
     /// Notes so many events more, of which there is nothing to note.
@@ -68,8 +74,8 @@ impl<'a> Teller<'a> {
         self.head == head
     }
 
-    /// Makes the words that stand behind an event's number and its reply, which are so many bytes:
-    /// by what it was before, and by the machine after it.
+    /// Makes the words that stand behind an event's number and its reply, which are so many bytes, by
+    /// the machine after it.
     ///
     /// # Errors
     ///
@@ -77,25 +83,57 @@ impl<'a> Teller<'a> {
     pub fn tell(
         &mut self,
         head: usize,
-        event: &Event,
-        moment: &Moment,
-        reply: &Reply,
+        happened: &Happened,
         machine: &Checked,
     ) -> Result<(), AllocError> {
         self.change.clear();
-        add_change(&mut self.change, &self.book, event, moment, reply, machine)?;
+        add_change(
+            &mut self.change,
+            &self.book,
+            &happened.event,
+            &happened.moment,
+            &happened.reply,
+            machine,
+        )?;
         self.words.clear();
         self.head = head;
         let change = self.change.as_str();
-        add_event(
-            &mut self.words,
-            head,
-            &self.book,
-            event,
-            moment,
-            machine,
-            change,
-        )
+        add_event(&mut self.words, head, &self.book, happened, machine, change)
+    }
+
+    /// Makes the words of a step that a thread's routine made by itself, behind a head of so many
+    /// bytes: what it was before, its place, and the machine after it. The columns stay those of the
+    /// step before it, where that was one of the same thread, and no other event came between.
+    ///
+    /// # Errors
+    ///
+    /// When memory runs out.
+    pub fn tell_alone(
+        &mut self,
+        head: usize,
+        thread: u8,
+        place: FrameView,
+        machine: &Checked,
+    ) -> Result<(), AllocError> {
+        if !self.is_ahead(head, thread) {
+            self.front.clear();
+            self.ahead = None;
+            add_front(&mut self.front, head, &Event::Step { thread }, machine)?;
+            self.ahead = Some(Ahead { head, thread });
+        }
+        self.audited.pass(1);
+        self.head = head;
+        self.words.clear();
+        self.words.push_str(self.front.as_str())?;
+        add_place(&mut self.words, &self.book, place)
+    }
+
+    /// Whether the columns that were made last are those of a thread behind so many bytes.
+    fn is_ahead(&self, head: usize, thread: u8) -> bool {
+        match self.ahead {
+            Some(ahead) => ahead.head == head && ahead.thread == thread,
+            None => false,
+        }
     }
 
     /// Makes the words of the audit, by what was found in the machine and the ledger after the run,
