@@ -31,8 +31,8 @@ pub fn step(
     }
 }
 
-/// Lets a frame go on by itself, where it is a routine's, for at most so many steps, and answers how
-/// many.
+/// Lets a frame go on by itself, where it is a routine's, for at most so many steps, and answers
+/// how many.
 pub fn go_on(frame: &mut Frame, set: &DriverSet, count: usize) -> usize
     ensures few { result ≤ count }
     ensures goes { FrameGoes set.now frame.old result frame.new }

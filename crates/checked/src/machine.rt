@@ -71,10 +71,10 @@ impl Checked {
         self.state.apply(&self.driver_set, event)
     }
 
-    /// Lets the routine on the top of a thread make steps by itself, at most `count`, and answers how
-    /// many it made: the machine is then as after so many steps of the thread, each of which replies
-    /// that it stepped. It ends before the first instruction that may change anything but its
-    /// activation, or whose operands are wrong; it makes none where no routine stands on the
+    /// Lets the routine on the top of a thread make steps by itself, at most `count`, and answers
+    /// how many it made: the machine is then as after so many steps of the thread, each of which
+    /// replies that it stepped. It ends before the first instruction that may change anything but
+    /// its activation, or whose operands are wrong; it makes none where no routine stands on the
     /// top, or where the machine has stopped.
     pub fn go_on(&mut self, thread: u8, count: usize) -> usize
         ensures few { result ≤ count }

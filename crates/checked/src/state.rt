@@ -64,8 +64,8 @@ impl State {
         self.advance(set, event)
     }
 
-    /// Lets the routine on the top of a thread go on by itself for at most so many steps, and answers
-    /// how many. None after the run has stopped.
+    /// Lets the routine on the top of a thread go on by itself for at most so many steps, and
+    /// answers how many. None after the run has stopped.
     pub fn go_on(&mut self, set: &DriverSet, thread: u8, count: usize) -> usize
         requires { IsSound set.now }
         ensures few { result ≤ count }

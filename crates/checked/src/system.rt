@@ -253,8 +253,8 @@ impl System {
         Reply::Started(n)
     }
 
-    /// Lets the routine on the top of a thread go on by itself for at most so many steps, and answers
-    /// how many.
+    /// Lets the routine on the top of a thread go on by itself for at most so many steps, and
+    /// answers how many.
     pub fn go_on(&mut self, set: &DriverSet, thread: u8, count: usize) -> usize
         ensures few { result ≤ count }
         ensures goes { WorldGoes set.now self.old thread result self.new }

@@ -73,8 +73,8 @@ impl<'a> Teller<'a> {
         self.head == head
     }
 
-    /// Makes the words that stand behind an event's number and its reply, which are so many bytes, by
-    /// the machine after it.
+    /// Makes the words that stand behind an event's number and its reply, which are so many bytes,
+    /// by the machine after it.
     ///
     /// # Errors
     ///
