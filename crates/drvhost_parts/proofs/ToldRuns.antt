@@ -8,8 +8,6 @@ use Rattle.std.specs.Io.KnownBytes.{Appends}
 use Rattle.audit.specs.declared.findings.Findings.{Findings}
 use Rattle.audit.specs.Findings.{AreFindings, any_of, has_findings}
 use Rattle.pending_uses.specs.Ledger.{LedgerState, Tells as TellsRun}
-use Rattle.audit.specs.Left.{left_locks}
-use Rattle.audit.specs.Naming.{lost_packets}
 use Rattle.interleave.specs.declared.read.Repeated.{Repeated}
 use Rattle.interleave.specs.declared.schedule.Schedule.{Schedule}
 use Rattle.interleave.specs.declared.schedule.ScheduleFault.{ScheduleFault}
@@ -30,7 +28,6 @@ use Rattle.model.specs.World.{World}
 use Rattle.report.specs.Fault.{schedule_fault_line}
 use Rattle.run_laws.specs.Waits.{WaitingChangesNothing, says_unchanged}
 use Rattle.report.specs.Verdict.{refusal_line}
-use Rattle.inputs_outputs.specs.declared.fault.End.{End}
 use Rattle.inputs_outputs.specs.declared.fault.End.TheVariants.{Complete, Stopped}
 use Rattle.inputs_outputs.specs.declared.fault.Fault.{Fault}
 use Rattle.inputs_outputs.specs.declared.fault.Fault.TheVariants.{Read, Write, Memory, Text, Image, Schedule as OfSchedule, Script as OfScript}
@@ -43,7 +40,7 @@ use Rattle.inputs_outputs.specs.declared.verification.Verification.{Verification
 use Rattle.inputs_outputs.specs.Ends.{HoldsRun}
 use Rattle.inputs_outputs.specs.Fault.{Goes, ReadsSchedule, ReadsSet}
 use Rattle.drvhost_parts.specs.Repeats.{awaited}
-use Rattle.drvhost_parts.specs.Told.{HasTold, LedgerGoesOn, IsRunShown, IsRunTold, IsScheduleShown, IsShownRunOf, IsTold, Tells, ToldNext, count_left, happens_again, is_left_out, left_again, past_by, replies_by, reply_head, run_to_end, times_again, told_end, told_line, world_by}
+use Rattle.drvhost_parts.specs.Told.{HasTold, LedgerGoesOn, IsRunShown, IsRunTold, IsScheduleShown, IsShownRunOf, IsTold, Tells, ToldNext, count_left, happens_again, is_left_out, left_again, past_by, replies_by, reply_head, run_to_end, times_again, told_line, world_by}
 use Rattle.drvhost_parts.proofs.Following.{counted, run_more}
 use Rattle.inputs_outputs.proofs.Writing.{keeps_same}
 
@@ -349,7 +346,8 @@ telling_rest detail set threads events m n l k number e rest later text more wor
           let all : Telling detail set threads events n k (number + 1 + count_left rest) later
           (text ++ (line ++ added)) =
           telling_more detail set threads events m n l k e reply ran noted
-          (kept (unchanged_again reply again)) law (unchanged_again reply again) on (count_left rest) number later text (line ++ added) awaits
+          (kept (unchanged_again reply again)) law (unchanged_again reply again) on
+          (count_left rest) number later text (line ++ added) awaits
           (words, (added, refl, counted)) in
           let whole : text ++ (line ++ added) ≡ more ++ added =
           sym (append_assoc text line added) ∙ ap (λ x. x ++ added) (sym is) in

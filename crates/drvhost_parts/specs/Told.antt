@@ -101,20 +101,20 @@ pub record ToldNext (detail : Detail) (number : ℕ) (reply : Reply) (rest : Opt
   pub whole : more ≡ (text ++ told_line detail number reply words) ++ added
   pub again : IsTold detail (number + 1) (replicate (times_again reply rest) reply) added
 
--- a ledger that tells a run that a machine shows becomes one that tells that run with an event added
+-- a ledger that tells a run that a machine shows becomes one that tells it with an event added
 abbrev pub LedgerGoesOn : Machine → Event → LedgerState → LedgerState → Type 0
 LedgerGoesOn m e l k =
     (threads : ℕ) (events : List Event) → ShowsWhole m threads events
     → TellsRun (run m.set threads events) l → TellsRun (run m.set threads (events ++ e ∷ [])) k
 
--- an event was applied so many times, each time as a step that changes nothing but the activation on
--- its thread's top; never, where it is no step
+-- an event was applied so many times, each time as a step that changes nothing but the activation
+-- on its thread's top; never, where it is no step
 abbrev pub GoesAlone : Event → Machine → ℕ → Machine → Type 0
 GoesAlone (Step t) m k n = GoesOn t m k n
 GoesAlone e m k n = (k ≡ 0) × (n ≡ m)
 
--- so many such steps are told, the first of which has this number: nothing in quiet, and else a line
--- of one
+-- so many such steps are told, the first of which has this number: nothing in quiet, and else a
+-- line of one
 abbrev pub ToldAlone : Detail → ℕ → ℕ → List ℕ → List ℕ → Type 0
 ToldAlone Quiet number k text more = more ≡ text
 ToldAlone Whole number k text more =

@@ -245,9 +245,9 @@ fn count_left(rest: &Option<Repeated>) -> usize
     }
 }
 
-/// Lets the threads of the events that come next go on by themselves, as far as they are equal
-/// steps: in quiet as many as can be made so, of which nothing is told, and else the first, of which
-/// a line is told. It answers how many were made.
+/// Lets the thread of the step that comes next, and of those equal to it, go on by itself: in quiet
+/// for as many as it can make so, of which nothing is told, and else for the first, of which a line
+/// is told. It answers how many were made; none where another event comes next.
 fn go_ahead(
     teller: &mut Teller<'_>,
     machine: &mut Checked,
