@@ -28,14 +28,14 @@ fn acting_device(moment: &Moment) -> Option<u8> {
     }
 }
 
-/// The location that a routine's `call` made current, which stands as it was before.
-fn called_place(moment: &Moment, machine: &Checked) -> Option<Place> {
+/// The location that a routine's `call` made current: the one that is current after it.
+fn called_place(n: u64, moment: &Moment, machine: &Checked) -> Option<Place> {
     let device = acting_device(moment)?;
     let device = machine.set().lower(device)?;
-    match moment.packet {
-        Some(PacketView::Live(packet)) => Some(Place {
+    match machine.packet(n) {
+        PacketView::Live(packet) => Some(Place {
             device,
-            number: packet.depth.saturating_add(1),
+            number: packet.depth,
         }),
         _ => None,
     }
@@ -45,7 +45,7 @@ fn called_place(moment: &Moment, machine: &Checked) -> Option<Place> {
 pub(crate) fn opened_place(happened: &Happened, machine: &Checked) -> Option<Place> {
     match (happened.step, happened.event) {
         (UseStep::Issue(_), Event::Issue { device, .. }) => Some(Place { device, number: 1 }),
-        (UseStep::Call(_), _) => called_place(&happened.moment, machine),
+        (UseStep::Call(n), _) => called_place(n, &happened.moment, machine),
         _ => None,
     }
 }
