@@ -292,4 +292,5 @@ def main():
     print_explained(taken)
     sys.exit(1 if differ else 0)
 
-main()
+if __name__ == '__main__':
+    main()
