@@ -1,10 +1,11 @@
 //! Runs that are told in words.
 
-ghost use Rattle.std.specs.Prelude.{◌≡◌, ◌+◌, ◌++◌, ◌∷◌, ◌<◌, ◌≤◌, ◌^◌, ◌||◌, List, ℕ, [], IfOk, IfSome, MatchOption, OnOk, codes, if◌then◌else◌, replicate, true};
+ghost use Rattle.std.specs.Prelude.{◌≡◌, ◌+◌, ◌++◌, ◌∷◌, ◌<◌, ◌≤◌, ◌^◌, ◌||◌, List, ℕ, [], IfOk, IfSome, IsTrue, MatchOption, OnOk, codes, if◌then◌else◌, replicate, true};
 ghost use Rattle.pending_uses.specs.Acts.{use_step};
 ghost use Rattle.pending_uses.specs.Ledger.{Tells as TellsRun, TellsOn};
 ghost use Rattle.checked.specs.GoingOn.{GoesOn};
 ghost use Rattle.interleave.specs.Listing.{IsWithinLimits};
+ghost use Rattle.model.specs.declared.event.Reply.TheVariants.{Stepped};
 ghost use Rattle.model.specs.Machine.{AppliesWhole, ShowsWhole};
 ghost use Rattle.model.specs.Run.{begun};
 ghost use Rattle.run_laws.specs.Waits.{says_unchanged};
@@ -23,7 +24,7 @@ use interleave::schedule::Schedule;
 use model::event::{Event, Reply};
 use model::view::FrameView;
 use packet_holders::Rights;
-use pending_uses::acts::use_step;
+use pending_uses::acts::{UseStep, use_step};
 use pending_uses::laws::going_on_keeps_ledgers;
 use pending_uses::ledger::Ledger;
 use pending_uses::standing::top_frame;
@@ -207,6 +208,14 @@ fn tell_next(
     let step = use_step(machine, &next.event);
     let reply = machine.apply(&next.event);
     ledger.note(alloc, step, &next.event, &reply, machine)?;
+    if is_passed(detail, step, &reply) {
+        teller.pass(1);
+        number.advance();
+        return Ok(Answered {
+            reply,
+            rest: next.rest,
+        });
+    }
     let happened = Happened {
         event: next.event,
         moment,
@@ -233,6 +242,17 @@ fn tell_next(
         reply,
         rest: left_again(&reply, next.rest),
     })
+}
+
+/// Whether an event is passed over: nothing is told of it, and nothing noted for the audit.
+fn is_passed(detail: Detail, step: UseStep, reply: &Reply) -> bool
+    ensures { IsTrue result → (detail ≡ Detail.Quiet) × (reply.now ≡ Stepped) }
+{
+    let opens = matches!(step, UseStep::Issue(_) | UseStep::Call(_));
+    match (detail, reply) {
+        (Detail::Quiet, Reply::Stepped) => !opens,
+        _ => false,
+    }
 }
 
 /// How many events are left of a run.
