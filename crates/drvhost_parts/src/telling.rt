@@ -24,7 +24,7 @@ use interleave::schedule::Schedule;
 use model::event::{Event, Reply};
 use model::view::FrameView;
 use packet_holders::Rights;
-use pending_uses::acts::{UseStep, use_step};
+use pending_uses::acts::{UseStep, use_step_of};
 use pending_uses::laws::going_on_keeps_ledgers;
 use pending_uses::ledger::Ledger;
 use pending_uses::standing::top_frame;
@@ -205,7 +205,7 @@ fn tell_next(
         ToldNext detail number.old answered.reply next.rest text.old.items text.new.items) }
 {
     let moment = Moment::before(machine, &next.event);
-    let step = use_step(machine, &next.event);
+    let step = use_step_of(machine, &next.event, &moment.acting);
     let reply = machine.apply(&next.event);
     ledger.note(alloc, step, &next.event, &reply, machine)?;
     if is_passed(detail, step, &reply) {

@@ -1,5 +1,5 @@
 -- What an event does to uses of stack locations, by what stands before it, if it isn't refused.
-use Rattle.std.specs.Prelude.{ℕ, List, [], ◌∷◌, Option, None, Some, nat_lt, if◌then◌else◌}
+use Rattle.std.specs.Prelude.{ℕ, Bool, true, false, List, [], ◌∷◌, Option, None, Some, nat_lt, if◌then◌else◌}
 use Rattle.model.specs.declared.event.Event.{Event}
 use Rattle.model.specs.declared.event.Event.TheVariants.{Issue as IssueEvent, Cancel as CancelEvent, Interrupt, Dpc as DpcEvent, StartIo as StartIoEvent, Step}
 use Rattle.model.specs.declared.instr.Instr.{Instr}
@@ -78,6 +78,14 @@ instruction_uses set s a (Some (CallInstr r f)) =
 instruction_uses set s a (Some (Ret form)) =
     returns_status (status_by (sort_of set a.driver a.routine) a form)
 instruction_uses set s a (Some i) = Nothing
+
+-- an instruction that may do anything, where a routine stands at one
+abbrev pub may_use : Option Instr → Bool
+may_use None = true
+may_use (Some (MarkInstr r)) = true
+may_use (Some (CallInstr r f)) = true
+may_use (Some (Ret form)) = true
+may_use (Some i) = false
 
 -- completion
 abbrev pub onward_of : Packet → Option Completion → Onward

@@ -2,8 +2,10 @@
 
 ghost use Rattle.std.specs.Prelude.{◌≡◌, Some};
 ghost use Rattle.model.specs.World.{completion_of, current_location, packet_of};
-ghost use Rattle.pending_uses.specs.Acts.{frame_uses, instruction_uses, leaves_packet, live_in, onward_of, status_by, use_step};
+ghost use Rattle.pending_uses.specs.Acting.{acting_in};
+ghost use Rattle.pending_uses.specs.Acts.{may_use, frame_uses, instruction_uses, leaves_packet, live_in, onward_of, status_by, use_step};
 
+use crate::acting::Acting;
 use crate::standing::{instruction_at, packet_in, top_frame};
 use checked::Checked;
 use checked_parts::{Frame, status_in};
@@ -139,5 +141,26 @@ pub fn use_step(machine: &Checked, event: &Event) -> UseStep
             None => UseStep::Nothing,
         },
         _ => UseStep::Nothing,
+    }
+}
+
+/// Whether the step of a frame that acts may do anything to uses.
+fn may_use(acting: &Acting) -> bool
+    ensures { result ≡ may_use acting.now.instruction }
+{
+    match acting.instruction {
+        Some(instr) => matches!(instr, Instr::Mark(_) | Instr::Call(_, _) | Instr::Ret(_)),
+        None => true,
+    }
+}
+
+/// The same, by the frame that acts in the event, which was looked up before.
+pub fn use_step_of(machine: &Checked, event: &Event, acting: &Option<Acting>) -> UseStep
+    requires { acting.now ≡ acting_in machine.now.set machine.now.world event.now }
+    ensures { result ≡ use_step machine.now.set machine.now.world event.now }
+{
+    match acting {
+        Some(acting) if !may_use(acting) => UseStep::Nothing,
+        _ => use_step(machine, event),
     }
 }

@@ -273,14 +273,16 @@ impl Ledger {
             (DoesAll (served_on self.old.rows thread) (actions_of step) self.old.uses self.new.uses) }
         ensures rows { OnOk result (self.new.rows ≡ self.old.rows) }
     {
-        let serving = self.served_on(thread);
         match step {
             UseStep::Nothing => {}
             UseStep::Issue(n) => self.known.issue(alloc, n)?,
             UseStep::Call(n) => self.known.call(alloc, n)?,
             UseStep::Mark(n) => self.known.mark(n),
             UseStep::Leave(n, onward) => self.leave(n, onward),
-            UseStep::Return(status) => self.known.returns(serving, status),
+            UseStep::Return(status) => {
+                let serving = self.served_on(thread);
+                self.known.returns(serving, status);
+            }
         }
         Ok(())
     }
