@@ -2,13 +2,15 @@
 """try_random_told.py [--seed N] [--runs N] [PROGRAM]: random schedules (5,000, if no number is given) on all accepted texts of
 examples, gallery and crates/stored_runs/data, told and traced by the program (crates/drvhost/out/drvhost, if none is named). Of
 each run every told line has to begin with the trace's line, both have to end alike, and the audit may find no packet that is
-lost, no lock left behind and no stack location returned from otherwise than it was marked. Threads may wait in a ring, since no
-rule forbids that, and the told run ends with exit status 1 then. The last line counts."""
+lost, no lock left behind and no stack location returned from otherwise than it was marked; each live packet has one holder by
+right; and with --quiet the same is told but for the lines of events that only step or find nothing to do. Threads may wait in a
+ring, since no rule forbids that, and the told run ends with exit status 1 then. The last line counts."""
 import argparse, glob, os, random, re, subprocess, sys, tempfile
 
 TOP = os.path.dirname(os.path.dirname(os.path.abspath(__file__)))
 PLACES = 'examples/*.drv', 'gallery/*/*.drv', 'crates/stored_runs/data/**/*.drv'
 AMISS = re.compile(r'lost|left behind|completion left it|stopped by')
+LEFT_OUT = re.compile(r'[0-9]+ (stepped|idle)\b')
 
 def answer(program, *words):
     done = subprocess.run([program, *words], capture_output=True, text=True, errors='replace', timeout=60)
@@ -55,7 +57,10 @@ def wrong_of(program, set_path, by):
         return 'the lines differ'
     if ended != (1 if 'in a ring' in audit else traced):
         return 'exit status %d, and %d of the trace' % (ended, traced)
-    found = [line for line in audit.splitlines() if AMISS.search(line)]
+    kept = [line for line in lines if not LEFT_OUT.match(line)]
+    if answer(program, 'tell', set_path, by, '--quiet') != (''.join(line + '\n' for line in kept) + '\naudit\n' + audit, ended):
+        return 'in quiet something else is told'
+    found = [line for line in audit.splitlines() if AMISS.search(line) or ' is live ' in line and line.count('; held ') != 1]
     return found[0] if found else None
 
 def main():
