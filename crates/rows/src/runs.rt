@@ -19,6 +19,10 @@ const TWICE: &[u8] =
     b"driver d\ndispatch READ f\nroutine f dispatch\ncomplete r0 SUCCESS\ncomplete r0 SUCCESS\n\
       ret SUCCESS\nendr\nendd\ndevice v d 1\n";
 
+const COUNTS: &[u8] =
+    b"driver d\ndispatch READ f\nroutine f dispatch\nconst r1 2\nloop 2\nadd r1 r1\nend\n\
+      complete r0 SUCCESS\nret SUCCESS\nendr\nendd\ndevice v d 1\n";
+
 const READ: Event = Event::Issue {
     thread: 0,
     device: 0,
@@ -124,4 +128,21 @@ fn machines_stop_at_a_bug_check(rt: HostRuntime) {
     assert!(rt; matches!(bug.subject, Subject::Packet(0)));
     assert!(rt; machine.stopped());
     assert!(rt; matches!(machine.apply(&STEP), Reply::Refused));
+}
+
+/// A routine goes on by itself as far as it is asked to, and then up to the instruction that does
+/// more.
+#[test]
+fn routines_go_on_by_themselves(rt: HostRuntime) {
+    let alloc = rt.alloc();
+    let set = assemble(alloc, COUNTS).ok().expect(&rt, "a set");
+    let mut machine = Checked::run(alloc, set, 1, &[READ])
+        .ok()
+        .expect(&rt, "memory");
+    assert_eq!(rt; machine.go_on(0, 4), 4);
+    assert_eq!(rt; machine.go_on(0, 9), 2);
+    assert_eq!(rt; machine.go_on(0, 9), 0);
+    assert_eq!(rt; machine.go_on(1, 9), 0);
+    assert!(rt; matches!(machine.apply(&STEP), Reply::Stepped));
+    assert!(rt; matches!(machine.apply(&STEP), Reply::Topped { packet: 0, .. }));
 }
