@@ -106,7 +106,7 @@ QUIET = {
                         '2 topped 0 0x00000000 0', '3 refused', '4 refused'],
     'calls-of-a-queue': ['put 2 taken 1 left 1'],
 }
-IMAGE = 'c8e5a1d2010ae4ad0f912069ed5201ca'  # of the set of CALLS, as the tests have it
+IMAGE = 'f6a69216b017d9fc4e2d7cb076862343'  # md5 of the image, of edition 2, of the set of CALLS
 BEHIND = 'left 25000'
 
 def plain(text):
