@@ -5,7 +5,7 @@ use Rattle.std.proofs.lemmas.Bool.{eq-eqb, eqb-true}
 use Rattle.std.proofs.lemmas.Bool.Decides.{eqb_tells}
 use Rattle.std.proofs.lemmas.List.{append-nil, length-append}
 use Rattle.model.specs.declared.status.Status.{Status}
-use Rattle.model.specs.Action.{Executes, Marks, Leaves, Returns}
+use Rattle.model.specs.Action.{Action, Executes, Acquires, Releases, TouchesPaged, Touches, Issues, Calls, Ups, Completes, Continues, Lends, Exchanges, Marks, Leaves, Returns, TopsOut, GoesWrong}
 use Rattle.model.specs.PendingAgreement.{is_use, leaves_use, marks_left, serves, statuses_returned, was_marked}
 use Rattle.model.specs.Trace.{Activated, Actor, Entry, Managing, Serving, Tag, current_use, entry, opens, recorded, uses, uses_opened}
 use Rattle.run_laws.proofs.Tests.{and_false}
