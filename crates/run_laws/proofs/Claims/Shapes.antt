@@ -2,7 +2,7 @@
 use Rattle.std.proofs.Common.{◌≡◌, ℕ, ◌+◌, Bool, true, false, List, [], ◌∷◌, Option, None, Some, refl, ap, sym, ◌∙◌, subst, arith, ◌<◌, inl, inr}
 use Rattle.std.specs.Prelude.{◌≤◌, slice_get, is_none}
 use Rattle.model.specs.declared.set.Guard.TheVariants.{DeviceLock, CancelLock}
-use Rattle.model.specs.declared.abs.Kind.TheVariants.{Blank as BlankKind, Own, Queued}
+use Rattle.model.specs.declared.abs.Kind.TheVariants.{Blank as BlankKind, Own, Queued as QueuedKind}
 use Rattle.model.specs.declared.instr.Instr.{Instr}
 use Rattle.model.specs.declared.instr.Instr.TheVariants.{Begin, Next, Remove, Start, Take, Arm, Disarm, Release, ReleaseCancel}
 use Rattle.model.specs.declared.world.Activation.{Activation}
@@ -274,9 +274,9 @@ module _ (set : Set) (states : States) (w : World) (past : List Entry) (good : I
 
   -- a register's packet was handed to the cancel routine of the device queue
   dequeued_kind : (k : Kind) → queued_kind (is_at Cancelling DeviceQueue k) k ≡ None
-      → k ≡ Queued DeviceQueue Cancelling
-  dequeued_kind (Queued (Declared q) Cancelling) h = cc
-  dequeued_kind (Queued DeviceQueue Cancelling) h = refl
+      → k ≡ QueuedKind DeviceQueue Cancelling
+  dequeued_kind (QueuedKind (Declared q) Cancelling) h = cc
+  dequeued_kind (QueuedKind DeviceQueue Cancelling) h = refl
   dequeued_kind _ h = cc
 
   queues_by : (a : Activation) (i : Instr) → h.frame ≡ Routine a → Runs set states w.shared a i
@@ -366,7 +366,7 @@ module _ (set : Set) (states : States) (w : World) (past : List Entry) (good : I
       (next_loses start)
   queues_by a i frame run outcome holding (starts_gone n start there first gone) quiet = cc
   queues_by a i frame run outcome holding (dequeues_packet r n start reads there) quiet =
-      let is : kind_of (state_of states a) r ≡ Queued DeviceQueue Cancelling =
+      let is : kind_of (state_of states a) r ≡ QueuedKind DeviceQueue Cancelling =
       dequeued_kind (kind_of (state_of states a) r) (first_none _ _ run.obeys) in
       unlinks_cancelled set states w past good stands c t h leaves kept a frame
       (ap (λ (x : Outcome). x.shared.packets) outcome) agree owned
@@ -386,8 +386,8 @@ module _ (set : Set) (states : States) (w : World) (past : List Entry) (good : I
         unlinked_times start.device_queue n m,
       ))
       (first_none _ _ (second_none _ _ run.obeys)) is
-      (next_turns set states w.shared a (Dequeue r) run r (Queued DeviceQueue Cancelling) Own n refl
-      refl
+      (next_turns set states w.shared a (Dequeue r) run r (QueuedKind DeviceQueue Cancelling) Own n
+      refl refl
       is (reads_ref w.shared (register a r) n reads))
 
   -- an instruction that exchanges the cancel routine of a packet of the device queue

@@ -12,7 +12,7 @@ use Rattle.std.proofs.Common.{◌+◌, ◌≤◌, ◌≡◌, ℕ, ◌<◌, List,
 use Rattle.std.specs.Prelude.{⊤}
 use Rattle.std.proofs.lemmas.Bool.{eq-eqb, cases_Bool}
 use Rattle.model.specs.declared.abs.Kind.{Kind}
-use Rattle.model.specs.declared.abs.Kind.TheVariants.{Queued, View}
+use Rattle.model.specs.declared.abs.Kind.TheVariants.{Queued as QueuedKind, View}
 use Rattle.model.specs.declared.instr.Instr.{Instr}
 use Rattle.model.specs.declared.set.Routine.{Routine as RoutineOf}
 use Rattle.model.specs.declared.set.Sort.TheVariants.{Dispatch, Hold, Cancel}
@@ -283,7 +283,7 @@ module _ (set : Set) (states : States) (s : Shared) where
 pub only_view : (k : Kind) → is_packet k ≡ true → is_right k ≡ false
     → (is_view k ≡ true) ⊎ (is_exchanged k ≡ true)
 only_view View is free = inl refl
-only_view (Queued name stage) is free = inr (not_false (is_claim stage) free)
+only_view (QueuedKind name stage) is free = inr (not_false (is_claim stage) free)
 only_view _ is free = cc
 
 -- one that may be cancelled is live, and so is one that stands in a queue

@@ -6,7 +6,7 @@ use Rattle.model.specs.declared.abs.Abs.{Abs}
 use Rattle.model.specs.declared.abs.Duty.{Duty}
 use Rattle.model.specs.declared.abs.Duty.TheVariants.{Finished, Fresh, GivenDown, NoDuty, Pending}
 use Rattle.model.specs.declared.abs.Kind.{Kind}
-use Rattle.model.specs.declared.abs.Kind.TheVariants.{Blank as BlankKind, Num as NumKind, Lower as LowerKind, New, Own, Queued}
+use Rattle.model.specs.declared.abs.Kind.TheVariants.{Blank as BlankKind, Num as NumKind, Lower as LowerKind, New, Own, Queued as QueuedKind}
 use Rattle.model.specs.declared.abs.Stage.TheVariants.{Armed}
 use Rattle.model.specs.declared.abs.Settled.{Settled}
 use Rattle.model.specs.declared.event.Reply.TheVariants.{Stepped, Waited}
@@ -419,7 +419,7 @@ module _ (set : Set) (states : States) (s : Shared) (past : List Entry) (actor :
   armed_as : (r q : ℕ) (b : Activation) → Executing set a (Arm r q) → GoesTo a (Arm r q) b false
       → GoesOnAs states a b
   armed_as r q b at (onward registers on written) =
-      turns_as (Arm r q) r (Queued (Declared q) Armed) b false at (onward registers on written)
+      turns_as (Arm r q) r (QueuedKind (Declared q) Armed) b false at (onward registers on written)
       (arm_same r q registers written) refl refl (λ x. tt)
 
   disarmed_as : (r label : ℕ) (b : Activation) (jumped : Bool) → Executing set a (Disarm r label)

@@ -6,7 +6,7 @@ use Rattle.std.specs.List.{list_any}
 use Rattle.std.proofs.lemmas.Bool.{cond_both}
 use Rattle.model.specs.declared.abs.Abs.{Abs}
 use Rattle.model.specs.declared.abs.Kind.{Kind}
-use Rattle.model.specs.declared.abs.Kind.TheVariants.{Blank as BlankKind, Num as NumKind, Lower, New, Own, Queued}
+use Rattle.model.specs.declared.abs.Kind.TheVariants.{Blank as BlankKind, Num as NumKind, Lower, New, Own, Queued as QueuedKind}
 use Rattle.model.specs.declared.abs.Stage.TheVariants.{Listed, Armed, Taken}
 use Rattle.model.specs.declared.instr.Instr.{Instr}
 use Rattle.model.specs.declared.instr.Instr.TheVariants.{Const, Move, Clear, Load, LoadPaged, Get, Mark, Release, Insert, Remove, Unlink, Arm, Disarm, Start, Take, Begin, Next, Pass, Call, Complete, ReleaseCancel, Dequeue}
@@ -122,16 +122,16 @@ module _ (f : Kind → Bool) (given : IsHanded f) (P : Value → Type 0) where
       (h.0, hold_becomes kinds values r k was h.1)
 
   disarmed_was : (k : Kind) → f (kind_disarmed k) ≡ true → f k ≡ true
-  disarmed_was (Queued name Armed) is =
-      absurd (is_not (Queued name Listed) (given.queued name Listed) is)
-  disarmed_was (Queued name Taken) is = absurd (is_not Own given.own is)
+  disarmed_was (QueuedKind name Armed) is =
+      absurd (is_not (QueuedKind name Listed) (given.queued name Listed) is)
+  disarmed_was (QueuedKind name Taken) is = absurd (is_not Own given.own is)
   disarmed_was _ is = is
 
   go_was : (set : Set) (driver : ℕ) (lock : Guard) (k : Kind) → f (let_go set driver lock k) ≡ true
       → f k ≡ true
-  go_was set driver lock (Queued name stage) =
+  go_was set driver lock (QueuedKind name stage) =
       cond_both (is_stage stage Armed && is_guard (guard_named set driver name) lock) BlankKind
-      (Queued name stage) (λ k. f k ≡ true → f (Queued name stage) ≡ true)
+      (QueuedKind name stage) (λ k. f k ≡ true → f (QueuedKind name stage) ≡ true)
       (λ guards is. absurd (is_not BlankKind given.blank is)) (λ other is. is)
   go_was set driver lock _ = λ is. is
 
@@ -180,7 +180,7 @@ module _ (f : Kind → Bool) (given : IsHanded f) (P : Value → Type 0) where
   handed_hold set driver s (Dequeue r) values plain h =
       hold_turn s.kinds values r Own given.own h
   handed_hold set driver s (Arm r q) values plain h =
-      hold_turn s.kinds values r (Queued (Declared q) Armed) (given.queued (Declared q) Armed) h
+      hold_turn s.kinds values r (QueuedKind (Declared q) Armed) (given.queued (Declared q) Armed) h
   handed_hold set driver s (Disarm r label) values plain h =
       hold_becomes s.kinds values r (kind_disarmed (kind_of s r)) (disarmed_was (kind_of s r)) h
   handed_hold set driver s (Release lock) values plain h =

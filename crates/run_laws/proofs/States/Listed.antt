@@ -12,7 +12,7 @@ use Rattle.model.specs.Paths.{Arrives}
 use Rattle.model.specs.declared.set.Driver.{Driver}
 use Rattle.model.specs.declared.abs.Duty.{Duty}
 use Rattle.std.proofs.Common.{◌≡◌, ℕ, zero, suc, ◌<◌, ◌+◌, Bool, true, false, List, [], ◌∷◌, length, Option, None, Some, refl, ap, sym, ◌∙◌, subst, arith, replicate, get_or-set_other, inl, eqb-true, inr, eq-eqb, ◌-◌}
-use Rattle.std.specs.Prelude.{slice_get, slice_set, slice_index_or, option_and_then, if◌then◌else◌, ⊤, ◌&&◌}
+use Rattle.std.specs.Prelude.{slice_get, slice_set, slice_index_or, option_and_then, if◌then◌else◌, ⊤, ◌&&◌, ◌||◌}
 use Rattle.std.specs.List.{list_any}
 use Rattle.std.proofs.lemmas.Bool.Decides.{eqb_tells}
 use Rattle.std.proofs.lemmas.List.{get_or-set_same}
