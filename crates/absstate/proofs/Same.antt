@@ -10,7 +10,6 @@ use Rattle.model.specs.declared.abs.Stage.TheVariants.{Listed, Armed, Taken, Can
 use Rattle.model.specs.declared.abs.Stage.{Stage}
 use Rattle.model.specs.declared.set.QueueName.{QueueName}
 use Rattle.model.specs.declared.set.QueueName.TheVariants.{Declared, DeviceQueue}
-use Rattle.model.specs.Kinds.{stage_number}
 use Rattle.absstate.specs.Same.{has_list, name_number, queue_number, same_queues, same_shapes, shape}
 
 -- the list of this number
@@ -29,12 +28,6 @@ stage_of_number number =
     (if nat_eq number 1 then Armed else
     (if nat_eq number 2 then Taken else Cancelling))
 
-stage_told : (stage : Stage) → stage_of_number (stage_number stage) ≡ stage
-stage_told Listed = refl
-stage_told Armed = refl
-stage_told Taken = refl
-stage_told Cancelling = refl
-
 -- the kind of these numbers
 abbrev kind_of_numbers : ℕ → ℕ → Kind
 kind_of_numbers shape queue =
@@ -52,7 +45,10 @@ told Num = refl
 told Lower = refl
 told New = refl
 told Own = refl
-told (Queued name stage) = rw (name_told name, stage_told stage) refl
+told (Queued name Listed) = ap (λ (x : QueueName). Queued x Listed) (name_told name)
+told (Queued name Armed) = ap (λ (x : QueueName). Queued x Armed) (name_told name)
+told (Queued name Taken) = ap (λ (x : QueueName). Queued x Taken) (name_told name)
+told (Queued name Cancelling) = ap (λ (x : QueueName). Queued x Cancelling) (name_told name)
 told View = refl
 
 pub same_kind : (a b : Kind) → shape a ≡ shape b → queue_number a ≡ queue_number b → a ≡ b
@@ -103,7 +99,10 @@ has_list_told Num = refl
 has_list_told Lower = refl
 has_list_told New = refl
 has_list_told Own = refl
-has_list_told (Queued name stage) = refl
+has_list_told (Queued name Listed) = refl
+has_list_told (Queued name Armed) = refl
+has_list_told (Queued name Taken) = refl
+has_list_told (Queued name Cancelling) = refl
 has_list_told View = refl
 
 unlisted : (kind : Kind) → has_list kind ≡ false → queue_number kind ≡ 0

@@ -18,7 +18,7 @@ use Rattle.model.specs.declared.abs.Kind.TheVariants.{Blank as BlankKind, New, O
 use Rattle.model.specs.declared.abs.Stage.{Stage}
 use Rattle.model.specs.declared.abs.Stage.TheVariants.{Listed, Armed, Taken, Cancelling}
 use Rattle.run_laws.proofs.States.Listed.{stage_same}
-use Rattle.run_laws.proofs.Tests.{and_false, not_false}
+use Rattle.run_laws.proofs.Tests.{and_false}
 use Rattle.model.specs.declared.abs.Rule.TheVariants.{Guard as GuardRule, Sort as SortRule, Token}
 use Rattle.model.specs.declared.abs.Settled.TheVariants.{Settled as SettledMark, Open}
 use Rattle.model.specs.declared.instr.Instr.{Instr}
@@ -35,7 +35,7 @@ use Rattle.model.specs.declared.world.Packet.{Packet}
 use Rattle.run_laws.specs.ArrivingStates.{States}
 use Rattle.run_laws.specs.Holder.{times_in}
 use Rattle.run_laws.proofs.Claims.Guards.{NeedsGuard, excluded, at_needs}
-use Rattle.run_laws.proofs.Claims.Sums.{Claimed, is_cancelable, list_of, names_on, times_of, word_at, word_for}
+use Rattle.run_laws.proofs.Claims.Sums.{Claimed, is_cancelable, is_declared, list_of, names_on, times_of, word_at, word_for}
 use Rattle.run_laws.proofs.Claims.WordSteps.{IsFor, word_is_for}
 use Rattle.run_laws.proofs.Claims.Working.{some_none}
 use Rattle.run_laws.proofs.Holders.Rights.{named_nowhere}
@@ -55,19 +55,23 @@ use Rattle.run_laws.proofs.States.Rules.{first_none, granted, second_none}
 -- kinds that no instruction makes: of a packet of the device queue in a register, but for one that
 -- is being cancelled; and of one that is being cancelled at all
 abbrev pub is_waiting : Kind → Bool
-is_waiting (Queued (Declared q) stage) = false
-is_waiting (Queued DeviceQueue stage) = not (is_stage stage Cancelling)
+is_waiting (Queued name stage) = not (is_stage stage Cancelling) && not (is_declared name)
 is_waiting _ = false
 
 abbrev is_handed_over : Kind → Bool
 is_handed_over (Queued name Cancelling) = true
 is_handed_over _ = false
 
+-- one of the device queue that isn't waiting is being cancelled
+is_cancelled : (cancelling : Bool) → (not cancelling && true) ≡ false → cancelling ≡ true
+is_cancelled true h = refl
+is_cancelled false h = cc
+
 pub no_waiting : (stage : Stage) → is_stage Cancelling stage ≡ false → (k : Kind)
     → is_waiting k ≡ false → is_at stage DeviceQueue k ≡ false
 no_waiting stage other (Queued (Declared q) at) h = and_false (is_stage at stage)
 no_waiting stage other (Queued DeviceQueue at) h =
-    rw (stage_same at Cancelling (not_false _ h), other) refl
+    rw (stage_same at Cancelling (is_cancelled _ h), other) refl
 no_waiting stage other _ h = refl
 
 no_handed : (k : Kind) → is_handed_over k ≡ false → is_at Cancelling DeviceQueue k ≡ false

@@ -178,6 +178,7 @@ inserted_lower x (Some routine) q v = tt
 disarmed_lower : (x : Bool) (k : Kind) (v : Value) → queued_kind (is_exchanged k) k ≡ None
     → LowerIs x (kind_disarmed k) v
 disarmed_lower x LowerKind v rule = cc
+disarmed_lower x (QueuedKind name Armed) v rule = tt
 disarmed_lower x _ v rule = tt
 
 -- what is known of a dispatch routine's frame that steps

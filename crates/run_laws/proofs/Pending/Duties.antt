@@ -224,6 +224,7 @@ disarmed_plain : (fits : Bool) (k : Kind) → queued_kind fits k ≡ None
     → (is_new (kind_disarmed k) ≡ false) × (is_lower (kind_disarmed k) ≡ false)
 disarmed_plain fits New rule = cc
 disarmed_plain fits Lower rule = cc
+disarmed_plain fits (Queued name Armed) rule = (refl, refl)
 disarmed_plain fits _ rule = (refl, refl)
 
 module _ (set : Set) (driver : ℕ) (lock : Guard) (f : Kind → Bool) (blank : f Blank ≡ false)
