@@ -46,7 +46,6 @@ use Rattle.run_laws.proofs.States.Listed.{AllFit, Guarded, KindFits, arrives_fit
 use Rattle.run_laws.specs.ArrivingStates.{States}
 use Rattle.run_laws.proofs.States.Stacks.{Stacked, Stands}
 use Rattle.run_laws.proofs.States.Standing.{Standing, stands_there}
-use Rattle.model.specs.Kinds.{is_at}
 
 -- kinds that a register has only while the guard of a queue is held
 abbrev pub NeedsGuard : Set → ℕ → (Kind → Bool) → QueueName → Type 0
