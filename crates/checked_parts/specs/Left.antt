@@ -10,7 +10,7 @@ use Rattle.model.specs.declared.event.BugCheck.TheVariants.{IrqlNotLessOrEqual, 
 use Rattle.model.specs.declared.event.Subject.TheVariants.{Packet as PacketSubject, Lock as LockSubject, Cell}
 use Rattle.model.specs.declared.event.Reply.{Reply}
 use Rattle.model.specs.declared.event.Reply.TheVariants.{Started, Stepped, Finished, Topped, Waited, Idle, Refused, Bug as BugCheckReply, Wrong}
-use Rattle.model.specs.Action.{Action, Executes, Acquires, Releases, TouchesPaged, Touches, Issues, Calls, Ups, Completes, Continues, Lends, Exchanges, Marks, Leaves, Returns, TopsOut, GoesWrong}
+use Rattle.model.specs.Action.{Action, OnLock, OnPacket, OnLocation, OfRoutine, Acquire, Release, Touch, Complete, Continue, Lend, Exchange, TopOut, Issue, Call, Up, Mark, Leave, Execute, TouchPaged, Return, GoWrong}
 use Rattle.model.specs.Effect.{Outcome, frame_effect, top_of, kept_below}
 use Rattle.model.specs.Fault.{bug_if, first_or, is_dispatch_level}
 use Rattle.model.specs.Set.{Set}
@@ -43,26 +43,29 @@ is_raised s r = is_dispatch_level r.root || owns_any s.locks r.thread
 
 -- the bug check of a thread's action, read from the packets and the locks
 abbrev pub fault_now : Shared → Runner → Action → Option Bug
-fault_now s r (Acquires l) = bug_if (owns s.locks r.thread l) SpinLockAlreadyOwned (LockSubject l)
-fault_now s r (Releases l) = bug_if (not (owns s.locks r.thread l)) SpinLockNotOwned (LockSubject l)
-fault_now s r (TouchesPaged c) = bug_if (is_raised s r) IrqlNotLessOrEqual (Cell c)
-fault_now s r (Touches n) = bug_if (is_gone s n) IrqlNotLessOrEqual (PacketSubject n)
-fault_now s r (Calls n) = bug_if (is_full (packet_of s n)) NoMoreIrpStackLocations (PacketSubject n)
-fault_now s r (Completes n) =
+fault_now s r (OnLock l Acquire) =
+    bug_if (owns s.locks r.thread l) SpinLockAlreadyOwned (LockSubject l)
+fault_now s r (OnLock l Release) =
+    bug_if (not (owns s.locks r.thread l)) SpinLockNotOwned (LockSubject l)
+fault_now s r (OfRoutine (TouchPaged c)) = bug_if (is_raised s r) IrqlNotLessOrEqual (Cell c)
+fault_now s r (OnPacket n Touch) = bug_if (is_gone s n) IrqlNotLessOrEqual (PacketSubject n)
+fault_now s r (OnLocation n Call) =
+    bug_if (is_full (packet_of s n)) NoMoreIrpStackLocations (PacketSubject n)
+fault_now s r (OnPacket n Complete) =
     first_or
     (bug_if (is_gone s n || is_held (packet_of s n)) MultipleIrpCompleteRequests (PacketSubject n))
     (bug_if (is_armed (packet_of s n)) CancelStateInCompletedIrp (PacketSubject n))
-fault_now s r Executes = None
-fault_now s r (Issues n stack) = None
-fault_now s r (Ups n) = None
-fault_now s r (Continues n) = None
-fault_now s r (Lends n) = None
-fault_now s r (Exchanges n stores) = None
-fault_now s r (Marks n) = None
-fault_now s r (Leaves n) = None
-fault_now s r (Returns status) = None
-fault_now s r (TopsOut n) = None
-fault_now s r GoesWrong = None
+fault_now s r (OnPacket packet Continue) = None
+fault_now s r (OnPacket packet Lend) = None
+fault_now s r (OnPacket packet (Exchange stores)) = None
+fault_now s r (OnPacket packet TopOut) = None
+fault_now s r (OnLocation packet (Issue stack)) = None
+fault_now s r (OnLocation packet Up) = None
+fault_now s r (OnLocation packet Mark) = None
+fault_now s r (OnLocation packet Leave) = None
+fault_now s r (OfRoutine Execute) = None
+fault_now s r (OfRoutine (Return status)) = None
+fault_now s r (OfRoutine GoWrong) = None
 
 -- the first bug check of a step's actions
 abbrev pub first_now : Shared → Runner → List Action → Option Bug

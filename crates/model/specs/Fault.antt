@@ -11,7 +11,7 @@ use Rattle.model.specs.declared.event.Subject.{Subject}
 use Rattle.model.specs.declared.event.Subject.TheVariants.{Packet, Lock as LockSubject, Cell}
 use Rattle.model.specs.declared.world.Irql.{Irql}
 use Rattle.model.specs.declared.world.Irql.TheVariants.{Passive, Apc, Dispatch}
-use Rattle.model.specs.Action.{Action, Executes, Acquires, Releases, TouchesPaged, Touches, Issues, Calls, Ups, Completes, Continues, Lends, Exchanges, Marks, Leaves, Returns, TopsOut, GoesWrong}
+use Rattle.model.specs.Action.{Action, OnLock, OnPacket, OnLocation, OfRoutine, Acquire, Release, Touch, Complete, Continue, Lend, Exchange, TopOut, Issue, Call, Up, Mark, Leave, Execute, TouchPaged, Return, GoWrong}
 use Rattle.model.specs.Trace.{Entry, Actor, entry}
 
 -- the same lock
@@ -23,23 +23,11 @@ is_lock (Spin l) (Spin m) = nat_eq l.device m.device && nat_eq l.number m.number
 
 -- a thread holds a lock: its last Acquires or Releases of it is an Acquires
 abbrev pub holds_after : Action → Bool → Lock → Bool → Bool
-holds_after (Acquires m) its_own l before = if its_own && is_lock m l then true else before
-holds_after (Releases m) its_own l before = if its_own && is_lock m l then false else before
-holds_after Executes its_own l before = before
-holds_after (TouchesPaged cell) its_own l before = before
-holds_after (Touches packet) its_own l before = before
-holds_after (Issues packet stack) its_own l before = before
-holds_after (Calls packet) its_own l before = before
-holds_after (Ups packet) its_own l before = before
-holds_after (Completes packet) its_own l before = before
-holds_after (Continues packet) its_own l before = before
-holds_after (Lends packet) its_own l before = before
-holds_after (Exchanges packet stores) its_own l before = before
-holds_after (Marks packet) its_own l before = before
-holds_after (Leaves packet) its_own l before = before
-holds_after (Returns status) its_own l before = before
-holds_after (TopsOut packet) its_own l before = before
-holds_after GoesWrong its_own l before = before
+holds_after (OnLock m Acquire) its_own l before = if its_own && is_lock m l then true else before
+holds_after (OnLock m Release) its_own l before = if its_own && is_lock m l then false else before
+holds_after (OnPacket packet act) its_own l before = before
+holds_after (OnLocation packet act) its_own l before = before
+holds_after (OfRoutine act) its_own l before = before
 
 abbrev pub holds : List Entry → ℕ → Lock → Bool
 holds [] t l = false
@@ -47,23 +35,11 @@ holds (e ∷ past) t l = holds_after e.action (nat_eq e.actor.thread t) l (holds
 
 -- the locks that were ever acquired
 abbrev pub with_acquired : Action → List Lock → List Lock
-with_acquired (Acquires l) locks = l ∷ locks
-with_acquired Executes locks = locks
-with_acquired (Releases lock) locks = locks
-with_acquired (TouchesPaged cell) locks = locks
-with_acquired (Touches packet) locks = locks
-with_acquired (Issues packet stack) locks = locks
-with_acquired (Calls packet) locks = locks
-with_acquired (Ups packet) locks = locks
-with_acquired (Completes packet) locks = locks
-with_acquired (Continues packet) locks = locks
-with_acquired (Lends packet) locks = locks
-with_acquired (Exchanges packet stores) locks = locks
-with_acquired (Marks packet) locks = locks
-with_acquired (Leaves packet) locks = locks
-with_acquired (Returns status) locks = locks
-with_acquired (TopsOut packet) locks = locks
-with_acquired GoesWrong locks = locks
+with_acquired (OnLock l Acquire) locks = l ∷ locks
+with_acquired (OnLock lock Release) locks = locks
+with_acquired (OnPacket packet act) locks = locks
+with_acquired (OnLocation packet act) locks = locks
+with_acquired (OfRoutine act) locks = locks
 
 abbrev pub acquired : List Entry → List Lock
 acquired [] = []
@@ -84,23 +60,15 @@ at_dispatch past actor = is_dispatch_level actor.root || holds_any past actor.th
 
 -- a packet has topped out
 abbrev pub tops : Action → ℕ → Bool → Bool
-tops (TopsOut m) n before = nat_eq m n || before
-tops Executes n before = before
-tops (Acquires lock) n before = before
-tops (Releases lock) n before = before
-tops (TouchesPaged cell) n before = before
-tops (Touches packet) n before = before
-tops (Issues packet stack) n before = before
-tops (Calls packet) n before = before
-tops (Ups packet) n before = before
-tops (Completes packet) n before = before
-tops (Continues packet) n before = before
-tops (Lends packet) n before = before
-tops (Exchanges packet stores) n before = before
-tops (Marks packet) n before = before
-tops (Leaves packet) n before = before
-tops (Returns status) n before = before
-tops GoesWrong n before = before
+tops (OnPacket m TopOut) n before = nat_eq m n || before
+tops (OnPacket packet Touch) n before = before
+tops (OnPacket packet Complete) n before = before
+tops (OnPacket packet Continue) n before = before
+tops (OnPacket packet Lend) n before = before
+tops (OnPacket packet (Exchange stores)) n before = before
+tops (OnLock lock act) n before = before
+tops (OnLocation packet act) n before = before
+tops (OfRoutine act) n before = before
 
 abbrev pub topped : List Entry → ℕ → Bool
 topped [] n = false
@@ -108,23 +76,15 @@ topped (e ∷ past) n = tops e.action n (topped past n)
 
 -- the I/O manager has a packet: the last of its completions, continues and lendings isn't a lending
 abbrev pub completes : Action → ℕ → Bool → Bool
-completes (Completes m) n before = if nat_eq m n then true else before
-completes (Continues m) n before = if nat_eq m n then true else before
-completes (Lends m) n before = if nat_eq m n then false else before
-completes Executes n before = before
-completes (Acquires lock) n before = before
-completes (Releases lock) n before = before
-completes (TouchesPaged cell) n before = before
-completes (Touches packet) n before = before
-completes (Issues packet stack) n before = before
-completes (Calls packet) n before = before
-completes (Ups packet) n before = before
-completes (Exchanges packet stores) n before = before
-completes (Marks packet) n before = before
-completes (Leaves packet) n before = before
-completes (Returns status) n before = before
-completes (TopsOut packet) n before = before
-completes GoesWrong n before = before
+completes (OnPacket m Complete) n before = if nat_eq m n then true else before
+completes (OnPacket m Continue) n before = if nat_eq m n then true else before
+completes (OnPacket m Lend) n before = if nat_eq m n then false else before
+completes (OnPacket packet Touch) n before = before
+completes (OnPacket packet (Exchange stores)) n before = before
+completes (OnPacket packet TopOut) n before = before
+completes (OnLock lock act) n before = before
+completes (OnLocation packet act) n before = before
+completes (OfRoutine act) n before = before
 
 abbrev pub completing : List Entry → ℕ → Bool
 completing [] n = false
@@ -132,23 +92,15 @@ completing (e ∷ past) n = completes e.action n (completing past n)
 
 -- a packet has a cancel routine: its last exchange stored one
 abbrev pub arms : Action → ℕ → Bool → Bool
-arms (Exchanges m stores) n before = if nat_eq m n then stores else before
-arms Executes n before = before
-arms (Acquires lock) n before = before
-arms (Releases lock) n before = before
-arms (TouchesPaged cell) n before = before
-arms (Touches packet) n before = before
-arms (Issues packet stack) n before = before
-arms (Calls packet) n before = before
-arms (Ups packet) n before = before
-arms (Completes packet) n before = before
-arms (Continues packet) n before = before
-arms (Lends packet) n before = before
-arms (Marks packet) n before = before
-arms (Leaves packet) n before = before
-arms (Returns status) n before = before
-arms (TopsOut packet) n before = before
-arms GoesWrong n before = before
+arms (OnPacket m (Exchange stores)) n before = if nat_eq m n then stores else before
+arms (OnPacket packet Touch) n before = before
+arms (OnPacket packet Complete) n before = before
+arms (OnPacket packet Continue) n before = before
+arms (OnPacket packet Lend) n before = before
+arms (OnPacket packet TopOut) n before = before
+arms (OnLock lock act) n before = before
+arms (OnLocation packet act) n before = before
+arms (OfRoutine act) n before = before
 
 abbrev pub armed : List Entry → ℕ → Bool
 armed [] n = false
@@ -156,46 +108,28 @@ armed (e ∷ past) n = arms e.action n (armed past n)
 
 -- how many locations a packet has, and how far down it was sent: its issue and calls less its ups
 abbrev pub stack_after : Action → ℕ → ℕ → ℕ
-stack_after (Issues m stack) n before = if nat_eq m n then stack else before
-stack_after Executes n before = before
-stack_after (Acquires lock) n before = before
-stack_after (Releases lock) n before = before
-stack_after (TouchesPaged cell) n before = before
-stack_after (Touches packet) n before = before
-stack_after (Calls packet) n before = before
-stack_after (Ups packet) n before = before
-stack_after (Completes packet) n before = before
-stack_after (Continues packet) n before = before
-stack_after (Lends packet) n before = before
-stack_after (Exchanges packet stores) n before = before
-stack_after (Marks packet) n before = before
-stack_after (Leaves packet) n before = before
-stack_after (Returns status) n before = before
-stack_after (TopsOut packet) n before = before
-stack_after GoesWrong n before = before
+stack_after (OnLocation m (Issue stack)) n before = if nat_eq m n then stack else before
+stack_after (OnLocation packet Call) n before = before
+stack_after (OnLocation packet Up) n before = before
+stack_after (OnLocation packet Mark) n before = before
+stack_after (OnLocation packet Leave) n before = before
+stack_after (OnLock lock act) n before = before
+stack_after (OnPacket packet act) n before = before
+stack_after (OfRoutine act) n before = before
 
 abbrev pub stack_size : List Entry → ℕ → ℕ
 stack_size [] n = 0
 stack_size (e ∷ past) n = stack_after e.action n (stack_size past n)
 
 abbrev pub depth_after : Action → ℕ → ℕ → ℕ
-depth_after (Issues m stack) n before = if nat_eq m n then 1 else before
-depth_after (Calls m) n before = if nat_eq m n then before + 1 else before
-depth_after (Ups m) n before = if nat_eq m n then before - 1 else before
-depth_after Executes n before = before
-depth_after (Acquires lock) n before = before
-depth_after (Releases lock) n before = before
-depth_after (TouchesPaged cell) n before = before
-depth_after (Touches packet) n before = before
-depth_after (Completes packet) n before = before
-depth_after (Continues packet) n before = before
-depth_after (Lends packet) n before = before
-depth_after (Exchanges packet stores) n before = before
-depth_after (Marks packet) n before = before
-depth_after (Leaves packet) n before = before
-depth_after (Returns status) n before = before
-depth_after (TopsOut packet) n before = before
-depth_after GoesWrong n before = before
+depth_after (OnLocation m (Issue stack)) n before = if nat_eq m n then 1 else before
+depth_after (OnLocation m Call) n before = if nat_eq m n then before + 1 else before
+depth_after (OnLocation m Up) n before = if nat_eq m n then before - 1 else before
+depth_after (OnLocation packet Mark) n before = before
+depth_after (OnLocation packet Leave) n before = before
+depth_after (OnLock lock act) n before = before
+depth_after (OnPacket packet act) n before = before
+depth_after (OfRoutine act) n before = before
 
 abbrev pub depth : List Entry → ℕ → ℕ
 depth [] n = 0
@@ -221,26 +155,27 @@ completion_fault past n =
 -- MULTIPLE_IRP_COMPLETE_REQUESTS where it completes one that is completing or has topped out,
 -- CANCEL_STATE_IN_COMPLETED_IRP where it completes one that has a cancel routine
 abbrev pub fault_of : List Entry → Actor → Action → Option Bug
-fault_of past actor (Acquires l) =
+fault_of past actor (OnLock l Acquire) =
     bug_if (holds past actor.thread l) SpinLockAlreadyOwned (LockSubject l)
-fault_of past actor (Releases l) =
+fault_of past actor (OnLock l Release) =
     bug_if (not (holds past actor.thread l)) SpinLockNotOwned (LockSubject l)
-fault_of past actor (TouchesPaged c) = bug_if (at_dispatch past actor) IrqlNotLessOrEqual (Cell c)
-fault_of past actor (Touches n) = bug_if (topped past n) IrqlNotLessOrEqual (Packet n)
-fault_of past actor (Calls n) =
+fault_of past actor (OfRoutine (TouchPaged c)) =
+    bug_if (at_dispatch past actor) IrqlNotLessOrEqual (Cell c)
+fault_of past actor (OnPacket n Touch) = bug_if (topped past n) IrqlNotLessOrEqual (Packet n)
+fault_of past actor (OnLocation n Call) =
     bug_if (nat_le (stack_size past n) (depth past n)) NoMoreIrpStackLocations (Packet n)
-fault_of past actor (Completes n) = completion_fault past n
-fault_of past actor Executes = None
-fault_of past actor (Issues n stack) = None
-fault_of past actor (Ups n) = None
-fault_of past actor (Continues n) = None
-fault_of past actor (Lends n) = None
-fault_of past actor (Exchanges n stores) = None
-fault_of past actor (Marks n) = None
-fault_of past actor (Leaves n) = None
-fault_of past actor (Returns status) = None
-fault_of past actor (TopsOut n) = None
-fault_of past actor GoesWrong = None
+fault_of past actor (OnPacket n Complete) = completion_fault past n
+fault_of past actor (OnPacket packet Continue) = None
+fault_of past actor (OnPacket packet Lend) = None
+fault_of past actor (OnPacket packet (Exchange stores)) = None
+fault_of past actor (OnPacket packet TopOut) = None
+fault_of past actor (OnLocation packet (Issue stack)) = None
+fault_of past actor (OnLocation packet Up) = None
+fault_of past actor (OnLocation packet Mark) = None
+fault_of past actor (OnLocation packet Leave) = None
+fault_of past actor (OfRoutine Execute) = None
+fault_of past actor (OfRoutine (Return status)) = None
+fault_of past actor (OfRoutine GoWrong) = None
 
 -- the first bug check of an event's actions, in their order
 abbrev pub first_fault : List Entry → Actor → List Action → Option Bug

@@ -4,7 +4,7 @@
 -- left.
 use Rattle.std.specs.Prelude.{ℕ, ◌≡◌, ◌&&◌, ◌||◌, ◌++◌, Bool, false, List, [], ◌∷◌, Option, None, Some, All, nat_eq, option_to_list, if◌then◌else◌}
 use Rattle.model.specs.declared.status.Status.{Status}
-use Rattle.model.specs.Action.{Action, Executes, Acquires, Releases, TouchesPaged, Touches, Issues, Calls, Ups, Completes, Continues, Lends, Exchanges, Marks, Leaves, Returns, TopsOut, GoesWrong}
+use Rattle.model.specs.Action.{Action, OnLock, OnPacket, OnLocation, OfRoutine, Issue, Call, Up, Mark, Leave, Execute, TouchPaged, Return, GoWrong}
 use Rattle.model.specs.LocalRule.{is_pending}
 use Rattle.model.specs.Trace.{Entry, Serving, Tag, Managing, Activated}
 
@@ -15,23 +15,14 @@ is_use n (Some v) u = nat_eq n u.packet && nat_eq v u.use
 
 -- a use was marked pending
 abbrev pub marks_use : Action → Option ℕ → Serving → Bool
-marks_use (Marks n) location u = is_use n location u
-marks_use Executes location u = false
-marks_use (Acquires lock) location u = false
-marks_use (Releases lock) location u = false
-marks_use (TouchesPaged cell) location u = false
-marks_use (Touches packet) location u = false
-marks_use (Issues packet stack) location u = false
-marks_use (Calls packet) location u = false
-marks_use (Ups packet) location u = false
-marks_use (Completes packet) location u = false
-marks_use (Continues packet) location u = false
-marks_use (Lends packet) location u = false
-marks_use (Exchanges packet stores) location u = false
-marks_use (Leaves packet) location u = false
-marks_use (Returns status) location u = false
-marks_use (TopsOut packet) location u = false
-marks_use GoesWrong location u = false
+marks_use (OnLocation n Mark) location u = is_use n location u
+marks_use (OnLocation packet (Issue stack)) location u = false
+marks_use (OnLocation packet Call) location u = false
+marks_use (OnLocation packet Up) location u = false
+marks_use (OnLocation packet Leave) location u = false
+marks_use (OnLock lock act) location u = false
+marks_use (OnPacket packet act) location u = false
+marks_use (OfRoutine act) location u = false
 
 abbrev pub was_marked : List Entry → Serving → Bool
 was_marked [] u = false
@@ -39,23 +30,14 @@ was_marked (e ∷ past) u = marks_use e.action e.location u || was_marked past u
 
 -- whether a use was marked when completion left it: once for each time that it was left
 abbrev pub leaves_use : Action → Option ℕ → Serving → Bool
-leaves_use (Leaves n) location u = is_use n location u
-leaves_use Executes location u = false
-leaves_use (Acquires lock) location u = false
-leaves_use (Releases lock) location u = false
-leaves_use (TouchesPaged cell) location u = false
-leaves_use (Touches packet) location u = false
-leaves_use (Issues packet stack) location u = false
-leaves_use (Calls packet) location u = false
-leaves_use (Ups packet) location u = false
-leaves_use (Completes packet) location u = false
-leaves_use (Continues packet) location u = false
-leaves_use (Lends packet) location u = false
-leaves_use (Exchanges packet stores) location u = false
-leaves_use (Marks packet) location u = false
-leaves_use (Returns status) location u = false
-leaves_use (TopsOut packet) location u = false
-leaves_use GoesWrong location u = false
+leaves_use (OnLocation n Leave) location u = is_use n location u
+leaves_use (OnLocation packet (Issue stack)) location u = false
+leaves_use (OnLocation packet Call) location u = false
+leaves_use (OnLocation packet Up) location u = false
+leaves_use (OnLocation packet Mark) location u = false
+leaves_use (OnLock lock act) location u = false
+leaves_use (OnPacket packet act) location u = false
+leaves_use (OfRoutine act) location u = false
 
 abbrev pub marks_left : List Entry → Serving → List Bool
 marks_left [] u = []
@@ -65,23 +47,13 @@ marks_left (e ∷ past) u =
 
 -- the statuses that the activations of a use returned
 abbrev pub status_in : Action → Option Status
-status_in (Returns status) = Some status
-status_in Executes = None
-status_in (Acquires lock) = None
-status_in (Releases lock) = None
-status_in (TouchesPaged cell) = None
-status_in (Touches packet) = None
-status_in (Issues packet stack) = None
-status_in (Calls packet) = None
-status_in (Ups packet) = None
-status_in (Completes packet) = None
-status_in (Continues packet) = None
-status_in (Lends packet) = None
-status_in (Exchanges packet stores) = None
-status_in (Marks packet) = None
-status_in (Leaves packet) = None
-status_in (TopsOut packet) = None
-status_in GoesWrong = None
+status_in (OfRoutine (Return status)) = Some status
+status_in (OfRoutine Execute) = None
+status_in (OfRoutine (TouchPaged cell)) = None
+status_in (OfRoutine GoWrong) = None
+status_in (OnLock lock act) = None
+status_in (OnPacket packet act) = None
+status_in (OnLocation packet act) = None
 
 abbrev pub serves : Tag → Serving → Bool
 serves Managing u = false

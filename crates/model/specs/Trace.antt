@@ -2,7 +2,7 @@
 -- Activations and uses of stack locations are numbered here, and not in the machines.
 use Rattle.std.specs.Prelude.{ℕ, ◌++◌, ◌+◌, List, [], ◌∷◌, Option, None, Some, nat_eq, drop, option_to_list, slice_get, if◌then◌else◌}
 use Rattle.model.specs.declared.world.Irql.{Irql}
-use Rattle.model.specs.Action.{Action, Executes, Acquires, Releases, TouchesPaged, Touches, Issues, Calls, Ups, Completes, Continues, Lends, Exchanges, Marks, Leaves, Returns, TopsOut, GoesWrong}
+use Rattle.model.specs.Action.{Action, OnLock, OnPacket, OnLocation, OfRoutine, Issue, Call, Up, Mark, Leave}
 
 -- the use of a packet's location that a dispatch activation serves
 pub record Serving : Type 0 where
@@ -30,23 +30,14 @@ pub record Entry : Type 0 where
 
 -- how many uses were opened
 abbrev pub opens : Action → ℕ → ℕ
-opens (Issues n stack) count = count + 1
-opens (Calls n) count = count + 1
-opens Executes count = count
-opens (Acquires lock) count = count
-opens (Releases lock) count = count
-opens (TouchesPaged cell) count = count
-opens (Touches packet) count = count
-opens (Ups packet) count = count
-opens (Completes packet) count = count
-opens (Continues packet) count = count
-opens (Lends packet) count = count
-opens (Exchanges packet stores) count = count
-opens (Marks packet) count = count
-opens (Leaves packet) count = count
-opens (Returns status) count = count
-opens (TopsOut packet) count = count
-opens GoesWrong count = count
+opens (OnLocation n (Issue stack)) count = count + 1
+opens (OnLocation n Call) count = count + 1
+opens (OnLocation packet Up) count = count
+opens (OnLocation packet Mark) count = count
+opens (OnLocation packet Leave) count = count
+opens (OnLock lock act) count = count
+opens (OnPacket packet act) count = count
+opens (OfRoutine act) count = count
 
 abbrev pub uses_opened : List Entry → ℕ
 uses_opened [] = 0
@@ -54,24 +45,16 @@ uses_opened (e ∷ past) = opens e.action (uses_opened past)
 
 -- the uses of a packet's locations down to the current one, the current one first
 abbrev pub uses_after : Action → ℕ → Option ℕ → List ℕ → List ℕ
-uses_after (Issues m stack) n opened before = if nat_eq m n then option_to_list opened else before
-uses_after (Calls m) n opened before = if nat_eq m n then option_to_list opened ++ before
-    else before
-uses_after (Ups m) n opened before = if nat_eq m n then drop 1 before else before
-uses_after Executes n opened before = before
-uses_after (Acquires lock) n opened before = before
-uses_after (Releases lock) n opened before = before
-uses_after (TouchesPaged cell) n opened before = before
-uses_after (Touches packet) n opened before = before
-uses_after (Completes packet) n opened before = before
-uses_after (Continues packet) n opened before = before
-uses_after (Lends packet) n opened before = before
-uses_after (Exchanges packet stores) n opened before = before
-uses_after (Marks packet) n opened before = before
-uses_after (Leaves packet) n opened before = before
-uses_after (Returns status) n opened before = before
-uses_after (TopsOut packet) n opened before = before
-uses_after GoesWrong n opened before = before
+uses_after (OnLocation m (Issue stack)) n opened before =
+    if nat_eq m n then option_to_list opened else before
+uses_after (OnLocation m Call) n opened before =
+    if nat_eq m n then option_to_list opened ++ before else before
+uses_after (OnLocation m Up) n opened before = if nat_eq m n then drop 1 before else before
+uses_after (OnLocation packet Mark) n opened before = before
+uses_after (OnLocation packet Leave) n opened before = before
+uses_after (OnLock lock act) n opened before = before
+uses_after (OnPacket packet act) n opened before = before
+uses_after (OfRoutine act) n opened before = before
 
 abbrev pub uses : List Entry → ℕ → List ℕ
 uses [] n = []
@@ -82,23 +65,14 @@ current_use past n = slice_get (uses past n) 0
 
 -- the use that an action is about, after a past
 abbrev pub use_of : List Entry → Action → Option ℕ
-use_of past (Issues n stack) = Some (uses_opened past)
-use_of past (Calls n) = Some (uses_opened past)
-use_of past (Marks n) = current_use past n
-use_of past (Leaves n) = current_use past n
-use_of past Executes = None
-use_of past (Acquires lock) = None
-use_of past (Releases lock) = None
-use_of past (TouchesPaged cell) = None
-use_of past (Touches packet) = None
-use_of past (Ups packet) = None
-use_of past (Completes packet) = None
-use_of past (Continues packet) = None
-use_of past (Lends packet) = None
-use_of past (Exchanges packet stores) = None
-use_of past (Returns status) = None
-use_of past (TopsOut packet) = None
-use_of past GoesWrong = None
+use_of past (OnLocation n (Issue stack)) = Some (uses_opened past)
+use_of past (OnLocation n Call) = Some (uses_opened past)
+use_of past (OnLocation n Mark) = current_use past n
+use_of past (OnLocation n Leave) = current_use past n
+use_of past (OnLocation packet Up) = None
+use_of past (OnLock lock act) = None
+use_of past (OnPacket packet act) = None
+use_of past (OfRoutine act) = None
 
 abbrev pub entry : List Entry → Actor → Action → Entry
 entry past actor action = record { actor = actor; location = use_of past action; action = action }

@@ -4,7 +4,7 @@ use Rattle.std.specs.Prelude.{nat_eq, slice_get, if◌then◌else◌}
 use Rattle.std.proofs.lemmas.Bool.Decides.{eqb_tells}
 use Rattle.std.proofs.lemmas.List.{append-nil, length-append}
 use Rattle.model.specs.declared.status.Status.{Status}
-use Rattle.model.specs.Action.{Action, Executes, Issues, Calls, Ups, Marks, Leaves, Returns}
+use Rattle.model.specs.Action.{Action, OnLocation, OfRoutine, Issue, Call, Up, Mark, Leave, Return, Executes, Issues, Marks, Leaves, Returns}
 use Rattle.model.specs.PendingAgreement.{is_use, marks_left, serves, statuses_returned}
 use Rattle.model.specs.Trace.{Activated, Actor, Entry, Managing, Serving, Tag, current_use, entry, opens, recorded, use_of, uses, uses_opened}
 use Rattle.run_laws.proofs.Tests.{and_false}
@@ -44,15 +44,15 @@ module _ (past : List Entry) (actor : Actor) (served : WasOpened (uses_opened pa
 
   numbered_on : (action : Action)
       → Numbered 0 (uses_of past ++ opened_by action (use_of past action))
-  numbered_on (Issues n stack) = one_more n
-  numbered_on (Calls n) = one_more n
+  numbered_on (OnLocation n (Issue stack)) = one_more n
+  numbered_on (OnLocation n Call) = one_more n
   numbered_on _ = rw (append-nil (uses_of past)) h.numbered
 
   many_on : (action : Action)
       → length (uses_of past ++ opened_by action (use_of past action))
       ≡ opens action (uses_opened past)
-  many_on (Issues n stack) = as_many n
-  many_on (Calls n) = as_many n
+  many_on (OnLocation n (Issue stack)) = as_many n
+  many_on (OnLocation n Call) = as_many n
   many_on _ = rw (append-nil (uses_of past)) h.many
 
   pub counted_entry : (action : Action) → Counted (entry past actor action ∷ past)
@@ -161,34 +161,34 @@ module _ (past : List Entry) (actor : Actor) (served : WasOpened (uses_opened pa
 
     pub knows_entry : (action : Action) → Does (served_by actor.tag) action l m
         → Knows (entry past actor action ∷ past) m
-    knows_entry (Issues n stack) is =
+    knows_entry (OnLocation n (Issue stack)) is =
         record {
           notes = knows_opened n is.0;
           stacks = λ k. is.1 k ∙ opened_stack (λ stack. []) n k;
         }
-    knows_entry (Calls n) is =
+    knows_entry (OnLocation n Call) is =
         record {
           notes = knows_opened n is.0;
           stacks = λ k. is.1 k ∙ opened_stack (λ stack. stack) n k;
         }
-    knows_entry (Ups n) is =
+    knows_entry (OnLocation n Up) is =
         record {
           notes = is.0 ∙ know.notes ∙ notes_kept;
           stacks = λ k. is.1 k ∙ same_stack (λ stack. drop 1 stack) n k;
         }
-    knows_entry (Marks n) is =
+    knows_entry (OnLocation n Mark) is =
         record {
           notes = knows_noted marked n (entry past actor (Marks n) ∷ past)
               (λ u. marks_note past actor u n) is.0;
           stacks = stacks_same is.1;
         }
-    knows_entry (Leaves n) is =
+    knows_entry (OnLocation n Leave) is =
         record {
           notes = knows_noted left n (entry past actor (Leaves n) ∷ past)
               (λ u. leaves_note past actor u n) is.0;
           stacks = stacks_same is.1;
         }
-    knows_entry (Returns status) is =
+    knows_entry (OfRoutine (Return status)) is =
         record { notes = knows_returned status is.0; stacks = stacks_same is.1 }
     knows_entry _ is =
         record {
@@ -199,12 +199,9 @@ module _ (past : List Entry) (actor : Actor) (served : WasOpened (uses_opened pa
 -- the actions that are about uses, without the sizes of stacks
 abbrev pub uses_in : List Action → List Action
 uses_in [] = []
-uses_in (Issues n stack ∷ actions) = Issues n 0 ∷ uses_in actions
-uses_in (Calls n ∷ actions) = Calls n ∷ uses_in actions
-uses_in (Ups n ∷ actions) = Ups n ∷ uses_in actions
-uses_in (Marks n ∷ actions) = Marks n ∷ uses_in actions
-uses_in (Leaves n ∷ actions) = Leaves n ∷ uses_in actions
-uses_in (Returns status ∷ actions) = Returns status ∷ uses_in actions
+uses_in (OnLocation n (Issue stack) ∷ actions) = Issues n 0 ∷ uses_in actions
+uses_in (OnLocation n act ∷ actions) = OnLocation n act ∷ uses_in actions
+uses_in (OfRoutine (Return status) ∷ actions) = Returns status ∷ uses_in actions
 uses_in (action ∷ actions) = uses_in actions
 
 opened_more : (opened more : ℕ) (o : Option Serving) → opened ≤ more → WasOpened opened o
@@ -257,23 +254,15 @@ module _ (actor : Actor) where
           stacks = λ n. ap (λ (x : UsesState). stack_at x n) is ∙ know.stacks n;
         };
       }
-  known_all past (Issues n stack ∷ actions) l m served h know (next, does, rest) =
+  known_all past (OnLocation n (Issue stack) ∷ actions) l m served h know (next, does, rest) =
       let on = known_next past (Issues n stack) l next served h know does in
       known_all (entry past actor (Issues n stack) ∷ past) actions next m on.served on.counted on.knows
       rest
-  known_all past (Calls n ∷ actions) l m served h know (next, does, rest) =
-      let on = known_next past (Calls n) l next served h know does in
-      known_all (entry past actor (Calls n) ∷ past) actions next m on.served on.counted on.knows rest
-  known_all past (Ups n ∷ actions) l m served h know (next, does, rest) =
-      let on = known_next past (Ups n) l next served h know does in
-      known_all (entry past actor (Ups n) ∷ past) actions next m on.served on.counted on.knows rest
-  known_all past (Marks n ∷ actions) l m served h know (next, does, rest) =
-      let on = known_next past (Marks n) l next served h know does in
-      known_all (entry past actor (Marks n) ∷ past) actions next m on.served on.counted on.knows rest
-  known_all past (Leaves n ∷ actions) l m served h know (next, does, rest) =
-      let on = known_next past (Leaves n) l next served h know does in
-      known_all (entry past actor (Leaves n) ∷ past) actions next m on.served on.counted on.knows rest
-  known_all past (Returns status ∷ actions) l m served h know (next, does, rest) =
+  known_all past (OnLocation n act ∷ actions) l m served h know (next, does, rest) =
+      let on = known_next past (OnLocation n act) l next served h know does in
+      known_all (entry past actor (OnLocation n act) ∷ past) actions next m on.served on.counted
+      on.knows rest
+  known_all past (OfRoutine (Return status) ∷ actions) l m served h know (next, does, rest) =
       let on = known_next past (Returns status) l next served h know does in
       known_all (entry past actor (Returns status) ∷ past) actions next m on.served on.counted on.knows
       rest

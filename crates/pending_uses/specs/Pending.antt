@@ -4,7 +4,7 @@
 use Rattle.std.specs.Prelude.{ℕ, ◌≡◌, ◌++◌, ◌↔◌, not, Bool, false, List, [], ◌∷◌, Option, None, Some, if◌then◌else◌}
 use Rattle.std.specs.List.{list_any}
 use Rattle.model.specs.declared.status.Status.{Status}
-use Rattle.model.specs.Action.{Action, Issues, Calls}
+use Rattle.model.specs.Action.{Action, OnLocation, Issue, Call}
 use Rattle.model.specs.LocalRule.{is_pending}
 use Rattle.model.specs.PendingAgreement.{PendingAgree, marks_left, statuses_returned}
 use Rattle.model.specs.Trace.{Entry, Serving}
@@ -20,8 +20,8 @@ use_with n None = []
 use_with n (Some u) = record { packet = n; «use» = u } ∷ []
 
 abbrev pub opened_by : Action → Option ℕ → List Serving
-opened_by (Issues n stack) location = use_with n location
-opened_by (Calls n) location = use_with n location
+opened_by (OnLocation n (Issue stack)) location = use_with n location
+opened_by (OnLocation n Call) location = use_with n location
 opened_by action location = []
 
 -- all uses that were opened, in order

@@ -2,7 +2,7 @@
 -- and of each packet the uses of its locations down to the current one, the current one first.
 use Rattle.std.specs.Prelude.{ℕ, ◌≡◌, ◌+◌, ◌++◌, ◌&&◌, ◌||◌, not, Bool, true, false, List, [], ◌∷◌, length, drop, Option, None, Some, nat_eq, slice_get, slice_set, if◌then◌else◌}
 use Rattle.model.specs.declared.status.Status.{Status}
-use Rattle.model.specs.Action.{Action, Issues, Calls, Ups, Marks, Leaves, Returns}
+use Rattle.model.specs.Action.{Action, OnLocation, OfRoutine, Issue, Call, Up, Mark, Leave, Return}
 use Rattle.model.specs.LocalRule.{is_pending}
 use Rattle.model.specs.Trace.{Serving}
 use Rattle.pending_uses.specs.declared.uses.Note.{Note}
@@ -79,16 +79,17 @@ noted_serving change notes (Some u) = noted change notes u.packet (Some u.«use�
 
 -- what an action makes of it, where the frame that acts serves a use or none
 abbrev pub Does : Option Serving → Action → UsesState → UsesState → Type 0
-Does serving (Issues n stack) l m =
+Does serving (OnLocation n (Issue stack)) l m =
     (m.notes ≡ l.notes ++ blank n ∷ []) × Puts n (length l.notes ∷ []) l m
-Does serving (Calls n) l m =
+Does serving (OnLocation n Call) l m =
     (m.notes ≡ l.notes ++ blank n ∷ []) × Puts n (length l.notes ∷ stack_at l n) l m
-Does serving (Ups n) l m = (m.notes ≡ l.notes) × Puts n (drop 1 (stack_at l n)) l m
-Does serving (Marks n) l m =
+Does serving (OnLocation n Up) l m =
+    (m.notes ≡ l.notes) × Puts n (drop 1 (stack_at l n)) l m
+Does serving (OnLocation n Mark) l m =
     (m.notes ≡ noted marked l.notes n (current_at l n)) × (m.stacks ≡ l.stacks)
-Does serving (Leaves n) l m =
+Does serving (OnLocation n Leave) l m =
     (m.notes ≡ noted left l.notes n (current_at l n)) × (m.stacks ≡ l.stacks)
-Does serving (Returns status) l m =
+Does serving (OfRoutine (Return status)) l m =
     (m.notes ≡ noted_serving (returned status) l.notes serving) × (m.stacks ≡ l.stacks)
 Does serving action l m = m ≡ l
 

@@ -3,7 +3,7 @@ use Rattle.std.specs.Prelude.{ℕ, ⊤, ◌≡◌, ◌≤◌, ◌+◌, Bool, fal
 use Rattle.model.specs.declared.event.Event.{Event}
 use Rattle.model.specs.declared.world.Activation.{Activation}
 use Rattle.model.specs.declared.world.Frame.TheVariants.{Routine}
-use Rattle.model.specs.Action.{Action, Executes, Acquires, Releases, TouchesPaged, Touches, Issues, Calls, Ups, Completes, Continues, Lends, Exchanges, Marks, Leaves, Returns, TopsOut, GoesWrong}
+use Rattle.model.specs.Action.{Action, OnLock, OnPacket, OnLocation, OfRoutine, Execute, TouchPaged, Return, GoWrong}
 use Rattle.model.specs.Certificate.{certificate_of}
 use Rattle.model.specs.Run.{Run, frames_on, tags_on, run}
 use Rattle.model.specs.Set.{Set}
@@ -17,23 +17,13 @@ is_activation g Managing = false
 is_activation g (Activated h driver routine serving) = nat_eq h g
 
 abbrev pub instructions_in : Action → ℕ
-instructions_in Executes = 1
-instructions_in (Acquires lock) = 0
-instructions_in (Releases lock) = 0
-instructions_in (TouchesPaged cell) = 0
-instructions_in (Touches packet) = 0
-instructions_in (Issues packet stack) = 0
-instructions_in (Calls packet) = 0
-instructions_in (Ups packet) = 0
-instructions_in (Completes packet) = 0
-instructions_in (Continues packet) = 0
-instructions_in (Lends packet) = 0
-instructions_in (Exchanges packet stores) = 0
-instructions_in (Marks packet) = 0
-instructions_in (Leaves packet) = 0
-instructions_in (Returns status) = 0
-instructions_in (TopsOut packet) = 0
-instructions_in GoesWrong = 0
+instructions_in (OfRoutine Execute) = 1
+instructions_in (OfRoutine (TouchPaged cell)) = 0
+instructions_in (OfRoutine (Return status)) = 0
+instructions_in (OfRoutine GoWrong) = 0
+instructions_in (OnLock lock act) = 0
+instructions_in (OnPacket packet act) = 0
+instructions_in (OnLocation packet act) = 0
 
 -- how many instructions an activation has executed in a trace
 abbrev pub executions : List Entry → ℕ → ℕ

@@ -8,7 +8,7 @@ use Rattle.model.specs.declared.world.Activation.{Activation}
 use Rattle.model.specs.declared.world.Canceller.{Canceller}
 use Rattle.model.specs.declared.world.Frame.TheVariants.{Routine, Walk, Cancel as CancelFrame}
 use Rattle.model.specs.declared.world.Packet.{Packet}
-use Rattle.model.specs.Action.{Action, Executes, Acquires, Releases, TouchesPaged, Touches, Issues, Calls, Ups, Completes, Continues, Lends, Exchanges, Marks, Leaves, Returns, TopsOut, GoesWrong}
+use Rattle.model.specs.Action.{Action, OnLock, OnPacket, OnLocation, OfRoutine, Issue, Call, Up, Mark, Leave, Execute, TouchPaged, Return, GoWrong}
 use Rattle.model.specs.Run.{frames_on, run, tags_on}
 use Rattle.model.specs.Set.{Set, sort_of}
 use Rattle.model.specs.Sound.{IsSound}
@@ -36,23 +36,17 @@ HasLocation (Some u) = ⊤
 
 -- what an entry of the trace says of the use that its action is about, or of who acts
 abbrev pub SaysWho : Action → Entry → Type 0
-SaysWho Executes e = IsActivation e.actor.tag
-SaysWho (Returns status) e = ServesUse e.actor.tag
-SaysWho (Issues n stack) e = HasLocation e.location
-SaysWho (Calls n) e = HasLocation e.location
-SaysWho (Marks n) e = HasLocation e.location
-SaysWho (Leaves n) e = HasLocation e.location
-SaysWho (Acquires lock) e = ⊤
-SaysWho (Releases lock) e = ⊤
-SaysWho (TouchesPaged cell) e = ⊤
-SaysWho (Touches n) e = ⊤
-SaysWho (Ups n) e = ⊤
-SaysWho (Completes n) e = ⊤
-SaysWho (Continues n) e = ⊤
-SaysWho (Lends n) e = ⊤
-SaysWho (Exchanges n stores) e = ⊤
-SaysWho (TopsOut n) e = ⊤
-SaysWho GoesWrong e = ⊤
+SaysWho (OfRoutine Execute) e = IsActivation e.actor.tag
+SaysWho (OfRoutine (Return status)) e = ServesUse e.actor.tag
+SaysWho (OnLocation n (Issue stack)) e = HasLocation e.location
+SaysWho (OnLocation n Call) e = HasLocation e.location
+SaysWho (OnLocation n Mark) e = HasLocation e.location
+SaysWho (OnLocation n Leave) e = HasLocation e.location
+SaysWho (OnLocation packet Up) e = ⊤
+SaysWho (OfRoutine (TouchPaged cell)) e = ⊤
+SaysWho (OfRoutine GoWrong) e = ⊤
+SaysWho (OnLock lock act) e = ⊤
+SaysWho (OnPacket packet act) e = ⊤
 
 -- the tag at a place of a thread whose frame there is a routine's: of that routine, and for a
 -- dispatch routine with the use that it serves

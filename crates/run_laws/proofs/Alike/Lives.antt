@@ -6,7 +6,7 @@ use Rattle.std.proofs.lemmas.Bool.{cases_Bool}
 use Rattle.model.specs.declared.event.BugCheck.TheVariants.{IrqlNotLessOrEqual}
 use Rattle.model.specs.declared.event.Subject.TheVariants.{Packet as PacketSubject}
 use Rattle.model.specs.declared.world.Packet.{Packet}
-use Rattle.model.specs.Action.{Action, Executes, Touches, TopsOut}
+use Rattle.model.specs.Action.{Action, OnPacket, OfRoutine, Touch, TopOut, Execute}
 use Rattle.model.specs.Effect.{top_of}
 use Rattle.model.specs.Events.{Change}
 use Rattle.model.specs.Fault.{bug_if, topped, tops}
@@ -29,7 +29,7 @@ use Rattle.run_laws.proofs.Steps.Faults.{fault_among, is_touch, none_first, none
 
 -- what has topped out stays so
 tops_later : (action : Action) (n : ℕ) (before : Bool) → before ≡ true → tops action n before ≡ true
-tops_later (TopsOut m) n before is = rw is (or_true (nat_eq m n))
+tops_later (OnPacket m TopOut) n before is = rw is (or_true (nat_eq m n))
   where
     or_true : (b : Bool) → (b || true) ≡ true
     or_true true = refl
@@ -69,13 +69,13 @@ still_untopped past actor actions n is =
 touched : (past : List Entry) (actor : Actor) (actions : List Action) (n : ℕ)
     → fault_among is_touch past actor actions ≡ None → first_touch actions ≡ Some n
     → topped past n ≡ true → ⊥
-touched past actor (Touches m ∷ actions) n quiet is gone =
+touched past actor (OnPacket m Touch ∷ actions) n quiet is gone =
     let same : m ≡ n = cc in
     let none : bug_if (topped past m) IrqlNotLessOrEqual (PacketSubject m) ≡ None =
     none_first _ _ quiet in
     let no : bug_if true IrqlNotLessOrEqual (PacketSubject n) ≡ None = rw (same, gone) at none in
     cc
-touched past actor (Executes ∷ Touches m ∷ actions) n quiet is gone =
+touched past actor (OfRoutine Execute ∷ OnPacket m Touch ∷ actions) n quiet is gone =
     let same : m ≡ n = cc in
     let none : bug_if (topped past m) IrqlNotLessOrEqual (PacketSubject m) ≡ None =
     none_first _ _ (none_later None _ quiet) in

@@ -21,7 +21,7 @@ use Rattle.model.specs.declared.world.Frame.TheVariants.{Routine, Walk, Cancel a
 use Rattle.model.specs.declared.world.Packet.{Packet}
 use Rattle.model.specs.declared.world.Value.{Value}
 use Rattle.model.specs.declared.world.Value.TheVariants.{Blank}
-use Rattle.model.specs.Action.{Action, Executes, Touches}
+use Rattle.model.specs.Action.{Action, OnPacket, OfRoutine, Touch, Execute}
 use Rattle.model.specs.Effect.{Outcome, arm_effect, ask_effect, begin_effect, call_effect, complete_effect, difference_of, disarm_effect, get_effect, insert_effect, instruction_effect, is_less_at, is_walk, is_zero_at, jump_effect, let_on, look_effect, mark_effect, number_effect, pass_effect, put_effect, return_effect, return_lower, spin_lock, start_effect, store_effect, store_paged_effect, sum_of, unlink_effect, routine_effect, frame_effect, dequeue_effect}
 use Rattle.model.specs.Kinds.{is_blank, is_lower}
 use Rattle.model.specs.LocalRule.{kind_of, broken_if, duty_fault}
@@ -52,8 +52,8 @@ live_of (Some p) h = refl
 
 -- the packet that a step touches first
 abbrev pub first_touch : List Action → Option ℕ
-first_touch (Touches n ∷ actions) = Some n
-first_touch (Executes ∷ Touches n ∷ actions) = Some n
+first_touch (OnPacket n Touch ∷ actions) = Some n
+first_touch (OfRoutine Execute ∷ OnPacket n Touch ∷ actions) = Some n
 first_touch _ = None
 
 -- what is touched is live

@@ -11,7 +11,7 @@ use Rattle.model.specs.declared.world.Frame.{Frame}
 use Rattle.model.specs.declared.world.Frame.TheVariants.{Routine, Walk, Cancel as CancelFrame}
 use Rattle.model.specs.declared.world.Irql.{Irql}
 use Rattle.model.specs.declared.world.Thread.{Thread}
-use Rattle.model.specs.Action.{Action, Acquires, Releases}
+use Rattle.model.specs.Action.{Action, OnLock, Acquire, Release}
 use Rattle.model.specs.Effect.{Outcome, operand_of, answered_in, top_of}
 use Rattle.model.specs.Events.{Change, standing, with_thread, with_stack}
 use Rattle.model.specs.Fault.{holds_after, holds}
@@ -41,8 +41,8 @@ LocksAgree states w past = (t : ℕ) (l : Lock) → holds past t l ≡ top_says 
 -- actions of one thread leave the locks of others
 other_holds : (action : Action) (l : Lock) (before : Bool)
     → holds_after action false l before ≡ before
-other_holds (Acquires m) l before = refl
-other_holds (Releases m) l before = refl
+other_holds (OnLock m Acquire) l before = refl
+other_holds (OnLock m Release) l before = refl
 other_holds _ l before = refl
 
 other_threads : (past : List Entry) (actor : Actor) (k : ℕ) (actions : List Action) (l : Lock)

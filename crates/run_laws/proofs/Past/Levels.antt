@@ -4,7 +4,7 @@ use Rattle.std.specs.Prelude.{◌||◌, ◌&&◌, nat_eq}
 use Rattle.std.specs.List.{list_any}
 use Rattle.std.proofs.lemmas.Bool.{cases_Bool}
 use Rattle.model.specs.declared.event.Lock.{Lock}
-use Rattle.model.specs.Action.{Action, Acquires, Releases}
+use Rattle.model.specs.Action.{Action, OnLock, Acquire, Release}
 use Rattle.model.specs.Fault.{is_lock, holds_after, holds, holds_any, with_acquired, acquired}
 use Rattle.model.specs.Trace.{Entry}
 use Rattle.run_laws.proofs.Past.Owners.{lock_tells}
@@ -28,9 +28,10 @@ module _ (test : Lock → Bool) (l : Lock) (p : test l ≡ true) where
 
   acquired_more : (a : Action) (b held : Bool) (locks : List Lock) → holds_after a b l held ≡ true
       → (held ≡ true → list_any test locks ≡ true) → list_any test (with_acquired a locks) ≡ true
-  acquired_more (Acquires m) b held locks h more =
+  acquired_more (OnLock m Acquire) b held locks h more =
       acquired_one m locks b (is_lock m l) held refl h more
-  acquired_more (Releases m) b held locks h more = more (still_held (b && is_lock m l) held h)
+  acquired_more (OnLock m Release) b held locks h more =
+      more (still_held (b && is_lock m l) held h)
   acquired_more _ b held locks h more = more h
 
   acquired_held : (past : List Entry) (t : ℕ) → holds past t l ≡ true

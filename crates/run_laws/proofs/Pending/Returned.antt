@@ -6,7 +6,7 @@ use Rattle.std.specs.List.{list_any}
 use Rattle.std.proofs.lemmas.Bool.{eqb-true}
 use Rattle.std.proofs.lemmas.Bool.Decides.{eqb_tells}
 use Rattle.model.specs.declared.status.Status.{Status}
-use Rattle.model.specs.Action.{Action, Calls, Executes, Issues, Leaves, Marks, Returns, Ups}
+use Rattle.model.specs.Action.{Action, OnLocation, OfRoutine, Issue, Call, Return, Executes, Returns}
 use Rattle.model.specs.LocalRule.{is_pending}
 use Rattle.model.specs.PendingAgreement.{statuses_returned, PendingAgree, serves}
 use Rattle.model.specs.Trace.{Actor, Activated, Entry, Serving, Tag, entry, recorded}
@@ -19,27 +19,21 @@ use Rattle.run_laws.proofs.Uses.Traced.{SameUses, is_about, same_recorded}
 
 -- an action tells something of a use, its mark or a status
 abbrev pub is_telling : Action → Bool
-is_telling (Issues n stack) = true
-is_telling (Calls n) = true
-is_telling (Ups n) = true
-is_telling (Marks n) = true
-is_telling (Leaves n) = true
-is_telling (Returns status) = true
+is_telling (OnLocation n act) = true
+is_telling (OfRoutine (Return status)) = true
 is_telling _ = false
 
 -- of another packet, or a status
 abbrev pub tells_beyond : ℕ → Action → Bool
-tells_beyond m (Issues n stack) = true
-tells_beyond m (Calls n) = true
-tells_beyond m (Ups n) = not (nat_eq n m)
-tells_beyond m (Marks n) = not (nat_eq n m)
-tells_beyond m (Leaves n) = not (nat_eq n m)
-tells_beyond m (Returns status) = true
+tells_beyond m (OnLocation n (Issue stack)) = true
+tells_beyond m (OnLocation n Call) = true
+tells_beyond m (OnLocation n _) = not (nat_eq n m)
+tells_beyond m (OfRoutine (Return status)) = true
 tells_beyond m _ = false
 
 -- it returns a status
 abbrev pub is_return : Action → Bool
-is_return (Returns status) = true
+is_return (OfRoutine (Return status)) = true
 is_return _ = false
 
 pub any_less : {A : Type 0} (f g : A → Bool) (xs : List A) → ((x : A) → f x ≡ false → g x ≡ false)
@@ -51,7 +45,7 @@ any_less f g (x ∷ xs) less h =
     rw (one, others) refl
 
 telling_return : (action : Action) → is_telling action ≡ false → is_return action ≡ false
-telling_return (Returns status) h = cc
+telling_return (OfRoutine (Return status)) h = cc
 telling_return _ h = refl
 
 pub silent_returns : (actions : List Action) → list_any is_telling actions ≡ false
@@ -59,7 +53,7 @@ pub silent_returns : (actions : List Action) → list_any is_telling actions ≡
 silent_returns actions h = any_less is_telling is_return actions telling_return h
 
 beyond_return : (m : ℕ) (action : Action) → tells_beyond m action ≡ false → is_return action ≡ false
-beyond_return m (Returns status) h = cc
+beyond_return m (OfRoutine (Return status)) h = cc
 beyond_return m _ h = refl
 
 pub beyond_returns : (m : ℕ) (actions : List Action) → list_any (tells_beyond m) actions ≡ false
@@ -67,11 +61,7 @@ pub beyond_returns : (m : ℕ) (actions : List Action) → list_any (tells_beyon
 beyond_returns m actions h = any_less (tells_beyond m) is_return actions (beyond_return m) h
 
 telling_about : (n : ℕ) (action : Action) → is_telling action ≡ false → is_about n action ≡ false
-telling_about n (Issues m stack) h = cc
-telling_about n (Calls m) h = cc
-telling_about n (Ups m) h = cc
-telling_about n (Marks m) h = cc
-telling_about n (Leaves m) h = cc
+telling_about n (OnLocation m act) h = cc
 telling_about n _ h = refl
 
 pub silent_about : (n : ℕ) (actions : List Action) → list_any is_telling actions ≡ false
@@ -87,11 +77,9 @@ not_equal k m n h apart =
 
 beyond_about : (m n : ℕ) (action : Action) → nat_eq m n ≡ false → tells_beyond m action ≡ false
     → is_about n action ≡ false
-beyond_about m n (Issues k stack) apart h = cc
-beyond_about m n (Calls k) apart h = cc
-beyond_about m n (Ups k) apart h = not_equal k m n h apart
-beyond_about m n (Marks k) apart h = not_equal k m n h apart
-beyond_about m n (Leaves k) apart h = not_equal k m n h apart
+beyond_about m n (OnLocation k (Issue stack)) apart h = cc
+beyond_about m n (OnLocation k Call) apart h = cc
+beyond_about m n (OnLocation k _) apart h = not_equal k m n h apart
 beyond_about m n _ apart h = refl
 
 pub beyond_uses : (past : List Entry) (actor : Actor) (actions : List Action) (m n : ℕ)
@@ -119,7 +107,7 @@ either_same false x y same = refl
 entry_statuses : (past : List Entry) (actor : Actor) (action : Action) (v : Serving)
     → is_return action ≡ false
     → statuses_returned (entry past actor action ∷ past) v ≡ statuses_returned past v
-entry_statuses past actor (Returns status) v h = cc
+entry_statuses past actor (OfRoutine (Return status)) v h = cc
 entry_statuses past actor _ v h =
     either_same (serves actor.tag v) (statuses_returned past v) (statuses_returned past v) refl
 

@@ -26,7 +26,7 @@ use Rattle.model.specs.declared.world.Frame.{Frame}
 use Rattle.model.specs.declared.world.Frame.TheVariants.{Routine, Walk, Cancel as CancelFrame}
 use Rattle.model.specs.declared.world.Packet.{Packet}
 use Rattle.model.specs.declared.world.Value.TheVariants.{Status as StatusValue, Ref}
-use Rattle.model.specs.Action.{Action, Executes, Acquires, Releases, TouchesPaged, Touches, Completes, Exchanges, Marks, GoesWrong}
+use Rattle.model.specs.Action.{Action, OfRoutine, GoWrong, Executes, Acquires, Releases, TouchesPaged, Touches, Completes, Exchanges, Marks}
 use Rattle.model.specs.Effect.{Outcome, told_in, operand_of, answered_in, answered, goes_on, dispatched, set_by, completes_with, asks, leaves, goes_on_cancelling, routine_of_device}
 use Rattle.model.specs.Fault.{bug_if, first_fault, topped, completing}
 use Rattle.model.specs.LocalRule.{holds_lock, kind_of, given_down, handed, is_completion}
@@ -66,7 +66,7 @@ use Rattle.model.specs.Queues.{StartState}
 use Rattle.std.specs.Prelude.{◌&&◌}
 
 abbrev pub is_wrong : Action → Bool
-is_wrong GoesWrong = true
+is_wrong (OfRoutine GoWrong) = true
 is_wrong _ = false
 
 -- nothing goes wrong

@@ -6,26 +6,25 @@ use Rattle.std.specs.Prelude.{if◌then◌else◌}
 use Rattle.model.specs.declared.event.Bug.{Bug}
 use Rattle.model.specs.declared.event.BugCheck.TheVariants.{IrqlNotLessOrEqual}
 use Rattle.model.specs.declared.event.Subject.TheVariants.{Packet as PacketSubject}
-use Rattle.model.specs.Action.{Action, Acquires, Releases, TouchesPaged, Touches, Calls, Completes}
+use Rattle.model.specs.Action.{Action, OnLock, OnPacket, OnLocation, OfRoutine, Touch, Complete, Call, TouchPaged}
 use Rattle.model.specs.Fault.{bug_if, fault_of, first_or, first_fault, topped}
 use Rattle.model.specs.Trace.{Entry, Actor, entry}
 
 abbrev pub is_of_locks : Action → Bool
-is_of_locks (Acquires lock) = true
-is_of_locks (Releases lock) = true
-is_of_locks (TouchesPaged cell) = true
+is_of_locks (OnLock lock act) = true
+is_of_locks (OfRoutine (TouchPaged cell)) = true
 is_of_locks _ = false
 
 abbrev pub is_touch : Action → Bool
-is_touch (Touches n) = true
+is_touch (OnPacket n Touch) = true
 is_touch _ = false
 
 abbrev pub is_call : Action → Bool
-is_call (Calls n) = true
+is_call (OnLocation n Call) = true
 is_call _ = false
 
 abbrev pub is_completion : Action → Bool
-is_completion (Completes n) = true
+is_completion (OnPacket n Complete) = true
 is_completion _ = false
 
 -- the first bug check of the actions of a kind, among others
@@ -56,12 +55,11 @@ pub record NoFaults (past : List Entry) (actor : Actor) (actions : List Action) 
 module _ (past : List Entry) (actor : Actor) (actions : List Action) where
   here : (action : Action) → NoFaults past actor (action ∷ actions)
       → fault_of past actor action ≡ None
-  here (Acquires lock) h = none_first _ _ h.locks
-  here (Releases lock) h = none_first _ _ h.locks
-  here (TouchesPaged cell) h = none_first _ _ h.locks
-  here (Touches n) h = none_first _ _ h.touches
-  here (Calls n) h = none_first _ _ h.calls
-  here (Completes n) h = none_first _ _ h.completions
+  here (OnLock lock act) h = none_first _ _ h.locks
+  here (OfRoutine (TouchPaged cell)) h = none_first _ _ h.locks
+  here (OnPacket n Touch) h = none_first _ _ h.touches
+  here (OnLocation n Call) h = none_first _ _ h.calls
+  here (OnPacket n Complete) h = none_first _ _ h.completions
   here _ h = refl
 
   later : (action : Action) → NoFaults past actor (action ∷ actions)

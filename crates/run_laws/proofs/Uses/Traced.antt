@@ -4,7 +4,7 @@ use Rattle.std.proofs.Common.{◌≡◌, ℕ, suc, ◌+◌, ◌-◌, ◌<◌, �
 use Rattle.std.specs.Prelude.{◌||◌, nat_eq, slice_get, if◌then◌else◌}
 use Rattle.std.specs.List.{list_any}
 use Rattle.std.proofs.lemmas.Bool.Decides.{eqb_tells}
-use Rattle.model.specs.Action.{Action, Issues, Calls, Ups, Marks, Leaves}
+use Rattle.model.specs.Action.{Action, OnLocation, Issue, Call, Up, Mark, Leave}
 use Rattle.model.specs.Fault.{depth, depth_after, stack_size}
 use Rattle.model.specs.PendingAgreement.{is_use, leaves_use, marks_left, marks_use, was_marked}
 use Rattle.model.specs.Trace.{Entry, Serving, Actor, current_use, entry, opens, recorded, use_of, uses, uses_after, uses_opened}
@@ -23,27 +23,27 @@ falls_drop bound (u ∷ upper) h =
     let l : u < bound = h.0 in falls_more u bound upper (omega arith) h.1
 
 pub opens_more : (action : Action) (count : ℕ) → count ≤ opens action count
-opens_more (Issues n stack) count = omega arith
-opens_more (Calls n) count = omega arith
+opens_more (OnLocation n (Issue stack)) count = omega arith
+opens_more (OnLocation n Call) count = omega arith
 opens_more _ count = omega arith
 
 -- uses fall still after an action
 entry_falls : (past : List Entry) (action : Action) (n : ℕ) → Falls (uses_opened past) (uses past n)
     → Falls (opens action (uses_opened past)) (uses_after action n (use_of past action)
     (uses past n))
-entry_falls past (Issues m stack) n h =
+entry_falls past (OnLocation m (Issue stack)) n h =
     elim (eqb_tells m n) [
       | inl e ↦ rw e.0 (omega arith, tt)
       | inr e ↦ rw e.0
           (falls_more (uses_opened past) (uses_opened past + 1) (uses past n) (omega arith) h)
     ]
-entry_falls past (Calls m) n h =
+entry_falls past (OnLocation m Call) n h =
     elim (eqb_tells m n) [
       | inl e ↦ rw e.0 (omega arith, h)
       | inr e ↦ rw e.0
           (falls_more (uses_opened past) (uses_opened past + 1) (uses past n) (omega arith) h)
     ]
-entry_falls past (Ups m) n h =
+entry_falls past (OnLocation m Up) n h =
     elim (eqb_tells m n) [
       | inl e ↦ rw e.0 (falls_drop (uses_opened past) (uses past n) h)
       | inr e ↦ rw e.0 h
@@ -57,11 +57,11 @@ length_dropped (u ∷ upper) = omega arith
 entry_depths : (past : List Entry) (action : Action) (n : ℕ) → depth past n ≡ length (uses past n)
     → depth_after action n (depth past n)
     ≡ length (uses_after action n (use_of past action) (uses past n))
-entry_depths past (Issues m stack) n h =
+entry_depths past (OnLocation m (Issue stack)) n h =
     elim (eqb_tells m n) [ inl e ↦ rw e.0 refl | inr e ↦ rw e.0 h ]
-entry_depths past (Calls m) n h =
+entry_depths past (OnLocation m Call) n h =
     elim (eqb_tells m n) [ inl e ↦ rw e.0 (omega arith) | inr e ↦ rw e.0 h ]
-entry_depths past (Ups m) n h =
+entry_depths past (OnLocation m Up) n h =
     elim (eqb_tells m n) [
       | inl e ↦ rw e.0 (ap (λ (d : ℕ). d - 1) h ∙ length_dropped (uses past n))
       | inr e ↦ rw e.0 h
@@ -83,14 +83,14 @@ entry_unleft : (past : List Entry) (action : Action) (v : Serving) → Traced pa
     → (if leaves_use action (use_of past action) v then was_marked past v ∷ marks_left past v
     else marks_left past v)
     ≡ []
-entry_unleft past (Leaves n) v h l =
+entry_unleft past (OnLocation n Leave) v h l =
     rw (not_current n (uses_opened past) (uses past n) v (h.falls n) l) (h.never_left v l)
 entry_unleft past _ v h l = h.never_left v l
 
 entry_unmarked : (past : List Entry) (action : Action) (v : Serving) → Traced past
     → uses_opened past < v.«use» + 1
     → (marks_use action (use_of past action) v || was_marked past v) ≡ false
-entry_unmarked past (Marks n) v h l =
+entry_unmarked past (OnLocation n Mark) v h l =
     rw (not_current n (uses_opened past) (uses past n) v (h.falls n) l) (h.never_marked v l)
 entry_unmarked past _ v h l = h.never_marked v l
 
@@ -140,11 +140,7 @@ traced_begun =
 
 -- an action is about the uses of a packet
 abbrev pub is_about : ℕ → Action → Bool
-is_about n (Issues m stack) = nat_eq m n
-is_about n (Calls m) = nat_eq m n
-is_about n (Ups m) = nat_eq m n
-is_about n (Marks m) = nat_eq m n
-is_about n (Leaves m) = nat_eq m n
+is_about n (OnLocation m act) = nat_eq m n
 is_about n _ = false
 
 -- nothing happened to the uses of a packet
@@ -164,20 +160,20 @@ not_other m n u (Some v) h = rw h refl
 same_entry : (past : List Entry) (actor : Actor) (action : Action) (n : ℕ)
     → is_about n action ≡ false
     → SameUses past (entry past actor action ∷ past) n
-same_entry past actor (Issues m stack) n h =
+same_entry past actor (OnLocation m (Issue stack)) n h =
     record { used = rw h refl; marked = λ u. refl; left = λ u. refl; sized = rw h refl }
-same_entry past actor (Calls m) n h =
+same_entry past actor (OnLocation m Call) n h =
     record { used = rw h refl; marked = λ u. refl; left = λ u. refl; sized = refl }
-same_entry past actor (Ups m) n h =
+same_entry past actor (OnLocation m Up) n h =
     record { used = rw h refl; marked = λ u. refl; left = λ u. refl; sized = refl }
-same_entry past actor (Marks m) n h =
+same_entry past actor (OnLocation m Mark) n h =
     record {
       used = refl;
       marked = λ u. rw (not_other m n u (current_use past m) h) refl;
       left = λ u. refl;
       sized = refl;
     }
-same_entry past actor (Leaves m) n h =
+same_entry past actor (OnLocation m Leave) n h =
     record {
       used = refl;
       marked = λ u. refl;
