@@ -5,7 +5,7 @@ use Rattle.std.proofs.Math.Seq.{drop-cons}
 use Rattle.std.proofs.lemmas.List.{take_more_set, drop-set-lt, append_assoc, append-nil, take_all, drop_all}
 use Rattle.std.specs.List.{list_any}
 use Rattle.model.specs.declared.abs.Kind.{Kind}
-use Rattle.model.specs.declared.abs.Kind.TheVariants.{Listed, Armed, Taken, Cancelling}
+use Rattle.model.specs.declared.abs.Kind.TheVariants.{Queued}
 use Rattle.model.specs.declared.set.Guard.{Guard}
 use Rattle.model.specs.Kinds.{needs_guard, let_go, all_let_go}
 use Rattle.model.specs.Set.{Set}
@@ -48,18 +48,12 @@ let_go_over s driver lock kinds first i over before =
 pub none_let_go : (s : Set) (driver : ℕ) (lock : Guard) (kinds : List Kind)
     → list_any has_list kinds ≡ false → kinds ≡ all_let_go s driver lock kinds
 none_let_go s driver lock [] none = refl
-none_let_go s driver lock (Listed name ∷ kinds) none = cc
-none_let_go s driver lock (Armed name ∷ kinds) none = cc
-none_let_go s driver lock (Taken name ∷ kinds) none = cc
-none_let_go s driver lock (Cancelling name ∷ kinds) none = cc
+none_let_go s driver lock (Queued name stage ∷ kinds) none = cc
 none_let_go s driver lock (kind ∷ kinds) none =
     ap (λ (rest : List Kind). kind ∷ rest) (none_let_go s driver lock kinds none)
 
 pub none_in_need : (s : Set) (driver : ℕ) (lock : Guard) (kinds : List Kind)
     → list_any has_list kinds ≡ false → false ≡ list_any (needs_guard s driver lock) kinds
 none_in_need s driver lock [] none = refl
-none_in_need s driver lock (Listed name ∷ kinds) none = cc
-none_in_need s driver lock (Armed name ∷ kinds) none = cc
-none_in_need s driver lock (Taken name ∷ kinds) none = cc
-none_in_need s driver lock (Cancelling name ∷ kinds) none = cc
+none_in_need s driver lock (Queued name stage ∷ kinds) none = cc
 none_in_need s driver lock (kind ∷ kinds) none = none_in_need s driver lock kinds none

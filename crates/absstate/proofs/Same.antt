@@ -3,17 +3,30 @@ use Rattle.std.proofs.Common.{◌≡◌, ℕ, zero, suc, ◌<◌, ◌≤◌, Boo
 use Rattle.std.proofs.Math.Seq.{drop-cons}
 use Rattle.std.proofs.lemmas.List.{drop_all}
 use Rattle.std.specs.List.{list_any}
-use Rattle.std.specs.Prelude.{nat_eq, if◌then◌else◌}
+use Rattle.std.specs.Prelude.{nat_eq, nat_le, ◌-◌, if◌then◌else◌}
 use Rattle.model.specs.declared.abs.Kind.{Kind}
-use Rattle.model.specs.declared.abs.Kind.TheVariants.{Blank, Num, Lower, New, Own, Listed, Armed, Taken, Cancelling, View}
+use Rattle.model.specs.declared.abs.Kind.TheVariants.{Blank, Num, Lower, New, Own, Queued, View}
+use Rattle.model.specs.declared.abs.Stage.TheVariants.{Listed, Armed, Taken, Cancelling}
+use Rattle.model.specs.declared.abs.Stage.{Stage}
 use Rattle.model.specs.declared.set.QueueName.{QueueName}
 use Rattle.model.specs.declared.set.QueueName.TheVariants.{Declared, DeviceQueue}
-use Rattle.absstate.specs.Same.{has_list, queue_number, same_queues, same_shapes, shape}
+use Rattle.absstate.specs.Same.{has_list, name_number, queue_number, same_queues, same_shapes, shape}
 
 -- the list of this number
 abbrev name_of_number : ℕ → QueueName
 name_of_number zero = DeviceQueue
 name_of_number (suc queue) = Declared queue
+
+name_told : (name : QueueName) → name_of_number (name_number name) ≡ name
+name_told DeviceQueue = refl
+name_told (Declared queue) = refl
+
+-- the stage of this number
+abbrev stage_of_number : ℕ → Stage
+stage_of_number number =
+    if nat_eq number 0 then Listed else
+    (if nat_eq number 1 then Armed else
+    (if nat_eq number 2 then Taken else Cancelling))
 
 -- the kind of these numbers
 abbrev kind_of_numbers : ℕ → ℕ → Kind
@@ -23,10 +36,8 @@ kind_of_numbers shape queue =
     (if nat_eq shape 2 then Lower else
     (if nat_eq shape 3 then New else
     (if nat_eq shape 4 then Own else
-    (if nat_eq shape 5 then Listed (name_of_number queue) else
-    (if nat_eq shape 6 then Armed (name_of_number queue) else
-    (if nat_eq shape 7 then Taken (name_of_number queue) else
-    (if nat_eq shape 8 then Cancelling (name_of_number queue) else View))))))))
+    (if nat_eq shape 5 then View else
+    Queued (name_of_number queue) (stage_of_number (shape - 6)))))))
 
 told : (kind : Kind) → kind_of_numbers (shape kind) (queue_number kind) ≡ kind
 told Blank = refl
@@ -34,14 +45,10 @@ told Num = refl
 told Lower = refl
 told New = refl
 told Own = refl
-told (Listed DeviceQueue) = refl
-told (Listed (Declared queue)) = refl
-told (Armed DeviceQueue) = refl
-told (Armed (Declared queue)) = refl
-told (Taken DeviceQueue) = refl
-told (Taken (Declared queue)) = refl
-told (Cancelling DeviceQueue) = refl
-told (Cancelling (Declared queue)) = refl
+told (Queued name Listed) = ap (λ (x : QueueName). Queued x Listed) (name_told name)
+told (Queued name Armed) = ap (λ (x : QueueName). Queued x Armed) (name_told name)
+told (Queued name Taken) = ap (λ (x : QueueName). Queued x Taken) (name_told name)
+told (Queued name Cancelling) = ap (λ (x : QueueName). Queued x Cancelling) (name_told name)
 told View = refl
 
 pub same_kind : (a b : Kind) → shape a ≡ shape b → queue_number a ≡ queue_number b → a ≡ b
@@ -84,7 +91,7 @@ kinds_alike xs ys same =
 
 -- a kind names a list if its shape says so
 abbrev lists : ℕ → Bool
-lists shape = nat_eq shape 5 || (nat_eq shape 6 || (nat_eq shape 7 || nat_eq shape 8))
+lists shape = nat_le 6 shape
 
 has_list_told : (kind : Kind) → has_list kind ≡ lists (shape kind)
 has_list_told Blank = refl
@@ -92,17 +99,14 @@ has_list_told Num = refl
 has_list_told Lower = refl
 has_list_told New = refl
 has_list_told Own = refl
-has_list_told (Listed name) = refl
-has_list_told (Armed name) = refl
-has_list_told (Taken name) = refl
-has_list_told (Cancelling name) = refl
+has_list_told (Queued name Listed) = refl
+has_list_told (Queued name Armed) = refl
+has_list_told (Queued name Taken) = refl
+has_list_told (Queued name Cancelling) = refl
 has_list_told View = refl
 
 unlisted : (kind : Kind) → has_list kind ≡ false → queue_number kind ≡ 0
-unlisted (Listed name) none = cc
-unlisted (Armed name) none = cc
-unlisted (Taken name) none = cc
-unlisted (Cancelling name) none = cc
+unlisted (Queued name stage) none = cc
 unlisted _ none = refl
 
 neither : (a b : Bool) → (a || b) ≡ false → (a ≡ false) × (b ≡ false)

@@ -1,9 +1,10 @@
 -- A kind by two numbers, as it is compared.
-use Rattle.std.specs.Prelude.{ℕ, suc, Bool, true, false, nat_eq, ◌&&◌, List, [], ◌∷◌}
+use Rattle.std.specs.Prelude.{ℕ, ◌+◌, suc, Bool, true, false, nat_eq, ◌&&◌, List, [], ◌∷◌}
 use Rattle.model.specs.declared.abs.Kind.{Kind}
-use Rattle.model.specs.declared.abs.Kind.TheVariants.{Blank, Num, Lower, New, Own, Listed, Armed, Taken, Cancelling, View}
+use Rattle.model.specs.declared.abs.Kind.TheVariants.{Blank, Num, Lower, New, Own, Queued, View}
 use Rattle.model.specs.declared.set.QueueName.{QueueName}
 use Rattle.model.specs.declared.set.QueueName.TheVariants.{Declared, DeviceQueue}
+use Rattle.model.specs.Kinds.{stage_number}
 
 -- what it says, its list apart
 abbrev pub shape : Kind → ℕ
@@ -12,11 +13,8 @@ shape Num = 1
 shape Lower = 2
 shape New = 3
 shape Own = 4
-shape (Listed name) = 5
-shape (Armed name) = 6
-shape (Taken name) = 7
-shape (Cancelling name) = 8
-shape View = 9
+shape View = 5
+shape (Queued name stage) = 6 + stage_number stage
 
 -- the number of a list: the device queue, and the queues that the driver declares after it
 abbrev pub name_number : QueueName → ℕ
@@ -25,10 +23,7 @@ name_number (Declared queue) = suc queue
 
 -- of the one that it names
 abbrev pub queue_number : Kind → ℕ
-queue_number (Listed name) = name_number name
-queue_number (Armed name) = name_number name
-queue_number (Taken name) = name_number name
-queue_number (Cancelling name) = name_number name
+queue_number (Queued name stage) = name_number name
 queue_number Blank = 0
 queue_number Num = 0
 queue_number Lower = 0
@@ -38,10 +33,7 @@ queue_number View = 0
 
 -- it names a list
 abbrev pub has_list : Kind → Bool
-has_list (Listed name) = true
-has_list (Armed name) = true
-has_list (Taken name) = true
-has_list (Cancelling name) = true
+has_list (Queued name stage) = true
 has_list _ = false
 
 -- kinds say the same one by one, their lists apart

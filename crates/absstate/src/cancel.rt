@@ -6,11 +6,11 @@ ghost use Rattle.std.specs.Prelude.{◌≡◌};
 ghost use Rattle.std.specs.List.{list_any};
 ghost use Rattle.model.specs.LocalRule.{kind_of, with_kind, least_of, unless, guard_fault};
 ghost use Rattle.model.specs.LocalRule.{free_kind};
-ghost use Rattle.model.specs.Kinds.{is_name, is_listed, is_armed, is_cancelling, is_exchanged};
+ghost use Rattle.model.specs.Kinds.{is_name, is_stage, is_at, is_claim, is_exchanged};
 ghost use Rattle.model.specs.LocalRule.{queued_kind, unlink_kind, names_fault};
 ghost use Rattle.model.specs.Kinds.{names_list};
 ghost use Rattle.model.specs.LocalRule.{acquire_fault, release_fault, rule_of_lock};
-ghost use Rattle.model.specs.Kinds.{is_guard, is_same_lock, needs_guard};
+ghost use Rattle.model.specs.Kinds.{is_guard, is_same_lock, stays_under_guard, needs_guard};
 ghost use Rattle.model.specs.Kinds.{kind_inserted, kind_removed, kind_disarmed};
 ghost use Rattle.model.specs.LocalRule.{released};
 ghost use Rattle.model.specs.Kinds.{let_go, all_let_go};
@@ -21,7 +21,7 @@ use crate::queues::guard_fault;
 use crate::state::{holds_guard, kind};
 use crate::tracked::{Tracked, is_one_left, set_held, set_kind};
 use driver_set::DriverSet;
-use model::abs::{Abs, Kind, Rule};
+use model::abs::{Abs, Kind, Rule, Stage};
 use model::instr::Register;
 use model::set::{Guard, QueueName};
 
@@ -77,14 +77,14 @@ pub fn arm_fault(
 ) -> Option<Rule>
     ensures { result
         ≡ least_of
-        (queued_kind (is_listed (QueueName.Declared queue) (kind_of state.now register))
+        (queued_kind (is_at Stage.Listed (QueueName.Declared queue) (kind_of state.now register))
         (kind_of state.now register))
         (guard_fault state.now set.now driver (QueueName.Declared queue)) }
 {
     let kind = kind(state, register);
     let name = QueueName::Declared(queue);
     least(
-        queued_kind(is_listed(name, kind), kind),
+        queued_kind(is_at(Stage::Listed, name, kind), kind),
         guard_fault(state, set, driver, name),
     )
 }
@@ -102,7 +102,7 @@ pub fn disarm_fault(kind: Kind) -> Option<Rule>
 pub fn dequeue_fault(state: &Abs, register: Register, set: &DriverSet, driver: u8) -> Option<Rule>
     ensures { result
         ≡ least_of
-        (queued_kind (is_cancelling QueueName.DeviceQueue (kind_of state.now register))
+        (queued_kind (is_at Stage.Cancelling QueueName.DeviceQueue (kind_of state.now register))
         (kind_of state.now register))
         (least_of (guard_fault state.now set.now driver QueueName.DeviceQueue)
         (unless (has_cancel set.now driver QueueName.DeviceQueue) Rule.Sort)) }
@@ -111,7 +111,7 @@ pub fn dequeue_fault(state: &Abs, register: Register, set: &DriverSet, driver: u
     let named = QueueName::DeviceQueue;
     let sorted = unless(set.has_cancel(driver, named), Rule::Sort);
     least(
-        queued_kind(is_cancelling(named, kind), kind),
+        queued_kind(is_at(Stage::Cancelling, named, kind), kind),
         least(guard_fault(state, set, driver, named), sorted),
     )
 }
@@ -148,7 +148,10 @@ fn rule_of_lock(lock: &Guard) -> Rule
 fn unlink_kind(name: QueueName, kind: Kind) -> Option<Rule>
     ensures { result ≡ unlink_kind name kind }
 {
-    queued_kind(is_listed(name, kind) || is_cancelling(name, kind), kind)
+    queued_kind(
+        is_at(Stage::Listed, name, kind) || is_at(Stage::Cancelling, name, kind),
+        kind,
+    )
 }
 
 /// A packet of a list with a cancel routine has to be there, in a state that fits the instruction.
@@ -158,9 +161,7 @@ fn queued_kind(fits: bool, kind: Kind) -> Option<Rule>
     match kind {
         Kind::Blank | Kind::Num | Kind::Lower => Some(Rule::WrongKind),
         Kind::New | Kind::Own => Some(Rule::CancelState),
-        Kind::Listed(_) | Kind::Armed(_) | Kind::Taken(_) | Kind::Cancelling(_) => {
-            unless(fits, Rule::CancelState)
-        }
+        Kind::Queued(_, _) => unless(fits, Rule::CancelState),
         Kind::View => Some(Rule::Completion),
     }
 }
@@ -181,44 +182,42 @@ fn is_any_naming(kinds: &[Kind], name: QueueName) -> bool
 fn names_list(name: QueueName, kind: Kind) -> bool
     ensures { result ≡ names_list name kind }
 {
-    is_listed(name, kind) || is_armed(name, kind) || is_cancelling(name, kind)
+    is_at(Stage::Listed, name, kind)
+        || is_at(Stage::Armed, name, kind)
+        || is_at(Stage::Cancelling, name, kind)
 }
 
-/// Whether a packet is the routine's own, and stands in a list.
-fn is_listed(name: QueueName, kind: Kind) -> bool
-    ensures { result ≡ is_listed name kind }
+/// Whether a packet of a list is at a stage.
+fn is_at(stage: Stage, name: QueueName, kind: Kind) -> bool
+    ensures { result ≡ is_at stage name kind }
 {
     match kind {
-        Kind::Listed(other) => is_name(other, name),
+        Kind::Queued(other, at) => is_stage(at, stage) && is_name(other, name),
         _ => false,
     }
 }
 
-/// Whether a packet may be cancelled in a list.
-fn is_armed(name: QueueName, kind: Kind) -> bool
-    ensures { result ≡ is_armed name kind }
+fn is_stage(one: Stage, other: Stage) -> bool
+    ensures { result ≡ is_stage one other }
 {
-    match kind {
-        Kind::Armed(other) => is_name(other, name),
-        _ => false,
-    }
-}
-
-/// Whether IoCancelIrp handed a packet to the cancel routine of a list.
-fn is_cancelling(name: QueueName, kind: Kind) -> bool
-    ensures { result ≡ is_cancelling name kind }
-{
-    match kind {
-        Kind::Cancelling(other) => is_name(other, name),
-        _ => false,
-    }
+    one.number() == other.number()
 }
 
 /// Whether the exchange of a packet's cancel routine tells whose it is.
 fn is_exchanged(kind: Kind) -> bool
     ensures { result ≡ is_exchanged kind }
 {
-    matches!(kind, Kind::Armed(_) | Kind::Taken(_))
+    match kind {
+        Kind::Queued(_, stage) => is_claim(stage),
+        _ => false,
+    }
+}
+
+/// Whether a packet at a stage is one that IoCancelIrp may take, or has taken.
+fn is_claim(stage: Stage) -> bool
+    ensures { result ≡ is_claim stage }
+{
+    matches!(stage, Stage::Armed | Stage::Taken)
 }
 
 /// Whether two names are of the same list.
@@ -255,11 +254,20 @@ fn needs_guard(set: &DriverSet, driver: u8, lock: &Guard, kind: Kind) -> bool
     ensures { result ≡ needs_guard set.now driver lock.now kind }
 {
     match kind {
-        Kind::Listed(name) | Kind::Taken(name) => is_guard(set, driver, name, lock),
-        Kind::Cancelling(QueueName::DeviceQueue) => {
-            is_guard(set, driver, QueueName::DeviceQueue, lock)
+        Kind::Queued(name, stage) => {
+            stays_under_guard(stage, name) && is_guard(set, driver, name, lock)
         }
         _ => false,
+    }
+}
+
+fn stays_under_guard(stage: Stage, name: QueueName) -> bool
+    ensures { result ≡ stays_under_guard stage name }
+{
+    match stage {
+        Stage::Listed | Stage::Taken => true,
+        Stage::Armed => false,
+        Stage::Cancelling => matches!(name, QueueName::DeviceQueue),
     }
 }
 
@@ -293,7 +301,7 @@ pub fn insert(tracked: &mut Tracked, register: Register, set: &DriverSet, driver
         (kind_inserted (cancel_routine_of set.now driver queue) (QueueName.Declared queue)) }
 {
     let kind = match set.cancel_routine(driver, queue) {
-        Some(_) => Kind::Listed(QueueName::Declared(queue)),
+        Some(_) => Kind::Queued(QueueName::Declared(queue), Stage::Listed),
         None => Kind::Blank,
     };
     set_kind(tracked, register, kind);
@@ -307,7 +315,7 @@ pub fn remove(tracked: &mut Tracked, register: Register, set: &DriverSet, driver
         (kind_removed (cancel_routine_of set.now driver queue) (QueueName.Declared queue)) }
 {
     let kind = match set.cancel_routine(driver, queue) {
-        Some(_) => Kind::Taken(QueueName::Declared(queue)),
+        Some(_) => Kind::Queued(QueueName::Declared(queue), Stage::Taken),
         None => Kind::Own,
     };
     set_kind(tracked, register, kind);
@@ -320,8 +328,8 @@ pub fn disarm(tracked: &mut Tracked, register: Register)
         ≡ with_kind tracked.old register (kind_disarmed (kind_of tracked.old register)) }
 {
     let kind = match kind(&tracked.state, register) {
-        Kind::Armed(name) => Kind::Listed(name),
-        Kind::Taken(_) => Kind::Own,
+        Kind::Queued(name, Stage::Armed) => Kind::Queued(name, Stage::Listed),
+        Kind::Queued(_, Stage::Taken) => Kind::Own,
         kind => kind,
     };
     set_kind(tracked, register, kind);
@@ -370,7 +378,7 @@ fn let_go(set: &DriverSet, driver: u8, lock: &Guard, kind: Kind) -> Kind
     ensures { result ≡ let_go set.now driver lock.now kind }
 {
     match kind {
-        Kind::Armed(name) if is_guard(set, driver, name, lock) => Kind::Blank,
+        Kind::Queued(name, Stage::Armed) if is_guard(set, driver, name, lock) => Kind::Blank,
         _ => kind,
     }
 }

@@ -106,9 +106,7 @@ pub fn demanded(wanted: Wanted, kind: Kind) -> Option<Rule>
         Kind::Blank | Kind::Num | Kind::Lower => Some(Rule::WrongKind),
         Kind::New => unless(wanted.new, mark_or_completion(wanted.own)),
         Kind::Own => unless(wanted.own, mark_or_completion(wanted.new)),
-        Kind::Listed(_) | Kind::Armed(_) | Kind::Taken(_) | Kind::Cancelling(_) => {
-            unless(wanted.queued, Rule::CancelState)
-        }
+        Kind::Queued(_, _) => unless(wanted.queued, Rule::CancelState),
         Kind::View => unless(wanted.view, Rule::Completion),
     }
 }

@@ -12,6 +12,6 @@ mod state;
 mod tracked;
 
 pub use local_rule::{advance, broken_rule, state_at_label, transfer};
-pub use model::abs::{Abs, Duty, Kind, Outs, Rule, Settled};
+pub use model::abs::{Abs, Duty, Kind, Outs, Rule, Settled, Stage};
 pub use state::{are_same, entry_state};
 pub use tracked::Tracked;

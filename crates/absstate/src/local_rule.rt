@@ -21,7 +21,7 @@ use crate::tracked::{
     Tracked, begin, complete, give_down, mark, move_kind, set_held, set_kind, take,
 };
 use driver_set::DriverSet;
-use model::abs::{Abs, Kind, Outs, Rule, Settled};
+use model::abs::{Abs, Kind, Outs, Rule, Settled, Stage};
 use model::instr::{Instr, Register};
 use model::set::{Guard, QueueName, Sort};
 
@@ -139,7 +139,11 @@ pub fn advance(tracked: &mut Tracked, instr: &Instr, set: &DriverSet, driver: u8
             set_kind(tracked, register, Kind::Own)
         }
         Instr::Arm(register, queue) => {
-            set_kind(tracked, register, Kind::Armed(QueueName::Declared(queue)))
+            set_kind(
+                tracked,
+                register,
+                Kind::Queued(QueueName::Declared(queue), Stage::Armed),
+            )
         }
         Instr::Disarm(register, _) => disarm(tracked, register),
         Instr::Take(to, _) => take(tracked, to),

@@ -7,7 +7,7 @@ ghost use Rattle.std.specs.List.{list_any};
 ghost use Rattle.absstate.specs.Same.{has_list, name_number, queue_number, shape};
 ghost use Rattle.absstate.specs.Same.{same_queues, same_shapes};
 
-use model::abs::{Abs, Duty, Kind, Settled};
+use model::abs::{Abs, Duty, Kind, Settled, Stage};
 use model::instr::Register;
 use model::limits::{REGISTERS, SPIN_LOCKS};
 use model::set::{Guard, QueueName, Sort};
@@ -36,7 +36,7 @@ fn entry_of_cancel(named: Option<QueueName>) -> Option<Abs>
 {
     match named {
         Some(name) => {
-            let first = Kind::Cancelling(name);
+            let first = Kind::Queued(name, Stage::Cancelling);
             let mut state = entered_with(first, Duty::NoDuty, Settled::Settled, false);
             state.cancel = true;
             Some(state)
@@ -140,10 +140,7 @@ pub fn is_any_named(kinds: &[Kind; REGISTERS]) -> bool
 pub fn has_list(kind: Kind) -> bool
     ensures { result ≡ has_list kind }
 {
-    matches!(
-        kind,
-        Kind::Listed(_) | Kind::Armed(_) | Kind::Taken(_) | Kind::Cancelling(_)
-    )
+    matches!(kind, Kind::Queued(_, _))
 }
 
 /// A number for what a kind says, its list apart.
@@ -157,11 +154,8 @@ fn shape(kind: Kind) -> u8
         Kind::Lower => 2,
         Kind::New => 3,
         Kind::Own => 4,
-        Kind::Listed(_) => 5,
-        Kind::Armed(_) => 6,
-        Kind::Taken(_) => 7,
-        Kind::Cancelling(_) => 8,
-        Kind::View => 9,
+        Kind::View => 5,
+        Kind::Queued(_, stage) => 6 + stage as u8,
     }
 }
 
@@ -171,9 +165,7 @@ fn queue_number(kind: Kind) -> u16
     ensures { result ≡ queue_number kind }
 {
     match kind {
-        Kind::Listed(name) | Kind::Armed(name) | Kind::Taken(name) | Kind::Cancelling(name) => {
-            name_number(name)
-        }
+        Kind::Queued(name, _) => name_number(name),
         _ => 0,
     }
 }

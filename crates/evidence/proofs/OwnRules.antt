@@ -2,11 +2,12 @@
 -- routine's length or memory.
 use Rattle.std.proofs.Common.{◌≡◌, ℕ, Bool, true, false, Option, None, Some, refl}
 use Rattle.std.specs.Prelude.{if◌then◌else◌, nat_le, not}
+use Rattle.model.specs.declared.abs.Stage.TheVariants.{Listed, Cancelling}
 use Rattle.model.specs.declared.abs.Abs.{Abs}
 use Rattle.model.specs.declared.abs.Duty.{Duty}
 use Rattle.model.specs.declared.abs.Duty.TheVariants.{Fresh, Pending, Finished, GivenDown, NoDuty}
 use Rattle.model.specs.declared.abs.Kind.{Kind}
-use Rattle.model.specs.declared.abs.Kind.TheVariants.{Blank, Num, Lower, New, Own, Listed, Armed, Taken, Cancelling, View}
+use Rattle.model.specs.declared.abs.Kind.TheVariants.{Blank, Num, Lower, New, Own, Queued, View}
 use Rattle.model.specs.declared.abs.Rule.{Rule}
 use Rattle.model.specs.declared.abs.Rule.TheVariants.{Malformed, Unreachable, StatesDiffer, WrongKind, DoubleCompletion, MarkIrpPending, CancelSpinLock, SpinLock, LockHeld, Level, Guard as GuardRule, CancelState, Dropped, Token, Sort as SortRule, Completion, StackTooSmall, NoLower, TooLong, Memory}
 use Rattle.model.specs.declared.instr.Instr.{Instr}
@@ -19,7 +20,7 @@ use Rattle.model.specs.declared.set.Sort.{Sort}
 use Rattle.model.specs.declared.set.Sort.TheVariants.{Dispatch, StartIo, Dpc, Propagate, Hold, Cancel}
 use Rattle.model.specs.declared.status.Status.{Status}
 use Rattle.model.specs.LocalRule.{kind_of, is_held, holds_spin_lock, holds_lock, rule_number, least_of, broken_if, unless, Wanted, demanded, any_packet, a_new_one, one_handed_or_owned, an_owned_one, one_to_mark, one_to_look_at, is_completion, is_pending, free_kind, number_kind, level_fault, complete_kind, completion_sort_fault, forward_sort_fault, forward_fault, hold_fault, status_fault, duty_fault, form_fault, is_settled, is_fresh, is_taken_back, lent_fault, settled_fault, gives_back, left_packet, kept_fault, return_fault, completion_fault, guard_fault, waiting_fault, queued_kind, unlink_kind, names_fault, is_dpc, take_fault, refuses}
-use Rattle.model.specs.Kinds.{is_packet, is_blank, is_listed, is_cancelling, is_exchanged}
+use Rattle.model.specs.Kinds.{is_packet, is_blank, is_at, is_exchanged}
 use Rattle.model.specs.Set.{Set, has_cancel}
 
 abbrev pub is_own : Rule → Bool
@@ -80,10 +81,7 @@ demanded_own wanted New = unless_own wanted.new (if wanted.own then MarkIrpPendi
     (packet_rule_own wanted.own)
 demanded_own wanted Own = unless_own wanted.own (if wanted.new then MarkIrpPending else Completion)
     (packet_rule_own wanted.new)
-demanded_own wanted (Listed name) = unless_own wanted.queued CancelState refl
-demanded_own wanted (Armed name) = unless_own wanted.queued CancelState refl
-demanded_own wanted (Taken name) = unless_own wanted.queued CancelState refl
-demanded_own wanted (Cancelling name) = unless_own wanted.queued CancelState refl
+demanded_own wanted (Queued name stage) = unless_own wanted.queued CancelState refl
 demanded_own wanted View = unless_own wanted.view Completion refl
 
 free_own : (kind : Kind) → IsOwn (free_kind kind)
@@ -95,10 +93,7 @@ number_own Num = refl
 number_own Lower = refl
 number_own New = refl
 number_own Own = refl
-number_own (Listed name) = refl
-number_own (Armed name) = refl
-number_own (Taken name) = refl
-number_own (Cancelling name) = refl
+number_own (Queued name stage) = refl
 number_own View = refl
 
 numbers_own : (one other : Kind) → IsOwn (least_of (number_kind one) (number_kind other))
@@ -216,10 +211,7 @@ queued_own fits Num = refl
 queued_own fits Lower = refl
 queued_own fits New = refl
 queued_own fits Own = refl
-queued_own fits (Listed name) = unless_own fits CancelState refl
-queued_own fits (Armed name) = unless_own fits CancelState refl
-queued_own fits (Taken name) = unless_own fits CancelState refl
-queued_own fits (Cancelling name) = unless_own fits CancelState refl
+queued_own fits (Queued name stage) = unless_own fits CancelState refl
 queued_own fits View = refl
 
 pub refuses_own : (s : Abs) (i : Instr) (sort : Sort) (set : Set) (driver : ℕ)
@@ -268,7 +260,7 @@ refuses_own s (Unlink r q) sort set driver =
     least_own (unlink_kind (Declared q) (kind_of s r)) _ (queued_own _ (kind_of s r))
     (guard_own s set driver (Declared q))
 refuses_own s (Arm r q) sort set driver =
-    least_own (queued_kind (is_listed (Declared q) (kind_of s r)) (kind_of s r)) _
+    least_own (queued_kind (is_at Listed (Declared q) (kind_of s r)) (kind_of s r)) _
     (queued_own _ (kind_of s r)) (guard_own s set driver (Declared q))
 refuses_own s (Disarm r label) sort set driver =
     queued_own (is_exchanged (kind_of s r)) (kind_of s r)
@@ -289,7 +281,7 @@ refuses_own s Next sort set driver =
     least_own (waiting_fault s set driver) _ (waiting_own s set driver)
     (unless_own s.token Token refl)
 refuses_own s (Dequeue r) sort set driver =
-    least_own (queued_kind (is_cancelling DeviceQueue (kind_of s r)) (kind_of s r)) _
+    least_own (queued_kind (is_at Cancelling DeviceQueue (kind_of s r)) (kind_of s r)) _
     (queued_own _ (kind_of s r))
     (least_own (guard_fault s set driver DeviceQueue) _ (guard_own s set driver DeviceQueue)
     (unless_own _ SortRule refl))

@@ -1,7 +1,7 @@
 //! The rules in words: why an instruction breaks one, where that is written, and how to mend it.
 
 use crate::kinds::wrong_kind;
-use model::abs::{Abs, Duty, Kind, Rule, Settled};
+use model::abs::{Abs, Duty, Kind, Rule, Settled, Stage};
 use model::instr::{Instr, Return};
 use model::set::{QueueName, Sort};
 
@@ -308,7 +308,7 @@ fn of_cancellation(instr: &Instr, sort: Sort, state: Option<&Abs>) -> Lesson {
 
 /// Whether the packet that is being cancelled stands in the device queue.
 fn waits(state: &Abs) -> bool {
-    let waiting = Kind::Cancelling(QueueName::DeviceQueue);
+    let waiting = Kind::Queued(QueueName::DeviceQueue, Stage::Cancelling);
     state.kinds.iter().any(|kind| *kind == waiting)
 }
 

@@ -1,7 +1,7 @@
 //! What is known of registers and locks, in words.
 
 use crate::names::Names;
-use model::abs::{Abs, Duty, Kind, Settled};
+use model::abs::{Abs, Duty, Kind, Settled, Stage};
 use std::alloc::AllocError;
 
 /// Adds what a state says: each register that isn't blank, the locks that are held, what is owed,
@@ -39,23 +39,21 @@ pub(crate) fn add_kind(
         Kind::Lower => prose.push_str("the status that the lower driver returned"),
         Kind::New => prose.push_str("the packet as it was handed in"),
         Kind::Own => prose.push_str("a packet of the routine's own"),
-        Kind::Listed(queue) => {
-            prose.push_str("a packet with no cancel routine set, put into ")?;
-            names.add_queue(prose, queue)
-        }
-        Kind::Armed(queue) => {
-            prose.push_str("a packet whose cancel routine was set and may run, put into ")?;
-            names.add_queue(prose, queue)
-        }
-        Kind::Taken(queue) => {
-            prose.push_str("a packet whose cancel routine may still be set, taken off ")?;
-            names.add_queue(prose, queue)
-        }
-        Kind::Cancelling(queue) => {
-            prose.push_str("the packet that is being cancelled, and may still stand in ")?;
+        Kind::Queued(queue, stage) => {
+            prose.push_str(stage_words(stage))?;
             names.add_queue(prose, queue)
         }
         Kind::View => prose.push_str("a packet on its way up, to be looked at"),
+    }
+}
+
+/// What a packet of a list is, up to the name of the list.
+fn stage_words(stage: Stage) -> &'static str {
+    match stage {
+        Stage::Listed => "a packet with no cancel routine set, put into ",
+        Stage::Armed => "a packet whose cancel routine was set and may run, put into ",
+        Stage::Taken => "a packet whose cancel routine may still be set, taken off ",
+        Stage::Cancelling => "the packet that is being cancelled, and may still stand in ",
     }
 }
 

@@ -3,7 +3,7 @@ use Rattle.std.proofs.Common.{◌≡◌, ◌<◌, ◌+◌, ◌-◌, ℕ, List, O
 use Rattle.std.specs.Prelude.{slice_get}
 use Rattle.std.proofs.lemmas.Option.{slice_get_past, slice_get_within}
 use Rattle.model.specs.declared.abs.Kind.{Kind}
-use Rattle.model.specs.declared.abs.Kind.TheVariants.{Blank, Num, Lower, New, Own, Listed, Armed, Taken, Cancelling, View}
+use Rattle.model.specs.declared.abs.Kind.TheVariants.{Blank, Num, Lower, New, Own, Queued, View}
 use Rattle.model.specs.declared.event.Event.{Event}
 use Rattle.model.specs.declared.world.Activation.{Activation}
 use Rattle.model.specs.declared.world.Frame.{Frame}
@@ -34,10 +34,7 @@ live_of s Num n kind h = let is : Ref n ≡ NumValue h.0 = h.1 in cc
 live_of s Lower n kind h = let is : Ref n ≡ StatusValue h.0 = h.1 in cc
 live_of s New n kind h = live_named s n h
 live_of s Own n kind h = live_named s n h
-live_of s (Listed name) n kind h = live_named s n h
-live_of s (Armed name) n kind h = live_named s n h
-live_of s (Taken name) n kind h = live_named s n h
-live_of s (Cancelling name) n kind h = live_named s n h
+live_of s (Queued name stage) n kind h = live_named s n h
 live_of s View n kind h = live_named s n h
 
 -- nothing stands on the top

@@ -8,7 +8,8 @@ use Rattle.model.specs.declared.abs.Abs.{Abs}
 use Rattle.model.specs.declared.abs.Duty.{Duty}
 use Rattle.model.specs.declared.abs.Duty.TheVariants.{Fresh, Pending, Finished, GivenDown, NoDuty}
 use Rattle.model.specs.declared.abs.Kind.{Kind}
-use Rattle.model.specs.declared.abs.Kind.TheVariants.{Blank, Num, Lower, New, Own, Listed, Armed, Taken, Cancelling, View}
+use Rattle.model.specs.declared.abs.Kind.TheVariants.{Blank, Num, Lower, New, Own, Queued, View}
+use Rattle.model.specs.declared.abs.Stage.TheVariants.{Armed, Cancelling, Listed}
 use Rattle.model.specs.declared.abs.Outs.{Outs}
 use Rattle.model.specs.declared.abs.Settled.{Settled}
 use Rattle.model.specs.declared.abs.Settled.TheVariants.{Open, NeedMark, Settled as SettledMark}
@@ -26,7 +27,7 @@ use Rattle.model.specs.declared.set.Sort.{Sort}
 use Rattle.model.specs.declared.set.Sort.TheVariants.{Dispatch, StartIo, Dpc, Propagate, Hold, Cancel}
 use Rattle.model.specs.declared.status.Status.{Status}
 use Rattle.model.specs.declared.status.Status.TheVariants.{Success, Pending as PendingStatus, Busy, Unsuccessful, InvalidParameter, InvalidDeviceRequest, Cancelled}
-use Rattle.model.specs.Kinds.{is_packet, is_view, is_new, is_kept, is_blank, is_lower, is_listed, is_cancelling, is_exchanged, names_list, needs_guard, kind_inserted, kind_removed, kind_disarmed, all_let_go, left_behind, duty_completed}
+use Rattle.model.specs.Kinds.{is_packet, is_view, is_new, is_kept, is_blank, is_lower, is_at, is_exchanged, names_list, needs_guard, kind_inserted, kind_removed, kind_disarmed, all_let_go, left_behind, duty_completed}
 use Rattle.model.specs.Forwarding.{lacks_lower, is_too_small}
 use Rattle.model.specs.declared.limits.TheConstants.{REGISTERS, SPIN_LOCKS}
 use Rattle.model.specs.Set.{Set, Member, Flow, Onward, Branches, Jumps, Opens, Closes, Leaves, flow_of, cancel_routine_of, cancels_for, has_cancel, guard_named, sort_of}
@@ -51,7 +52,7 @@ entered_with first duty carried token =
 abbrev pub entry_of_cancel : Option QueueName → Option Abs
 entry_of_cancel None = None
 entry_of_cancel (Some name) =
-    Some (record (entered_with (Cancelling name) NoDuty SettledMark false) { cancel = true })
+    Some (record (entered_with (Queued name Cancelling) NoDuty SettledMark false) { cancel = true })
 
 abbrev pub entry_of_sort : Sort → Option QueueName → Option Abs
 entry_of_sort Dispatch name = Some (entered_with New Fresh SettledMark false)
@@ -149,10 +150,7 @@ demanded wanted Num = Some WrongKind
 demanded wanted Lower = Some WrongKind
 demanded wanted New = unless wanted.new (if wanted.own then MarkIrpPending else Completion)
 demanded wanted Own = unless wanted.own (if wanted.new then MarkIrpPending else Completion)
-demanded wanted (Listed name) = unless wanted.queued CancelState
-demanded wanted (Armed name) = unless wanted.queued CancelState
-demanded wanted (Taken name) = unless wanted.queued CancelState
-demanded wanted (Cancelling name) = unless wanted.queued CancelState
+demanded wanted (Queued name stage) = unless wanted.queued CancelState
 demanded wanted View = unless wanted.view Completion
 
 abbrev pub any_packet : Wanted
@@ -201,10 +199,7 @@ number_kind Num = None
 number_kind Lower = Some WrongKind
 number_kind New = Some WrongKind
 number_kind Own = Some WrongKind
-number_kind (Listed name) = Some WrongKind
-number_kind (Armed name) = Some WrongKind
-number_kind (Taken name) = Some WrongKind
-number_kind (Cancelling name) = Some WrongKind
+number_kind (Queued name stage) = Some WrongKind
 number_kind View = Some WrongKind
 
 -- paged cells may be touched below DISPATCH_LEVEL alone: dispatch routines run at PASSIVE_LEVEL
@@ -434,14 +429,11 @@ queued_kind fits Num = Some WrongKind
 queued_kind fits Lower = Some WrongKind
 queued_kind fits New = Some CancelState
 queued_kind fits Own = Some CancelState
-queued_kind fits (Listed name) = unless fits CancelState
-queued_kind fits (Armed name) = unless fits CancelState
-queued_kind fits (Taken name) = unless fits CancelState
-queued_kind fits (Cancelling name) = unless fits CancelState
+queued_kind fits (Queued name stage) = unless fits CancelState
 queued_kind fits View = Some Completion
 
 abbrev pub unlink_kind : QueueName → Kind → Option Rule
-unlink_kind name kind = queued_kind (is_listed name kind || is_cancelling name kind) kind
+unlink_kind name kind = queued_kind (is_at Listed name kind || is_at Cancelling name kind) kind
 
 abbrev pub names_fault : Abs → QueueName → Option Rule
 names_fault s name = broken_if (list_any (names_list name) s.kinds) CancelState
@@ -521,7 +513,7 @@ refuses s (Remove r q label) sort set driver =
 refuses s (Unlink r q) sort set driver =
     least_of (unlink_kind (Declared q) (kind_of s r)) (guard_fault s set driver (Declared q))
 refuses s (Arm r q) sort set driver =
-    least_of (queued_kind (is_listed (Declared q) (kind_of s r)) (kind_of s r))
+    least_of (queued_kind (is_at Listed (Declared q) (kind_of s r)) (kind_of s r))
     (guard_fault s set driver (Declared q))
 refuses s (Disarm r label) sort set driver =
     queued_kind (is_exchanged (kind_of s r)) (kind_of s r)
@@ -535,7 +527,7 @@ refuses s (Begin r) sort set driver =
     least_of (demanded an_owned_one (kind_of s r)) (unless s.token Token)
 refuses s Next sort set driver = least_of (waiting_fault s set driver) (unless s.token Token)
 refuses s (Dequeue r) sort set driver =
-    least_of (queued_kind (is_cancelling DeviceQueue (kind_of s r)) (kind_of s r))
+    least_of (queued_kind (is_at Cancelling DeviceQueue (kind_of s r)) (kind_of s r))
     (least_of (guard_fault s set driver DeviceQueue)
     (unless (has_cancel set driver DeviceQueue) SortRule))
 refuses s (Pass r) sort set driver =
@@ -556,10 +548,7 @@ marked s r Num = s
 marked s r Lower = s
 marked s r New = record (with_kind s r Own) { duty = Pending }
 marked s r Own = s
-marked s r (Listed name) = s
-marked s r (Armed name) = s
-marked s r (Taken name) = s
-marked s r (Cancelling name) = s
+marked s r (Queued name stage) = s
 marked s r View = record s { settled = SettledMark }
 
 -- a packet is given to the lower driver: one that wasn't marked leaves its status in the register
@@ -569,10 +558,7 @@ given_down s r Num = s
 given_down s r Lower = s
 given_down s r New = record (with_kind s r Lower) { duty = GivenDown }
 given_down s r Own = with_kind s r Blank
-given_down s r (Listed name) = s
-given_down s r (Armed name) = s
-given_down s r (Taken name) = s
-given_down s r (Cancelling name) = s
+given_down s r (Queued name stage) = s
 given_down s r View = s
 
 abbrev pub moved : Abs → ℕ → ℕ → Abs
@@ -610,7 +596,7 @@ handed set driver s (Insert r q) = with_kind s r
 handed set driver s (Remove r q label) = with_kind s r
     (kind_removed (cancel_routine_of set driver q) (Declared q))
 handed set driver s (Unlink r q) = with_kind s r Own
-handed set driver s (Arm r q) = with_kind s r (Armed (Declared q))
+handed set driver s (Arm r q) = with_kind s r (Queued (Declared q) Armed)
 handed set driver s (Disarm r label) = with_kind s r (kind_disarmed (kind_of s r))
 handed set driver s (IfCancel r label) = s
 handed set driver s (Start r) = with_kind s r Blank

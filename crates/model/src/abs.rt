@@ -17,18 +17,35 @@ pub enum Kind {
     New,
     /// It holds a packet that the routine has marked pending and owns.
     Own,
-    /// It holds a packet that the routine owns and has put into the list, with no cancel routine
-    /// set.
-    Listed(QueueName),
-    /// It holds a packet in the list whose cancel routine the routine has set: IoCancelIrp may have
-    /// called that since.
-    Armed(QueueName),
-    /// It holds a packet that was taken off the list, whose cancel routine may be set still.
-    Taken(QueueName),
-    /// It holds a packet that IoCancelIrp handed to the list's cancel routine.
-    Cancelling(QueueName),
+    /// It holds a packet of a list, at a stage of its way through it.
+    Queued(QueueName, Stage),
     /// It holds a packet that is on its way up, which a completion routine may look at.
     View,
+}
+
+/// How far a packet of a list is, by what the routine did with it and what IoCancelIrp may do.
+#[derive(Clone, Copy, PartialEq, Eq)]
+pub enum Stage {
+    /// The routine owns it and has put it into the list, with no cancel routine set.
+    Listed = 0,
+    /// It is in the list, and the routine has set its cancel routine: IoCancelIrp may have called
+    /// that since.
+    Armed = 1,
+    /// It was taken off the list, and its cancel routine may be set still.
+    Taken = 2,
+    /// IoCancelIrp handed it to the list's cancel routine.
+    Cancelling = 3,
+}
+
+impl Stage {
+    ghost use Rattle.model.specs.Kinds.{stage_number};
+
+    /// Its number, by which stages are compared.
+    pub fn number(self) -> u8
+        ensures { result ≡ stage_number self }
+    {
+        self as u8
+    }
 }
 
 /// What a dispatch routine still owes for the packet that it was handed.

@@ -3,7 +3,7 @@
 -- know what a register holds from which something may be taken.
 use Rattle.std.specs.Prelude.{ℕ, ⊤, ◌≡◌, ◌<◌, ◌+◌, true, List, Some, is_some, slice_get}
 use Rattle.model.specs.declared.abs.Kind.{Kind}
-use Rattle.model.specs.declared.abs.Kind.TheVariants.{Blank, Num, Lower, New, Own, Listed, Armed, Taken, Cancelling, View}
+use Rattle.model.specs.declared.abs.Kind.TheVariants.{Blank, Num, Lower, New, Own, Queued, View}
 use Rattle.model.specs.declared.event.Event.{Event}
 use Rattle.model.specs.declared.status.Status.{Status}
 use Rattle.model.specs.declared.world.Activation.{Activation}
@@ -29,10 +29,7 @@ IsOfKind s Num v = (n : ℕ) × (v ≡ NumValue n)
 IsOfKind s Lower v = (status : Status) × (v ≡ StatusValue status)
 IsOfKind s New v = NamesLive s v
 IsOfKind s Own v = NamesLive s v
-IsOfKind s (Listed name) v = NamesLive s v
-IsOfKind s (Armed name) v = NamesLive s v
-IsOfKind s (Taken name) v = NamesLive s v
-IsOfKind s (Cancelling name) v = NamesLive s v
+IsOfKind s (Queued name stage) v = NamesLive s v
 IsOfKind s View v = NamesLive s v
 
 -- of each routine's frame, on top of its thread or below, each register from which an instruction

@@ -1,11 +1,12 @@
 -- Where no register holds a packet of the device queue, the rules of both editions are the same,
 -- and no register comes to hold one.
-use Rattle.std.proofs.Common.{◌≡◌, ℕ, zero, suc, ◌||◌, inl, inr, true, false, Bool, List, [], ◌∷◌, Option, None, Some, refl, subst, ◌∙◌, ap}
+use Rattle.std.proofs.Common.{◌≡◌, ℕ, zero, suc, ◌||◌, ◌&&◌, inl, inr, true, false, Bool, List, [], ◌∷◌, Option, None, Some, refl, subst, ◌∙◌, ap}
 use Rattle.std.specs.Prelude.{not, if◌then◌else◌, option_map, slice_set, slice_index_or}
 use Rattle.std.specs.List.{list_any}
 use Rattle.model.specs.declared.abs.Abs.{Abs}
 use Rattle.model.specs.declared.abs.Kind.{Kind}
-use Rattle.model.specs.declared.abs.Kind.TheVariants.{Blank, Num, Lower, New, Own, Listed, Armed, Taken, Cancelling}
+use Rattle.model.specs.declared.abs.Kind.TheVariants.{Blank, Num, Lower, New, Own, Queued}
+use Rattle.model.specs.declared.abs.Stage.TheVariants.{Armed, Taken}
 use Rattle.model.specs.declared.abs.Outs.{Outs}
 use Rattle.model.specs.declared.abs.Rule.{Rule}
 use Rattle.model.specs.declared.abs.Rule.TheVariants.{CancelSpinLock, Guard as GuardRule, Token, Sort as SortRule}
@@ -16,7 +17,7 @@ use Rattle.model.specs.declared.set.Guard.TheVariants.{DeviceLock, CancelLock}
 use Rattle.model.specs.declared.set.QueueName.TheVariants.{Declared, DeviceQueue}
 use Rattle.model.specs.declared.set.Sort.{Sort}
 use Rattle.model.specs.Edition.{is_dequeue}
-use Rattle.model.specs.Kinds.{is_guard, needs_guard, let_go, all_let_go, left_behind, kind_inserted, kind_removed, kind_disarmed}
+use Rattle.model.specs.Kinds.{is_guard, is_stage, stays_under_guard, needs_guard, let_go, all_let_go, left_behind, kind_inserted, kind_removed, kind_disarmed}
 use Rattle.model.specs.LocalRule.{kind_of, with_cancel, least_of, broken_if, unless, demanded, an_owned_one, has_startio, guard_fault, waiting_fault, refuses, marked, given_down, handed, handed_at_label, outs_by, outs, rule_or, local_rule}
 use Rattle.model.specs.Paths.{HandsOn}
 use Rattle.model.specs.Set.{Set, Flow, Onward, Branches, Jumps, Opens, Closes, Leaves, guard_of, guard_named, cancel_routine_of, has_cancel, flow_of}
@@ -30,6 +31,10 @@ both_no : (a b : Bool) → a ≡ false → b ≡ false → (a || b) ≡ false
 both_no true b first none = cc
 both_no false b first none = none
 
+second_no : (a b : Bool) → b ≡ false → (a && b) ≡ false
+second_no true b none = none
+second_no false b none = refl
+
 -- no queue is guarded by the system cancel lock
 spin_guard : (guard : Option ℕ)
     → is_guard (option_map (λ (lock : ℕ). DeviceLock lock) guard) CancelLock ≡ false
@@ -38,12 +43,10 @@ spin_guard (Some lock) = refl
 
 needs_none : (set : Set) (driver : ℕ) (kind : Kind) → waits kind ≡ false
     → needs_guard set driver CancelLock kind ≡ false
-needs_none set driver (Listed (Declared q)) free = spin_guard (guard_of set driver q)
-needs_none set driver (Listed DeviceQueue) free = cc
-needs_none set driver (Taken (Declared q)) free = spin_guard (guard_of set driver q)
-needs_none set driver (Taken DeviceQueue) free = cc
-needs_none set driver (Cancelling (Declared q)) free = refl
-needs_none set driver (Cancelling DeviceQueue) free = cc
+needs_none set driver (Queued (Declared q) stage) free =
+    second_no (stays_under_guard stage (Declared q))
+    (is_guard (guard_named set driver (Declared q)) CancelLock) (spin_guard (guard_of set driver q))
+needs_none set driver (Queued DeviceQueue stage) free = cc
 needs_none set driver kind free = refl
 
 need_none : (set : Set) (driver : ℕ) (kinds : List Kind) → list_any waits kinds ≡ false
@@ -61,10 +64,13 @@ kept_if false kind fails = refl
 
 keeps_kind : (set : Set) (driver : ℕ) (kind : Kind) → waits kind ≡ false
     → let_go set driver CancelLock kind ≡ kind
-keeps_kind set driver (Armed (Declared q)) free =
-    kept_if (is_guard (guard_named set driver (Declared q)) CancelLock) (Armed (Declared q))
-    (spin_guard (guard_of set driver q))
-keeps_kind set driver (Armed DeviceQueue) free = cc
+keeps_kind set driver (Queued (Declared q) stage) free =
+    kept_if (is_stage stage Armed && is_guard (guard_named set driver (Declared q)) CancelLock)
+    (Queued (Declared q) stage)
+    (second_no (is_stage stage Armed)
+    (is_guard (guard_named set driver (Declared q)) CancelLock)
+    (spin_guard (guard_of set driver q)))
+keeps_kind set driver (Queued DeviceQueue stage) free = cc
 keeps_kind set driver kind free = refl
 
 keeps_kinds : (set : Set) (driver : ℕ) (kinds : List Kind) → list_any waits kinds ≡ false
@@ -161,8 +167,8 @@ removed_free None q = refl
 removed_free (Some cancel) q = refl
 
 disarmed_free : (kind : Kind) → waits kind ≡ false → waits (kind_disarmed kind) ≡ false
-disarmed_free (Armed name) free = free
-disarmed_free (Taken name) free = refl
+disarmed_free (Queued name Armed) free = free
+disarmed_free (Queued name Taken) free = refl
 disarmed_free kind free = free
 
 marked_free : (s : Abs) (r : ℕ) (kind : Kind) → NoneWaits s → NoneWaits (marked s r kind)
@@ -181,8 +187,9 @@ blank_or_free false kind free = free
 
 let_go_free : (set : Set) (driver : ℕ) (lock : Guard) (kind : Kind) → waits kind ≡ false
     → waits (let_go set driver lock kind) ≡ false
-let_go_free set driver lock (Armed name) free =
-    blank_or_free (is_guard (guard_named set driver name) lock) (Armed name) free
+let_go_free set driver lock (Queued name stage) free =
+    blank_or_free (is_stage stage Armed && is_guard (guard_named set driver name) lock)
+    (Queued name stage) free
 let_go_free set driver lock kind free = free
 
 all_free : (set : Set) (driver : ℕ) (lock : Guard) (kinds : List Kind)
@@ -215,7 +222,7 @@ handed_free set driver s (Remove r q label) free =
     set_free s.kinds r (kind_removed (cancel_routine_of set driver q) (Declared q))
     (removed_free (cancel_routine_of set driver q) q) free
 handed_free set driver s (Unlink r q) free = set_free s.kinds r Own refl free
-handed_free set driver s (Arm r q) free = set_free s.kinds r (Armed (Declared q)) refl free
+handed_free set driver s (Arm r q) free = set_free s.kinds r (Queued (Declared q) Armed) refl free
 handed_free set driver s (Disarm r label) free =
     set_free s.kinds r (kind_disarmed (kind_of s r))
     (disarmed_free (kind_of s r) (kind_free s.kinds r free)) free

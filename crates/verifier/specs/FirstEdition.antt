@@ -4,7 +4,7 @@ use Rattle.std.specs.Prelude.{ℕ, not, ◌≡◌, Bool, true, false, List, [], 
 use Rattle.std.specs.List.{list_any}
 use Rattle.model.specs.declared.abs.Abs.{Abs}
 use Rattle.model.specs.declared.abs.Kind.{Kind}
-use Rattle.model.specs.declared.abs.Kind.TheVariants.{Listed, Armed, Taken, Cancelling}
+use Rattle.model.specs.declared.abs.Kind.TheVariants.{Queued}
 use Rattle.model.specs.declared.abs.Outs.{Outs}
 use Rattle.model.specs.declared.abs.Rule.{Rule}
 use Rattle.model.specs.declared.abs.Rule.TheVariants.{Malformed, CancelSpinLock, Token, Sort as SortRule}
@@ -61,10 +61,7 @@ is_waiting (Declared q) = false
 is_waiting DeviceQueue = true
 
 abbrev pub waits : Kind → Bool
-waits (Listed name) = is_waiting name
-waits (Armed name) = is_waiting name
-waits (Taken name) = is_waiting name
-waits (Cancelling name) = is_waiting name
+waits (Queued name stage) = is_waiting name
 waits _ = false
 
 -- no register holds one

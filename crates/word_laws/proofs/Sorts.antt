@@ -3,7 +3,7 @@
 use Rattle.std.proofs.Common.{◌≡◌, ◌≢◌, ◌+◌, ◌-◌, ℕ, zero, suc, false, List, [], ◌∷◌, Option, None, Some, map, arith, refl, sym, ◌∙◌, ap, subst}
 use Rattle.std.specs.Prelude.{⊤, slice_get, slice_index_or}
 use Rattle.model.specs.declared.abs.Kind.{Kind}
-use Rattle.model.specs.declared.abs.Kind.TheVariants.{Blank as BlankKind, Num as NumKind, Lower, New, Own, Listed, Armed, Taken, Cancelling, View}
+use Rattle.model.specs.declared.abs.Kind.TheVariants.{Blank as BlankKind, Num as NumKind, Lower, New, Own, Queued, View}
 use Rattle.model.specs.declared.event.Event.{Event}
 use Rattle.model.specs.declared.status.Status.{Status}
 use Rattle.model.specs.declared.world.Activation.{Activation}
@@ -72,10 +72,7 @@ module _ (name : ℕ → ℕ) where
         (subst (Reads (shown_word name n)) second.1 g))
     kinds_other r s New some first second = lives_other r s first second
     kinds_other r s Own some first second = lives_other r s first second
-    kinds_other r s (Listed q) some first second = lives_other r s first second
-    kinds_other r s (Armed q) some first second = lives_other r s first second
-    kinds_other r s (Taken q) some first second = lives_other r s first second
-    kinds_other r s (Cancelling q) some first second = lives_other r s first second
+    kinds_other r s (Queued q stage) some first second = lives_other r s first second
     kinds_other r s View some first second = lives_other r s first second
 
   -- a register that is there or not

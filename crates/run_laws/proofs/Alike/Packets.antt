@@ -5,7 +5,7 @@ use Rattle.std.specs.Prelude.{slice_get, slice_index_or, slice_set, if◌then◌
 use Rattle.std.proofs.lemmas.Bool.{eq-eqb}
 use Rattle.std.proofs.lemmas.Bool.Decides.{eqb_tells}
 use Rattle.model.specs.declared.abs.Kind.{Kind}
-use Rattle.model.specs.declared.abs.Kind.TheVariants.{Blank as BlankKind, Num as NumKind, Lower, Armed, Taken, View}
+use Rattle.model.specs.declared.abs.Kind.TheVariants.{Blank as BlankKind, Num as NumKind, Lower, View}
 use Rattle.model.specs.declared.status.Status.{Status}
 use Rattle.model.specs.declared.status.Status.TheVariants.{Success}
 use Rattle.model.specs.declared.world.Activation.{Activation}
@@ -37,8 +37,6 @@ right_some : (k : Kind) → is_right k ≡ true → is_blank k ≡ false
 right_some BlankKind is = cc
 right_some NumKind is = cc
 right_some Lower is = cc
-right_some (Armed name) is = cc
-right_some (Taken name) is = cc
 right_some View is = cc
 right_some _ is = refl
 
@@ -77,8 +75,6 @@ status_free : (issued : ℕ) (k : Kind) (status : Status) → Suits issued k (St
 status_free issued BlankKind status h = refl
 status_free issued NumKind status h = refl
 status_free issued Lower status h = refl
-status_free issued (Armed name) status h = refl
-status_free issued (Taken name) status h = refl
 status_free issued View status h = refl
 status_free issued _ status h = let no : StatusValue status ≡ Ref h.0 = h.1 in cc
 

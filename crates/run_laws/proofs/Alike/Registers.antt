@@ -4,7 +4,8 @@ use Rattle.std.proofs.Common.{◌≡◌, ℕ, zero, suc, true, false, List, [], 
 use Rattle.std.specs.Prelude.{⊤, slice_index_or, slice_set}
 use Rattle.model.specs.declared.abs.Abs.{Abs}
 use Rattle.model.specs.declared.abs.Kind.{Kind}
-use Rattle.model.specs.declared.abs.Kind.TheVariants.{Blank as BlankKind, Num as NumKind, Lower, New, Own, Armed}
+use Rattle.model.specs.declared.abs.Kind.TheVariants.{Blank as BlankKind, Num as NumKind, Lower, New, Own, Queued}
+use Rattle.model.specs.declared.abs.Stage.TheVariants.{Armed}
 use Rattle.model.specs.declared.instr.Instr.{Instr}
 use Rattle.model.specs.declared.instr.Instr.TheVariants.{Const, Move, Clear, Load, LoadPaged, Get, Mark, Release, Insert, Remove, Unlink, Arm, Disarm, Start, Take, Begin, Pass, Call, Complete, ReleaseCancel, Dequeue}
 use Rattle.model.specs.declared.set.Guard.{Guard}
@@ -164,7 +165,7 @@ module _ (s : Abs) (sort : Sort) (set : Set) (driver : ℕ) where
   same_handed us vs (Dequeue r) obeys keeps h =
       same_turn s.kinds us vs r Own h (λ is. operand_some (Dequeue r) r obeys refl)
   same_handed us vs (Arm r q) obeys keeps h =
-      same_turn s.kinds us vs r (Armed (Declared q)) h
+      same_turn s.kinds us vs r (Queued (Declared q) Armed) h
       (λ is. operand_some (Arm r q) r obeys refl)
   same_handed us vs (Disarm r label) obeys keeps h =
       same_turn s.kinds us vs r (kind_disarmed (kind_of s r)) h (disarmed_was (kind_of s r))

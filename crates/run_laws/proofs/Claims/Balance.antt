@@ -4,15 +4,17 @@
 use Rattle.std.proofs.Common.{◌≡◌, ℕ, ◌+◌, ◌≤◌, ◌⊎◌, inl, inr, Bool, true, false, refl, sym, ◌∙◌, arith, subst, eq-eqb, ◌≢◌, ap}
 use Rattle.std.specs.Prelude.{nat_eq, if◌then◌else◌}
 use Rattle.std.proofs.lemmas.Bool.Decides.{eqb_tells}
+use Rattle.model.specs.declared.abs.Stage.{Stage}
 use Rattle.model.specs.declared.abs.Kind.{Kind}
-use Rattle.model.specs.declared.abs.Kind.TheVariants.{Blank as BlankKind, Own, Listed, Armed, Taken, Cancelling}
+use Rattle.model.specs.declared.abs.Kind.TheVariants.{Blank as BlankKind, Own, Queued}
+use Rattle.model.specs.declared.abs.Stage.TheVariants.{Listed, Armed, Taken, Cancelling}
 use Rattle.model.specs.declared.set.QueueName.{QueueName}
 use Rattle.model.specs.declared.set.QueueName.TheVariants.{Declared, DeviceQueue}
 use Rattle.model.specs.declared.world.Value.TheVariants.{Ref}
-use Rattle.model.specs.Kinds.{is_armed, is_cancelling, is_listed, is_name}
+use Rattle.model.specs.Kinds.{is_at, is_name, is_claim, stage_number}
 use Rattle.model.specs.Set.{Set}
 use Rattle.run_laws.specs.Holder.{named_as}
-use Rattle.run_laws.proofs.Claims.Sums.{Balanced, Numbers, is_cancelable, is_taken, was_taken, is_declared}
+use Rattle.run_laws.proofs.Claims.Sums.{Balanced, Numbers, is_cancelable, was_taken, is_declared}
 
 -- two names are of one list or not
 pub names_tell : (one other : QueueName)
@@ -29,6 +31,16 @@ names_tell DeviceQueue DeviceQueue = inl (refl, refl)
 pub name_same : (q : QueueName) → is_name q q ≡ true
 name_same (Declared q) = eq-eqb q q refl
 name_same DeviceQueue = refl
+
+pub at_same : (stage : Stage) (q : QueueName) → is_at stage q (Queued q stage) ≡ true
+at_same stage q = rw (eq-eqb (stage_number stage) (stage_number stage) refl, name_same q) refl
+
+-- a claim is armed or taken
+pub claim_le : (stage : Stage) → is_claim stage ≡ true → (f : Stage → ℕ)
+    → f stage ≤ f Armed + f Taken
+claim_le Armed is f = omega arith
+claim_le Taken is f = omega arith
+claim_le _ is f = cc
 
 -- 1 for one device, list and packet, 0 for others
 abbrev pub hit : ℕ → QueueName → ℕ → ℕ → QueueName → ℕ → ℕ
@@ -81,10 +93,7 @@ OneTurns f one other j k e m =
     ≡ one d q n + at_kind (f q) (λ c. nat_eq c d) e k m n
 
 pub record KindTurns (x y : Numbers) (j k : Kind) (e m : ℕ) : Type 0 where
-  pub armed : OneTurns is_armed x.armed y.armed j k e m
-  pub taken : OneTurns is_taken x.taken y.taken j k e m
-  pub listed : OneTurns is_listed x.listed y.listed j k e m
-  pub cancelling : OneTurns is_cancelling x.cancelling y.cancelling j k e m
+  pub staged : (stage : Stage) → OneTurns (is_at stage) (x.staged stage) (y.staged stage) j k e m
   pub takes : (n : ℕ)
       → y.takes n + named_as was_taken j (Ref m) n ≡ x.takes n + named_as was_taken k (Ref m) n
 
@@ -131,28 +140,42 @@ by_fewer e p m one other h d q n =
 module _ (set : Set) (x y : Numbers) (b : Balanced set x)
     (once : (n : ℕ) → y.takes n + y.lists n ≤ 1) where
   -- claims are given up, or nothing changes
-  pub balanced_less : ((d : ℕ) (q : QueueName) (n : ℕ) → y.armed d q n ≤ x.armed d q n)
-      → ((d : ℕ) (q : QueueName) (n : ℕ) → y.taken d q n ≤ x.taken d q n)
-      → Same x.listed y.listed → Same x.cancelling y.cancelling → Same x.word y.word
+  pub balanced_less : ((stage : Stage) → is_claim stage ≡ true → (d : ℕ) (q : QueueName) (n : ℕ)
+      → y.staged stage d q n ≤ x.staged stage d q n)
+      → ((stage : Stage) → is_claim stage ≡ false → Same (x.staged stage) (y.staged stage))
+      → Same x.word y.word
       → ((d : ℕ) (q : QueueName) (n : ℕ) → is_declared q ≡ true → y.entries d q n ≡ x.entries d q n)
       → ((d : ℕ) (q : QueueName) (n : ℕ) → is_cancelable set d q ≡ true
       → y.entries d q n ≤ x.entries d q n)
       → Balanced set y
-  balanced_less armed taken listed cancelling word declared entries =
+  balanced_less less same word declared entries =
       record {
         backed = λ d q n.
-            omega (arith, armed d q n, taken d q n, cancelling d q n, word d q n, b.backed d q n);
+            omega (
+              arith,
+              less Armed refl d q n,
+              less Taken refl d q n,
+              same Cancelling refl d q n,
+              word d q n,
+              b.backed d q n,
+            );
         entered = λ d q n is.
             omega (
               arith,
-              listed d q n,
-              cancelling d q n,
+              same Listed refl d q n,
+              same Cancelling refl d q n,
               word d q n,
               entries d q n is,
               b.entered d q n is,
             );
         standing = λ d q n is.
-            omega (arith, listed d q n, armed d q n, declared d q n is, b.standing d q n is);
+            omega (
+              arith,
+              same Listed refl d q n,
+              less Armed refl d q n,
+              declared d q n is,
+              b.standing d q n is,
+            );
         once = once;
       }
 
@@ -161,53 +184,59 @@ module _ (set : Set) (x y : Numbers) (b : Balanced set x)
       (word : Moves x.word y.word word_out word_in)
       (entries : Moves x.entries y.entries out into) where
     module _ (d : ℕ) (q : QueueName) (n : ℕ) where
-      abbrev of : (QueueName → Kind → Bool) → Kind → ℕ
-      of f i = at_kind (f q) (λ c. nat_eq c d) e i m n
+      abbrev of : Stage → Kind → ℕ
+      of stage i = at_kind (is_at stage q) (λ c. nat_eq c d) e i m n
 
       -- the changes alone keep a side of the balance
-      by_backed : of is_armed k + of is_taken k + word_out d q n + of is_cancelling j
-          ≤ of is_armed j + of is_taken j + word_in d q n + of is_cancelling k
-          → y.armed d q n + y.taken d q n ≤ y.word d q n + y.cancelling d q n
+      by_backed : of Armed k + of Taken k + word_out d q n + of Cancelling j
+          ≤ of Armed j + of Taken j + word_in d q n + of Cancelling k
+          → y.staged Armed d q n + y.staged Taken d q n ≤ y.word d q n + y.staged Cancelling d q n
       by_backed fair =
           omega (
             arith,
-            turns.armed d q n,
-            turns.taken d q n,
-            turns.cancelling d q n,
+            turns.staged Armed d q n,
+            turns.staged Taken d q n,
+            turns.staged Cancelling d q n,
             word d q n,
             b.backed d q n,
           )
 
       by_entered : is_cancelable set d q ≡ true
-          → into d q n + word_out d q n + of is_cancelling j + of is_listed j
-          ≤ out d q n + word_in d q n + of is_cancelling k + of is_listed k
-          → y.entries d q n ≤ y.word d q n + y.cancelling d q n + y.listed d q n
+          → into d q n + word_out d q n + of Cancelling j + of Listed j
+          ≤ out d q n + word_in d q n + of Cancelling k + of Listed k
+          → y.entries d q n ≤ y.word d q n + y.staged Cancelling d q n + y.staged Listed d q n
       by_entered is fair =
           omega (
             arith,
-            turns.listed d q n,
-            turns.cancelling d q n,
+            turns.staged Listed d q n,
+            turns.staged Cancelling d q n,
             word d q n,
             entries d q n,
             b.entered d q n is,
           )
 
-      by_standing : is_declared q ≡ true → of is_listed k + of is_armed k + out d q n
-          ≤ of is_listed j + of is_armed j + into d q n
-          → y.listed d q n + y.armed d q n ≤ y.entries d q n
+      by_standing : is_declared q ≡ true → of Listed k + of Armed k + out d q n
+          ≤ of Listed j + of Armed j + into d q n
+          → y.staged Listed d q n + y.staged Armed d q n ≤ y.entries d q n
       by_standing is fair =
-          omega (arith, turns.listed d q n, turns.armed d q n, entries d q n, b.standing d q n is)
+          omega (
+            arith,
+            turns.staged Listed d q n,
+            turns.staged Armed d q n,
+            entries d q n,
+            b.standing d q n is,
+          )
 
     -- and so all of it
     by_turn : ((d : ℕ) (q : QueueName) (n : ℕ)
-        → of d q n is_armed k + of d q n is_taken k + word_out d q n
-        + of d q n is_cancelling j
-        ≤ of d q n is_armed j + of d q n is_taken j + word_in d q n + of d q n is_cancelling k)
-        → ((d : ℕ) (q : QueueName) (n : ℕ) → into d q n + word_out d q n + of d q n is_cancelling j
-        + of d q n is_listed j
-        ≤ out d q n + word_in d q n + of d q n is_cancelling k + of d q n is_listed k)
-        → ((d : ℕ) (q : QueueName) (n : ℕ) → of d q n is_listed k + of d q n is_armed k + out d q n
-        ≤ of d q n is_listed j + of d q n is_armed j + into d q n)
+        → of d q n Armed k + of d q n Taken k + word_out d q n
+        + of d q n Cancelling j
+        ≤ of d q n Armed j + of d q n Taken j + word_in d q n + of d q n Cancelling k)
+        → ((d : ℕ) (q : QueueName) (n : ℕ) → into d q n + word_out d q n + of d q n Cancelling j
+        + of d q n Listed j
+        ≤ out d q n + word_in d q n + of d q n Cancelling k + of d q n Listed k)
+        → ((d : ℕ) (q : QueueName) (n : ℕ) → of d q n Listed k + of d q n Armed k + out d q n
+        ≤ of d q n Listed j + of d q n Armed j + into d q n)
         → Balanced set y
     by_turn backed entered standing =
         record {
@@ -219,13 +248,13 @@ module _ (set : Set) (x y : Numbers) (b : Balanced set x)
 
   -- a claim is given up
   pub balanced_gives : (j : Kind) (e m : ℕ)
-      → ((q : QueueName) → (is_listed q j ≡ false) × (is_cancelling q j ≡ false))
+      → ((q : QueueName) → (is_at Listed q j ≡ false) × (is_at Cancelling q j ≡ false))
       → KindTurns x y j BlankKind e m → Same x.word y.word → Same x.entries y.entries
       → Balanced set y
   balanced_gives j e m plain turns word entries =
       let no_right : (d : ℕ) (q : QueueName) (n : ℕ)
-      → at_kind (is_listed q) (λ c. nat_eq c d) e j m n
-      + at_kind (is_cancelling q) (λ c. nat_eq c d) e j m n ≡ 0 =
+      → at_kind (is_at Listed q) (λ c. nat_eq c d) e j m n
+      + at_kind (is_at Cancelling q) (λ c. nat_eq c d) e j m n ≡ 0 =
       λ d q n. rw ((plain q).0, (plain q).1) refl in
       by_turn j BlankKind e m turns none none none none (by_same x.word y.word word)
       (by_same x.entries y.entries entries)
@@ -239,28 +268,29 @@ module _ (set : Set) (x y : Numbers) (b : Balanced set x)
     at = hit e p m
 
     -- where nobody names an entry at that place, and nobody comes to, one may go there
-    one_gone : (j k : Kind) → KindTurns x y j k e m → x.armed e p m ≡ 0 → x.listed e p m ≡ 0
-        → ((d : ℕ) (q : QueueName) (n : ℕ) → at_kind (is_listed q) (λ c. nat_eq c d) e k m n
-        + at_kind (is_armed q) (λ c. nat_eq c d) e k m n ≡ 0)
+    one_gone : (j k : Kind) → KindTurns x y j k e m → x.staged Armed e p m ≡ 0
+        → x.staged Listed e p m ≡ 0
+        → ((d : ℕ) (q : QueueName) (n : ℕ) → at_kind (is_at Listed q) (λ c. nat_eq c d) e k m n
+        + at_kind (is_at Armed q) (λ c. nat_eq c d) e k m n ≡ 0)
         → ((d : ℕ) (q : QueueName) (n : ℕ) → is_declared q ≡ true → at d q n ≡ 0
-        → y.listed d q n + y.armed d q n ≤ y.entries d q n)
+        → y.staged Listed d q n + y.staged Armed d q n ≤ y.entries d q n)
         → (d : ℕ) (q : QueueName) (n : ℕ) → is_declared q ≡ true
-        → y.listed d q n + y.armed d q n ≤ y.entries d q n
+        → y.staged Listed d q n + y.staged Armed d q n ≤ y.entries d q n
     one_gone j k turns no_armed no_listed nobody elsewhere d q n is =
-        elim (hit_tells (λ d q n. (x.armed d q n ≡ 0) × (x.listed d q n ≡ 0)) e p m
+        elim (hit_tells (λ d q n. (x.staged Armed d q n ≡ 0) × (x.staged Listed d q n ≡ 0)) e p m
         (no_armed, no_listed) d q n) [
           | inl far ↦ elsewhere d q n is far
           | inr here ↦
-              let no_a : x.armed d q n ≡ 0 = here.1.0 in
-              let no_l : x.listed d q n ≡ 0 = here.1.1 in
-              omega (arith, nobody d q n, turns.armed d q n, turns.listed d q n)
+              let no_a : x.staged Armed d q n ≡ 0 = here.1.0 in
+              let no_l : x.staged Listed d q n ≡ 0 = here.1.1 in
+              omega (arith, nobody d q n, turns.staged Armed d q n, turns.staged Listed d q n)
         ]
 
     -- a packet is put into a queue with a cancel routine, or into one without
-    pub balanced_inserts : KindTurns x y Own (Listed p) e m → Same x.word y.word
+    pub balanced_inserts : KindTurns x y Own (Queued p Listed) e m → Same x.word y.word
         → More e p m x.entries y.entries → Balanced set y
     balanced_inserts turns word entries =
-        by_turn Own (Listed p) e m turns none none none at
+        by_turn Own (Queued p Listed) e m turns none none none at
         (by_same x.word y.word word) (by_more e p m x.entries y.entries entries)
         (λ d q n. omega arith) (λ d q n. omega arith) (λ d q n. omega arith)
 
@@ -289,8 +319,8 @@ module _ (set : Set) (x y : Numbers) (b : Balanced set x)
     -- the first packet of a queue is taken off, by the one that holds its guard: it has no register
     -- that names an entry, and nobody else has
     pub balanced_removes : is_cancelable set e p ≡ true
-        → x.armed e p m ≡ 0 → x.taken e p m ≡ 0 → x.listed e p m ≡ 0
-        → KindTurns x y BlankKind (Taken p) e m → Same x.word y.word
+        → x.staged Armed e p m ≡ 0 → x.staged Taken e p m ≡ 0 → x.staged Listed e p m ≡ 0
+        → KindTurns x y BlankKind (Queued p Taken) e m → Same x.word y.word
         → Fewer e p m x.entries y.entries → Balanced set y
     balanced_removes may no_armed no_taken no_listed turns word entries =
         let words : Moves x.word y.word none none = by_same x.word y.word word in
@@ -298,41 +328,42 @@ module _ (set : Set) (x y : Numbers) (b : Balanced set x)
         record {
           backed = λ d q n.
               elim (hit_tells
-              (λ d q n. (is_cancelable set d q ≡ true) × (x.armed d q n ≡ 0) × (x.taken d q n ≡ 0)
-              × (x.listed d q n ≡ 0)) e p m (may, no_armed, no_taken, no_listed) d q n) [
+              (λ d q n. (is_cancelable set d q ≡ true) × (x.staged Armed d q n ≡ 0)
+              × (x.staged Taken d q n ≡ 0)
+              × (x.staged Listed d q n ≡ 0)) e p m (may, no_armed, no_taken, no_listed) d q n) [
                 | inl far ↦
                     let nothing : at d q n ≡ 0 = far in
-                    by_backed BlankKind (Taken p) e m turns none none at none words less
+                    by_backed BlankKind (Queued p Taken) e m turns none none at none words less
                     d q n (omega arith)
                 | inr here ↦
                     let one : at d q n ≡ 1 = here.0 in
-                    let no_a : x.armed d q n ≡ 0 = here.1.1 in
-                    let no_t : x.taken d q n ≡ 0 = here.1.2 in
-                    let no_l : x.listed d q n ≡ 0 = here.1.3 in
+                    let no_a : x.staged Armed d q n ≡ 0 = here.1.1 in
+                    let no_t : x.staged Taken d q n ≡ 0 = here.1.2 in
+                    let no_l : x.staged Listed d q n ≡ 0 = here.1.3 in
                     omega (
                       arith,
-                      turns.armed d q n,
-                      turns.taken d q n,
-                      turns.cancelling d q n,
+                      turns.staged Armed d q n,
+                      turns.staged Taken d q n,
+                      turns.staged Cancelling d q n,
                       word d q n,
                       entries d q n,
                       b.entered d q n here.1.0,
                     )
               ];
           entered = λ d q n is.
-              by_entered BlankKind (Taken p) e m turns none none at none words less d q n
+              by_entered BlankKind (Queued p Taken) e m turns none none at none words less d q n
               is (omega arith);
-          standing = one_gone BlankKind (Taken p) turns no_armed no_listed
+          standing = one_gone BlankKind (Queued p Taken) turns no_armed no_listed
               (λ d q n. refl)
               (λ d q n is far.
               let nothing : at d q n ≡ 0 = far in
-              by_standing BlankKind (Taken p) e m turns none none at none words less d q
+              by_standing BlankKind (Queued p Taken) e m turns none none at none words less d q
               n is (omega arith));
           once = once;
         }
 
     -- off one without a cancel routine it is the routine's own
-    pub balanced_leaves : x.armed e p m ≡ 0 → x.listed e p m ≡ 0
+    pub balanced_leaves : x.staged Armed e p m ≡ 0 → x.staged Listed e p m ≡ 0
         → KindTurns x y BlankKind Own e m → Same x.word y.word → Fewer e p m x.entries y.entries
         → Balanced set y
     balanced_leaves no_armed no_listed turns word entries =
@@ -354,99 +385,101 @@ module _ (set : Set) (x y : Numbers) (b : Balanced set x)
 
     -- a packet is unlinked that no cancel routine was set for; or by its cancel routine, where it
     -- stands in the queue no more, and nobody has a claim
-    pub balanced_unlinks : KindTurns x y (Listed p) Own e m → Same x.word y.word
+    pub balanced_unlinks : KindTurns x y (Queued p Listed) Own e m → Same x.word y.word
         → Fewer e p m x.entries y.entries → Balanced set y
     balanced_unlinks turns word entries =
-        by_turn (Listed p) Own e m turns none none at none
+        by_turn (Queued p Listed) Own e m turns none none at none
         (by_same x.word y.word word) (by_fewer e p m x.entries y.entries entries)
         (λ d q n. omega arith) (λ d q n. omega arith) (λ d q n. omega arith)
 
-    pub balanced_cancels : x.armed e p m ≡ 0 → x.taken e p m ≡ 0 → x.listed e p m ≡ 0
+    pub balanced_cancels : x.staged Armed e p m ≡ 0 → x.staged Taken e p m ≡ 0
+        → x.staged Listed e p m ≡ 0
         → y.entries e p m ≡ 0
         → ((d : ℕ) (q : QueueName) (n : ℕ) → hit e p m d q n ≡ 0
         → y.entries d q n ≡ x.entries d q n)
-        → KindTurns x y (Cancelling p) Own e m → Same x.word y.word → Balanced set y
+        → KindTurns x y (Queued p Cancelling) Own e m → Same x.word y.word → Balanced set y
     balanced_cancels no_armed no_taken no_listed no_entry others turns word =
         let words : Moves x.word y.word none none = by_same x.word y.word word in
         let changed : Moves x.entries y.entries x.entries y.entries = λ d q n. omega arith in
         record {
           backed = λ d q n.
-              elim (hit_tells (λ d q n. (x.armed d q n ≡ 0) × (x.taken d q n ≡ 0)) e p m
+              elim (hit_tells (λ d q n. (x.staged Armed d q n ≡ 0) × (x.staged Taken d q n ≡ 0))
+              e p m
               (no_armed, no_taken) d q n) [
                 | inl far ↦
                     let nothing : at d q n ≡ 0 = far in
-                    by_backed (Cancelling p) Own e m turns none none x.entries y.entries
+                    by_backed (Queued p Cancelling) Own e m turns none none x.entries y.entries
                     words changed d q n (omega arith)
                 | inr here ↦
-                    let no_a : x.armed d q n ≡ 0 = here.1.0 in
-                    let no_t : x.taken d q n ≡ 0 = here.1.1 in
-                    omega (arith, turns.armed d q n, turns.taken d q n)
+                    let no_a : x.staged Armed d q n ≡ 0 = here.1.0 in
+                    let no_t : x.staged Taken d q n ≡ 0 = here.1.1 in
+                    omega (arith, turns.staged Armed d q n, turns.staged Taken d q n)
               ];
           entered = λ d q n is.
               elim (hit_tells (λ d q n. y.entries d q n ≡ 0) e p m no_entry d q n) [
                 | inl far ↦
                     let nothing : at d q n ≡ 0 = far in
                     let s : y.entries d q n ≡ x.entries d q n = others d q n far in
-                    by_entered (Cancelling p) Own e m turns none none x.entries y.entries
+                    by_entered (Queued p Cancelling) Own e m turns none none x.entries y.entries
                     words changed d q n is (omega arith)
                 | inr here ↦ let nothing : y.entries d q n ≡ 0 = here.1 in omega arith
               ];
-          standing = one_gone (Cancelling p) Own turns no_armed no_listed
+          standing = one_gone (Queued p Cancelling) Own turns no_armed no_listed
               (λ d q n. refl)
               (λ d q n is far.
               let s : y.entries d q n ≡ x.entries d q n = others d q n far in
-              by_standing (Cancelling p) Own e m turns none none x.entries y.entries
+              by_standing (Queued p Cancelling) Own e m turns none none x.entries y.entries
               words changed d q n is (omega arith));
           once = once;
         }
 
     -- a cancel routine is set; or the word is emptied, where the packet stands in the queue, or was
     -- taken off it
-    pub balanced_arms : KindTurns x y (Listed p) (Armed p) e m
+    pub balanced_arms : KindTurns x y (Queued p Listed) (Queued p Armed) e m
         → More e p m x.word y.word → Same x.entries y.entries → Balanced set y
     balanced_arms turns word entries =
-        by_turn (Listed p) (Armed p) e m turns none at none none
+        by_turn (Queued p Listed) (Queued p Armed) e m turns none at none none
         (by_more e p m x.word y.word word) (by_same x.entries y.entries entries)
         (λ d q n. omega arith) (λ d q n. omega arith) (λ d q n. omega arith)
 
-    pub balanced_disarms : KindTurns x y (Armed p) (Listed p) e m
+    pub balanced_disarms : KindTurns x y (Queued p Armed) (Queued p Listed) e m
         → Fewer e p m x.word y.word → Same x.entries y.entries → Balanced set y
     balanced_disarms turns word entries =
-        by_turn (Armed p) (Listed p) e m turns at none none none
+        by_turn (Queued p Armed) (Queued p Listed) e m turns at none none none
         (by_fewer e p m x.word y.word word) (by_same x.entries y.entries entries)
         (λ d q n. omega arith) (λ d q n. omega arith) (λ d q n. omega arith)
 
     pub balanced_keeps_taken : x.entries e p m ≡ 0
-        → KindTurns x y (Taken p) Own e m → Fewer e p m x.word y.word
+        → KindTurns x y (Queued p Taken) Own e m → Fewer e p m x.word y.word
         → Same x.entries y.entries → Balanced set y
     balanced_keeps_taken no_entry turns word entries =
         let words : Moves x.word y.word at none = by_fewer e p m x.word y.word word in
         let stay : Moves x.entries y.entries none none = by_same x.entries y.entries entries in
         record {
           backed = λ d q n.
-              by_backed (Taken p) Own e m turns at none none none words stay d q n
+              by_backed (Queued p Taken) Own e m turns at none none none words stay d q n
               (omega arith);
           entered = λ d q n is.
               elim (hit_tells (λ d q n. x.entries d q n ≡ 0) e p m no_entry d q n) [
                 | inl far ↦
                     let nothing : at d q n ≡ 0 = far in
-                    by_entered (Taken p) Own e m turns at none none none words stay d q n
+                    by_entered (Queued p Taken) Own e m turns at none none none words stay d q n
                     is (omega arith)
                 | inr here ↦
                     let nothing : x.entries d q n ≡ 0 = here.1 in
                     omega (arith, entries d q n)
               ];
           standing = λ d q n is.
-              by_standing (Taken p) Own e m turns at none none none words stay d q n is
+              by_standing (Queued p Taken) Own e m turns at none none none words stay d q n is
               (omega arith);
           once = once;
         }
 
     -- the cancel routine begins: it has the right that the word had
-    pub balanced_calls : KindTurns x y BlankKind (Cancelling p) e m
+    pub balanced_calls : KindTurns x y BlankKind (Queued p Cancelling) e m
         → Fewer e p m x.word y.word → Same x.entries y.entries → Balanced set y
     balanced_calls turns word entries =
-        by_turn BlankKind (Cancelling p) e m turns at none none none
+        by_turn BlankKind (Queued p Cancelling) e m turns at none none none
         (by_fewer e p m x.word y.word word) (by_same x.entries y.entries entries)
         (λ d q n. omega arith) (λ d q n. omega arith) (λ d q n. omega arith)
 
@@ -459,35 +492,36 @@ module _ (set : Set) (x y : Numbers) (b : Balanced set x)
         (by_more e p m x.word y.word word) (by_more e p m x.entries y.entries entries)
         (λ d q n. omega arith) (λ d q n. omega arith) (λ d q n. omega arith)
 
-    pub balanced_starts : is_declared p ≡ false → x.armed e p m ≡ 0 → x.taken e p m ≡ 0
-        → Same x.armed y.armed → Same x.taken y.taken → Same x.listed y.listed
-        → Same x.cancelling y.cancelling → Fewer e p m x.word y.word
+    pub balanced_starts : is_declared p ≡ false → x.staged Armed e p m ≡ 0
+        → x.staged Taken e p m ≡ 0
+        → ((stage : Stage) → Same (x.staged stage) (y.staged stage)) → Fewer e p m x.word y.word
         → Fewer e p m x.entries y.entries → Balanced set y
-    balanced_starts waits no_armed no_taken armed taken listed cancelling word entries =
+    balanced_starts waits no_armed no_taken same word entries =
         record {
           backed = λ d q n.
-              elim (hit_tells (λ d q n. (x.armed d q n ≡ 0) × (x.taken d q n ≡ 0)) e p m
+              elim (hit_tells (λ d q n. (x.staged Armed d q n ≡ 0) × (x.staged Taken d q n ≡ 0))
+              e p m
               (no_armed, no_taken) d q n) [
                 | inl far ↦
                     let nothing : at d q n ≡ 0 = far in
                     omega (
                       arith,
-                      armed d q n,
-                      taken d q n,
-                      cancelling d q n,
+                      same Armed d q n,
+                      same Taken d q n,
+                      same Cancelling d q n,
                       word d q n,
                       b.backed d q n,
                     )
                 | inr here ↦
-                    let no_a : x.armed d q n ≡ 0 = here.1.0 in
-                    let no_t : x.taken d q n ≡ 0 = here.1.1 in
-                    omega (arith, armed d q n, taken d q n)
+                    let no_a : x.staged Armed d q n ≡ 0 = here.1.0 in
+                    let no_t : x.staged Taken d q n ≡ 0 = here.1.1 in
+                    omega (arith, same Armed d q n, same Taken d q n)
               ];
           entered = λ d q n is.
               omega (
                 arith,
-                listed d q n,
-                cancelling d q n,
+                same Listed d q n,
+                same Cancelling d q n,
                 word d q n,
                 entries d q n,
                 b.entered d q n is,
@@ -496,7 +530,13 @@ module _ (set : Set) (x y : Numbers) (b : Balanced set x)
               elim (hit_tells (λ d q n. is_declared q ≡ false) e p m waits d q n) [
                 | inl far ↦
                     let nothing : at d q n ≡ 0 = far in
-                    omega (arith, listed d q n, armed d q n, entries d q n, b.standing d q n is)
+                    omega (
+                      arith,
+                      same Listed d q n,
+                      same Armed d q n,
+                      entries d q n,
+                      b.standing d q n is,
+                    )
                 | inr here ↦ let no : true ≡ false = sym is ∙ here.1 in cc
               ];
           once = once;

@@ -4,23 +4,24 @@ use Rattle.std.proofs.Common.{◌≡◌, ℕ, ◌+◌, ◌≤◌, Bool, true, fa
 use Rattle.std.specs.Prelude.{nat_eq, slice_get, if◌then◌else◌}
 use Rattle.std.proofs.lemmas.Bool.Decides.{eqb_tells}
 use Rattle.model.specs.declared.abs.Kind.{Kind}
-use Rattle.model.specs.declared.abs.Kind.TheVariants.{Blank as BlankKind, Cancelling}
+use Rattle.model.specs.declared.abs.Kind.TheVariants.{Blank as BlankKind, Queued}
+use Rattle.model.specs.declared.abs.Stage.TheVariants.{Cancelling, Armed, Taken}
 use Rattle.model.specs.declared.world.Activation.{Activation}
 use Rattle.model.specs.declared.world.Frame.{Frame}
 use Rattle.model.specs.declared.world.Frame.TheVariants.{Routine, Walk, Cancel as CancelFrame}
 use Rattle.model.specs.declared.world.Value.TheVariants.{Ref}
 use Rattle.model.specs.Effect.{routine_of_device, Outcome}
-use Rattle.model.specs.Kinds.{is_armed, is_cancelling, is_listed, is_name}
+use Rattle.model.specs.Kinds.{is_at, is_name}
 use Rattle.model.specs.Set.{Set, cancel_routine_named, cancels_for}
 use Rattle.model.specs.Trace.{Entry}
 use Rattle.model.specs.World.{Shared, World, packet_of, with_armer, with_packet, entered, without_packet}
 use Rattle.run_laws.specs.Holder.{named_as, named_in, stack_sum, thread_sum, times_waiting, frame_rights}
 use Rattle.run_laws.proofs.Claims.Balance.{KindTurns, at_kind, at_swapped, balanced_calls, once_turned}
 use Rattle.run_laws.proofs.Claims.Held.{word_holds}
-use Rattle.run_laws.proofs.Claims.Names.{OfQueues, armed_queues, cancelling_queues, listed_queues, names, taken_queues, was_queues, queue_packets}
+use Rattle.run_laws.proofs.Claims.Names.{OfQueues, at_queues, names, was_queues, queue_packets}
 use Rattle.run_laws.proofs.Claims.Quiet.{Quiet}
 use Rattle.run_laws.proofs.Claims.Steps.{after, all_apart}
-use Rattle.run_laws.proofs.Claims.Sums.{Claimed, FrameApart, frame_names, is_taken, numbers, was_taken, word_at}
+use Rattle.run_laws.proofs.Claims.Sums.{Claimed, FrameApart, frame_names, numbers, was_taken, word_at}
 use Rattle.run_laws.proofs.Holders.Counts.{Holding, walk_taken}
 use Rattle.run_laws.proofs.Holders.Rights.{handed_names}
 use Rattle.run_laws.proofs.Holders.Sums.{Held, unheld}
@@ -77,7 +78,7 @@ module _ (set : Set) (states : States) (w : World) (past : List Entry) (good : I
         (subst (ArmerLeads set) is_set (word_leads set w.shared stands.fits n p there)) named
 
     called_names : (g : Kind → Bool) → OfQueues g → (m : ℕ)
-        → names states g called m ≡ named_as g (Cancelling armer.queue) (Ref n) m
+        → names states g called m ≡ named_as g (Queued armer.queue Cancelling) (Ref n) m
     called_names g of m =
         let only : cancels_for set called.driver called.routine ≡ Some armer.queue =
         cancelled_name set called.driver called.routine armer.queue
@@ -87,41 +88,37 @@ module _ (set : Set) (states : States) (w : World) (past : List Entry) (good : I
         ∙ ap (λ (name : Option QueueName). named_in g (first_state Cancel name).kinds
         called.registers m)
         only
-        ∙ handed_names g (queue_packets g of) (Cancelling armer.queue) (Ref n) m
+        ∙ handed_names g (queue_packets g of) (Queued armer.queue Cancelling) (Ref n) m
 
     called_sums : (g : Kind → Bool) → OfQueues g → (on : ℕ → Bool) (m : ℕ)
         → thread_sum (frame_names states g on m) to.threads + 0
         ≡ thread_sum (frame_names states g on m) w.threads
-        + at_kind g on armer.device (Cancelling armer.queue) n m
+        + at_kind g on armer.device (Queued armer.queue Cancelling) n m
     called_sums g of on m =
         let was : frame_names states g on m h.frame ≡ 0 = ap (frame_names states g on m) frame in
         let now : stack_sum (frame_names states g on m) h.outcome.frames
         ≡ frame_names states g on m (Routine called) + 0 =
         ap (stack_sum (frame_names states g on m)) frames in
         let its : frame_names states g on m (Routine called)
-        ≡ at_kind g on armer.device (Cancelling armer.queue) n m =
+        ≡ at_kind g on armer.device (Queued armer.queue Cancelling) n m =
         ap (λ (sum : ℕ). if on armer.device then sum else 0) (called_names g of m)
-        ∙ at_swapped (g (Cancelling armer.queue)) (on armer.device) (if nat_eq n m then 1 else 0) in
+        ∙ at_swapped (g (Queued armer.queue Cancelling)) (on armer.device)
+        (if nat_eq n m then 1 else 0) in
         omega (arith, changed set states g of on m w past good stands t h leaves)
 
     pub calls_claims : Claimed set states to
     calls_claims =
         let changes : KindTurns (numbers states w) (numbers states to) BlankKind
-        (Cancelling armer.queue) armer.device n =
+        (Queued armer.queue Cancelling) armer.device n =
         record {
-          armed = λ d l. called_sums (is_armed l) (armed_queues l) (λ e. nat_eq e d);
-          taken = λ d l. called_sums (is_taken l) (taken_queues l) (λ e. nat_eq e d);
-          listed = λ d l.
-              called_sums (is_listed l) (listed_queues l) (λ e. nat_eq e d);
-          cancelling = λ d l.
-              called_sums (is_cancelling l) (cancelling_queues l)
-              (λ e. nat_eq e d);
+          staged = λ stage d l.
+              called_sums (is_at stage l) (at_queues stage l) (λ e. nat_eq e d);
           takes = called_sums was_taken was_queues (λ e. true);
         } in
         record {
           balanced = balanced_calls set (numbers states w) (numbers states to) c.balanced
               (once_turned (numbers states w) (numbers states to) BlankKind
-              (Cancelling armer.queue) armer.device n changes refl
+              (Queued armer.queue Cancelling) armer.device n changes refl
               (λ m. rw shared (c.balanced.once m)))
               armer.device armer.queue n changes
               (λ d l m. rw shared
@@ -134,9 +131,9 @@ module _ (set : Set) (states : States) (w : World) (past : List Entry) (good : I
                 (λ l m.
                     omega (
                       arith,
-                      called_names (is_armed l) (armed_queues l) m,
-                      called_names (is_taken l) (taken_queues l) m,
-                      called_names (is_cancelling l) (cancelling_queues l) m,
+                      called_names (is_at Armed l) (at_queues Armed l) m,
+                      called_names (is_at Taken l) (at_queues Taken l) m,
+                      called_names (is_at Cancelling l) (at_queues Cancelling l) m,
                       one_name (is_name armer.queue l) (nat_eq n m),
                     )),
                 tt,

@@ -284,7 +284,7 @@ waits_live set states w kept claimed d start m there =
     ]
 
 -- who has the right to a packet that stands in a queue with a cancel routine is its cancel word, or
--- a register of kind Listed or Cancelling
+-- a register at the stage Listed or Cancelling
 module _ (set : Set) (states : States) (w : World) (past : List Entry) (good : IsGood set states)
     (stands : Standing set states w past) (kept : Held set states w)
     (claimed : Claimed set states w) where

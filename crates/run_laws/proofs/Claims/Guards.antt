@@ -5,8 +5,10 @@ use Rattle.std.proofs.Common.{◌≡◌, ◌≢◌, ℕ, zero, suc, ◌+◌, ◌
 use Rattle.std.specs.Prelude.{nat_eq, slice_get, slice_index_or}
 use Rattle.std.specs.List.{list_any}
 use Rattle.std.proofs.lemmas.Bool.{cases_Bool}
+use Rattle.run_laws.proofs.Tests.{and_left, and_right}
+use Rattle.model.specs.declared.abs.Stage.{Stage}
 use Rattle.model.specs.declared.abs.Kind.{Kind}
-use Rattle.model.specs.declared.abs.Kind.TheVariants.{Blank as BlankKind, Listed, Armed, Taken}
+use Rattle.model.specs.declared.abs.Kind.TheVariants.{Blank as BlankKind, Queued}
 use Rattle.model.specs.declared.event.Lock.{Lock}
 use Rattle.model.specs.declared.event.Lock.TheVariants.{Spin, SystemCancel}
 use Rattle.model.specs.declared.set.Device.{Device}
@@ -22,7 +24,7 @@ use Rattle.model.specs.declared.world.Frame.TheVariants.{Routine, Walk, Cancel a
 use Rattle.model.specs.declared.world.Thread.{Thread}
 use Rattle.model.specs.Effect.{answered_in, operand_of}
 use Rattle.model.specs.Fault.{holds}
-use Rattle.model.specs.Kinds.{is_armed, is_listed, is_name}
+use Rattle.model.specs.Kinds.{is_at, is_name, is_stage}
 use Rattle.model.specs.LocalRule.{is_guarded}
 use Rattle.model.specs.Run.{frames_of, frames_on}
 use Rattle.model.specs.Set.{Set, guard_named, instruction_at, member, routine_of}
@@ -30,7 +32,7 @@ use Rattle.model.specs.Trace.{Entry}
 use Rattle.model.specs.World.{Locks, World}
 use Rattle.run_laws.specs.Holder.{stack_sum, thread_sum}
 use Rattle.run_laws.proofs.Claims.Names.{names}
-use Rattle.run_laws.proofs.Claims.Sums.{frame_names, is_taken, names_on}
+use Rattle.run_laws.proofs.Claims.Sums.{frame_names, names_on}
 use Rattle.run_laws.proofs.Holders.Rights.{named_nowhere}
 use Rattle.run_laws.proofs.Holders.Sums.{stack_append}
 use Rattle.run_laws.proofs.Locks.Runs.{LocksAgree}
@@ -40,13 +42,10 @@ use Rattle.run_laws.proofs.Runs.Events.{StepsFrame}
 use Rattle.run_laws.proofs.Runs.Threads.{frames_there}
 use Rattle.run_laws.proofs.States.Frames.{IsGood, Ready, Serves, state_of}
 use Rattle.run_laws.proofs.States.Known.{IsKnown}
-use Rattle.run_laws.proofs.States.Listed.{AllFit, Guarded, KindFits, arrives_fits, fits_at, guarded_is, guards_in, named_same}
+use Rattle.run_laws.proofs.States.Listed.{AllFit, Guarded, KindFits, arrives_fits, fits_at, guarded_is, guards_in, named_same, is_under_guard, stage_same}
 use Rattle.run_laws.specs.ArrivingStates.{States}
 use Rattle.run_laws.proofs.States.Stacks.{Stacked, Stands}
 use Rattle.run_laws.proofs.States.Standing.{Standing, stands_there}
-use Rattle.model.specs.declared.set.QueueName.TheVariants.{DeviceQueue}
-use Rattle.model.specs.declared.abs.Kind.TheVariants.{Cancelling}
-use Rattle.model.specs.Kinds.{is_cancelling}
 
 -- kinds that a register has only while the guard of a queue is held
 abbrev pub NeedsGuard : Set → ℕ → (Kind → Bool) → QueueName → Type 0
@@ -61,24 +60,13 @@ module _ (set : Set) (driver : ℕ) (name : QueueName) where
   guard_for locks cancel other is held =
       subst (λ (x : QueueName). Guarded set driver locks cancel x) (named_same other name is) held
 
-  pub listed_needs : NeedsGuard set driver (is_listed name) name
-  listed_needs locks cancel (Listed other) is h = guard_for locks cancel other is h.1
-  listed_needs locks cancel _ is h = cc
-
-  pub armed_needs : NeedsGuard set driver (is_armed name) name
-  armed_needs locks cancel (Armed other) is h = guard_for locks cancel other is h.1
-  armed_needs locks cancel _ is h = cc
-
-  pub taken_needs : NeedsGuard set driver (is_taken name) name
-  taken_needs locks cancel (Taken other) is h = guard_for locks cancel other is h.1
-  taken_needs locks cancel _ is h = cc
-
--- a register with a packet that was handed to the cancel routine of the device queue needs its
--- guard too
-pub waiting_needs : (set : Set) (driver : ℕ)
-    → NeedsGuard set driver (is_cancelling DeviceQueue) DeviceQueue
-waiting_needs set driver locks cancel (Cancelling DeviceQueue) is h = h.1
-waiting_needs set driver locks cancel _ is h = cc
+  pub at_needs : (stage : Stage) → is_under_guard stage name ≡ true
+      → NeedsGuard set driver (is_at stage name) name
+  at_needs stage under locks cancel (Queued other at) is h =
+      let same : at ≡ stage = stage_same at stage (and_left _ _ is) in
+      let its : is_name other name ≡ true = and_right (is_stage at stage) _ is in
+      guard_for locks cancel other its (h.1 (rw (same, named_same other name its) under))
+  at_needs stage under locks cancel _ is h = cc
 
 -- a guard of a device as a lock
 abbrev lock_of : ℕ → Guard → Lock

@@ -1,10 +1,11 @@
--- What the holders of packets say of claims: a register of kind Listed or Cancelling, one of kind
--- Own, and a cancel word that isn't empty hold the packet, and it has one holder.
+-- What the holders of packets say of claims: a register at the stage Listed or Cancelling, one of
+-- kind Own, and a cancel word that isn't empty hold the packet, and it has one holder.
 use Rattle.std.proofs.Common.{◌≡◌, ℕ, ◌+◌, ◌≤◌, Bool, true, false, List, [], ◌∷◌, Option, None, Some, refl, ap, arith, eq-eqb}
 use Rattle.std.specs.Prelude.{nat_eq, is_some, if◌then◌else◌}
 use Rattle.model.specs.declared.set.QueueName.TheVariants.{Declared, DeviceQueue}
 use Rattle.model.specs.declared.abs.Kind.{Kind}
-use Rattle.model.specs.declared.abs.Kind.TheVariants.{Own, Listed, Taken, Cancelling}
+use Rattle.model.specs.declared.abs.Kind.TheVariants.{Own, Queued}
+use Rattle.model.specs.declared.abs.Stage.TheVariants.{Listed, Taken, Cancelling, Armed}
 use Rattle.model.specs.declared.set.QueueName.{QueueName}
 use Rattle.model.specs.declared.set.QueueName.TheVariants.{Declared}
 use Rattle.model.specs.declared.world.Armer.{Armer}
@@ -13,13 +14,13 @@ use Rattle.model.specs.declared.world.Frame.TheVariants.{Routine, Walk, Cancel a
 use Rattle.model.specs.declared.world.Packet.{Packet}
 use Rattle.model.specs.declared.world.Thread.{Thread}
 use Rattle.model.specs.declared.world.Value.{Value}
-use Rattle.model.specs.Kinds.{is_armed, is_cancelling, is_listed, is_right}
+use Rattle.model.specs.Kinds.{is_at, is_right}
 use Rattle.model.specs.Set.{Set}
 use Rattle.model.specs.World.{World, packet_of}
 use Rattle.run_laws.specs.Holder.{frame_rights, named_as, named_in, names as value_names, stack_sum, thread_sum, times_listed, times_named, times_queued, times_waiting, times_to_start}
 use Rattle.run_laws.proofs.Claims.Names.{names}
 use Rattle.run_laws.proofs.Claims.Queues.{queued_zero, to_start_zero}
-use Rattle.run_laws.proofs.Claims.Sums.{Balanced, frame_names, is_taken, names_on, numbers, takes_in, times_of, was_taken, word_at, word_for, is_cancelable, list_of}
+use Rattle.run_laws.proofs.Claims.Sums.{Balanced, frame_names, names_on, numbers, takes_in, times_of, was_taken, word_at, word_for, is_cancelable, list_of}
 use Rattle.run_laws.proofs.Holders.Sums.{Held, unheld, unheld_one}
 use Rattle.run_laws.proofs.Past.LivePackets.{find, find_place}
 use Rattle.run_laws.proofs.States.Frames.{state_of}
@@ -68,16 +69,17 @@ some_le true m = omega arith
 some_le false m = omega arith
 
 kind_three : (name : QueueName) (k : Kind) (v : Value) (n : ℕ)
-    → named_as (is_listed name) k v n + named_as (is_cancelling name) k v n + named_as is_own k v n
+    → named_as (is_at Listed name) k v n + named_as (is_at Cancelling name) k v n
+    + named_as is_own k v n
     ≤ named_as is_right k v n
-kind_three name (Listed other) v n =
-    omega (arith, some_le (is_listed name (Listed other)) (value_names v n))
-kind_three name (Cancelling other) v n =
-    omega (arith, some_le (is_cancelling name (Cancelling other)) (value_names v n))
+kind_three name (Queued other Listed) v n =
+    omega (arith, some_le (is_at Listed name (Queued other Listed)) (value_names v n))
+kind_three name (Queued other Cancelling) v n =
+    omega (arith, some_le (is_at Cancelling name (Queued other Cancelling)) (value_names v n))
 kind_three name _ v n = omega arith
 
 kinds_three : (name : QueueName) (kinds : List Kind) (values : List Value) (n : ℕ)
-    → named_in (is_listed name) kinds values n + named_in (is_cancelling name) kinds values n
+    → named_in (is_at Listed name) kinds values n + named_in (is_at Cancelling name) kinds values n
     + named_in is_own kinds values n ≤ named_in is_right kinds values n
 kinds_three name [] values n = omega arith
 kinds_three name (k ∷ kinds) [] n = omega arith
@@ -95,23 +97,23 @@ three_if false one two three all h = omega arith
 
 module _ (states : States) (d : ℕ) (q : QueueName) (n : ℕ) where
   rights_three : (f : Frame)
-      → frame_names states (is_listed q) (λ e. nat_eq e d) n f
-      + frame_names states (is_cancelling q) (λ e. nat_eq e d) n f
+      → frame_names states (is_at Listed q) (λ e. nat_eq e d) n f
+      + frame_names states (is_at Cancelling q) (λ e. nat_eq e d) n f
       + frame_names states is_own (λ e. true) n f ≤ frame_rights states f n
   rights_three (Routine a) =
-      three_if (nat_eq a.device d) (names states (is_listed q) a n)
-      (names states (is_cancelling q) a n) (names states is_own a n)
+      three_if (nat_eq a.device d) (names states (is_at Listed q) a n)
+      (names states (is_at Cancelling q) a n) (names states is_own a n)
       (frame_rights states (Routine a) n)
       (kinds_three q (state_of states a).kinds a.registers n)
   rights_three _ = omega arith
 
   pub rights_cover : (threads : List Thread)
-      → names_on states (is_listed q) d n threads
-      + names_on states (is_cancelling q) d n threads
+      → names_on states (is_at Listed q) d n threads
+      + names_on states (is_at Cancelling q) d n threads
       + owns_in states n threads ≤ thread_sum (λ f. frame_rights states f n) threads
   rights_cover threads =
-      thread_three (frame_names states (is_listed q) (λ e. nat_eq e d) n)
-      (frame_names states (is_cancelling q) (λ e. nat_eq e d) n)
+      thread_three (frame_names states (is_at Listed q) (λ e. nat_eq e d) n)
+      (frame_names states (is_at Cancelling q) (λ e. nat_eq e d) n)
       (frame_names states is_own (λ e. true) n) (λ f. frame_rights states f n) rights_three threads
 
 -- what a cancel word names, one word names
@@ -124,16 +126,16 @@ word_named : (o : Option Packet) (d : ℕ) (q : QueueName) → word_at o d q ≤
 word_named None d q = omega arith
 word_named (Some p) d q = named_word p.armer d q
 
--- a packet that no register of kind Taken for a queue names is named by none
-kind_takes : (k : Kind) (v : Value) (n : ℕ) → ((q : QueueName) → named_as (is_taken q) k v n ≡ 0)
+-- a packet that no register at the stage Taken for a queue names is named by none
+kind_takes : (k : Kind) (v : Value) (n : ℕ) → ((q : QueueName) → named_as (is_at Taken q) k v n ≡ 0)
     → named_as was_taken k v n ≡ 0
-kind_takes (Taken q) v n none =
-    let one : named_as (is_taken q) (Taken q) v n ≡ 0 = none q in
+kind_takes (Queued q Taken) v n none =
+    let one : named_as (is_at Taken q) (Queued q Taken) v n ≡ 0 = none q in
     rw (name_same q) at one
 kind_takes _ v n none = refl
 
 kinds_takes : (kinds : List Kind) (values : List Value) (n : ℕ)
-    → ((q : QueueName) → named_in (is_taken q) kinds values n ≡ 0)
+    → ((q : QueueName) → named_in (is_at Taken q) kinds values n ≡ 0)
     → named_in was_taken kinds values n ≡ 0
 kinds_takes [] values n none = refl
 kinds_takes (k ∷ kinds) [] n none = refl
@@ -147,13 +149,13 @@ kinds_takes (k ∷ kinds) (v ∷ values) n none =
     omega arith
 
 frame_no_takes : (states : States) (n : ℕ) (f : Frame)
-    → ((d : ℕ) (q : QueueName) → frame_names states (is_taken q) (λ e. nat_eq e d) n f ≡ 0)
+    → ((d : ℕ) (q : QueueName) → frame_names states (is_at Taken q) (λ e. nat_eq e d) n f ≡ 0)
     → frame_names states was_taken (λ e. true) n f ≡ 0
 frame_no_takes states n (Walk m) none = refl
 frame_no_takes states n (CancelFrame c) none = refl
 frame_no_takes states n (Routine a) none =
     kinds_takes (state_of states a).kinds a.registers n (λ q.
-    let one : frame_names states (is_taken q) (λ e. nat_eq e a.device) n (Routine a)
+    let one : frame_names states (is_at Taken q) (λ e. nat_eq e a.device) n (Routine a)
     ≡ 0 =
     none a.device q in
     let same : nat_eq a.device a.device ≡ true = eq-eqb a.device a.device refl in
@@ -161,7 +163,7 @@ frame_no_takes states n (Routine a) none =
 
 stack_no_takes : (states : States) (n : ℕ) (frames : List Frame)
     → ((d : ℕ) (q : QueueName)
-    → stack_sum (frame_names states (is_taken q) (λ e. nat_eq e d) n) frames
+    → stack_sum (frame_names states (is_at Taken q) (λ e. nat_eq e d) n) frames
     ≡ 0)
     → stack_sum (frame_names states was_taken (λ e. true) n) frames ≡ 0
 stack_no_takes states n [] none = refl
@@ -175,7 +177,7 @@ stack_no_takes states n (f ∷ frames) none =
     omega arith
 
 no_takes : (states : States) (n : ℕ) (threads : List Thread)
-    → ((d : ℕ) (q : QueueName) → names_on states (is_taken q) d n threads ≡ 0)
+    → ((d : ℕ) (q : QueueName) → names_on states (is_at Taken q) d n threads ≡ 0)
     → takes_in states n threads ≡ 0
 no_takes states n [] none = refl
 no_takes states n (thread ∷ threads) none =
@@ -190,8 +192,8 @@ no_takes states n (thread ∷ threads) none =
 module _ (set : Set) (states : States) (w : World) (kept : Held set states w) (n : ℕ) where
   -- the holders of a packet are one
   pub one_holder : (d : ℕ) (q : QueueName)
-      → names_on states (is_listed q) d n w.threads
-      + names_on states (is_cancelling q) d n w.threads
+      → names_on states (is_at Listed q) d n w.threads
+      + names_on states (is_at Cancelling q) d n w.threads
       + owns_in states n w.threads
       + times_waiting set w.shared n ≤ 1
   one_holder d q =
@@ -213,39 +215,39 @@ module _ (set : Set) (states : States) (w : World) (kept : Held set states w) (n
   -- a packet that has none of these holders stands in no list, and was taken off none
   pub none_alone : Balanced set (numbers states w)
       → ((d : ℕ) (q : QueueName)
-      → names_on states (is_listed q) d n w.threads
-      + names_on states (is_cancelling q) d n w.threads
+      → names_on states (is_at Listed q) d n w.threads
+      + names_on states (is_at Cancelling q) d n w.threads
       + times_waiting set w.shared n ≡ 0)
       → takes_in states n w.threads + times_listed w.shared n ≡ 0
   none_alone b nothing =
       let waiting : times_waiting set w.shared n ≡ 0 =
-      (let none : names_on states (is_listed DeviceQueue) 0 n w.threads
-      + names_on states (is_cancelling DeviceQueue) 0 n w.threads
+      (let none : names_on states (is_at Listed DeviceQueue) 0 n w.threads
+      + names_on states (is_at Cancelling DeviceQueue) 0 n w.threads
       + times_waiting set w.shared n ≡ 0 = nothing 0 DeviceQueue in omega arith) in
       let takes : takes_in states n w.threads ≡ 0 =
       no_takes states n w.threads (λ d q.
-      let none : names_on states (is_listed q) d n w.threads
-      + names_on states (is_cancelling q) d n w.threads
+      let none : names_on states (is_at Listed q) d n w.threads
+      + names_on states (is_at Cancelling q) d n w.threads
       + times_waiting set w.shared n ≡ 0 = nothing d q in
       let word : word_at (find w.shared.packets n) d q
       ≤ times_waiting set w.shared n = word_holds d q in
-      let backed : names_on states (is_armed q) d n w.threads
-      + names_on states (is_taken q) d n w.threads
+      let backed : names_on states (is_at Armed q) d n w.threads
+      + names_on states (is_at Taken q) d n w.threads
       ≤ word_at (find w.shared.packets n) d q
-      + names_on states (is_cancelling q) d n w.threads = b.backed d q n in
+      + names_on states (is_at Cancelling q) d n w.threads = b.backed d q n in
       omega arith) in
       let empty : (d : ℕ) (q : QueueName) → is_cancelable set d q ≡ true
       → times_of (list_of w.shared d q) n ≡ 0 =
       λ d q may.
-      let none : names_on states (is_listed q) d n w.threads
-      + names_on states (is_cancelling q) d n w.threads
+      let none : names_on states (is_at Listed q) d n w.threads
+      + names_on states (is_at Cancelling q) d n w.threads
       + times_waiting set w.shared n ≡ 0 = nothing d q in
       let word : word_at (find w.shared.packets n) d q
       ≤ times_waiting set w.shared n = word_holds d q in
       let entered : times_of (list_of w.shared d q) n
       ≤ word_at (find w.shared.packets n) d q
-      + names_on states (is_cancelling q) d n w.threads
-      + names_on states (is_listed q) d n w.threads = b.entered d q n may in
+      + names_on states (is_at Cancelling q) d n w.threads
+      + names_on states (is_at Listed q) d n w.threads = b.entered d q n may in
       omega arith in
       let queued : times_queued w.shared.queues n ≡ 0 =
       queued_zero set w.shared n (omega arith) (λ d q may. empty d (Declared q) may) in
@@ -264,8 +266,8 @@ module _ (set : Set) (states : States) (w : World) (kept : Held set states w) (n
   -- live
   pub holder_lives : (d : ℕ) (q : QueueName) (count : ℕ)
       → count ≤ word_at (find w.shared.packets n) d q
-      + names_on states (is_cancelling q) d n w.threads
-      + names_on states (is_listed q) d n w.threads
+      + names_on states (is_at Cancelling q) d n w.threads
+      + names_on states (is_at Listed q) d n w.threads
       → count ≤ unheld (find w.shared.packets n)
   holder_lives d q count le =
       omega (arith, kept.rights n, rights_cover states d q n w.threads, word_holds d q)

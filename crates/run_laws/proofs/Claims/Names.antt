@@ -1,10 +1,12 @@
 -- What an instruction does to the registers with packets of queues with a cancel routine: most do
 -- nothing, and those that do change the kind of one register.
 use Rattle.std.proofs.Common.{◌≡◌, ℕ, ◌+◌, ◌<◌, ◌≤◌, Bool, true, false, List, [], ◌∷◌, length, None, Some, refl, ap, sym, ◌∙◌, subst, arith}
-use Rattle.std.specs.Prelude.{slice_set, slice_index_or, if◌then◌else◌}
+use Rattle.std.specs.Prelude.{slice_set, slice_index_or, if◌then◌else◌, ◌&&◌}
+use Rattle.model.specs.declared.abs.Stage.{Stage}
 use Rattle.model.specs.declared.abs.Abs.{Abs}
 use Rattle.model.specs.declared.abs.Kind.{Kind}
-use Rattle.model.specs.declared.abs.Kind.TheVariants.{Blank as BlankKind, Num as NumKind, Lower as LowerKind, New, Own, Listed, Armed, Taken, Cancelling}
+use Rattle.model.specs.declared.abs.Kind.TheVariants.{Blank as BlankKind, Num as NumKind, Lower as LowerKind, New, Own, Queued}
+use Rattle.model.specs.declared.abs.Stage.TheVariants.{Armed}
 use Rattle.model.specs.declared.instr.Instr.{Instr}
 use Rattle.model.specs.declared.instr.Instr.TheVariants.{Add, Subtract, Const, Move, Clear, Load, LoadPaged, Get, Mark, Release, Insert, Remove, Unlink, Arm, Disarm, Start, Take, Begin, Pass, Call, Complete, ReleaseCancel, Dequeue}
 use Rattle.model.specs.declared.limits.TheConstants.{REGISTERS}
@@ -13,14 +15,14 @@ use Rattle.model.specs.declared.set.QueueName.{QueueName}
 use Rattle.model.specs.declared.world.Activation.{Activation}
 use Rattle.model.specs.declared.world.Value.{Value}
 use Rattle.model.specs.declared.world.Value.TheVariants.{Blank, Ref, Num}
-use Rattle.model.specs.Kinds.{all_let_go, is_armed, is_cancelling, is_guard, is_listed, is_packet, let_go}
+use Rattle.model.specs.Kinds.{all_let_go, is_at, is_guard, is_packet, let_go, is_stage}
 use Rattle.model.specs.LocalRule.{handed, handed_at_label, kind_of, marked, given_down, number_kind, refuses}
 use Rattle.model.specs.declared.set.Sort.{Sort}
 use Rattle.model.specs.Set.{Set, flow_of, guard_named, label_of, sort_of}
 use Rattle.model.specs.Sound.{OperandFits}
 use Rattle.model.specs.World.{Shared, at_label, next, register, with_register}
 use Rattle.run_laws.specs.Holder.{named_as, named_in}
-use Rattle.run_laws.proofs.Claims.Sums.{is_taken, was_taken}
+use Rattle.run_laws.proofs.Claims.Sums.{was_taken}
 use Rattle.run_laws.proofs.Holders.Rights.{OfPackets, named_both, named_move, named_none, named_turn, named_write}
 use Rattle.run_laws.proofs.Lists.{all_at}
 use Rattle.run_laws.proofs.Locks.Says.{is_locking}
@@ -38,33 +40,18 @@ abbrev pub OfQueues : (Kind → Bool) → Type 0
 OfQueues f = (k : Kind) → is_queued k ≡ false → f k ≡ false
 
 unpacked : (k : Kind) → is_packet k ≡ false → is_queued k ≡ false
-unpacked (Listed name) h = cc
-unpacked (Armed name) h = cc
-unpacked (Taken name) h = cc
-unpacked (Cancelling name) h = cc
+unpacked (Queued name stage) h = cc
 unpacked _ h = refl
 
 pub queue_packets : (f : Kind → Bool) → OfQueues f → OfPackets f
 queue_packets f queues k h = queues k (unpacked k h)
 
-pub armed_queues : (name : QueueName) → OfQueues (is_armed name)
-armed_queues name (Armed other) h = cc
-armed_queues name _ h = refl
-
-pub taken_queues : (name : QueueName) → OfQueues (is_taken name)
-taken_queues name (Taken other) h = cc
-taken_queues name _ h = refl
-
-pub listed_queues : (name : QueueName) → OfQueues (is_listed name)
-listed_queues name (Listed other) h = cc
-listed_queues name _ h = refl
-
-pub cancelling_queues : (name : QueueName) → OfQueues (is_cancelling name)
-cancelling_queues name (Cancelling other) h = cc
-cancelling_queues name _ h = refl
+pub at_queues : (stage : Stage) (name : QueueName) → OfQueues (is_at stage name)
+at_queues stage name (Queued other at) h = cc
+at_queues stage name _ h = refl
 
 pub was_queues : OfQueues was_taken
-was_queues (Taken other) h = cc
+was_queues (Queued other stage) h = cc
 was_queues _ h = refl
 
 -- what leaves the packets with who has them, and no lock, leaves the kinds as they are
@@ -96,17 +83,19 @@ still_so set driver s _ free same quiet = refl
 
 -- the release of a guard: claims are given up
 module _ (set : Set) (driver : ℕ) (lock : Guard) (f : Kind → Bool) (queues : OfQueues f) where
-  gone_le : (b : Bool) (name : QueueName) (v : Value) (n : ℕ)
-      → named_as f (if b then BlankKind else Armed name) v n ≤ named_as f (Armed name) v n
-  gone_le true name v n =
+  gone_le : (b : Bool) (k : Kind) (v : Value) (n : ℕ)
+      → named_as f (if b then BlankKind else k) v n ≤ named_as f k v n
+  gone_le true k v n =
       let none : named_as f BlankKind v n ≡ 0 = named_none f BlankKind v n (queues BlankKind refl)
       in
       omega arith
-  gone_le false name v n = omega arith
+  gone_le false k v n = omega arith
 
   go_le : (k : Kind) (v : Value) (n : ℕ)
       → named_as f (let_go set driver lock k) v n ≤ named_as f k v n
-  go_le (Armed name) v n = gone_le (is_guard (guard_named set driver name) lock) name v n
+  go_le (Queued name stage) v n =
+      gone_le (is_stage stage Armed && is_guard (guard_named set driver name) lock)
+      (Queued name stage) v n
   go_le _ v n = omega arith
 
   pub gone_names : (kinds : List Kind) (values : List Value) (n : ℕ)
@@ -116,17 +105,19 @@ module _ (set : Set) (driver : ℕ) (lock : Guard) (f : Kind → Bool) (queues :
   gone_names (k ∷ kinds) (v ∷ values) n =
       omega (arith, go_le k v n, gone_names kinds values n)
 
-  module _ (unarmed : (name : QueueName) → f (Armed name) ≡ false) where
+  module _ (unarmed : (name : QueueName) → f (Queued name Armed) ≡ false) where
     stays_so : (b : Bool) (name : QueueName) (v : Value) (n : ℕ)
-        → named_as f (if b then BlankKind else Armed name) v n ≡ named_as f (Armed name) v n
+        → named_as f (if b then BlankKind else Queued name Armed) v n
+        ≡ named_as f (Queued name Armed) v n
     stays_so true name v n =
         named_none f BlankKind v n (queues BlankKind refl)
-        ∙ sym (named_none f (Armed name) v n (unarmed name))
+        ∙ sym (named_none f (Queued name Armed) v n (unarmed name))
     stays_so false name v n = refl
 
     stay_so : (k : Kind) (v : Value) (n : ℕ)
         → named_as f (let_go set driver lock k) v n ≡ named_as f k v n
-    stay_so (Armed name) v n = stays_so (is_guard (guard_named set driver name) lock) name v n
+    stay_so (Queued name Armed) v n =
+        stays_so (is_guard (guard_named set driver name) lock) name v n
     stay_so _ v n = refl
 
     pub stay_names : (kinds : List Kind) (values : List Value) (n : ℕ)

@@ -7,14 +7,18 @@ use Rattle.model.specs.Set.{Set, Member, cancel_routine_of, cancels_for, guard_n
 use Rattle.model.specs.Queues.{StartState, head_of}
 use Rattle.model.specs.World.{World, packet_of, start_of}
 use Rattle.model.specs.Trace.{Entry}
-use Rattle.std.specs.Prelude.{option_map}
+use Rattle.std.specs.Prelude.{option_map, not, ◌&&◌}
 use Rattle.model.specs.Paths.{Arrives}
-use Rattle.model.specs.Kinds.{is_armed, is_cancelling, is_listed, kind_disarmed, kind_inserted, kind_removed}
+use Rattle.model.specs.Kinds.{is_at, is_stage, kind_disarmed, kind_inserted, kind_removed}
 use Rattle.model.specs.LocalRule.{entered_with, entry_of_sort, take_fault, waiting_fault, guard_fault, is_guarded, free_kind, given_down, handed, handed_at_label, kind_of, marked, refuses, broken_if}
 use Rattle.model.specs.declared.abs.Abs.{Abs}
 use Rattle.model.specs.declared.abs.Duty.TheVariants.{NoDuty, Fresh}
 use Rattle.model.specs.declared.abs.Kind.{Kind}
-use Rattle.model.specs.declared.abs.Kind.TheVariants.{Blank as BlankKind, New, Own, Listed, Armed, Taken, Cancelling, View}
+use Rattle.model.specs.declared.abs.Kind.TheVariants.{Blank as BlankKind, New, Own, Queued, View}
+use Rattle.model.specs.declared.abs.Stage.{Stage}
+use Rattle.model.specs.declared.abs.Stage.TheVariants.{Listed, Armed, Taken, Cancelling}
+use Rattle.run_laws.proofs.States.Listed.{stage_same}
+use Rattle.run_laws.proofs.Tests.{and_false}
 use Rattle.model.specs.declared.abs.Rule.TheVariants.{Guard as GuardRule, Sort as SortRule, Token}
 use Rattle.model.specs.declared.abs.Settled.TheVariants.{Settled as SettledMark, Open}
 use Rattle.model.specs.declared.instr.Instr.{Instr}
@@ -30,8 +34,8 @@ use Rattle.model.specs.declared.world.Frame.TheVariants.{Routine, Walk, Cancel a
 use Rattle.model.specs.declared.world.Packet.{Packet}
 use Rattle.run_laws.specs.ArrivingStates.{States}
 use Rattle.run_laws.specs.Holder.{times_in}
-use Rattle.run_laws.proofs.Claims.Guards.{NeedsGuard, excluded, listed_needs, waiting_needs}
-use Rattle.run_laws.proofs.Claims.Sums.{Claimed, is_cancelable, is_taken, list_of, names_on, times_of, word_at, word_for}
+use Rattle.run_laws.proofs.Claims.Guards.{NeedsGuard, excluded, at_needs}
+use Rattle.run_laws.proofs.Claims.Sums.{Claimed, is_cancelable, is_declared, list_of, names_on, times_of, word_at, word_for}
 use Rattle.run_laws.proofs.Claims.WordSteps.{IsFor, word_is_for}
 use Rattle.run_laws.proofs.Claims.Working.{some_none}
 use Rattle.run_laws.proofs.Holders.Rights.{named_nowhere}
@@ -51,32 +55,27 @@ use Rattle.run_laws.proofs.States.Rules.{first_none, granted, second_none}
 -- kinds that no instruction makes: of a packet of the device queue in a register, but for one that
 -- is being cancelled; and of one that is being cancelled at all
 abbrev pub is_waiting : Kind → Bool
-is_waiting (Listed DeviceQueue) = true
-is_waiting (Armed DeviceQueue) = true
-is_waiting (Taken DeviceQueue) = true
+is_waiting (Queued name stage) = not (is_stage stage Cancelling) && not (is_declared name)
 is_waiting _ = false
 
 abbrev is_handed_over : Kind → Bool
-is_handed_over (Cancelling name) = true
+is_handed_over (Queued name Cancelling) = true
 is_handed_over _ = false
 
-no_listed : (k : Kind) → is_waiting k ≡ false → is_listed DeviceQueue k ≡ false
-no_listed (Listed (Declared q)) h = refl
-no_listed (Listed DeviceQueue) h = cc
-no_listed _ h = refl
+-- one of the device queue that isn't waiting is being cancelled
+is_cancelled : (cancelling : Bool) → (not cancelling && true) ≡ false → cancelling ≡ true
+is_cancelled true h = refl
+is_cancelled false h = cc
 
-pub no_armed : (k : Kind) → is_waiting k ≡ false → is_armed DeviceQueue k ≡ false
-no_armed (Armed (Declared q)) h = refl
-no_armed (Armed DeviceQueue) h = cc
-no_armed _ h = refl
+pub no_waiting : (stage : Stage) → is_stage Cancelling stage ≡ false → (k : Kind)
+    → is_waiting k ≡ false → is_at stage DeviceQueue k ≡ false
+no_waiting stage other (Queued (Declared q) at) h = and_false (is_stage at stage)
+no_waiting stage other (Queued DeviceQueue at) h =
+    rw (stage_same at Cancelling (is_cancelled _ h), other) refl
+no_waiting stage other _ h = refl
 
-pub no_taken : (k : Kind) → is_waiting k ≡ false → is_taken DeviceQueue k ≡ false
-no_taken (Taken (Declared q)) h = refl
-no_taken (Taken DeviceQueue) h = cc
-no_taken _ h = refl
-
-no_handed : (k : Kind) → is_handed_over k ≡ false → is_cancelling DeviceQueue k ≡ false
-no_handed (Cancelling name) h = cc
+no_handed : (k : Kind) → is_handed_over k ≡ false → is_at Cancelling DeviceQueue k ≡ false
+no_handed (Queued name Cancelling) h = cc
 no_handed _ h = refl
 
 module _ (set : Set) (driver : ℕ) where
@@ -89,9 +88,9 @@ module _ (set : Set) (driver : ℕ) where
   waits_removed (Some routine) q = refl
 
   waits_disarmed : (k : Kind) → is_waiting k ≡ false → is_waiting (kind_disarmed k) ≡ false
-  waits_disarmed (Armed (Declared q)) h = refl
-  waits_disarmed (Armed DeviceQueue) h = cc
-  waits_disarmed (Taken name) h = refl
+  waits_disarmed (Queued (Declared q) Armed) h = refl
+  waits_disarmed (Queued DeviceQueue Armed) h = cc
+  waits_disarmed (Queued name Taken) h = refl
   waits_disarmed _ h = h
 
   waits_never : NeverMade set driver is_waiting
@@ -116,8 +115,8 @@ module _ (set : Set) (driver : ℕ) where
   over_removed (Some routine) q = refl
 
   over_disarmed : (k : Kind) → is_handed_over k ≡ false → is_handed_over (kind_disarmed k) ≡ false
-  over_disarmed (Armed name) h = refl
-  over_disarmed (Taken name) h = refl
+  over_disarmed (Queued name Armed) h = refl
+  over_disarmed (Queued name Taken) h = refl
   over_disarmed _ h = h
 
   over_never : NeverMade set driver is_handed_over
@@ -148,7 +147,8 @@ waits_first Hold name first h =
     let same : entered_with New Fresh SettledMark false ≡ first = cc in rw (← same) refl
 waits_first Cancel None first h = cc
 waits_first Cancel (Some name) first h =
-    let same : record (entered_with (Cancelling name) NoDuty SettledMark false) { cancel = true }
+    let same : record (entered_with (Queued name Cancelling) NoDuty SettledMark false)
+    { cancel = true }
     ≡ first = cc in
     rw (← same) refl
 
@@ -178,7 +178,8 @@ free_first : (name : Option QueueName) (first : Abs) → entry_of_sort Cancel na
     → TokenFree first
 free_first None first h = cc
 free_first (Some name) first h =
-    let same : record (entered_with (Cancelling name) NoDuty SettledMark false) { cancel = true }
+    let same : record (entered_with (Queued name Cancelling) NoDuty SettledMark false)
+    { cancel = true }
     ≡ first = cc in
     rw (← same) refl
 
@@ -281,14 +282,16 @@ module _ (set : Set) (states : States) (w : World) (past : List Entry) (good : I
           (λ first enters. waits_first its.routine.sort (cancels_for its.set its.driver its.number)
           first enters) arrives))
 
-      none_handed : (n : ℕ) → names_on states (is_cancelling DeviceQueue) a.device n w.threads ≡ 0
+      none_handed : (n : ℕ) → names_on states (is_at Cancelling DeviceQueue) a.device n w.threads
+          ≡ 0
       none_handed n =
           excluded set states w past good stands agree owned t h a DeviceQueue
-          (is_cancelling DeviceQueue) frame run.stays.serves
+          (is_at Cancelling DeviceQueue) frame run.stays.serves
           (granted (is_guarded (state_of states a) (guard_named set a.driver DeviceQueue)) GuardRule
-          rule) (waiting_needs set a.driver) n
-          ∙ named_nowhere (is_cancelling DeviceQueue) (state_of states a).kinds a.registers n
-          (some_none (is_cancelling DeviceQueue) is_handed_over no_handed (state_of states a).kinds
+          rule) (at_needs set a.driver DeviceQueue Cancelling refl) n
+          ∙ named_nowhere (is_at Cancelling DeviceQueue) (state_of states a).kinds a.registers n
+          (some_none (is_at Cancelling DeviceQueue) is_handed_over no_handed
+          (state_of states a).kinds
           (none_over its a.position (state_of states a) token arrives))
 
       pub next_word : (n : ℕ) (start : StartState) (p : Packet)
@@ -305,8 +308,8 @@ module _ (set : Set) (states : States) (w : World) (past : List Entry) (good : I
           in
           let entered : times_of (list_of w.shared a.device DeviceQueue) n
           ≤ word_at (find w.shared.packets n) a.device DeviceQueue
-          + names_on states (is_cancelling DeviceQueue) a.device n w.threads
-          + names_on states (is_listed DeviceQueue) a.device n w.threads =
+          + names_on states (is_at Cancelling DeviceQueue) a.device n w.threads
+          + names_on states (is_at Listed DeviceQueue) a.device n w.threads =
           c.balanced.entered a.device DeviceQueue n may in
           let word : word_at (find w.shared.packets n) a.device DeviceQueue
           ≡ word_for p.armer a.device DeviceQueue =
@@ -316,7 +319,8 @@ module _ (set : Set) (states : States) (w : World) (past : List Entry) (good : I
           (omega (
             arith,
             head_counts start.device_queue n first,
-            none_waits (is_listed DeviceQueue) (listed_needs set a.driver DeviceQueue) no_listed n,
+            none_waits (is_at Listed DeviceQueue) (at_needs set a.driver DeviceQueue Listed refl)
+                (no_waiting Listed refl) n,
             none_handed n,
           ))
 

@@ -4,7 +4,8 @@ use Rattle.std.proofs.Common.{◌≡◌, ℕ, ◌+◌, ◌≤◌, Bool, true, fa
 use Rattle.std.specs.Prelude.{nat_eq, if◌then◌else◌}
 use Rattle.std.specs.List.{list_any}
 use Rattle.model.specs.declared.abs.Kind.{Kind}
-use Rattle.model.specs.declared.abs.Kind.TheVariants.{Blank as BlankKind, Own, Listed, Taken, Cancelling}
+use Rattle.model.specs.declared.abs.Kind.TheVariants.{Blank as BlankKind, Own, Queued}
+use Rattle.model.specs.declared.abs.Stage.TheVariants.{Listed, Taken, Cancelling, Armed}
 use Rattle.model.specs.declared.abs.Rule.TheVariants.{Guard as GuardRule}
 use Rattle.model.specs.declared.instr.Instr.{Instr}
 use Rattle.model.specs.declared.instr.Instr.TheVariants.{Insert, Remove, Unlink}
@@ -13,7 +14,7 @@ use Rattle.model.specs.declared.set.QueueName.TheVariants.{Declared, DeviceQueue
 use Rattle.model.specs.declared.world.Activation.{Activation}
 use Rattle.model.specs.declared.world.Frame.TheVariants.{Routine}
 use Rattle.model.specs.declared.world.Value.TheVariants.{Ref}
-use Rattle.model.specs.Kinds.{is_armed, is_cancelling, is_listed, kind_inserted, kind_removed, names_list}
+use Rattle.model.specs.Kinds.{is_at, kind_inserted, kind_removed, names_list}
 use Rattle.model.specs.LocalRule.{guard_fault, is_guarded, kind_of, unlink_kind}
 use Rattle.model.specs.Queues.{inserted, unlinked}
 use Rattle.model.specs.Set.{Set, cancel_routine_of, guard_named}
@@ -22,13 +23,13 @@ use Rattle.model.specs.Trace.{Entry}
 use Rattle.model.specs.World.{World, next, queue_of, register, with_queue, with_register}
 use Rattle.run_laws.specs.Holder.{named_as, named_in, stack_sum, thread_sum, times_in, times_listed, times_waiting}
 use Rattle.run_laws.proofs.Claims.Balance.{KindTurns, balanced_cancels, balanced_inserts, balanced_joins, balanced_leaves, balanced_removes, balanced_unlinks, hit, once_turned}
-use Rattle.run_laws.proofs.Claims.Guards.{NeedsGuard, armed_needs, excluded, listed_needs, taken_needs}
+use Rattle.run_laws.proofs.Claims.Guards.{NeedsGuard, at_needs, excluded}
 use Rattle.run_laws.proofs.Claims.Held.{is_own, one_holder, own_alone, owns_in}
 use Rattle.run_laws.proofs.Claims.Names.{KeepsNames, OfQueues, TurnsNames, names, next_takes, next_turns}
 use Rattle.run_laws.proofs.Claims.Queues.{unlinked_other, unlinked_out, entries_fewer, entries_more, entries_others, unlinked_fewer}
 use Rattle.run_laws.proofs.Claims.Quiet.{apart_keeps, frame_keeps}
 use Rattle.run_laws.proofs.Claims.Steps.{after, all_apart, apart_here, kind_turns, names_among, same_balance, same_sums}
-use Rattle.run_laws.proofs.Claims.Sums.{Claimed, FrameApart, frame_names, is_taken, names_on, numbers, takes_in, times_of, word_at}
+use Rattle.run_laws.proofs.Claims.Sums.{Claimed, FrameApart, frame_names, names_on, numbers, takes_in, times_of, word_at}
 use Rattle.run_laws.proofs.Claims.Working.{Unlinks, apart_down, apart_up, cancelable_is, some_none, taken_le, unlinked_kind}
 use Rattle.run_laws.proofs.Claims.Waiting.{once_more}
 use Rattle.run_laws.proofs.Holders.Counts.{reads_ref}
@@ -206,12 +207,13 @@ module _ (set : Set) (states : States) (w : World) (past : List Entry) (good : I
               ));
         }
     inserts_by (Some cancel) some turns =
-        let changes : Changes Own (Listed (Declared q)) m =
-        kind_turns set states w past good stands c t h leaves a (next a) Own (Listed (Declared q)) m
+        let changes : Changes Own (Queued (Declared q) Listed) m =
+        kind_turns set states w past good stands c t h leaves a (next a) Own
+        (Queued (Declared q) Listed) m
         frame frames refl turns in
         record {
           balanced = balanced_inserts set (numbers states w) (numbers states to) c.balanced
-              (once_turned (numbers states w) (numbers states to) Own (Listed (Declared q))
+              (once_turned (numbers states w) (numbers states to) Own (Queued (Declared q) Listed)
               a.device m changes refl
               (once_put set states w past good stands c t h leaves kept a frame m
               (own_there set states w past good stands c t h leaves kept a frame
@@ -221,7 +223,7 @@ module _ (set : Set) (states : States) (w : World) (past : List Entry) (good : I
               words_same inserted_entries;
           apart = all_apart set states w past good stands c t h leaves
               (rw frames (
-                apart_down states a (next a) Own (Listed (Declared q)) m turns
+                apart_down states a (next a) Own (Queued (Declared q) Listed) m turns
                     (λ p. (refl, refl, refl)) apart_a,
                 tt,
               ));
@@ -254,35 +256,35 @@ module _ (set : Set) (states : States) (w : World) (past : List Entry) (good : I
       no_names : list_any (names_list (Declared q)) (state_of states a).kinds ≡ false
       no_names = unbroken _ _ (second_none _ _ (second_none _ _ run.obeys))
 
-      none_listed : (n : ℕ) → names states (is_listed (Declared q)) a n ≡ 0
+      none_listed : (n : ℕ) → names states (is_at Listed (Declared q)) a n ≡ 0
       none_listed n =
-          named_nowhere (is_listed (Declared q)) (state_of states a).kinds a.registers n
-          (some_none (is_listed (Declared q)) (names_list (Declared q)) (λ k h. or_left _ _ h)
+          named_nowhere (is_at Listed (Declared q)) (state_of states a).kinds a.registers n
+          (some_none (is_at Listed (Declared q)) (names_list (Declared q)) (λ k h. or_left _ _ h)
           (state_of states a).kinds no_names)
 
-      none_armed : (n : ℕ) → names states (is_armed (Declared q)) a n ≡ 0
+      none_armed : (n : ℕ) → names states (is_at Armed (Declared q)) a n ≡ 0
       none_armed n =
-          named_nowhere (is_armed (Declared q)) (state_of states a).kinds a.registers n
-          (some_none (is_armed (Declared q)) (names_list (Declared q))
+          named_nowhere (is_at Armed (Declared q)) (state_of states a).kinds a.registers n
+          (some_none (is_at Armed (Declared q)) (names_list (Declared q))
           (λ k h. or_left _ _ (or_right _ _ h)) (state_of states a).kinds no_names)
 
-      none_cancelling : (n : ℕ) → names states (is_cancelling (Declared q)) a n ≡ 0
+      none_cancelling : (n : ℕ) → names states (is_at Cancelling (Declared q)) a n ≡ 0
       none_cancelling n =
-          named_nowhere (is_cancelling (Declared q)) (state_of states a).kinds a.registers n
-          (some_none (is_cancelling (Declared q)) (names_list (Declared q))
+          named_nowhere (is_at Cancelling (Declared q)) (state_of states a).kinds a.registers n
+          (some_none (is_at Cancelling (Declared q)) (names_list (Declared q))
           (λ k h. or_right _ _ (or_right _ _ h)) (state_of states a).kinds no_names)
 
-      removed_listed : names_on states (is_listed (Declared q)) a.device m w.threads ≡ 0
+      removed_listed : names_on states (is_at Listed (Declared q)) a.device m w.threads ≡ 0
       removed_listed =
           alone (Remove r q label) (Declared q) run (first_none _ _ run.obeys)
-          (is_listed (Declared q))
-          (listed_needs set a.driver (Declared q)) m ∙ none_listed m
+          (is_at Listed (Declared q))
+          (at_needs set a.driver (Declared q) Listed refl) m ∙ none_listed m
 
-      removed_armed : names_on states (is_armed (Declared q)) a.device m w.threads ≡ 0
+      removed_armed : names_on states (is_at Armed (Declared q)) a.device m w.threads ≡ 0
       removed_armed =
           alone (Remove r q label) (Declared q) run (first_none _ _ run.obeys)
-          (is_armed (Declared q))
-          (armed_needs set a.driver (Declared q)) m ∙ none_armed m
+          (is_at Armed (Declared q))
+          (at_needs set a.driver (Declared q) Armed refl) m ∙ none_armed m
 
       -- it stands in the queue, so that it wasn't taken off one
       removed_takes : takes_in states m w.threads ≡ 0
@@ -291,7 +293,7 @@ module _ (set : Set) (states : States) (w : World) (past : List Entry) (good : I
           + times_in entries m = rw (eq-eqb m m refl) refl in
           omega (arith, times_le w.shared a.device q (m ∷ entries) m there, c.balanced.once m)
 
-      removed_taken : names_on states (is_taken (Declared q)) a.device m w.threads ≡ 0
+      removed_taken : names_on states (is_at Taken (Declared q)) a.device m w.threads ≡ 0
       removed_taken =
           let none : takes_in states m w.threads ≡ 0 = removed_takes in
           omega (arith, taken_le states w a.device (Declared q) m)
@@ -350,9 +352,9 @@ module _ (set : Set) (states : States) (w : World) (past : List Entry) (good : I
                 ));
           }
       removes_by (Some cancel) some turns =
-          let changes : Changes BlankKind (Taken (Declared q)) m =
+          let changes : Changes BlankKind (Queued (Declared q) Taken) m =
           kind_turns set states w past good stands c t h leaves a taker BlankKind
-          (Taken (Declared q)) m frame frames refl turns in
+          (Queued (Declared q) Taken) m frame frames refl turns in
           record {
             balanced = balanced_removes set (numbers states w) (numbers states to) c.balanced
                 (λ n.
@@ -365,15 +367,17 @@ module _ (set : Set) (states : States) (w : World) (past : List Entry) (good : I
                 words_same removed_entries;
             apart = all_apart set states w past good stands c t h leaves
                 (rw frames (
-                  apart_up states a taker BlankKind (Taken (Declared q)) m (Declared q) turns
+                  apart_up states a taker BlankKind (Queued (Declared q) Taken) m (Declared q) turns
                       ((λ p n e. omega arith), (λ p. refl))
-                      (let none : names_on states (is_taken (Declared q)) a.device m w.threads ≡ 0 =
+                      (let none : names_on states (is_at Taken (Declared q)) a.device m w.threads
+                      ≡ 0 =
                       removed_taken in
                       omega (
                         arith,
                         none_armed m,
                         none_cancelling m,
-                        names_among set states w past good stands c t h leaves a (is_taken (Declared q)) m frame,
+                        names_among set states w past good stands c t h leaves a
+                            (is_at Taken (Declared q)) m frame,
                       ))
                       apart_a,
                   tt,
@@ -391,38 +395,40 @@ module _ (set : Set) (states : States) (w : World) (past : List Entry) (good : I
         (put : Puts w.shared to.shared a.device name entries (unlinked entries m))
         (less : (n : ℕ) → times_listed h.outcome.shared n ≤ times_listed w.shared n)
         (rule : guard_fault (state_of states a) set a.driver name ≡ None)
-        (is : kind_of (state_of states a) r ≡ Cancelling name)
-        (turns : TurnsNames states a (next a) (Cancelling name) Own m) where
-      cancelled_name : 1 ≤ names states (is_cancelling name) a m
+        (is : kind_of (state_of states a) r ≡ Queued name Cancelling)
+        (turns : TurnsNames states a (next a) (Queued name Cancelling) Own m) where
+      cancelled_name : 1 ≤ names states (is_at Cancelling name) a m
       cancelled_name =
-          let one : named_as (is_cancelling name) (kind_of (state_of states a) r) (register a r) m
+          let one : named_as (is_at Cancelling name) (kind_of (state_of states a) r) (register a r)
+          m
           ≡ 1 =
           rw (is, name_same name, reads_ref w.shared (register a r) m reads, eq-eqb m m refl) refl
           in
           omega (
             arith,
-            named_le (is_cancelling name) w.shared.issued
+            named_le (is_at Cancelling name) w.shared.issued
                 (state_of states a).kinds a.registers r m run.stays.kinds,
           )
 
       pub unlinks_cancelled : Claimed set states to
       unlinks_cancelled =
-          let one : 1 ≤ names states (is_cancelling name) a m = cancelled_name in
-          let among : names states (is_cancelling name) a m
-          ≤ names_on states (is_cancelling name) a.device m w.threads =
-          names_among set states w past good stands c t h leaves a (is_cancelling name) m frame in
-          let holder : names_on states (is_listed name) a.device m w.threads
-          + names_on states (is_cancelling name) a.device m w.threads
+          let one : 1 ≤ names states (is_at Cancelling name) a m = cancelled_name in
+          let among : names states (is_at Cancelling name) a m
+          ≤ names_on states (is_at Cancelling name) a.device m w.threads =
+          names_among set states w past good stands c t h leaves a (is_at Cancelling name) m frame
+          in
+          let holder : names_on states (is_at Listed name) a.device m w.threads
+          + names_on states (is_at Cancelling name) a.device m w.threads
           + owns_in states m w.threads + times_waiting set w.shared m ≤ 1 =
           one_holder set states w kept m a.device name in
-          let free : names states (is_armed name) a m + names states (is_taken name) a m
-          + names states (is_cancelling name) a m ≤ 1 = apart_a name m in
-          let armed : names_on states (is_armed name) a.device m w.threads
-          ≡ names states (is_armed name) a m =
-          alone i name run rule (is_armed name) (armed_needs set a.driver name) m in
-          let taken : names_on states (is_taken name) a.device m w.threads
-          ≡ names states (is_taken name) a m =
-          alone i name run rule (is_taken name) (taken_needs set a.driver name) m in
+          let free : names states (is_at Armed name) a m + names states (is_at Taken name) a m
+          + names states (is_at Cancelling name) a m ≤ 1 = apart_a name m in
+          let armed : names_on states (is_at Armed name) a.device m w.threads
+          ≡ names states (is_at Armed name) a m =
+          alone i name run rule (is_at Armed name) (at_needs set a.driver name Armed refl) m in
+          let taken : names_on states (is_at Taken name) a.device m w.threads
+          ≡ names states (is_at Taken name) a m =
+          alone i name run rule (is_at Taken name) (at_needs set a.driver name Taken refl) m in
           let its : times_of (list_of w.shared a.device name) m ≡ times_in entries m =
           ap (λ (o : Option (List ℕ)). times_of o m) there in
           let le : times_of (list_of w.shared a.device name) m ≤ times_listed w.shared m =
@@ -430,12 +436,12 @@ module _ (set : Set) (states : States) (w : World) (past : List Entry) (good : I
           let once : takes_in states m w.threads + times_listed w.shared m
           ≤ 1 = c.balanced.once m in
           let few : times_in entries m ≤ 1 = omega arith in
-          let changes : Changes (Cancelling name) Own m =
-          kind_turns set states w past good stands c t h leaves a (next a) (Cancelling name)
+          let changes : Changes (Queued name Cancelling) Own m =
+          kind_turns set states w past good stands c t h leaves a (next a) (Queued name Cancelling)
           Own m frame frames refl turns in
           record {
             balanced = balanced_cancels set (numbers states w) (numbers states to) c.balanced
-                (once_turned (numbers states w) (numbers states to) (Cancelling name) Own
+                (once_turned (numbers states w) (numbers states to) (Queued name Cancelling) Own
                 a.device m changes refl
                 (once_less set states w past good stands c t h leaves kept a frame less))
                 a.device name m (omega arith) (omega arith) (omega arith)
@@ -446,7 +452,7 @@ module _ (set : Set) (states : States) (w : World) (past : List Entry) (good : I
                 words_same;
             apart = all_apart set states w past good stands c t h leaves
                 (rw frames (
-                  apart_down states a (next a) (Cancelling name) Own m turns
+                  apart_down states a (next a) (Queued name Cancelling) Own m turns
                       (λ p. (refl, refl, refl)) apart_a,
                   tt,
                 ));
@@ -490,27 +496,30 @@ module _ (set : Set) (states : States) (w : World) (past : List Entry) (good : I
 
       unlinks_by : Unlinks (Declared q) (kind_of (state_of states a) r) → Claimed set states to
       unlinks_by (inl is) =
-          let turns : TurnsNames states a (next a) (Listed (Declared q)) Own m =
-          unlinked_turns (Listed (Declared q)) is in
-          let one : 1 ≤ names states (is_listed (Declared q)) a m =
-          unlinked_name (Listed (Declared q)) (is_listed (Declared q)) is (eq-eqb q q refl) in
-          let among : names states (is_listed (Declared q)) a m
-          ≤ names_on states (is_listed (Declared q)) a.device m w.threads =
-          names_among set states w past good stands c t h leaves a (is_listed (Declared q)) m frame
+          let turns : TurnsNames states a (next a) (Queued (Declared q) Listed) Own m =
+          unlinked_turns (Queued (Declared q) Listed) is in
+          let one : 1 ≤ names states (is_at Listed (Declared q)) a m =
+          unlinked_name (Queued (Declared q) Listed) (is_at Listed (Declared q)) is
+          (eq-eqb q q refl) in
+          let among : names states (is_at Listed (Declared q)) a m
+          ≤ names_on states (is_at Listed (Declared q)) a.device m w.threads =
+          names_among set states w past good stands c t h leaves a (is_at Listed (Declared q)) m
+          frame
           in
-          let stand : names_on states (is_listed (Declared q)) a.device m w.threads
-          + names_on states (is_armed (Declared q)) a.device m w.threads
+          let stand : names_on states (is_at Listed (Declared q)) a.device m w.threads
+          + names_on states (is_at Armed (Declared q)) a.device m w.threads
           ≤ times_of (queue_of w.shared a.device q) m =
           c.balanced.standing a.device (Declared q) m refl in
           let its : times_of (queue_of w.shared a.device q) m ≡ times_in entries m =
           ap (λ (o : Option (List ℕ)). times_of o m) there in
           let some : 1 ≤ times_in entries m = omega arith in
-          let changes : Changes (Listed (Declared q)) Own m =
-          kind_turns set states w past good stands c t h leaves a (next a) (Listed (Declared q)) Own
+          let changes : Changes (Queued (Declared q) Listed) Own m =
+          kind_turns set states w past good stands c t h leaves a (next a)
+          (Queued (Declared q) Listed) Own
           m frame frames refl turns in
           record {
             balanced = balanced_unlinks set (numbers states w) (numbers states to) c.balanced
-                (once_turned (numbers states w) (numbers states to) (Listed (Declared q)) Own
+                (once_turned (numbers states w) (numbers states to) (Queued (Declared q) Listed) Own
                 a.device m changes refl
                 (once_less set states w past good stands c t h leaves kept a frame unlinked_lists))
                 a.device (Declared q) m
@@ -520,7 +529,7 @@ module _ (set : Set) (states : States) (w : World) (past : List Entry) (good : I
                 (unlinked entries m) put (λ n. unlinked_fewer entries m n some) d p n);
             apart = all_apart set states w past good stands c t h leaves
                 (rw frames (
-                  apart_down states a (next a) (Listed (Declared q)) Own m turns
+                  apart_down states a (next a) (Queued (Declared q) Listed) Own m turns
                       (λ p. (refl, refl, refl)) apart_a,
                   tt,
                 ));
@@ -530,7 +539,7 @@ module _ (set : Set) (states : States) (w : World) (past : List Entry) (good : I
           unlinked_lists
           (second_none (unlink_kind (Declared q) (kind_of (state_of states a) r))
           (guard_fault (state_of states a) set a.driver (Declared q)) run.obeys) is
-          (unlinked_turns (Cancelling (Declared q)) is)
+          (unlinked_turns (Queued (Declared q) Cancelling) is)
 
       pub unlinks_claims : Claimed set states to
       unlinks_claims =

@@ -5,9 +5,10 @@ use Rattle.std.specs.Prelude.{⊤, nat_eq, replicate, slice_get, if◌then◌els
 use Rattle.std.specs.List.{list_any}
 use Rattle.std.proofs.lemmas.Bool.{cond_both}
 use Rattle.std.proofs.lemmas.Bool.Decides.{eqb_tells}
+use Rattle.model.specs.declared.abs.Stage.TheVariants.{Armed, Taken, Cancelling}
 use Rattle.model.specs.declared.abs.Abs.{Abs}
 use Rattle.model.specs.declared.abs.Kind.{Kind}
-use Rattle.model.specs.declared.abs.Kind.TheVariants.{Blank as BlankKind, New, Own, Listed, Armed, Taken, Cancelling, View}
+use Rattle.model.specs.declared.abs.Kind.TheVariants.{Blank as BlankKind, New, Own, Queued, View}
 use Rattle.model.specs.declared.event.Lock.{Lock}
 use Rattle.model.specs.declared.instr.Instr.{Instr}
 use Rattle.model.specs.declared.instr.Instr.TheVariants.{Acquire, AcquireCancel, Call, Complete, End, Loop, Mark, Pass, Put, Ret}
@@ -24,14 +25,14 @@ use Rattle.model.specs.declared.world.Packet.{Packet}
 use Rattle.model.specs.declared.world.Value.{Value}
 use Rattle.model.specs.declared.world.Value.TheVariants.{Blank}
 use Rattle.model.specs.Effect.{Outcome, completes_with, dispatched, set_by, turned}
-use Rattle.model.specs.Kinds.{is_armed, is_cancelling}
+use Rattle.model.specs.Kinds.{is_at}
 use Rattle.model.specs.LocalRule.{complete_kind, gives_back, handed, is_dropped, kind_of}
 use Rattle.model.specs.Set.{Set, cancels_for, flow_of, lower_of, sort_of}
 use Rattle.model.specs.Trace.{Actor, Entry}
 use Rattle.model.specs.World.{Shared, asked_of, completed, current_location, left_location, mark_current, moved_up, next, packet_of, register, sent_down, shared_with, with_info, with_loops, with_packet}
 use Rattle.run_laws.specs.Holder.{named_in, stack_sum}
-use Rattle.run_laws.proofs.Claims.Names.{KeepsNames, OfQueues, armed_queues, cancelling_queues, given_names, goes_names, kinds_names, mark_names, names, next_names, queue_packets, taken_queues, unqueued_turn}
-use Rattle.run_laws.proofs.Claims.Sums.{FrameApart, frame_names, is_taken, word_at, word_for}
+use Rattle.run_laws.proofs.Claims.Names.{KeepsNames, OfQueues, at_queues, given_names, goes_names, kinds_names, mark_names, names, next_names, queue_packets, unqueued_turn}
+use Rattle.run_laws.proofs.Claims.Sums.{FrameApart, frame_names, word_at, word_for}
 use Rattle.run_laws.proofs.Holders.Counts.{Holding, right_lives, walk_lives}
 use Rattle.run_laws.proofs.Holders.Rights.{handed_names, named_none, named_nowhere}
 use Rattle.run_laws.proofs.Lists.{Each}
@@ -93,9 +94,9 @@ module _ (states : States) (a b : Activation) (keeps : KeepsNames states a b) wh
   apart_keeps h q n =
       omega (
         arith,
-        keeps (is_armed q) (armed_queues q) n,
-        keeps (is_taken q) (taken_queues q) n,
-        keeps (is_cancelling q) (cancelling_queues q) n,
+        keeps (is_at Armed q) (at_queues Armed q) n,
+        keeps (is_at Taken q) (at_queues Taken q) n,
+        keeps (is_at Cancelling q) (at_queues Cancelling q) n,
         h q n,
       )
 
@@ -114,9 +115,9 @@ module _ (states : States) (a : Activation) (none : NamesNone states a) where
   apart_none q n =
       omega (
         arith,
-        none (is_armed q) (armed_queues q) n,
-        none (is_taken q) (taken_queues q) n,
-        none (is_cancelling q) (cancelling_queues q) n,
+        none (is_at Armed q) (at_queues Armed q) n,
+        none (is_at Taken q) (at_queues Taken q) n,
+        none (is_at Cancelling q) (at_queues Cancelling q) n,
       )
 
 -- a routine begins, but for a cancel routine
@@ -152,14 +153,8 @@ begins_none set states issued a sort v plain enters g queues n =
 
 -- a routine that returns leaves none behind
 not_dropped : (back : Bool) (k : Kind) → is_dropped back k ≡ false → is_queued k ≡ false
-not_dropped true (Listed name) h = cc
-not_dropped true (Armed name) h = cc
-not_dropped true (Taken name) h = cc
-not_dropped true (Cancelling name) h = cc
-not_dropped false (Listed name) h = cc
-not_dropped false (Armed name) h = cc
-not_dropped false (Taken name) h = cc
-not_dropped false (Cancelling name) h = cc
+not_dropped true (Queued name stage) h = cc
+not_dropped false (Queued name stage) h = cc
 not_dropped back _ h = refl
 
 none_dropped : (g : Kind → Bool) → OfQueues g → (back : Bool) (kinds : List Kind)

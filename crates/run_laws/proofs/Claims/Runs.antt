@@ -2,12 +2,13 @@
 use Rattle.std.proofs.Common.{◌≡◌, ℕ, ◌+◌, ◌≤◌, Bool, true, List, [], ◌∷◌, ◌++◌, None, Some, refl, sym, subst, arith, inl, inr, length, suc}
 use Rattle.std.specs.Prelude.{nat_eq, slice_set, if◌then◌else◌, replicate}
 use Rattle.std.proofs.lemmas.Bool.Decides.{eqb_tells}
+use Rattle.model.specs.declared.abs.Stage.TheVariants.{Listed, Armed, Taken}
 use Rattle.model.specs.declared.set.QueueName.{QueueName}
 use Rattle.model.specs.declared.abs.Kind.{Kind}
 use Rattle.model.specs.declared.set.QueueName.TheVariants.{DeviceQueue}
 use Rattle.model.specs.declared.world.Frame.{Frame}
 use Rattle.model.specs.Effect.{top_of}
-use Rattle.model.specs.Kinds.{is_armed, is_listed}
+use Rattle.model.specs.Kinds.{is_at}
 use Rattle.model.specs.Queues.{idle as idle_start, without_first_to_start}
 use Rattle.model.specs.Set.{Set}
 use Rattle.model.specs.Trace.{Entry, Actor}
@@ -16,7 +17,7 @@ use Rattle.run_laws.specs.Holder.{thread_sum, times_listed, times_to_start}
 use Rattle.run_laws.proofs.Claims.Names.{OfQueues}
 use Rattle.run_laws.proofs.Claims.Quiet.{BeginsPlain, apart_none, begins_none, frame_none}
 use Rattle.run_laws.proofs.Claims.Steps.{after, same_balance}
-use Rattle.run_laws.proofs.Claims.Sums.{Claimed, FrameApart, frame_names, is_taken, times_of, was_taken, word_at, is_cancelable, list_of}
+use Rattle.run_laws.proofs.Claims.Sums.{Claimed, FrameApart, frame_names, times_of, was_taken, word_at, is_cancelable, list_of}
 use Rattle.run_laws.proofs.Claims.Waiting.{to_start_put, waits_first}
 use Rattle.run_laws.proofs.Holders.Queued.{none_queued}
 use Rattle.run_laws.proofs.Holders.Sums.{Held, first_frame}
@@ -200,16 +201,16 @@ claimed_begun set states threads =
         backed = λ d q n.
             omega (
               arith,
-              idle (is_armed q) (λ e. nat_eq e d) n,
-              idle (is_taken q) (λ e. nat_eq e d) n,
+              idle (is_at Armed q) (λ e. nat_eq e d) n,
+              idle (is_at Taken q) (λ e. nat_eq e d) n,
             );
         entered = λ d q n may.
             omega (arith, none d q n);
         standing = λ d q n is.
             omega (
               arith,
-              idle (is_listed q) (λ e. nat_eq e d) n,
-              idle (is_armed q) (λ e. nat_eq e d) n,
+              idle (is_at Listed q) (λ e. nat_eq e d) n,
+              idle (is_at Armed q) (λ e. nat_eq e d) n,
             );
         once = λ n.
             omega (

@@ -2,7 +2,7 @@
 use Rattle.std.proofs.Common.{◌≡◌, ℕ, ◌+◌, Bool, true, false, List, [], ◌∷◌, Option, None, Some, refl, ap, sym, ◌∙◌, subst, arith, ◌<◌, inl, inr}
 use Rattle.std.specs.Prelude.{◌≤◌, slice_get, is_none}
 use Rattle.model.specs.declared.set.Guard.TheVariants.{DeviceLock, CancelLock}
-use Rattle.model.specs.declared.abs.Kind.TheVariants.{Blank as BlankKind, Own}
+use Rattle.model.specs.declared.abs.Kind.TheVariants.{Blank as BlankKind, Own, Queued as QueuedKind}
 use Rattle.model.specs.declared.instr.Instr.{Instr}
 use Rattle.model.specs.declared.instr.Instr.TheVariants.{Begin, Next, Remove, Start, Take, Arm, Disarm, Release, ReleaseCancel}
 use Rattle.model.specs.declared.world.Activation.{Activation}
@@ -52,16 +52,16 @@ use Rattle.run_laws.proofs.Steps.Words.{lock_freed, packet_operand}
 use Rattle.std.specs.Prelude.{option_map}
 use Rattle.model.specs.declared.set.QueueName.TheVariants.{DeviceQueue, Declared}
 use Rattle.model.specs.declared.abs.Kind.{Kind}
-use Rattle.model.specs.declared.abs.Kind.TheVariants.{Cancelling}
+use Rattle.model.specs.declared.abs.Stage.TheVariants.{Cancelling, Armed, Taken}
 use Rattle.model.specs.declared.instr.Instr.TheVariants.{Dequeue}
 use Rattle.model.specs.Set.{has_cancel}
-use Rattle.model.specs.Kinds.{is_armed, is_cancelling, is_right}
+use Rattle.model.specs.Kinds.{is_at, is_right}
 use Rattle.model.specs.LocalRule.{queued_kind}
 use Rattle.model.specs.Queues.{dequeued, head_of}
 use Rattle.run_laws.specs.Holder.{times_in}
-use Rattle.run_laws.proofs.Claims.Sums.{is_cancelable, is_taken, list_of, names_on, times_of}
-use Rattle.run_laws.proofs.Claims.Guards.{NeedsGuard, armed_needs, taken_needs}
-use Rattle.run_laws.proofs.Claims.Next.{is_waiting, next_word, no_armed, no_taken, none_waits}
+use Rattle.run_laws.proofs.Claims.Sums.{is_cancelable, list_of, names_on, times_of}
+use Rattle.run_laws.proofs.Claims.Guards.{NeedsGuard, at_needs}
+use Rattle.run_laws.proofs.Claims.Next.{is_waiting, next_word, no_waiting, none_waits}
 use Rattle.run_laws.proofs.Claims.Queues.{puts_waiting, unlinked_times, waiting_less}
 use Rattle.run_laws.proofs.Claims.QueueSteps.{unlinks_cancelled}
 use Rattle.run_laws.proofs.Claims.WaitSteps.{next_loses, starts_claims, waits_claims}
@@ -273,10 +273,10 @@ module _ (set : Set) (states : States) (w : World) (past : List Entry) (good : I
       let idle : start.busy ≡ false = rw has at plain in rw idle (omega arith)
 
   -- a register's packet was handed to the cancel routine of the device queue
-  dequeued_kind : (k : Kind) → queued_kind (is_cancelling DeviceQueue k) k ≡ None
-      → k ≡ Cancelling DeviceQueue
-  dequeued_kind (Cancelling (Declared q)) h = cc
-  dequeued_kind (Cancelling DeviceQueue) h = refl
+  dequeued_kind : (k : Kind) → queued_kind (is_at Cancelling DeviceQueue k) k ≡ None
+      → k ≡ QueuedKind DeviceQueue Cancelling
+  dequeued_kind (QueuedKind (Declared q) Cancelling) h = cc
+  dequeued_kind (QueuedKind DeviceQueue Cancelling) h = refl
   dequeued_kind _ h = cc
 
   queues_by : (a : Activation) (i : Instr) → h.frame ≡ Routine a → Runs set states w.shared a i
@@ -366,7 +366,7 @@ module _ (set : Set) (states : States) (w : World) (past : List Entry) (good : I
       (next_loses start)
   queues_by a i frame run outcome holding (starts_gone n start there first gone) quiet = cc
   queues_by a i frame run outcome holding (dequeues_packet r n start reads there) quiet =
-      let is : kind_of (state_of states a) r ≡ Cancelling DeviceQueue =
+      let is : kind_of (state_of states a) r ≡ QueuedKind DeviceQueue Cancelling =
       dequeued_kind (kind_of (state_of states a) r) (first_none _ _ run.obeys) in
       unlinks_cancelled set states w past good stands c t h leaves kept a frame
       (ap (λ (x : Outcome). x.shared.packets) outcome) agree owned
@@ -386,7 +386,8 @@ module _ (set : Set) (states : States) (w : World) (past : List Entry) (good : I
         unlinked_times start.device_queue n m,
       ))
       (first_none _ _ (second_none _ _ run.obeys)) is
-      (next_turns set states w.shared a (Dequeue r) run r (Cancelling DeviceQueue) Own n refl refl
+      (next_turns set states w.shared a (Dequeue r) run r (QueuedKind DeviceQueue Cancelling) Own n
+      refl refl
       is (reads_ref w.shared (register a r) n reads))
 
   -- an instruction that exchanges the cancel routine of a packet of the device queue
@@ -414,8 +415,10 @@ module _ (set : Set) (states : States) (w : World) (past : List Entry) (good : I
       none_waits set states w past good stands agree owned c t h a frame run both.0 in
       starts_claims set states w past good stands c t h leaves kept a frame n p start run is both.1
       there word.0 word.1 (word.2, word.3)
-      (none (is_armed DeviceQueue) (armed_needs set a.driver DeviceQueue) no_armed n)
-      (none (is_taken DeviceQueue) (taken_needs set a.driver DeviceQueue) no_taken n)
+      (none (is_at Armed DeviceQueue) (at_needs set a.driver DeviceQueue Armed refl)
+      (no_waiting Armed refl) n)
+      (none (is_at Taken DeviceQueue) (at_needs set a.driver DeviceQueue Taken refl)
+      (no_waiting Taken refl) n)
       (ap (λ (x : Outcome). x.frames) outcome) (ap (λ (x : Outcome). x.shared) outcome)
 
   -- IoCancelIrp

@@ -12,7 +12,7 @@ use Rattle.model.specs.declared.world.Frame.TheVariants.{Routine, Walk, Cancel a
 use Rattle.model.specs.declared.world.Value.TheVariants.{Ref}
 use Rattle.model.specs.Effect.{Outcome, answered_in, operand_of}
 use Rattle.model.specs.Events.{standing, with_stack, with_thread}
-use Rattle.model.specs.Kinds.{is_armed, is_cancelling, is_listed}
+use Rattle.model.specs.Kinds.{is_at}
 use Rattle.model.specs.Run.{frames_on}
 use Rattle.model.specs.Set.{Set, instruction_at}
 use Rattle.model.specs.Trace.{Entry}
@@ -20,9 +20,9 @@ use Rattle.model.specs.World.{World}
 use Rattle.run_laws.specs.Holder.{named_as, stack_sum, thread_sum, times_listed}
 use Rattle.run_laws.proofs.Claims.Balance.{KindTurns, Same, at_kind, at_swapped, balanced_less}
 use Rattle.run_laws.proofs.Claims.Changed.{changed}
-use Rattle.run_laws.proofs.Claims.Names.{KeepsNames, OfQueues, TurnsNames, armed_queues, cancelling_queues, listed_queues, names, queue_packets, taken_queues, was_queues}
+use Rattle.run_laws.proofs.Claims.Names.{KeepsNames, OfQueues, TurnsNames, at_queues, names, queue_packets, was_queues}
 use Rattle.run_laws.proofs.Claims.Quiet.{Quiet, apart_keeps}
-use Rattle.run_laws.proofs.Claims.Sums.{Balanced, Claimed, FrameApart, frame_names, is_taken, names_on, numbers, takes_in, was_taken, is_declared, is_cancelable, times_of, list_of}
+use Rattle.run_laws.proofs.Claims.Sums.{Balanced, Claimed, FrameApart, frame_names, names_on, numbers, takes_in, was_taken, is_declared, is_cancelable, times_of, list_of}
 use Rattle.run_laws.proofs.Holders.Rights.{named_told}
 use Rattle.run_laws.proofs.Holders.Sums.{top_le}
 use Rattle.run_laws.proofs.Lists.{Each, each_after, each_append, each_before}
@@ -130,17 +130,11 @@ same_balance set states v w balanced same words queues waiting once =
     balanced_less set (numbers states v) (numbers states w) balanced
     (λ n.
     omega (arith, same was_taken was_queues (λ e. true) n, once n))
-    (λ d q n. omega (
+    (λ stage claim d q n. omega (
       arith,
-      same (is_armed q) (armed_queues q) (λ e. nat_eq e d) n,
+      same (is_at stage q) (at_queues stage q) (λ e. nat_eq e d) n,
     ))
-    (λ d q n. omega (
-      arith,
-      same (is_taken q) (taken_queues q) (λ e. nat_eq e d) n,
-    ))
-    (λ d q n. same (is_listed q) (listed_queues q) (λ e. nat_eq e d) n)
-    (λ d q n. same (is_cancelling q) (cancelling_queues q) (λ e. nat_eq e d)
-    n)
+    (λ stage right d q n. same (is_at stage q) (at_queues stage q) (λ e. nat_eq e d) n)
     words
     (λ d q n is. declared_same set v w queues d q n is)
     (λ d q n is. entries_less set v w queues waiting d q n is)
@@ -224,16 +218,8 @@ module _ (set : Set) (states : States) (w : World) (past : List Entry) (good : I
     pub kind_turns : KindTurns (numbers states w) (numbers states after) j k a.device m
     kind_turns =
         record {
-          armed = λ d q n.
-              turned_sums (is_armed q) (armed_queues q) (λ e. nat_eq e d) n;
-          taken = λ d q n.
-              turned_sums (is_taken q) (taken_queues q) (λ e. nat_eq e d) n;
-          listed = λ d q n.
-              turned_sums (is_listed q) (listed_queues q) (λ e. nat_eq e d)
-              n;
-          cancelling = λ d q n.
-              turned_sums (is_cancelling q) (cancelling_queues q)
-              (λ e. nat_eq e d) n;
+          staged = λ stage d q n.
+              turned_sums (is_at stage q) (at_queues stage q) (λ e. nat_eq e d) n;
           takes = turned_sums was_taken was_queues (λ e. true);
         }
 

@@ -1,9 +1,11 @@
--- Claims to packets that may be cancelled. A register of kind Armed or Taken is no right: the
+-- Claims to packets that may be cancelled. A register at the stage Armed or Taken is no right: the
 -- packet's cancel word has it, or the cancel routine that IoCancelIrp called. Counted over all
 -- frames, for a queue of a device and a packet.
 use Rattle.std.specs.Prelude.{ℕ, ◌≡◌, ◌≤◌, ◌+◌, ◌&&◌, Bool, true, false, List, Option, None, Some, nat_eq, if◌then◌else◌, slice_get, ⊤, option_map}
+use Rattle.model.specs.declared.abs.Stage.{Stage}
 use Rattle.model.specs.declared.abs.Kind.{Kind}
-use Rattle.model.specs.declared.abs.Kind.TheVariants.{Taken}
+use Rattle.model.specs.declared.abs.Kind.TheVariants.{Queued}
+use Rattle.model.specs.declared.abs.Stage.TheVariants.{Taken, Listed, Armed, Cancelling}
 use Rattle.model.specs.declared.set.QueueName.{QueueName}
 use Rattle.model.specs.declared.set.QueueName.TheVariants.{Declared, DeviceQueue}
 use Rattle.model.specs.declared.world.Armer.{Armer}
@@ -12,7 +14,7 @@ use Rattle.model.specs.declared.world.Frame.TheVariants.{Routine, Walk, Cancel a
 use Rattle.model.specs.declared.world.Packet.{Packet}
 use Rattle.model.specs.declared.world.Thread.{Thread}
 use Rattle.model.specs.Effect.{routine_of_device}
-use Rattle.model.specs.Kinds.{is_armed, is_cancelling, is_listed, is_name}
+use Rattle.model.specs.Kinds.{is_at, is_name}
 use Rattle.model.specs.Run.{frames_on}
 use Rattle.model.specs.Set.{Set, has_cancel}
 use Rattle.model.specs.World.{World, queue_of, Shared, start_of}
@@ -22,13 +24,9 @@ use Rattle.run_laws.proofs.Past.LivePackets.{find}
 use Rattle.run_laws.proofs.States.Frames.{state_of}
 use Rattle.run_laws.specs.ArrivingStates.{States}
 
--- a packet that was taken off a queue, and may be cancelled; off this one, and off any
-abbrev pub is_taken : QueueName → Kind → Bool
-is_taken name (Taken other) = is_name other name
-is_taken name _ = false
-
+-- a packet that was taken off a queue, and may be cancelled
 abbrev pub was_taken : Kind → Bool
-was_taken (Taken name) = true
+was_taken (Queued name Taken) = true
 was_taken _ = false
 
 -- registers of some kinds that name a packet, of a frame that is for one of some devices; over all
@@ -78,20 +76,17 @@ times_of (Some entries) n = times_in entries n
 -- in one frame a packet that the cancel routine was called for is in no claim
 abbrev pub FrameApart : States → Frame → Type 0
 FrameApart states (Routine a) =
-    (q : QueueName) (n : ℕ) → named_in (is_armed q) (state_of states a).kinds a.registers n
-    + named_in (is_taken q) (state_of states a).kinds a.registers n
-    + named_in (is_cancelling q) (state_of states a).kinds a.registers n ≤ 1
+    (q : QueueName) (n : ℕ) → named_in (is_at Armed q) (state_of states a).kinds a.registers n
+    + named_in (is_at Taken q) (state_of states a).kinds a.registers n
+    + named_in (is_at Cancelling q) (state_of states a).kinds a.registers n ≤ 1
 FrameApart states (Walk m) = ⊤
 FrameApart states (CancelFrame c) = ⊤
 
--- the numbers that claims are about, for a device, a queue and a packet: registers of each kind, 1
+-- the numbers that claims are about, for a device, a queue and a packet: registers of each stage, 1
 -- where the packet's cancel word names the queue, and how often it stands there; and for a packet,
--- registers of kind Taken for any queue, and how often it stands in all lists together
+-- registers at the stage Taken for any queue, and how often it stands in all lists together
 pub record Numbers : Type 0 where
-  pub armed : ℕ → QueueName → ℕ → ℕ
-  pub taken : ℕ → QueueName → ℕ → ℕ
-  pub listed : ℕ → QueueName → ℕ → ℕ
-  pub cancelling : ℕ → QueueName → ℕ → ℕ
+  pub staged : Stage → ℕ → QueueName → ℕ → ℕ
   pub word : ℕ → QueueName → ℕ → ℕ
   pub entries : ℕ → QueueName → ℕ → ℕ
   pub takes : ℕ → ℕ
@@ -100,10 +95,7 @@ pub record Numbers : Type 0 where
 abbrev pub numbers : States → World → Numbers
 numbers states w =
     record {
-      armed = λ d q n. names_on states (is_armed q) d n w.threads;
-      taken = λ d q n. names_on states (is_taken q) d n w.threads;
-      listed = λ d q n. names_on states (is_listed q) d n w.threads;
-      cancelling = λ d q n. names_on states (is_cancelling q) d n w.threads;
+      staged = λ stage d q n. names_on states (is_at stage q) d n w.threads;
       word = λ d q n. word_at (find w.shared.packets n) d q;
       entries = λ d q n. times_of (list_of w.shared d q) n;
       takes = λ n. takes_in states n w.threads;
@@ -111,16 +103,16 @@ numbers states w =
     }
 
 -- who has a claim is backed by the word or by the cancel routine; an entry of a queue with a cancel
--- routine has its word, its cancel routine, or a register of kind Listed; a register of kind Listed
--- or Armed names an entry of its queue; and a packet stands in one list, or was taken off by one,
--- or neither
+-- routine has its word, its cancel routine, or a register at the stage Listed; a register at the
+-- stage Listed or Armed names an entry of its queue; and a packet stands in one list, or was taken
+-- off by one, or neither
 pub record Balanced (set : Set) (x : Numbers) : Type 0 where
   pub backed : (d : ℕ) (q : QueueName) (n : ℕ)
-      → x.armed d q n + x.taken d q n ≤ x.word d q n + x.cancelling d q n
+      → x.staged Armed d q n + x.staged Taken d q n ≤ x.word d q n + x.staged Cancelling d q n
   pub entered : (d : ℕ) (q : QueueName) (n : ℕ) → is_cancelable set d q ≡ true
-      → x.entries d q n ≤ x.word d q n + x.cancelling d q n + x.listed d q n
+      → x.entries d q n ≤ x.word d q n + x.staged Cancelling d q n + x.staged Listed d q n
   pub standing : (d : ℕ) (q : QueueName) (n : ℕ) → is_declared q ≡ true
-      → x.listed d q n + x.armed d q n ≤ x.entries d q n
+      → x.staged Listed d q n + x.staged Armed d q n ≤ x.entries d q n
   pub once : (n : ℕ) → x.takes n + x.lists n ≤ 1
 
 pub record Claimed (set : Set) (states : States) (w : World) : Type 0 where

@@ -3,6 +3,7 @@
 -- started leaves it without one.
 use Rattle.std.proofs.Common.{◌≡◌, ℕ, ◌+◌, ◌≤◌, Bool, true, List, [], ◌∷◌, Option, None, Some, refl, ap, subst, arith}
 use Rattle.std.specs.Prelude.{nat_eq, is_some, if◌then◌else◌}
+use Rattle.model.specs.declared.abs.Stage.TheVariants.{Armed, Taken}
 use Rattle.model.specs.declared.abs.Kind.{Kind}
 use Rattle.model.specs.declared.abs.Kind.TheVariants.{Blank as BlankKind, Own}
 use Rattle.model.specs.declared.instr.Instr.TheVariants.{Next, Start}
@@ -12,7 +13,7 @@ use Rattle.model.specs.declared.world.Armer.{Armer}
 use Rattle.model.specs.declared.world.Frame.TheVariants.{Routine}
 use Rattle.model.specs.declared.world.Packet.{Packet}
 use Rattle.model.specs.Effect.{armer_waiting}
-use Rattle.model.specs.Kinds.{is_armed, is_cancelling, is_listed}
+use Rattle.model.specs.Kinds.{is_at}
 use Rattle.model.specs.LocalRule.{kind_of}
 use Rattle.model.specs.Queues.{StartState, head_of, next_of, next_started, started}
 use Rattle.model.specs.Set.{Set}
@@ -22,12 +23,12 @@ use Rattle.run_laws.specs.ArrivingStates.{States}
 use Rattle.run_laws.specs.Holder.{stack_sum, thread_sum, times_in, times_listed, times_named, times_queued, times_to_start}
 use Rattle.run_laws.proofs.Claims.Balance.{KindTurns, balanced_starts, balanced_waits, once_turned}
 use Rattle.run_laws.proofs.Claims.Held.{one_holder}
-use Rattle.run_laws.proofs.Claims.Names.{KeepsNames, OfQueues, TurnsNames, armed_queues, cancelling_queues, kinds_names, listed_queues, next_turns, taken_queues, was_queues}
+use Rattle.run_laws.proofs.Claims.Names.{KeepsNames, OfQueues, TurnsNames, at_queues, kinds_names, next_turns, was_queues}
 use Rattle.run_laws.proofs.Claims.Queues.{Puts, entries_fewer, entries_more, puts_waiting}
 use Rattle.run_laws.proofs.Claims.QueueSteps.{once_put, own_there, owned_here}
 use Rattle.run_laws.proofs.Claims.Quiet.{apart_keeps, frame_keeps}
 use Rattle.run_laws.proofs.Claims.Steps.{after, all_apart, apart_here, kind_turns, same_sums}
-use Rattle.run_laws.proofs.Claims.Sums.{Claimed, FrameApart, frame_names, is_taken, names_on, numbers, takes_in, was_taken}
+use Rattle.run_laws.proofs.Claims.Sums.{Claimed, FrameApart, frame_names, names_on, numbers, takes_in, was_taken}
 use Rattle.run_laws.proofs.Claims.Waiting.{to_start_put}
 use Rattle.run_laws.proofs.Claims.WordSteps.{IsFor, no_armer, word_emptied, word_filled}
 use Rattle.run_laws.proofs.Claims.Working.{apart_down}
@@ -154,8 +155,8 @@ module _ (set : Set) (states : States) (w : World) (past : List Entry) (good : I
       (has : start_of w.shared a.device ≡ Some start) (first : head_of start.device_queue ≡ Some m)
       (there : packet_of w.shared m ≡ Some p) (armer : Armer) (is : p.armer ≡ Some armer)
       (its : IsFor armer a.device DeviceQueue)
-      (no_armed : names_on states (is_armed DeviceQueue) a.device m w.threads ≡ 0)
-      (no_taken : names_on states (is_taken DeviceQueue) a.device m w.threads ≡ 0)
+      (no_armed : names_on states (is_at Armed DeviceQueue) a.device m w.threads ≡ 0)
+      (no_taken : names_on states (is_at Taken DeviceQueue) a.device m w.threads ≡ 0)
       (frames : h.outcome.frames ≡ Routine (next a) ∷ [])
       (shared : h.outcome.shared ≡ changed m p None (next_started start)) where
     keeps : KeepsNames states a (next a)
@@ -198,10 +199,7 @@ module _ (set : Set) (states : States) (w : World) (past : List Entry) (good : I
         record {
           balanced = balanced_starts set (numbers states w) (numbers states to) c.balanced next_once
               a.device DeviceQueue m refl no_armed no_taken
-              (λ d q n. same (is_armed q) (armed_queues q) (λ e. nat_eq e d) n)
-              (λ d q n. same (is_taken q) (taken_queues q) (λ e. nat_eq e d) n)
-              (λ d q n. same (is_listed q) (listed_queues q) (λ e. nat_eq e d) n)
-              (λ d q n. same (is_cancelling q) (cancelling_queues q) (λ e. nat_eq e d) n)
+              (λ stage d q n. same (is_at stage q) (at_queues stage q) (λ e. nat_eq e d) n)
               (λ d l n. rw shared (word_emptied w.shared m a.device DeviceQueue p there armer its is
               d l n))
               (λ d l n. entries_fewer w.shared to.shared a.device DeviceQueue m start.device_queue

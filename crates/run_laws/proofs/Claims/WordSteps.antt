@@ -1,11 +1,14 @@
 -- An exchange of a packet's cancel word keeps claims, and so does the release of a lock: the word
--- has the right that a register of kind Listed had, and gives it back, or to the cancel routine.
+-- has the right that a register at the stage Listed had, and gives it back, or to the cancel
+-- routine.
 use Rattle.std.proofs.Common.{◌≡◌, ◌⊎◌, ℕ, ◌+◌, ◌≤◌, Bool, true, false, List, [], ◌∷◌, Option, None, Some, refl, ap, sym, ◌∙◌, subst, arith, inl, inr, eq-eqb, eqb-true, slice_get, option_map}
 use Rattle.std.specs.Prelude.{is_some, nat_eq, slice_set, if◌then◌else◌, ◌&&◌}
 use Rattle.std.proofs.lemmas.Bool.{cases_Bool}
 use Rattle.std.proofs.lemmas.Bool.Decides.{eqb_tells}
+use Rattle.model.specs.declared.abs.Stage.{Stage}
 use Rattle.model.specs.declared.abs.Kind.{Kind}
-use Rattle.model.specs.declared.abs.Kind.TheVariants.{Blank as BlankKind, Own, Listed, Armed, Taken}
+use Rattle.model.specs.declared.abs.Kind.TheVariants.{Blank as BlankKind, Own, Queued}
+use Rattle.model.specs.declared.abs.Stage.TheVariants.{Listed, Armed, Taken, Cancelling}
 use Rattle.model.specs.declared.instr.Instr.{Instr}
 use Rattle.model.specs.declared.instr.Instr.TheVariants.{Arm, Disarm}
 use Rattle.model.specs.declared.set.Guard.{Guard}
@@ -13,7 +16,7 @@ use Rattle.model.specs.declared.set.QueueName.TheVariants.{Declared, DeviceQueue
 use Rattle.model.specs.declared.world.Activation.{Activation}
 use Rattle.model.specs.declared.world.Frame.TheVariants.{Routine}
 use Rattle.model.specs.Effect.{armer_of}
-use Rattle.model.specs.Kinds.{is_armed, is_cancelling, is_listed, all_let_go, is_exchanged, is_name, kind_disarmed}
+use Rattle.model.specs.Kinds.{is_at, all_let_go, is_exchanged, is_name, kind_disarmed, is_stage, is_claim}
 use Rattle.model.specs.LocalRule.{handed, kind_of, queued_kind}
 use Rattle.model.specs.Set.{Set, flow_of}
 use Rattle.run_laws.proofs.States.Moves.{has_next}
@@ -22,10 +25,10 @@ use Rattle.model.specs.World.{Shared, World, at_label, next, queue_of, register,
 use Rattle.run_laws.specs.Holder.{named_as, named_in, stack_sum, thread_sum, times_listed, times_queued, times_waiting, times_named, times_to_start}
 use Rattle.run_laws.proofs.Claims.Balance.{KindTurns, balanced_gives, balanced_less, hit, balanced_arms, balanced_disarms, balanced_keeps_taken, once_turned, names_tell, name_same}
 use Rattle.run_laws.proofs.Claims.Held.{one_holder, owns_in, word_holds}
-use Rattle.run_laws.proofs.Claims.Names.{OfQueues, TurnsNames, armed_queues, cancelling_queues, listed_queues, names, next_turns, taken_queues, was_queues, gone_names, label_turns, next_names, stay_names}
+use Rattle.run_laws.proofs.Claims.Names.{OfQueues, TurnsNames, at_queues, names, next_turns, was_queues, gone_names, label_turns, next_names, stay_names}
 use Rattle.run_laws.proofs.Claims.Quiet.{word_kept, word_put}
 use Rattle.run_laws.proofs.Claims.Steps.{after, all_apart, apart_here, kind_turns, names_among, same_sums, less_sums}
-use Rattle.run_laws.proofs.Claims.Sums.{Claimed, FrameApart, frame_names, is_taken, names_on, numbers, takes_in, times_of, was_taken, word_at, word_for, list_of}
+use Rattle.run_laws.proofs.Claims.Sums.{Claimed, FrameApart, frame_names, names_on, numbers, takes_in, times_of, was_taken, word_at, word_for, list_of}
 use Rattle.run_laws.proofs.Claims.Working.{apart_down, apart_up, taken_le}
 use Rattle.run_laws.proofs.Holders.Counts.{reads_ref}
 use Rattle.run_laws.proofs.Holders.Queued.{times_le}
@@ -50,20 +53,21 @@ use Rattle.model.specs.Queues.{StartState}
 use Rattle.run_laws.proofs.Lists.{sum_le}
 
 -- an exchange wants a packet that stands in a queue, or a claim
-armed_kind : (q : QueueName) (k : Kind) → queued_kind (is_listed q k) k ≡ None → k ≡ Listed q
-armed_kind q (Listed p) h =
+armed_kind : (q : QueueName) (k : Kind) → queued_kind (is_at Listed q k) k ≡ None
+    → k ≡ Queued q Listed
+armed_kind q (Queued p Listed) h =
     elim (names_tell p q) [
-      | inl same ↦ ap (λ (x : QueueName). Listed x) same.1
+      | inl same ↦ ap (λ (x : QueueName). Queued x Listed) same.1
       | inr apart ↦ let no = rw apart.0 at h in cc
     ]
 armed_kind q _ h = cc
 
 abbrev pub Claims : Kind → Type 0
-Claims k = (q : QueueName) × ((k ≡ Armed q) ⊎ (k ≡ Taken q))
+Claims k = (q : QueueName) × ((k ≡ Queued q Armed) ⊎ (k ≡ Queued q Taken))
 
 disarmed_kind : (k : Kind) → queued_kind (is_exchanged k) k ≡ None → Claims k
-disarmed_kind (Armed q) h = (q, inl refl)
-disarmed_kind (Taken q) h = (q, inr refl)
+disarmed_kind (Queued q Armed) h = (q, inl refl)
+disarmed_kind (Queued q Taken) h = (q, inr refl)
 disarmed_kind _ h = cc
 
 pub no_armer : (o : Option Armer) → (if is_some o then 1 else 0) ≤ 0 → o ≡ None
@@ -196,22 +200,30 @@ pub word_names : (set : Set) (states : States) (w : World) → Held set states w
     → Claimed set states w
     → (d : ℕ) (q : QueueName) (m : ℕ) (p : Packet) (armer : Armer) → packet_of w.shared m ≡ Some p
     → p.armer ≡ Some armer
-    → 1 ≤ names_on states (is_armed q) d m w.threads + names_on states (is_taken q) d m w.threads
+    → 1 ≤ names_on states (is_at Armed q) d m w.threads
+    + names_on states (is_at Taken q) d m w.threads
     → IsFor armer d q
 word_names set states w kept c d q m p armer there is claims =
-    let backed : names_on states (is_armed q) d m w.threads
-    + names_on states (is_taken q) d m w.threads
+    let backed : names_on states (is_at Armed q) d m w.threads
+    + names_on states (is_at Taken q) d m w.threads
     ≤ word_at (find w.shared.packets m) d q
-    + names_on states (is_cancelling q) d m w.threads = c.balanced.backed d q m in
+    + names_on states (is_at Cancelling q) d m w.threads = c.balanced.backed d q m in
     let named : times_named (packet_of w.shared m) ≡ 1 = rw (there, is) refl in
-    let holder : names_on states (is_listed q) d m w.threads
-    + names_on states (is_cancelling q) d m w.threads
+    let holder : names_on states (is_at Listed q) d m w.threads
+    + names_on states (is_at Cancelling q) d m w.threads
     + owns_in states m w.threads + times_waiting set w.shared m ≤ 1 =
     one_holder set states w kept m d q in
     let word : word_at (find w.shared.packets m) d q ≡ word_for (Some armer) d q =
     ap (λ (o : Option Packet). word_at o d q) (found w.shared m (Some p) there)
     ∙ ap (λ (o : Option Armer). word_for o d q) is in
     word_is_for armer d q (omega arith)
+
+-- a right is no armed packet
+right_apart : (stage : Stage) → is_claim stage ≡ false → is_stage Armed stage ≡ false
+right_apart Armed h = cc
+right_apart Listed h = refl
+right_apart Taken h = refl
+right_apart Cancelling h = refl
 
 module _ (set : Set) (states : States) (w : World) (past : List Entry) (good : IsGood set states)
     (stands : Standing set states w past) (c : Claimed set states w) (t : ℕ)
@@ -249,16 +261,18 @@ module _ (set : Set) (states : States) (w : World) (past : List Entry) (good : I
     where
       pub arms_claims : Claimed set states to
       arms_claims =
-          let is : kind_of (state_of states a) r ≡ Listed (Declared q) =
+          let is : kind_of (state_of states a) r ≡ Queued (Declared q) Listed =
           armed_kind (Declared q) (kind_of (state_of states a) r) (first_none _ _ run.obeys) in
-          let turns : TurnsNames states a (next a) (Listed (Declared q)) (Armed (Declared q)) m =
-          next_turns set states w.shared a (Arm r q) run r (Listed (Declared q))
-          (Armed (Declared q)) m refl refl is (reads_ref w.shared (register a r) m reads) in
-          let one : 1 ≤ names_on states (is_listed (Declared q)) a.device m w.threads =
-          named_here (Arm r q) r m run reads (Listed (Declared q)) (is_listed (Declared q)) is
+          let turns : TurnsNames states a (next a) (Queued (Declared q) Listed)
+          (Queued (Declared q) Armed) m =
+          next_turns set states w.shared a (Arm r q) run r (Queued (Declared q) Listed)
+          (Queued (Declared q) Armed) m refl refl is (reads_ref w.shared (register a r) m reads) in
+          let one : 1 ≤ names_on states (is_at Listed (Declared q)) a.device m w.threads =
+          named_here (Arm r q) r m run reads (Queued (Declared q) Listed)
+          (is_at Listed (Declared q)) is
           (eq-eqb q q refl) in
-          let holder : names_on states (is_listed (Declared q)) a.device m w.threads
-          + names_on states (is_cancelling (Declared q)) a.device m w.threads
+          let holder : names_on states (is_at Listed (Declared q)) a.device m w.threads
+          + names_on states (is_at Cancelling (Declared q)) a.device m w.threads
           + owns_in states m w.threads + times_waiting set w.shared m ≤ 1 =
           one_holder set states w kept m a.device (Declared q) in
           let named : times_named (packet_of w.shared m) ≡ (if is_some p.armer then 1 else 0) =
@@ -267,30 +281,33 @@ module _ (set : Set) (states : States) (w : World) (past : List Entry) (good : I
           let word : word_at (find w.shared.packets m) a.device (Declared q)
           ≤ times_waiting set w.shared m =
           word_holds set states w kept m a.device (Declared q) in
-          let backed : names_on states (is_armed (Declared q)) a.device m w.threads
-          + names_on states (is_taken (Declared q)) a.device m w.threads
+          let backed : names_on states (is_at Armed (Declared q)) a.device m w.threads
+          + names_on states (is_at Taken (Declared q)) a.device m w.threads
           ≤ word_at (find w.shared.packets m) a.device (Declared q)
-          + names_on states (is_cancelling (Declared q)) a.device m w.threads =
+          + names_on states (is_at Cancelling (Declared q)) a.device m w.threads =
           c.balanced.backed a.device (Declared q) m in
-          let armed : names states (is_armed (Declared q)) a m
-          ≤ names_on states (is_armed (Declared q)) a.device m w.threads =
-          names_among set states w past good stands c t h leaves a (is_armed (Declared q)) m frame
+          let armed : names states (is_at Armed (Declared q)) a m
+          ≤ names_on states (is_at Armed (Declared q)) a.device m w.threads =
+          names_among set states w past good stands c t h leaves a (is_at Armed (Declared q)) m
+          frame
           in
-          let taken : names states (is_taken (Declared q)) a m
-          ≤ names_on states (is_taken (Declared q)) a.device m w.threads =
-          names_among set states w past good stands c t h leaves a (is_taken (Declared q)) m frame
+          let taken : names states (is_at Taken (Declared q)) a m
+          ≤ names_on states (is_at Taken (Declared q)) a.device m w.threads =
+          names_among set states w past good stands c t h leaves a (is_at Taken (Declared q)) m
+          frame
           in
-          let cancelling : names states (is_cancelling (Declared q)) a m
-          ≤ names_on states (is_cancelling (Declared q)) a.device m w.threads =
-          names_among set states w past good stands c t h leaves a (is_cancelling (Declared q)) m
+          let cancelling : names states (is_at Cancelling (Declared q)) a m
+          ≤ names_on states (is_at Cancelling (Declared q)) a.device m w.threads =
+          names_among set states w past good stands c t h leaves a (is_at Cancelling (Declared q)) m
           frame in
-          let changes : Changes (Listed (Declared q)) (Armed (Declared q)) m =
-          kind_turns set states w past good stands c t h leaves a (next a) (Listed (Declared q))
-          (Armed (Declared q)) m frame frames refl turns in
+          let changes : Changes (Queued (Declared q) Listed) (Queued (Declared q) Armed) m =
+          kind_turns set states w past good stands c t h leaves a (next a)
+          (Queued (Declared q) Listed)
+          (Queued (Declared q) Armed) m frame frames refl turns in
           record {
             balanced = balanced_arms set (numbers states w) (numbers states to) c.balanced
-                (once_turned (numbers states w) (numbers states to) (Listed (Declared q))
-                (Armed (Declared q)) a.device m changes refl
+                (once_turned (numbers states w) (numbers states to) (Queued (Declared q) Listed)
+                (Queued (Declared q) Armed) a.device m changes refl
                 (λ n. rw shared (c.balanced.once n)))
                 a.device (Declared q) m
                 changes
@@ -301,7 +318,8 @@ module _ (set : Set) (states : States) (w : World) (past : List Entry) (good : I
                 (λ d l n. rw shared refl);
             apart = all_apart set states w past good stands c t h leaves
                 (rw frames (
-                  apart_up states a (next a) (Listed (Declared q)) (Armed (Declared q)) m
+                  apart_up states a (next a) (Queued (Declared q) Listed)
+                      (Queued (Declared q) Armed) m
                       (Declared q) turns
                       ((λ l n e. omega arith), (λ l. refl)) (omega arith) apart_a,
                   tt,
@@ -321,23 +339,23 @@ module _ (set : Set) (states : States) (w : World) (past : List Entry) (good : I
 
     module _ (armer : Armer) (is_set : p.armer ≡ Some armer)
         (frames : h.outcome.frames ≡ Routine (next a) ∷ []) where
-      empties_by : (q : QueueName) → (kind_of (state_of states a) r ≡ Armed q)
-          ⊎ (kind_of (state_of states a) r ≡ Taken q) → Claimed set states to
+      empties_by : (q : QueueName) → (kind_of (state_of states a) r ≡ Queued q Armed)
+          ⊎ (kind_of (state_of states a) r ≡ Queued q Taken) → Claimed set states to
       empties_by q (inl is) =
-          let turns : TurnsNames states a (next a) (Armed q) (Listed q) m =
-          disarmed_turns (Armed q) is in
-          let one : 1 ≤ names_on states (is_armed q) a.device m w.threads =
-          named_here (Disarm r label) r m run reads (Armed q) (is_armed q) is
+          let turns : TurnsNames states a (next a) (Queued q Armed) (Queued q Listed) m =
+          disarmed_turns (Queued q Armed) is in
+          let one : 1 ≤ names_on states (is_at Armed q) a.device m w.threads =
+          named_here (Disarm r label) r m run reads (Queued q Armed) (is_at Armed q) is
           (name_same q) in
           let its : IsFor armer a.device q =
           word_names set states w kept c a.device q m p armer there is_set (omega arith) in
-          let changes : Changes (Armed q) (Listed q) m =
-          kind_turns set states w past good stands c t h leaves a (next a) (Armed q)
-          (Listed q) m frame frames refl turns in
+          let changes : Changes (Queued q Armed) (Queued q Listed) m =
+          kind_turns set states w past good stands c t h leaves a (next a) (Queued q Armed)
+          (Queued q Listed) m frame frames refl turns in
           record {
             balanced = balanced_disarms set (numbers states w) (numbers states to) c.balanced
-                (once_turned (numbers states w) (numbers states to) (Armed q)
-                (Listed q) a.device m changes refl
+                (once_turned (numbers states w) (numbers states to) (Queued q Armed)
+                (Queued q Listed) a.device m changes refl
                 (λ n. rw shared (c.balanced.once n)))
                 a.device q m
                 changes
@@ -346,31 +364,31 @@ module _ (set : Set) (states : States) (w : World) (past : List Entry) (good : I
                 (λ d l n. rw shared refl);
             apart = all_apart set states w past good stands c t h leaves
                 (rw frames (
-                  apart_down states a (next a) (Armed q) (Listed q) m
+                  apart_down states a (next a) (Queued q Armed) (Queued q Listed) m
                       turns (λ l. (refl, refl, refl)) apart_a,
                   tt,
                 ));
           }
       empties_by q (inr is) =
-          let turns : TurnsNames states a (next a) (Taken q) Own m =
-          disarmed_turns (Taken q) is in
-          let one : 1 ≤ names_on states (is_taken q) a.device m w.threads =
-          named_here (Disarm r label) r m run reads (Taken q) (is_taken q) is
+          let turns : TurnsNames states a (next a) (Queued q Taken) Own m =
+          disarmed_turns (Queued q Taken) is in
+          let one : 1 ≤ names_on states (is_at Taken q) a.device m w.threads =
+          named_here (Disarm r label) r m run reads (Queued q Taken) (is_at Taken q) is
           (name_same q) in
           let its : IsFor armer a.device q =
           word_names set states w kept c a.device q m p armer there is_set (omega arith) in
-          let takes : names_on states (is_taken q) a.device m w.threads
+          let takes : names_on states (is_at Taken q) a.device m w.threads
           ≤ takes_in states m w.threads = taken_le states w a.device q m in
           let once : takes_in states m w.threads + times_listed w.shared m
           ≤ 1 = c.balanced.once m in
           let entries : times_of (list_of w.shared a.device q) m ≤ times_listed w.shared m =
           list_le w.shared a.device q m in
-          let changes : Changes (Taken q) Own m =
-          kind_turns set states w past good stands c t h leaves a (next a) (Taken q) Own
+          let changes : Changes (Queued q Taken) Own m =
+          kind_turns set states w past good stands c t h leaves a (next a) (Queued q Taken) Own
           m frame frames refl turns in
           record {
             balanced = balanced_keeps_taken set (numbers states w) (numbers states to) c.balanced
-                (once_turned (numbers states w) (numbers states to) (Taken q) Own
+                (once_turned (numbers states w) (numbers states to) (Queued q Taken) Own
                 a.device m changes refl
                 (λ n. rw shared (c.balanced.once n)))
                 a.device q m (omega arith)
@@ -380,7 +398,7 @@ module _ (set : Set) (states : States) (w : World) (past : List Entry) (good : I
                 (λ d l n. rw shared refl);
             apart = all_apart set states w past good stands c t h leaves
                 (rw frames (
-                  apart_down states a (next a) (Taken q) Own m
+                  apart_down states a (next a) (Queued q Taken) Own m
                       turns (λ l. (refl, refl, refl)) apart_a,
                   tt,
                 ));
@@ -397,8 +415,8 @@ module _ (set : Set) (states : States) (w : World) (past : List Entry) (good : I
         ≡ Routine (at_label a label) ∷ [])
       where
         gives_up : (j : Kind) → kind_of (state_of states a) r ≡ j
-            → ((q : QueueName) → (is_listed q j ≡ false)
-            × (is_cancelling q j ≡ false))
+            → ((q : QueueName) → (is_at Listed q j ≡ false)
+            × (is_at Cancelling q j ≡ false))
             → Claimed set states to
         gives_up j is plain =
             let turns : TurnsNames states a (at_label a label) j BlankKind m =
@@ -429,8 +447,8 @@ module _ (set : Set) (states : States) (w : World) (past : List Entry) (good : I
             let claims : Claims (kind_of (state_of states a) r) =
             disarmed_kind (kind_of (state_of states a) r) run.obeys in
             elim claims.1 [
-              | inl is ↦ gives_up (Armed claims.0) is (λ q. (refl, refl))
-              | inr is ↦ gives_up (Taken claims.0) is (λ q. (refl, refl))
+              | inl is ↦ gives_up (Queued claims.0 Armed) is (λ q. (refl, refl))
+              | inr is ↦ gives_up (Queued claims.0 Taken) is (λ q. (refl, refl))
             ]
 
   -- a lock is released that may be a guard
@@ -454,7 +472,8 @@ module _ (set : Set) (states : States) (w : World) (past : List Entry) (good : I
         named g n,
         gone_names set a.driver lock g of (state_of states a).kinds a.registers n,
       ) in
-      let same : (g : Kind → Bool) → OfQueues g → ((name : QueueName) → g (Armed name) ≡ false)
+      let same : (g : Kind → Bool) → OfQueues g
+      → ((name : QueueName) → g (Queued name Armed) ≡ false)
       → (n : ℕ) → names states g (next a) n ≡ names states g a n =
       λ g of free n.
       named g n
@@ -472,7 +491,8 @@ module _ (set : Set) (states : States) (w : World) (past : List Entry) (good : I
         arith,
         if_le (on a.device) (names states g (next a) n) (names states g a n) (less g of n),
       )) in
-      let same_all : (g : Kind → Bool) → OfQueues g → ((name : QueueName) → g (Armed name) ≡ false)
+      let same_all : (g : Kind → Bool) → OfQueues g
+      → ((name : QueueName) → g (Queued name Armed) ≡ false)
       → (on : ℕ → Bool) (n : ℕ)
       → thread_sum (frame_names states g on n) to.threads
       ≡ thread_sum (frame_names states g on n) w.threads =
@@ -492,14 +512,10 @@ module _ (set : Set) (states : States) (w : World) (past : List Entry) (good : I
             let lists : times_listed h.outcome.shared n ≡ times_listed w.shared n =
             rw (queues, starts) refl in
             omega (arith, less_all was_taken was_queues (λ e. true) n, c.balanced.once n))
-            (λ d l n. less_all (is_armed l) (armed_queues l) (λ e. nat_eq e d)
-            n)
-            (λ d l n. less_all (is_taken l) (taken_queues l) (λ e. nat_eq e d)
-            n)
-            (λ d l n. same_all (is_listed l) (listed_queues l) (λ name. refl)
+            (λ stage claim d l n. less_all (is_at stage l) (at_queues stage l) (λ e. nat_eq e d) n)
+            (λ stage right d l n. same_all (is_at stage l) (at_queues stage l)
+            (λ name. ap (λ (armed : Bool). armed && is_name name l) (right_apart stage right))
             (λ e. nat_eq e d) n)
-            (λ d l n. same_all (is_cancelling l) (cancelling_queues l)
-            (λ name. refl) (λ e. nat_eq e d) n)
             (λ d l n. rw packets refl)
             (λ d l n is. lists_same w.shared to.shared queues starts d l n)
             (λ d l n is. omega (arith, lists_same w.shared to.shared queues starts d l n));
@@ -508,9 +524,9 @@ module _ (set : Set) (states : States) (w : World) (past : List Entry) (good : I
               (λ q n.
                   omega (
                     arith,
-                    less (is_armed q) (armed_queues q) n,
-                    less (is_taken q) (taken_queues q) n,
-                    less (is_cancelling q) (cancelling_queues q) n,
+                    less (is_at Armed q) (at_queues Armed q) n,
+                    less (is_at Taken q) (at_queues Taken q) n,
+                    less (is_at Cancelling q) (at_queues Cancelling q) n,
                     apart_a q n,
                   )),
               tt,

@@ -6,21 +6,22 @@ use Rattle.std.proofs.lemmas.Bool.{cases_Bool}
 use Rattle.std.proofs.lemmas.Bool.Decides.{eqb_tells}
 use Rattle.model.specs.declared.set.QueueName.{QueueName}
 use Rattle.model.specs.declared.abs.Kind.{Kind}
-use Rattle.model.specs.declared.abs.Kind.TheVariants.{Listed, Taken, Cancelling}
+use Rattle.model.specs.declared.abs.Kind.TheVariants.{Queued}
+use Rattle.model.specs.declared.abs.Stage.TheVariants.{Listed, Taken, Cancelling, Armed}
 use Rattle.model.specs.declared.world.Activation.{Activation}
 use Rattle.model.specs.declared.world.Frame.{Frame}
 use Rattle.model.specs.declared.world.Frame.TheVariants.{Routine}
 use Rattle.model.specs.declared.world.Value.{Value}
 use Rattle.model.specs.declared.world.Value.TheVariants.{Ref}
 use Rattle.model.specs.Effect.{routine_of_device}
-use Rattle.model.specs.Kinds.{is_armed, is_cancelling, is_name}
+use Rattle.model.specs.Kinds.{is_at, is_name}
 use Rattle.model.specs.LocalRule.{unlink_kind}
 use Rattle.model.specs.Set.{Set, cancel_routine_named}
 use Rattle.model.specs.World.{World}
 use Rattle.run_laws.specs.Holder.{named_as, named_in}
 use Rattle.run_laws.proofs.Claims.Held.{thread_most}
-use Rattle.run_laws.proofs.Claims.Names.{TurnsNames, armed_queues, cancelling_queues, names, taken_queues}
-use Rattle.run_laws.proofs.Claims.Sums.{FrameApart, frame_names, is_cancelable, is_taken, names_on, takes_in, was_taken}
+use Rattle.run_laws.proofs.Claims.Names.{TurnsNames, at_queues, names}
+use Rattle.run_laws.proofs.Claims.Sums.{FrameApart, frame_names, is_cancelable, names_on, takes_in, was_taken}
 use Rattle.run_laws.proofs.Holders.Rights.{named_none}
 use Rattle.run_laws.proofs.States.Frames.{Serves, state_of}
 use Rattle.run_laws.specs.ArrivingStates.{States}
@@ -29,17 +30,17 @@ use Rattle.run_laws.proofs.Claims.Balance.{names_tell}
 
 -- a queue is unlinked from by one that stands there, or that the cancel routine was called for
 abbrev pub Unlinks : QueueName → Kind → Type 0
-Unlinks q k = (k ≡ Listed q) ⊎ (k ≡ Cancelling q)
+Unlinks q k = (k ≡ Queued q Listed) ⊎ (k ≡ Queued q Cancelling)
 
 pub unlinked_kind : (q : QueueName) (k : Kind) → unlink_kind q k ≡ None → Unlinks q k
-unlinked_kind q (Listed p) h =
+unlinked_kind q (Queued p Listed) h =
     elim (names_tell p q) [
-      | inl same ↦ inl (ap (λ (x : QueueName). Listed x) same.1)
+      | inl same ↦ inl (ap (λ (x : QueueName). Queued x Listed) same.1)
       | inr apart ↦ let no = rw apart.0 at h in cc
     ]
-unlinked_kind q (Cancelling p) h =
+unlinked_kind q (Queued p Cancelling) h =
     elim (names_tell p q) [
-      | inl same ↦ inr (ap (λ (x : QueueName). Cancelling x) same.1)
+      | inl same ↦ inr (ap (λ (x : QueueName). Queued x Cancelling) same.1)
       | inr apart ↦ let no = rw apart.0 at h in cc
     ]
 unlinked_kind q _ h = cc
@@ -58,13 +59,13 @@ some_none f g less (k ∷ kinds) h =
 -- in one frame: its claims to a packet, and one of a kind
 abbrev pub claims : States → Activation → QueueName → ℕ → ℕ
 claims states a q n =
-    names states (is_armed q) a n + names states (is_taken q) a n
-    + names states (is_cancelling q) a n
+    names states (is_at Armed q) a n + names states (is_at Taken q) a n
+    + names states (is_at Cancelling q) a n
 
 abbrev claims_as : Kind → QueueName → ℕ → ℕ → ℕ
 claims_as k q m n =
-    named_as (is_armed q) k (Ref m) n + named_as (is_taken q) k (Ref m) n
-    + named_as (is_cancelling q) k (Ref m) n
+    named_as (is_at Armed q) k (Ref m) n + named_as (is_at Taken q) k (Ref m) n
+    + named_as (is_at Cancelling q) k (Ref m) n
 
 claims_turn : (states : States) (a b : Activation) (j k : Kind) (m : ℕ)
     → TurnsNames states a b j k m → (q : QueueName) (n : ℕ)
@@ -72,15 +73,15 @@ claims_turn : (states : States) (a b : Activation) (j k : Kind) (m : ℕ)
 claims_turn states a b j k m turns q n =
     omega (
       arith,
-      turns (is_armed q) (armed_queues q) n,
-      turns (is_taken q) (taken_queues q) n,
-      turns (is_cancelling q) (cancelling_queues q) n,
+      turns (is_at Armed q) (at_queues Armed q) n,
+      turns (is_at Taken q) (at_queues Taken q) n,
+      turns (is_at Cancelling q) (at_queues Cancelling q) n,
     )
 
 pub apart_down : (states : States) (a b : Activation) (j k : Kind) (m : ℕ)
     → TurnsNames states a b j k m
-    → ((q : QueueName) → (is_armed q k ≡ false) × (is_taken q k ≡ false)
-    × (is_cancelling q k ≡ false))
+    → ((q : QueueName) → (is_at Armed q k ≡ false) × (is_at Taken q k ≡ false)
+    × (is_at Cancelling q k ≡ false))
     → FrameApart states (Routine a) → FrameApart states (Routine b)
 apart_down states a b j k m turns none h q n =
     let nothing : claims_as k q m n ≡ 0 = rw ((none q).0, (none q).1, (none q).2) refl in
@@ -89,10 +90,10 @@ apart_down states a b j k m turns none h q n =
 -- a claim comes for a packet that is in none
 abbrev pub NewClaim : Kind → QueueName → Type 0
 NewClaim k q =
-    ((p : QueueName) (n m : ℕ) → named_as (is_armed p) k (Ref m) n
-    + named_as (is_taken p) k (Ref m) n
+    ((p : QueueName) (n m : ℕ) → named_as (is_at Armed p) k (Ref m) n
+    + named_as (is_at Taken p) k (Ref m) n
     ≡ (if is_name q p then (if nat_eq m n then 1 else 0) else 0))
-    × ((p : QueueName) → is_cancelling p k ≡ false)
+    × ((p : QueueName) → is_at Cancelling p k ≡ false)
 
 claim_tells : (l q : QueueName) (m n sum : ℕ)
     → sum ≡ (if is_name l q then (if nat_eq m n then 1 else 0) else 0)
@@ -113,28 +114,28 @@ pub apart_up : (states : States) (a b : Activation) (j k : Kind) (m : ℕ) (l : 
 apart_up states a b j k m l turns new free h q n =
     let turn : claims states b q n + claims_as j q m n ≡ claims states a q n + claims_as k q m n =
     claims_turn states a b j k m turns q n in
-    let no_cancelling : named_as (is_cancelling q) k (Ref m) n ≡ 0 =
-    named_none (is_cancelling q) k (Ref m) n (new.1 q) in
+    let no_cancelling : named_as (is_at Cancelling q) k (Ref m) n ≡ 0 =
+    named_none (is_at Cancelling q) k (Ref m) n (new.1 q) in
     let before : claims states a q n ≤ 1 = h q n in
-    elim (claim_tells l q m n (named_as (is_armed q) k (Ref m) n
-    + named_as (is_taken q) k (Ref m) n) (new.0 q n m)) [
+    elim (claim_tells l q m n (named_as (is_at Armed q) k (Ref m) n
+    + named_as (is_at Taken q) k (Ref m) n) (new.0 q n m)) [
       | inl none ↦
-          let claim : named_as (is_armed q) k (Ref m) n
-          + named_as (is_taken q) k (Ref m) n ≡ 0 = none in
+          let claim : named_as (is_at Armed q) k (Ref m) n
+          + named_as (is_at Taken q) k (Ref m) n ≡ 0 = none in
           omega arith
       | inr one ↦
-          let claim : named_as (is_armed q) k (Ref m) n
-          + named_as (is_taken q) k (Ref m) n ≡ 1 = one.2 in
+          let claim : named_as (is_at Armed q) k (Ref m) n
+          + named_as (is_at Taken q) k (Ref m) n ≡ 1 = one.2 in
           let zero_before : claims states a q n ≡ 0 =
           subst (λ (x : ℕ). claims states a q x ≡ 0) one.1
           (subst (λ (x : QueueName). claims states a x m ≡ 0) one.0 free) in
           omega arith
     ]
 
--- registers of kind Taken for a queue of a device are among those for any
+-- registers at the stage Taken for a queue of a device are among those for any
 taken_some : (name : QueueName) (k : Kind) (v : Value) (n : ℕ)
-    → named_as (is_taken name) k v n ≤ named_as was_taken k v n
-taken_some name (Taken q) v n =
+    → named_as (is_at Taken name) k v n ≤ named_as was_taken k v n
+taken_some name (Queued q Taken) v n =
     elim (cases_Bool (is_name q name)) [
       | inl same ↦ rw same (omega arith)
       | inr apart ↦ rw apart (omega arith)
@@ -142,17 +143,17 @@ taken_some name (Taken q) v n =
 taken_some name _ v n = omega arith
 
 taken_many : (q : QueueName) (kinds : List Kind) (values : List Value) (n : ℕ)
-    → named_in (is_taken q) kinds values n ≤ named_in was_taken kinds values n
+    → named_in (is_at Taken q) kinds values n ≤ named_in was_taken kinds values n
 taken_many q [] values n = omega arith
 taken_many q (k ∷ kinds) [] n = omega arith
 taken_many q (k ∷ kinds) (v ∷ values) n =
     omega (arith, taken_some q k v n, taken_many q kinds values n)
 
 taken_frame : (states : States) (d : ℕ) (q : QueueName) (n : ℕ) (f : Frame)
-    → frame_names states (is_taken q) (λ e. nat_eq e d) n f
+    → frame_names states (is_at Taken q) (λ e. nat_eq e d) n f
     ≤ frame_names states was_taken (λ e. true) n f
 taken_frame states d q n (Routine a) =
-    let many : names states (is_taken q) a n ≤ names states was_taken a n =
+    let many : names states (is_at Taken q) a n ≤ names states was_taken a n =
     taken_many q (state_of states a).kinds a.registers n in
     elim (cases_Bool (nat_eq a.device d)) [
       | inl same ↦ rw same many
@@ -161,9 +162,9 @@ taken_frame states d q n (Routine a) =
 taken_frame states d q n _ = omega arith
 
 pub taken_le : (states : States) (w : World) (d : ℕ) (q : QueueName) (n : ℕ)
-    → names_on states (is_taken q) d n w.threads ≤ takes_in states n w.threads
+    → names_on states (is_at Taken q) d n w.threads ≤ takes_in states n w.threads
 taken_le states w d q n =
-    thread_most (frame_names states (is_taken q) (λ e. nat_eq e d) n)
+    thread_most (frame_names states (is_at Taken q) (λ e. nat_eq e d) n)
     (frame_names states was_taken (λ e. true) n) (taken_frame states d q n) w.threads
 
 -- a queue of the device has a cancel routine

@@ -4,9 +4,11 @@
 use Rattle.std.proofs.Common.{◌≡◌, ℕ, ◌+◌, List, [], ◌∷◌, Option, None, Some, is_some, is_none, Bool, true, false, refl, ap, sym, subst, arith}
 use Rattle.std.specs.Prelude.{nat_eq, if◌then◌else◌}
 use Rattle.std.proofs.lemmas.Bool.{cond_both}
+use Rattle.model.specs.declared.abs.Rule.TheVariants.{CancelState}
 use Rattle.model.specs.declared.abs.Abs.{Abs}
 use Rattle.model.specs.declared.abs.Kind.{Kind}
-use Rattle.model.specs.declared.abs.Kind.TheVariants.{Blank as BlankKind, Listed, Armed, Taken}
+use Rattle.model.specs.declared.abs.Kind.TheVariants.{Blank as BlankKind, Queued}
+use Rattle.model.specs.declared.abs.Stage.TheVariants.{Listed, Armed, Taken}
 use Rattle.model.specs.declared.instr.Instr.{Instr}
 use Rattle.model.specs.declared.instr.Instr.TheVariants.{Arm, Disarm, Release, Const, Move, Clear, Load, LoadPaged, Get, Mark, Insert, Remove, Unlink, Start, Take, Begin, Pass, Call, Complete, ReleaseCancel, Dequeue}
 use Rattle.model.specs.declared.set.Guard.{Guard}
@@ -17,7 +19,7 @@ use Rattle.model.specs.declared.world.Armer.{Armer}
 use Rattle.model.specs.declared.world.Frame.TheVariants.{Routine}
 use Rattle.model.specs.declared.world.Packet.{Packet}
 use Rattle.model.specs.declared.world.Value.{Value}
-use Rattle.model.specs.Kinds.{all_let_go, is_exchanged, is_guard, is_listed, is_right, kind_disarmed, let_go}
+use Rattle.model.specs.Kinds.{all_let_go, is_exchanged, is_guard, is_at, is_right, kind_disarmed, let_go, is_claim}
 use Rattle.model.specs.LocalRule.{handed, kind_of, queued_kind}
 use Rattle.model.specs.Set.{Set, guard_named}
 use Rattle.model.specs.Trace.{Entry}
@@ -29,32 +31,31 @@ use Rattle.run_laws.proofs.Past.LivePackets.{find}
 use Rattle.run_laws.proofs.Past.Packets.{found, numbered}
 use Rattle.run_laws.proofs.States.Frames.{Runs, state_of}
 use Rattle.run_laws.specs.ArrivingStates.{States}
-use Rattle.run_laws.proofs.States.Rules.{first_none}
+use Rattle.run_laws.proofs.States.Rules.{first_none, granted}
 use Rattle.run_laws.proofs.Steps.Comes.{Exchanged, GoesTo, Reads, arms_for, disarms, jumping, keeps_all, makes_number, onward}
 use Rattle.run_laws.proofs.Steps.Words.{is_giving, keeps_registers, packet_operand, work_of}
 
 -- the kinds before and after
-armed_before : (q : ℕ) (k : Kind) → queued_kind (is_listed (Declared q) k) k ≡ None
+armed_before : (q : ℕ) (k : Kind) → queued_kind (is_at Listed (Declared q) k) k ≡ None
     → is_right k ≡ true
-armed_before q (Listed name) h = refl
+armed_before q (Queued name Listed) h = refl
 armed_before q _ h = cc
 
 disarmed_before : (k : Kind) → queued_kind (is_exchanged k) k ≡ None → is_right k ≡ false
-disarmed_before (Armed name) h = refl
-disarmed_before (Taken name) h = refl
+disarmed_before (Queued name stage) h = rw (granted (is_claim stage) CancelState h) refl
 disarmed_before _ h = cc
 
 disarmed_after : (k : Kind) → queued_kind (is_exchanged k) k ≡ None
     → is_right (kind_disarmed k) ≡ true
-disarmed_after (Armed name) h = refl
-disarmed_after (Taken name) h = refl
+disarmed_after (Queued name Armed) h = refl
+disarmed_after (Queued name Taken) h = refl
 disarmed_after _ h = cc
 
 -- the release of a lock
 let_go_right : (set : Set) (driver : ℕ) (lock : Guard) (k : Kind)
     → is_right (let_go set driver lock k) ≡ is_right k
-let_go_right set driver lock (Armed name) =
-    cond_both (is_guard (guard_named set driver name) lock) BlankKind (Armed name)
+let_go_right set driver lock (Queued name Armed) =
+    cond_both (is_guard (guard_named set driver name) lock) BlankKind (Queued name Armed)
     (λ (k : Kind). is_right k ≡ false) (λ guards. refl) (λ other. refl)
 let_go_right set driver lock _ = refl
 
@@ -122,7 +123,8 @@ module _ (set : Set) (states : States) (s : Shared) (past : List Entry) (a : Act
       armed_before q (kind_of (state_of states a) r) (first_none _ _ h.obeys) in
       let gone : frame_rights states (Routine b) m + (if nat_eq n m then 1 else 0)
       ≡ frame_rights states (Routine a) m =
-      rights_lost set states s a (Arm r q) h r (Armed (Declared q)) n refl refl refl own reads m in
+      rights_lost set states s a (Arm r q) h r (Queued (Declared q) Armed) n refl refl refl own
+      reads m in
       let free : is_some p.armer ≡ false =
       right_unarmed set states s past a holding h.stays.kinds r n own reads p there in
       let word : times_waiting set (with_packet s n (with_armer p (Some armer))) m

@@ -8,7 +8,8 @@ use Rattle.model.specs.declared.set.QueueName.{QueueName}
 use Rattle.model.specs.declared.limits.TheConstants.{REGISTERS}
 use Rattle.model.specs.declared.abs.Abs.{Abs}
 use Rattle.model.specs.declared.abs.Kind.{Kind}
-use Rattle.model.specs.declared.abs.Kind.TheVariants.{Blank as BlankKind, Num as NumKind, New, Own, Listed, Armed, Taken, Cancelling, View}
+use Rattle.model.specs.declared.abs.Kind.TheVariants.{Blank as BlankKind, Num as NumKind, New, Own, Queued, View}
+use Rattle.model.specs.declared.abs.Stage.TheVariants.{Cancelling}
 use Rattle.model.specs.declared.set.Sort.{Sort}
 use Rattle.model.specs.declared.set.Sort.TheVariants.{Dispatch, Dpc, Propagate, StartIo, Hold, Cancel}
 use Rattle.model.specs.declared.status.Status.{Status}
@@ -38,10 +39,7 @@ no_status : (issued : ℕ) (k : Kind) (status : Status) → is_packet k ≡ true
     → Suits issued k (StatusValue status) → ⊥
 no_status issued New status is h = let no : StatusValue status ≡ Ref h.0 = h.1 in cc
 no_status issued Own status is h = let no : StatusValue status ≡ Ref h.0 = h.1 in cc
-no_status issued (Listed name) status is h = let no : StatusValue status ≡ Ref h.0 = h.1 in cc
-no_status issued (Armed name) status is h = let no : StatusValue status ≡ Ref h.0 = h.1 in cc
-no_status issued (Taken name) status is h = let no : StatusValue status ≡ Ref h.0 = h.1 in cc
-no_status issued (Cancelling name) status is h = let no : StatusValue status ≡ Ref h.0 = h.1 in cc
+no_status issued (Queued name stage) status is h = let no : StatusValue status ≡ Ref h.0 = h.1 in cc
 no_status issued View status is h = let no : StatusValue status ≡ Ref h.0 = h.1 in cc
 no_status issued _ status is h = cc
 
@@ -52,8 +50,7 @@ OfPackets f = (k : Kind) → is_packet k ≡ false → f k ≡ false
 pub right_packets : OfPackets is_right
 right_packets New h = cc
 right_packets Own h = cc
-right_packets (Listed name) h = cc
-right_packets (Cancelling name) h = cc
+right_packets (Queued name stage) h = cc
 right_packets _ h = refl
 
 pub named_none : (f : Kind → Bool) (k : Kind) (v : Value) (n : ℕ) → f k ≡ false
@@ -266,15 +263,13 @@ rights_told issued kinds values r status n h =
 pub not_right : (k : Kind) → is_packet k ≡ false → is_right k ≡ false
 not_right New h = cc
 not_right Own h = cc
-not_right (Listed name) h = cc
-not_right (Cancelling name) h = cc
+not_right (Queued name stage) h = cc
 not_right _ h = refl
 
 not_left : (k : Kind) → is_dropped false k ≡ false → is_right k ≡ false
 not_left New h = cc
 not_left Own h = cc
-not_left (Listed name) h = cc
-not_left (Cancelling name) h = cc
+not_left (Queued name stage) h = cc
 not_left _ h = refl
 
 pub no_rights : (kinds : List Kind) (values : List Value) (n : ℕ)
@@ -322,7 +317,7 @@ first_rights Dpc name m n named = handed_none BlankKind m n refl
 first_rights Propagate name m n named = handed_none View m n refl
 first_rights Hold name m n named = handed_rights New m n refl
 first_rights Cancel None m n named = let no : false ≡ true = named refl in cc
-first_rights Cancel (Some list) m n named = handed_rights (Cancelling list) m n refl
+first_rights Cancel (Some list) m n named = handed_rights (Queued list Cancelling) m n refl
 
 pub begun_rights : (set : Set) (states : States) (issued : ℕ) (a : Activation) (sort : Sort)
     (m n : ℕ)

@@ -4,7 +4,8 @@ use Rattle.std.proofs.Common.{◌≡◌, ℕ, ◌+◌, ◌<◌, List, ◌∷◌,
 use Rattle.std.specs.Prelude.{⊤, nat_eq, slice_set, if◌then◌else◌, ◌||◌, ◌&&◌}
 use Rattle.model.specs.declared.abs.Abs.{Abs}
 use Rattle.model.specs.declared.abs.Kind.{Kind}
-use Rattle.model.specs.declared.abs.Kind.TheVariants.{Blank as BlankKind, Own, Listed, Taken, Cancelling}
+use Rattle.model.specs.declared.abs.Kind.TheVariants.{Blank as BlankKind, Own, Queued as QueuedKind}
+use Rattle.model.specs.declared.abs.Stage.TheVariants.{Listed, Taken, Cancelling}
 use Rattle.model.specs.declared.abs.Rule.{Rule}
 use Rattle.model.specs.declared.abs.Rule.TheVariants.{Dropped, Token, CancelState}
 use Rattle.model.specs.declared.instr.Instr.{Instr}
@@ -18,7 +19,7 @@ use Rattle.model.specs.declared.world.Frame.TheVariants.{Routine, Walk, Cancel a
 use Rattle.model.specs.declared.world.Value.TheVariants.{Ref}
 use Rattle.model.specs.Action.{Action}
 use Rattle.model.specs.Effect.{routine_of_device}
-use Rattle.model.specs.Kinds.{is_name, is_packet, is_right, kind_inserted, kind_removed, is_cancelling}
+use Rattle.model.specs.Kinds.{is_name, is_packet, is_right, kind_inserted, kind_removed, is_at}
 use Rattle.model.specs.LocalRule.{an_owned_one, demanded, free_kind, handed, handed_at_label, kind_of, least_of, unless, unlink_kind, queued_kind}
 use Rattle.model.specs.Queues.{StartState, inserted, next_started, started, with_slot, unlinked, dequeued}
 use Rattle.model.specs.Set.{Set, flow_of, label_of, cancel_routine_of, has_cancel}
@@ -107,13 +108,13 @@ module _ (set : Set) (states : States) (s : Shared) (a : Activation) (i : Instr)
   -- one with a cancel routine leaves it where it is, and gives no right to one that is taken off
   pub inserts_listed : (q cancel : ℕ) → cancel_routine_of set a.driver q ≡ Some cancel
       → (handed set a.driver (state_of states a) (Insert r q)).kinds
-      ≡ kinds_with (Listed (Declared q))
+      ≡ kinds_with (QueuedKind (Declared q) Listed)
   inserts_listed q cancel is =
       ap (λ (routine : Option ℕ). kinds_with (kind_inserted routine (Declared q))) is
 
   pub removes_taken : (q label cancel : ℕ) → cancel_routine_of set a.driver q ≡ Some cancel
       → (handed set a.driver (state_of states a) (Remove r q label)).kinds
-      ≡ kinds_with (Taken (Declared q))
+      ≡ kinds_with (QueuedKind (Declared q) Taken)
   removes_taken q label cancel is =
       ap (λ (routine : Option ℕ). kinds_with (kind_removed routine (Declared q))) is
 
@@ -227,8 +228,8 @@ device_driver set device driver serves = ap routine_of_device serves.1 ∙ serve
 -- a packet that is taken off a queue wherever it stands was in a register that has the right to it,
 -- and the queue has a cancel routine
 unlinked_right : (q : ℕ) (k : Kind) → unlink_kind (Declared q) k ≡ None → is_right k ≡ true
-unlinked_right q (Listed name) h = refl
-unlinked_right q (Cancelling name) h = refl
+unlinked_right q (QueuedKind name Listed) h = refl
+unlinked_right q (QueuedKind name Cancelling) h = refl
 unlinked_right q _ h = cc
 
 same_queue : (p q : QueueName) → unless (is_name p q) CancelState ≡ None → p ≡ q
@@ -244,12 +245,10 @@ either_queue p q h = same_queue p q (by (is_name p q) h)
 unlinked_cancel : (set : Set) (driver : ℕ) (locks : List Bool) (cancel : Bool) (name : QueueName)
     (k : Kind)
     → unlink_kind name k ≡ None → KindFits set driver locks cancel k → HasCancel set driver name
-unlinked_cancel set driver locks cancel name (Listed other) h fits =
+unlinked_cancel set driver locks cancel name (QueuedKind other Listed) h fits =
     subst (λ (x : QueueName). HasCancel set driver x) (either_queue other name h) fits.0
-unlinked_cancel set driver locks cancel name (Cancelling (Declared q)) h fits =
-    subst (λ (x : QueueName). HasCancel set driver x) (same_queue (Declared q) name h) fits
-unlinked_cancel set driver locks cancel name (Cancelling DeviceQueue) h fits =
-    subst (λ (x : QueueName). HasCancel set driver x) (same_queue DeviceQueue name h) fits.0
+unlinked_cancel set driver locks cancel name (QueuedKind other Cancelling) h fits =
+    subst (λ (x : QueueName). HasCancel set driver x) (same_queue other name h) fits.0
 unlinked_cancel set driver locks cancel name _ h fits = cc
 
 -- so each packet is held as often after the instruction as before it
@@ -299,7 +298,7 @@ module _ (set : Set) (states : States) (s : Shared) (a : Activation) where
       )
   inserted_rights r q m entries h reads there (Some cancel) is n =
       let same : frame_rights states (Routine (next a)) n ≡ frame_rights states (Routine a) n =
-      rights_stay set states s a (Insert r q) h r (Listed (Declared q)) refl
+      rights_stay set states s a (Insert r q) h r (QueuedKind (Declared q) Listed) refl
       (inserts_listed set states s a (Insert r q) h r q cancel is)
       (sym (gives_right (kind_of (state_of states a) r) _ h.obeys)) n in
       omega (
@@ -330,12 +329,12 @@ module _ (set : Set) (states : States) (s : Shared) (a : Activation) where
       )
   removed_rights r q label m entries h there (Some cancel) is n =
       let same : frame_rights states (Routine (next (with_register a r (Ref m)))) n
-      ≡ frame_rights states (Routine a) n + right (Taken (Declared q)) (Ref m) n =
-      rights_put set states s a (Remove r q label) h r (Taken (Declared q)) m refl
+      ≡ frame_rights states (Routine a) n + right (QueuedKind (Declared q) Taken) (Ref m) n =
+      rights_put set states s a (Remove r q label) h r (QueuedKind (Declared q) Taken) m refl
       (removes_taken set states s a (Remove r q label) h r q label cancel is)
       (free_removed _ _ (kind_of (state_of states a) r) h.obeys)
       (all_at OperandFits h.routine.code a.position (Remove r q label) h.known.operands h.here) n in
-      let none : right (Taken (Declared q)) (Ref m) n ≡ 0 = refl in
+      let none : right (QueuedKind (Declared q) Taken) (Ref m) n ≡ 0 = refl in
       omega (
         arith,
         plain_put set n s a.device q (m ∷ entries) entries there,
@@ -399,9 +398,9 @@ OwnsLive states s a =
     (r n : ℕ) → is_right (kind_of (state_of states a) r) ≡ true → Reads s a r n
     → packet_of s n ≡ None → ⊥
 
-dequeued_right : (k : Kind) → queued_kind (is_cancelling DeviceQueue k) k ≡ None
+dequeued_right : (k : Kind) → queued_kind (is_at Cancelling DeviceQueue k) k ≡ None
     → is_right k ≡ true
-dequeued_right (Cancelling name) h = refl
+dequeued_right (QueuedKind name Cancelling) h = refl
 dequeued_right _ h = cc
 
 pub queued_rights : (set : Set) (states : States) (s : Shared) (a : Activation) (i : Instr)
@@ -485,7 +484,7 @@ queued_rights set states s a i h frees live (starts_next start there none) stays
     )
 queued_rights set states s a i h frees live (starts_gone m start there first gone) stays n = cc
 queued_rights set states s a i h frees live (dequeues_packet r m start reads there) stays n =
-    let rule : queued_kind (is_cancelling DeviceQueue (kind_of (state_of states a) r))
+    let rule : queued_kind (is_at Cancelling DeviceQueue (kind_of (state_of states a) r))
     (kind_of (state_of states a) r) ≡ None = first_none _ _ h.obeys in
     let may : waits_cancelable set a.device ≡ true =
     served_waits set states s a i h

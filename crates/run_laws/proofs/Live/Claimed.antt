@@ -1,6 +1,7 @@
--- What a register of kind Armed or Taken names is live, since its cancel word or its cancel routine
--- holds it; and so is what stands in a queue.
+-- What a register at the stage Armed or Taken names is live, since its cancel word or its cancel
+-- routine holds it; and so is what stands in a queue.
 use Rattle.run_laws.proofs.Holders.Plain.{plain_in, driver_at, plain_le, plain_counts}
+use Rattle.run_laws.proofs.Claims.Balance.{at_same, claim_le}
 use Rattle.model.specs.declared.set.QueueName.{QueueName}
 use Rattle.model.specs.declared.world.Value.TheVariants.{Ref}
 use Rattle.run_laws.proofs.Claims.Tops.{named_some, top_there}
@@ -9,19 +10,20 @@ use Rattle.run_laws.proofs.Live.Steps.{ClaimsLive, EntriesLive}
 use Rattle.std.proofs.Common.{◌≡◌, ℕ, ◌+◌, ◌≤◌, Bool, true, false, List, Some, refl, ap, arith, Option, is_some, None}
 use Rattle.std.specs.Prelude.{length, slice_get}
 use Rattle.model.specs.declared.abs.Kind.{Kind}
-use Rattle.model.specs.declared.abs.Kind.TheVariants.{Armed, Taken}
+use Rattle.model.specs.declared.abs.Kind.TheVariants.{Queued}
+use Rattle.model.specs.declared.abs.Stage.TheVariants.{Armed, Taken, Listed, Cancelling}
 use Rattle.model.specs.declared.set.QueueName.TheVariants.{Declared}
 use Rattle.model.specs.declared.world.Activation.{Activation}
 use Rattle.model.specs.declared.world.Frame.{Frame}
 use Rattle.model.specs.declared.world.Frame.TheVariants.{Routine}
-use Rattle.model.specs.Kinds.{is_armed, is_cancelling, is_exchanged, is_listed}
+use Rattle.model.specs.Kinds.{is_at, is_exchanged}
 use Rattle.model.specs.LocalRule.{kind_of}
 use Rattle.model.specs.Run.{frames_on}
 use Rattle.model.specs.Set.{Set}
 use Rattle.model.specs.Trace.{Entry}
 use Rattle.model.specs.World.{World, register}
 use Rattle.run_laws.specs.Holder.{times_in}
-use Rattle.run_laws.proofs.Claims.Sums.{Claimed, is_taken, names_on, word_at, is_cancelable, times_of}
+use Rattle.run_laws.proofs.Claims.Sums.{Claimed, names_on, word_at, is_cancelable, times_of}
 use Rattle.run_laws.proofs.Holders.Sums.{Held, unheld}
 use Rattle.run_laws.proofs.Past.LivePackets.{find}
 use Rattle.run_laws.proofs.Runs.Events.{StepsFrame}
@@ -29,7 +31,6 @@ use Rattle.run_laws.proofs.States.Frames.{IsGood, state_of}
 use Rattle.run_laws.specs.ArrivingStates.{States}
 use Rattle.run_laws.proofs.States.Standing.{Standing}
 use Rattle.run_laws.proofs.Claims.Sums.{list_of}
-use Rattle.run_laws.proofs.Claims.Balance.{name_same}
 use Rattle.model.specs.declared.set.QueueName.TheVariants.{Declared, DeviceQueue}
 use Rattle.model.specs.Queues.{StartState}
 use Rattle.model.specs.World.{start_of}
@@ -52,14 +53,14 @@ module _ (set : Set) (states : States) (w : World) (past : List Entry) (good : I
     (stands : Standing set states w past) (held : Held set states w)
     (claimed : Claimed set states w) where
   backed_lives : (d : ℕ) (q : QueueName) (n : ℕ)
-      → 1 ≤ names_on states (is_armed q) d n w.threads
-      + names_on states (is_taken q) d n w.threads
+      → 1 ≤ names_on states (is_at Armed q) d n w.threads
+      + names_on states (is_at Taken q) d n w.threads
       → 1 ≤ unheld (find w.shared.packets n)
   backed_lives d q n some =
-      let backed : names_on states (is_armed q) d n w.threads
-      + names_on states (is_taken q) d n w.threads
+      let backed : names_on states (is_at Armed q) d n w.threads
+      + names_on states (is_at Taken q) d n w.threads
       ≤ word_at (find w.shared.packets n) d q
-      + names_on states (is_cancelling q) d n w.threads =
+      + names_on states (is_at Cancelling q) d n w.threads =
       claimed.balanced.backed d q n in
       holder_lives set states w held n d q 1 (omega arith)
 
@@ -68,16 +69,14 @@ module _ (set : Set) (states : States) (w : World) (past : List Entry) (good : I
       pub exchanged_lives : (kind : Kind) (r n : ℕ) → kind_of (state_of states a) r ≡ kind
           → is_exchanged kind ≡ true → register a r ≡ Ref n
           → 1 ≤ unheld (find w.shared.packets n)
-      exchanged_lives (Armed q) r n is claim refers =
-          let some : 1 ≤ names_on states (is_armed q) a.device n w.threads =
-          named_some states w t k a there (is_armed q) refl r n
-          (rw is (name_same q)) refers in
-          backed_lives a.device q n (omega arith)
-      exchanged_lives (Taken q) r n is claim refers =
-          let some : 1 ≤ names_on states (is_taken q) a.device n w.threads =
-          named_some states w t k a there (is_taken q) refl r n
-          (rw is (name_same q)) refers in
-          backed_lives a.device q n (omega arith)
+      exchanged_lives (Queued q stage) r n is claim refers =
+          let some : 1 ≤ names_on states (is_at stage q) a.device n w.threads =
+          named_some states w t k a there (is_at stage q) refl r n
+          (rw is (at_same stage q)) refers in
+          backed_lives a.device q n (omega (
+            arith,
+            claim_le stage claim (λ at. names_on states (is_at at q) a.device n w.threads),
+          ))
       exchanged_lives _ r n is claim refers = cc
 
   frame_claims : (t : ℕ) (h : StepsFrame set w t) (f : Frame) → h.frame ≡ f
@@ -97,8 +96,8 @@ module _ (set : Set) (states : States) (w : World) (past : List Entry) (good : I
   entries_of d q n entries true there may =
       let entered : times_of (list_of w.shared d q) n
       ≤ word_at (find w.shared.packets n) d q
-      + names_on states (is_cancelling q) d n w.threads
-      + names_on states (is_listed q) d n w.threads =
+      + names_on states (is_at Cancelling q) d n w.threads
+      + names_on states (is_at Listed q) d n w.threads =
       claimed.balanced.entered d q n may in
       let here : times_of (list_of w.shared d q) n ≡ times_in entries n =
       ap (λ (o : Option (List ℕ)). times_of o n) there in

@@ -1,6 +1,7 @@
 -- Each step keeps what frames see, and touches live packets alone: a register that has a packet has
 -- the right to it, or refers to the packet of the I/O manager's frame below, and that frame holds
 -- its packet.
+use Rattle.run_laws.proofs.Tests.{not_false}
 use Rattle.model.specs.declared.set.QueueName.{QueueName}
 use Rattle.model.specs.declared.instr.Return.TheVariants.{Continue}
 use Rattle.run_laws.proofs.Claims.Next.{head_counts}
@@ -11,7 +12,7 @@ use Rattle.std.proofs.Common.{◌+◌, ◌≤◌, ◌≡◌, ℕ, ◌<◌, List,
 use Rattle.std.specs.Prelude.{⊤}
 use Rattle.std.proofs.lemmas.Bool.{eq-eqb, cases_Bool}
 use Rattle.model.specs.declared.abs.Kind.{Kind}
-use Rattle.model.specs.declared.abs.Kind.TheVariants.{Armed, Taken, View}
+use Rattle.model.specs.declared.abs.Kind.TheVariants.{Queued as QueuedKind, View}
 use Rattle.model.specs.declared.instr.Instr.{Instr}
 use Rattle.model.specs.declared.set.Routine.{Routine as RoutineOf}
 use Rattle.model.specs.declared.set.Sort.TheVariants.{Dispatch, Hold, Cancel}
@@ -27,7 +28,7 @@ use Rattle.model.specs.Action.{Executes, Action, Touches}
 use Rattle.model.specs.Effect.{completes_with, Outcome, asks, turned, routine_of_device}
 use Rattle.model.specs.Fault.{bug_if, fault_of}
 use Rattle.model.specs.LocalRule.{kind_of, is_hold}
-use Rattle.model.specs.Kinds.{is_packet, is_right, is_view, is_new, is_exchanged}
+use Rattle.model.specs.Kinds.{is_packet, is_right, is_view, is_new, is_exchanged, is_claim}
 use Rattle.model.specs.Paths.{Arrives}
 use Rattle.model.specs.Set.{flow_of, Set, lower_of, member, routine_of, sort_of}
 use Rattle.model.specs.Trace.{Entry, Actor}
@@ -282,8 +283,7 @@ module _ (set : Set) (states : States) (s : Shared) where
 pub only_view : (k : Kind) → is_packet k ≡ true → is_right k ≡ false
     → (is_view k ≡ true) ⊎ (is_exchanged k ≡ true)
 only_view View is free = inl refl
-only_view (Armed name) is free = inr refl
-only_view (Taken name) is free = inr refl
+only_view (QueuedKind name stage) is free = inr (not_false (is_claim stage) free)
 only_view _ is free = cc
 
 -- one that may be cancelled is live, and so is one that stands in a queue

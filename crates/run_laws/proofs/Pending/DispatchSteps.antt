@@ -6,7 +6,8 @@ use Rattle.model.specs.declared.abs.Abs.{Abs}
 use Rattle.model.specs.declared.abs.Duty.{Duty}
 use Rattle.model.specs.declared.abs.Duty.TheVariants.{Finished, Fresh, GivenDown, NoDuty, Pending}
 use Rattle.model.specs.declared.abs.Kind.{Kind}
-use Rattle.model.specs.declared.abs.Kind.TheVariants.{Blank as BlankKind, Num as NumKind, Lower as LowerKind, New, Own, Armed}
+use Rattle.model.specs.declared.abs.Kind.TheVariants.{Blank as BlankKind, Num as NumKind, Lower as LowerKind, New, Own, Queued as QueuedKind}
+use Rattle.model.specs.declared.abs.Stage.TheVariants.{Armed}
 use Rattle.model.specs.declared.abs.Settled.{Settled}
 use Rattle.model.specs.declared.event.Reply.TheVariants.{Stepped, Waited}
 use Rattle.model.specs.declared.instr.Instr.{Instr}
@@ -177,6 +178,7 @@ inserted_lower x (Some routine) q v = tt
 disarmed_lower : (x : Bool) (k : Kind) (v : Value) → queued_kind (is_exchanged k) k ≡ None
     → LowerIs x (kind_disarmed k) v
 disarmed_lower x LowerKind v rule = cc
+disarmed_lower x (QueuedKind name Armed) v rule = tt
 disarmed_lower x _ v rule = tt
 
 -- what is known of a dispatch routine's frame that steps
@@ -418,7 +420,7 @@ module _ (set : Set) (states : States) (s : Shared) (past : List Entry) (actor :
   armed_as : (r q : ℕ) (b : Activation) → Executing set a (Arm r q) → GoesTo a (Arm r q) b false
       → GoesOnAs states a b
   armed_as r q b at (onward registers on written) =
-      turns_as (Arm r q) r (Armed (Declared q)) b false at (onward registers on written)
+      turns_as (Arm r q) r (QueuedKind (Declared q) Armed) b false at (onward registers on written)
       (arm_same r q registers written) refl refl (λ x. tt)
 
   disarmed_as : (r label : ℕ) (b : Activation) (jumped : Bool) → Executing set a (Disarm r label)

@@ -8,7 +8,8 @@ use Rattle.model.specs.declared.abs.Abs.{Abs}
 use Rattle.model.specs.declared.abs.Duty.{Duty}
 use Rattle.model.specs.declared.abs.Duty.TheVariants.{Fresh, Pending, Finished, GivenDown, NoDuty}
 use Rattle.model.specs.declared.abs.Kind.{Kind}
-use Rattle.model.specs.declared.abs.Kind.TheVariants.{Blank, Num, Lower, New, Own, Armed, View}
+use Rattle.model.specs.declared.abs.Kind.TheVariants.{Blank, Num, Lower, New, Own, Queued, View}
+use Rattle.model.specs.declared.abs.Stage.TheVariants.{Armed}
 use Rattle.model.specs.declared.abs.Settled.TheVariants.{Settled as SettledMark}
 use Rattle.model.specs.declared.instr.Instr.{Instr}
 use Rattle.model.specs.declared.instr.Instr.TheVariants.{Const, Move, Clear, Load, LoadPaged, Get, Mark, Pass, Call, Complete, IfPending, Insert, Release, Remove, Unlink, Arm, Disarm, Start, Take, Begin, ReleaseCancel, Dequeue}
@@ -223,14 +224,15 @@ disarmed_plain : (fits : Bool) (k : Kind) → queued_kind fits k ≡ None
     → (is_new (kind_disarmed k) ≡ false) × (is_lower (kind_disarmed k) ≡ false)
 disarmed_plain fits New rule = cc
 disarmed_plain fits Lower rule = cc
+disarmed_plain fits (Queued name Armed) rule = (refl, refl)
 disarmed_plain fits _ rule = (refl, refl)
 
 module _ (set : Set) (driver : ℕ) (lock : Guard) (f : Kind → Bool) (blank : f Blank ≡ false)
-    (armed : (name : QueueName) → f (Armed name) ≡ false) where
+    (armed : (name : QueueName) → f (Queued name Armed) ≡ false) where
   let_go_same : (k : Kind) → f (let_go set driver lock k) ≡ f k
-  let_go_same (Armed name) =
-      cond_both (is_guard (guard_named set driver name) lock) Blank (Armed name)
-      (λ k. f k ≡ f (Armed name)) (λ guards. blank ∙ sym (armed name)) (λ other. refl)
+  let_go_same (Queued name Armed) =
+      cond_both (is_guard (guard_named set driver name) lock) Blank (Queued name Armed)
+      (λ k. f k ≡ f (Queued name Armed)) (λ guards. blank ∙ sym (armed name)) (λ other. refl)
   let_go_same _ = refl
 
   count_let_go : (kinds : List Kind)
@@ -282,7 +284,7 @@ handed_dutiful s (Dequeue r) set driver rule fits long h =
     dutied_written s.duty s.kinds r Own (queued_not_new _ (kind_of s r) (first_none _ _ rule)) refl
     refl h
 handed_dutiful s (Arm r q) set driver rule fits long h =
-    dutied_written s.duty s.kinds r (Armed (Declared q))
+    dutied_written s.duty s.kinds r (Queued (Declared q) Armed)
     (queued_not_new _ (kind_of s r) (first_none _ _ rule)) refl refl h
 handed_dutiful s (Disarm r label) set driver rule fits long h =
     let plain = disarmed_plain _ (kind_of s r) rule in

@@ -10,7 +10,8 @@ use Rattle.model.specs.Set.{Set, guard_named}
 use Rattle.run_laws.proofs.Steps.Words.{is_giving, keeps_registers, work_of}
 use Rattle.std.specs.Prelude.{⊤, slice_set, slice_index_or}
 use Rattle.model.specs.declared.abs.Kind.{Kind}
-use Rattle.model.specs.declared.abs.Kind.TheVariants.{Armed, Blank as BlankKind, Num as NumKind, Lower}
+use Rattle.model.specs.declared.abs.Kind.TheVariants.{Blank as BlankKind, Num as NumKind, Lower, Queued}
+use Rattle.model.specs.declared.abs.Stage.TheVariants.{Armed}
 use Rattle.model.specs.declared.world.Value.{Value}
 use Rattle.model.specs.declared.world.Value.TheVariants.{Blank, Ref, Status as StatusValue}
 use Rattle.model.specs.LocalRule.{handed, is_pending}
@@ -103,8 +104,8 @@ lowers_none b (k ∷ kinds) (v ∷ values) h =
 -- a release lets armed registers go
 go_lower : (b : Bool) (set : Set) (driver : ℕ) (lock : Guard) (k : Kind) (v : Value) → LowerIs b k v
     → LowerIs b (let_go set driver lock k) v
-go_lower b set driver lock (Armed name) v h =
-    cond_both (is_guard (guard_named set driver name) lock) BlankKind (Armed name)
+go_lower b set driver lock (Queued name Armed) v h =
+    cond_both (is_guard (guard_named set driver name) lock) BlankKind (Queued name Armed)
     (λ k. LowerIs b k v) (λ guards. tt) (λ other. tt)
 go_lower b set driver lock _ v h = h
 

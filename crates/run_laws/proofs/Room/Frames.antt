@@ -4,7 +4,8 @@ use Rattle.std.proofs.Common.{◌≡◌, ℕ, ◌-◌, ◌≤◌, ◌∷◌, Opt
 use Rattle.std.specs.Prelude.{is_some, replicate}
 use Rattle.model.specs.declared.abs.Abs.{Abs}
 use Rattle.model.specs.declared.abs.Kind.{Kind}
-use Rattle.model.specs.declared.abs.Kind.TheVariants.{Blank as BlankKind, New, Own, Cancelling, View}
+use Rattle.model.specs.declared.abs.Kind.TheVariants.{Blank as BlankKind, New, Own, Queued, View}
+use Rattle.model.specs.declared.abs.Stage.TheVariants.{Cancelling}
 use Rattle.model.specs.declared.instr.Instr.{Instr}
 use Rattle.model.specs.declared.limits.TheConstants.{REGISTERS}
 use Rattle.model.specs.declared.set.QueueName.{QueueName}
@@ -192,7 +193,7 @@ module _ (set : Set) (states : States) where
 
     cancel_kinds : (name : Option QueueName) → is_some name ≡ true
         → (list : QueueName) × ((first_state Cancel name).kinds
-        ≡ Cancelling list ∷ replicate (REGISTERS - 1) BlankKind)
+        ≡ Queued list Cancelling ∷ replicate (REGISTERS - 1) BlankKind)
     cancel_kinds None is = cc
     cancel_kinds (Some list) is = (list, refl)
 
@@ -201,9 +202,10 @@ module _ (set : Set) (states : States) where
     begins_cancel begins place =
         let first : (list : QueueName)
         × ((first_state Cancel (cancels_for set a.driver a.routine)).kinds
-        ≡ Cancelling list ∷ replicate (REGISTERS - 1) BlankKind) =
+        ≡ Queued list Cancelling ∷ replicate (REGISTERS - 1) BlankKind) =
         cancel_kinds (cancels_for set a.driver a.routine) (begins.named begins.of_sort) in
-        owned_room (Cancelling first.0) (ap (λ (state : Abs). state.kinds) begins.start ∙ first.1)
+        owned_room (Queued first.0 Cancelling)
+        (ap (λ (state : Abs). state.kinds) begins.start ∙ first.1)
         begins.registers place
 
     -- with one on its way up, or none

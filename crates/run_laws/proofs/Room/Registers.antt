@@ -2,11 +2,13 @@
 -- gives a register such a kind, or writes a value into it, it has to hold of the packet there; else
 -- it stays.
 use Rattle.std.proofs.Common.{◌≡◌, ℕ, zero, suc, ◌≤◌, Bool, true, false, List, [], ◌∷◌, Option, None, Some, refl, ap, sym, ◌∙◌, subst, arith}
-use Rattle.std.specs.Prelude.{replicate, slice_index_or, slice_set}
+use Rattle.std.specs.Prelude.{replicate, slice_index_or, slice_set, ◌&&◌, not}
 use Rattle.std.proofs.lemmas.Bool.{cond_both}
+use Rattle.model.specs.declared.abs.Stage.{Stage}
 use Rattle.model.specs.declared.abs.Abs.{Abs}
 use Rattle.model.specs.declared.abs.Kind.{Kind}
-use Rattle.model.specs.declared.abs.Kind.TheVariants.{Blank as BlankKind, Num as NumKind, Lower, New, Own, Listed, Armed, Taken, Cancelling, View}
+use Rattle.model.specs.declared.abs.Kind.TheVariants.{Blank as BlankKind, Num as NumKind, Lower, New, Own, Queued, View}
+use Rattle.model.specs.declared.abs.Stage.TheVariants.{Listed, Armed, Taken, Cancelling}
 use Rattle.model.specs.declared.abs.Settled.{Settled}
 use Rattle.model.specs.declared.instr.Instr.{Instr}
 use Rattle.model.specs.declared.instr.Instr.TheVariants.{Const, Move, Clear, Load, LoadPaged, Get, Mark, Release, Insert, Remove, Unlink, Arm, Disarm, Start, Take, Begin, Pass, Call, Complete, ReleaseCancel, Dequeue}
@@ -19,7 +21,7 @@ use Rattle.model.specs.declared.status.Status.{Status}
 use Rattle.model.specs.declared.world.Activation.{Activation}
 use Rattle.model.specs.declared.world.Value.{Value}
 use Rattle.model.specs.declared.world.Value.TheVariants.{Blank, Num, Ref, Status as StatusValue}
-use Rattle.model.specs.Kinds.{all_let_go, is_guard, is_right, kind_disarmed, kind_inserted, left_behind, let_go, is_cancelling}
+use Rattle.model.specs.Kinds.{all_let_go, is_guard, is_right, kind_disarmed, kind_inserted, left_behind, let_go, is_at, is_stage, is_claim}
 use Rattle.model.specs.LocalRule.{given_down, handed, handed_at_label, kind_of, mark_fault, marked, refuses, unlink_kind, queued_kind}
 use Rattle.model.specs.Set.{Set, cancel_routine_of, flow_of, guard_named, sort_of}
 use Rattle.model.specs.World.{Shared, next}
@@ -43,10 +45,7 @@ is_owned NumKind = false
 is_owned Lower = false
 is_owned New = false
 is_owned Own = true
-is_owned (Listed name) = true
-is_owned (Armed name) = false
-is_owned (Taken name) = false
-is_owned (Cancelling name) = true
+is_owned (Queued name stage) = not (is_claim stage)
 is_owned View = false
 
 -- kinds that are a right: all of them, or those that own
@@ -54,12 +53,9 @@ pub record IsClaim (f : Kind → Bool) : Type 0 where
   pub blank : f BlankKind ≡ false
   pub number : f NumKind ≡ false
   pub lower : f Lower ≡ false
-  pub armed : (name : QueueName) → f (Armed name) ≡ false
-  pub taken : (name : QueueName) → f (Taken name) ≡ false
   pub view : f View ≡ false
   pub own : f Own ≡ true
-  pub listed : (name : QueueName) → f (Listed name) ≡ true
-  pub cancelling : (name : QueueName) → f (Cancelling name) ≡ true
+  pub queued : (name : QueueName) (stage : Stage) → f (Queued name stage) ≡ not (is_claim stage)
   pub right : (k : Kind) → f k ≡ true → is_right k ≡ true
 
 pub claims_right : IsClaim is_right
@@ -68,19 +64,15 @@ claims_right =
       blank = refl;
       number = refl;
       lower = refl;
-      armed = λ name. refl;
-      taken = λ name. refl;
       view = refl;
       own = refl;
-      listed = λ name. refl;
-      cancelling = λ name. refl;
+      queued = λ name stage. refl;
       right = λ k is. is;
     }
 
 owned_right : (k : Kind) → is_owned k ≡ true → is_right k ≡ true
 owned_right Own is = refl
-owned_right (Listed name) is = refl
-owned_right (Cancelling name) is = refl
+owned_right (Queued name stage) is = is
 owned_right _ is = cc
 
 pub claims_owned : IsClaim is_owned
@@ -89,12 +81,9 @@ claims_owned =
       blank = refl;
       number = refl;
       lower = refl;
-      armed = λ name. refl;
-      taken = λ name. refl;
       view = refl;
       own = refl;
-      listed = λ name. refl;
-      cancelling = λ name. refl;
+      queued = λ name stage. refl;
       right = owned_right;
     }
 
@@ -111,8 +100,7 @@ gained_by _ = None
 
 abbrev pub is_gained : Kind → Bool
 is_gained New = true
-is_gained (Armed name) = true
-is_gained (Taken name) = true
+is_gained (Queued name stage) = is_claim stage
 is_gained _ = false
 
 pub gained_operand : (i : Instr) (r : ℕ) → gained_by i ≡ Some r → packet_operand i ≡ Some r
@@ -223,9 +211,9 @@ module _ (f : Kind → Bool) (claim : IsClaim f) (M : ℕ → Type 0) where
   go_claim : (set : Set) (driver : ℕ) (lock : Guard) (k : Kind)
       → f (let_go set driver lock k) ≡ true
       → f k ≡ true
-  go_claim set driver lock (Armed name) =
-      cond_both (is_guard (guard_named set driver name) lock) BlankKind (Armed name)
-      (λ k. f k ≡ true → f (Armed name) ≡ true)
+  go_claim set driver lock (Queued name stage) =
+      cond_both (is_stage stage Armed && is_guard (guard_named set driver name) lock) BlankKind
+      (Queued name stage) (λ k. f k ≡ true → f (Queued name stage) ≡ true)
       (λ guards is. never BlankKind claim.blank is) (λ other is. is)
   go_claim set driver lock _ = λ is. is
 
@@ -238,17 +226,17 @@ module _ (f : Kind → Bool) (claim : IsClaim f) (M : ℕ → Type 0) where
 
   disarmed_claim : {A : Type 0} (k : Kind) → (is_gained k ≡ true → A) → (f k ≡ true → A)
       → f (kind_disarmed k) ≡ true → A
-  disarmed_claim (Armed name) gained had is = gained refl
-  disarmed_claim (Taken name) gained had is = gained refl
+  disarmed_claim (Queued name Armed) gained had is = gained refl
+  disarmed_claim (Queued name Taken) gained had is = gained refl
   disarmed_claim _ gained had is = had is
 
   unlinked_claim : (name : QueueName) (k : Kind) → unlink_kind name k ≡ None → f k ≡ true
-  unlinked_claim name (Listed other) rule = claim.listed other
-  unlinked_claim name (Cancelling other) rule = claim.cancelling other
+  unlinked_claim name (Queued other Listed) rule = claim.queued other Listed
+  unlinked_claim name (Queued other Cancelling) rule = claim.queued other Cancelling
   unlinked_claim name _ rule = cc
 
-  dequeued_claim : (k : Kind) → queued_kind (is_cancelling DeviceQueue k) k ≡ None → f k ≡ true
-  dequeued_claim (Cancelling other) rule = claim.cancelling other
+  dequeued_claim : (k : Kind) → queued_kind (is_at Cancelling DeviceQueue k) k ≡ None → f k ≡ true
+  dequeued_claim (Queued other Cancelling) rule = claim.queued other Cancelling
   dequeued_claim _ rule = cc
 
   -- what has to hold of the packet to which an instruction gives a right, or a mark
@@ -301,8 +289,8 @@ module _ (f : Kind → Bool) (claim : IsClaim f) (M : ℕ → Type 0) where
         (λ is. claim_get s.kinds values r h
         (dequeued_claim (kind_of s r) (first_none _ _ rule))) h
     handed_claims (Arm r q) rule brought gains h =
-        claim_turn s.kinds values r (Armed (Declared q))
-        (never (Armed (Declared q)) (claim.armed (Declared q))) h
+        claim_turn s.kinds values r (Queued (Declared q) Armed)
+        (never (Queued (Declared q) Armed) (claim.queued (Declared q) Armed)) h
     handed_claims (Disarm r label) rule brought gains h =
         claim_turn s.kinds values r (kind_disarmed (kind_of s r))
         (disarmed_claim (kind_of s r) (gains r refl) (claim_get s.kinds values r h)) h

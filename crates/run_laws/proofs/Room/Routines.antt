@@ -2,8 +2,10 @@
 -- where it owns the packet the mark of the current location.
 use Rattle.std.proofs.Common.{◌≡◌, ℕ, ◌+◌, ◌-◌, ◌≤◌, inl, inr, List, [], ◌∷◌, Option, None, Some, Bool, true, false, refl, ap, sym, ◌∙◌, subst, arith}
 use Rattle.std.specs.Prelude.{⊤, is_none, slice_get}
+use Rattle.model.specs.declared.abs.Rule.TheVariants.{CancelState}
 use Rattle.model.specs.declared.abs.Kind.{Kind}
-use Rattle.model.specs.declared.abs.Kind.TheVariants.{Armed, Listed, New, Taken}
+use Rattle.model.specs.declared.abs.Kind.TheVariants.{New, Queued}
+use Rattle.model.specs.declared.abs.Stage.TheVariants.{Listed}
 use Rattle.model.specs.declared.instr.Instr.{Instr}
 use Rattle.model.specs.declared.instr.Instr.TheVariants.{Arm, Call, Complete, End, Loop, Mark, Pass, Put}
 use Rattle.model.specs.declared.set.QueueName.{QueueName}
@@ -14,7 +16,7 @@ use Rattle.model.specs.declared.world.Frame.{Frame}
 use Rattle.model.specs.declared.world.Frame.TheVariants.{Routine, Walk, Cancel as CancelFrame}
 use Rattle.model.specs.declared.world.Packet.{Packet}
 use Rattle.model.specs.Effect.{Outcome, armer_of, dispatched, turned}
-use Rattle.model.specs.Kinds.{is_exchanged, is_listed, is_right}
+use Rattle.model.specs.Kinds.{is_exchanged, is_at, is_right, is_claim}
 use Rattle.model.specs.LocalRule.{kind_of, queued_kind}
 use Rattle.model.specs.Set.{Set, lower_of, flow_of}
 use Rattle.model.specs.Trace.{Actor, Entry}
@@ -37,7 +39,7 @@ use Rattle.run_laws.proofs.States.LoopEnds.{moved_end, moved_loop}
 use Rattle.run_laws.proofs.States.Moves.{falls_next}
 use Rattle.run_laws.proofs.States.OnTop.{OnTop, runs}
 use Rattle.run_laws.specs.ArrivingStates.{States}
-use Rattle.run_laws.proofs.States.Rules.{first_none}
+use Rattle.run_laws.proofs.States.Rules.{first_none, granted}
 use Rattle.run_laws.proofs.Steps.Comes.{Comes, Exchanged, Executing, Reads, arms_for, awaits_lock, calls_down, completes_gone, completes_packet, computes, disarms, errs, exchanges, frees_lock, looks_at, marks_packet, opens_loop, pages, passes_down, resumes_walk, retakes_lock, takes_lock, touches_gone, turns_loop, works_on_queues, writes_info, GoesTo}
 use Rattle.run_laws.proofs.Steps.Locking.{LockWord, freed_word, taken_word}
 use Rattle.run_laws.proofs.Steps.Onward.{turned_device, turned_registers}
@@ -62,13 +64,12 @@ NamesDevice states s (CancelFrame c) = ⊤
 
 -- what is exchanged, and what is armed
 exchanged_of : (k : Kind) → queued_kind (is_exchanged k) k ≡ None → is_exchanged k ≡ true
-exchanged_of (Armed name) rule = refl
-exchanged_of (Taken name) rule = refl
+exchanged_of (Queued name stage) rule = granted (is_claim stage) CancelState rule
 exchanged_of _ rule = cc
 
-listed_owned : (name : QueueName) (k : Kind) → queued_kind (is_listed name k) k ≡ None
+listed_owned : (name : QueueName) (k : Kind) → queued_kind (is_at Listed name k) k ≡ None
     → is_owned k ≡ true
-listed_owned name (Listed other) rule = refl
+listed_owned name (Queued other Listed) rule = refl
 listed_owned name _ rule = cc
 
 armer_found : (o : Option Armer) → is_none o ≡ false → (armer : Armer) × (o ≡ Some armer)

@@ -5,6 +5,7 @@ use Rattle.std.proofs.Common.{◌≡◌, ℕ, ◌+◌, ◌≤◌, inl, inr, List
 use Rattle.std.specs.Prelude.{⊤, is_some, length, nat_eq, slice_get, option_and_then, if◌then◌else◌}
 use Rattle.std.proofs.lemmas.Bool.{eq-eqb}
 use Rattle.std.proofs.lemmas.Bool.Decides.{eqb_tells}
+use Rattle.model.specs.declared.abs.Stage.TheVariants.{Taken}
 use Rattle.model.specs.declared.abs.Abs.{Abs}
 use Rattle.model.specs.declared.abs.Kind.{Kind}
 use Rattle.model.specs.declared.abs.Kind.TheVariants.{Own}
@@ -270,7 +271,7 @@ removed_plain : (f : Kind → Bool) → IsClaim f → (cancel : Option ℕ) (q :
     → f (kind_removed cancel (Declared q)) ≡ true → is_some cancel ≡ false
 removed_plain f claim None q is = refl
 removed_plain f claim (Some routine) q is =
-    let no : true ≡ false = sym is ∙ claim.taken (Declared q) in cc
+    let no : true ≡ false = sym is ∙ claim.queued (Declared q) Taken in cc
 
 module _ (set : Set) (states : States) (s : Shared) (a : Activation)
     (room : FrameRoom set states s a) where

@@ -1,22 +1,24 @@
--- A cancel word that a routine finds set names the routine's device: it has a register of kind
+-- A cancel word that a routine finds set names the routine's device: it has a register at the stage
 -- Armed or Taken for the packet, which the word backs, or a cancel routine that was called; and
 -- there is none of these where the word is set, since a packet has one holder.
 use Rattle.run_laws.proofs.Claims.Tops.{named_some, top_there}
 use Rattle.std.proofs.Common.{◌≡◌, ℕ, ◌+◌, ◌≤◌, true, List, Some, refl, ◌∙◌, arith, length}
+use Rattle.run_laws.proofs.Claims.Balance.{at_same, claim_le}
 use Rattle.model.specs.declared.set.QueueName.{QueueName}
 use Rattle.model.specs.declared.abs.Kind.{Kind}
-use Rattle.model.specs.declared.abs.Kind.TheVariants.{Armed, Taken}
+use Rattle.model.specs.declared.abs.Kind.TheVariants.{Queued}
+use Rattle.model.specs.declared.abs.Stage.TheVariants.{Armed, Taken}
 use Rattle.model.specs.declared.world.Activation.{Activation}
 use Rattle.model.specs.declared.world.Armer.{Armer}
 use Rattle.model.specs.declared.world.Frame.{Frame}
 use Rattle.model.specs.declared.world.Frame.TheVariants.{Routine}
 use Rattle.model.specs.declared.world.Packet.{Packet}
-use Rattle.model.specs.Kinds.{is_armed, is_exchanged}
+use Rattle.model.specs.Kinds.{is_at, is_exchanged}
 use Rattle.model.specs.LocalRule.{kind_of}
 use Rattle.model.specs.Set.{Set}
 use Rattle.model.specs.Trace.{Entry}
 use Rattle.model.specs.World.{World, register}
-use Rattle.run_laws.proofs.Claims.Sums.{Claimed, is_taken, names_on}
+use Rattle.run_laws.proofs.Claims.Sums.{Claimed, names_on}
 use Rattle.run_laws.proofs.Claims.WordSteps.{word_names}
 use Rattle.run_laws.proofs.Holders.Counts.{reads_ref}
 use Rattle.run_laws.proofs.Holders.Sums.{Held}
@@ -27,7 +29,6 @@ use Rattle.run_laws.proofs.States.Frames.{IsGood, state_of}
 use Rattle.run_laws.specs.ArrivingStates.{States}
 use Rattle.run_laws.proofs.States.Standing.{Standing}
 use Rattle.run_laws.proofs.Steps.Comes.{Reads}
-use Rattle.run_laws.proofs.Claims.Balance.{name_same}
 
 module _ (set : Set) (states : States) (w : World) (past : List Entry) (good : IsGood set states)
     (stands : Standing set states w past) (held : Held set states w)
@@ -36,8 +37,8 @@ module _ (set : Set) (states : States) (w : World) (past : List Entry) (good : I
     backed_device : (d : ℕ) (q : QueueName) (n : ℕ) (p : Packet) (armer : Armer)
         → find w.shared.packets n ≡ Some p
         → p.armer ≡ Some armer
-        → 1 ≤ names_on states (is_armed q) d n w.threads
-        + names_on states (is_taken q) d n w.threads
+        → 1 ≤ names_on states (is_at Armed q) d n w.threads
+        + names_on states (is_at Taken q) d n w.threads
         → armer.device ≡ d
     backed_device d q n p armer there is some =
         (word_names set states w held claimed d q n p armer (find_place w.shared.packets n ∙ there)
@@ -47,18 +48,15 @@ module _ (set : Set) (states : States) (w : World) (past : List Entry) (good : I
       exchanged_device : (k : Kind) (r n : ℕ) (p : Packet) (armer : Armer)
           → kind_of (state_of states a) r ≡ k → is_exchanged k ≡ true → Reads w.shared a r n
           → find w.shared.packets n ≡ Some p → p.armer ≡ Some armer → armer.device ≡ a.device
-      exchanged_device (Armed q) r n p armer kind is reads there word =
-          let some : 1 ≤ names_on states (is_armed q) a.device n w.threads =
+      exchanged_device (Queued q stage) r n p armer kind is reads there word =
+          let some : 1 ≤ names_on states (is_at stage q) a.device n w.threads =
           named_some states w t (length h.below) a (top_there set w t h a top)
-          (is_armed q) refl r n
-          (rw kind (name_same q)) (reads_ref w.shared (register a r) n reads) in
-          backed_device a.device q n p armer there word (omega arith)
-      exchanged_device (Taken q) r n p armer kind is reads there word =
-          let some : 1 ≤ names_on states (is_taken q) a.device n w.threads =
-          named_some states w t (length h.below) a (top_there set w t h a top)
-          (is_taken q) refl r n
-          (rw kind (name_same q)) (reads_ref w.shared (register a r) n reads) in
-          backed_device a.device q n p armer there word (omega arith)
+          (is_at stage q) refl r n
+          (rw kind (at_same stage q)) (reads_ref w.shared (register a r) n reads) in
+          backed_device a.device q n p armer there word (omega (
+            arith,
+            claim_le stage is (λ at. names_on states (is_at at q) a.device n w.threads),
+          ))
       exchanged_device _ r n p armer kind is reads there word = cc
 
     frame_device : (t : ℕ) (h : StepsFrame set w t) (f : Frame) → h.frame ≡ f

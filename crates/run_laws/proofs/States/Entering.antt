@@ -12,7 +12,8 @@ use Rattle.std.proofs.lemmas.Bool.{eq-eqb}
 use Rattle.std.proofs.lemmas.Option.{slice_get_within, slice_get-get_or}
 use Rattle.model.specs.declared.abs.Abs.{Abs}
 use Rattle.model.specs.declared.abs.Duty.TheVariants.{Fresh, NoDuty}
-use Rattle.model.specs.declared.abs.Kind.TheVariants.{Blank as BlankKind, New, Own, View, Cancelling}
+use Rattle.model.specs.declared.abs.Kind.TheVariants.{Blank as BlankKind, New, Own, Queued, View}
+use Rattle.model.specs.declared.abs.Stage.TheVariants.{Cancelling}
 use Rattle.model.specs.declared.abs.Settled.TheVariants.{Open, Settled as SettledMark}
 use Rattle.model.specs.declared.limits.TheConstants.{MAX_ROUTINES, REGISTERS, SPIN_LOCKS}
 use Rattle.model.specs.declared.set.Device.{Device}
@@ -185,7 +186,7 @@ module _ (set : Set) (sound : IsSound set) (driver number : ℕ) where
 abbrev pub cancel_state : Option QueueName → Abs
 cancel_state None = entered_with BlankKind NoDuty SettledMark false
 cancel_state (Some name) =
-    record (entered_with (Cancelling name) NoDuty SettledMark false) { cancel = true }
+    record (entered_with (Queued name Cancelling) NoDuty SettledMark false) { cancel = true }
 
 abbrev pub first_state : Sort → Option QueueName → Abs
 first_state Dispatch name = entered_with New Fresh SettledMark false

@@ -1,12 +1,13 @@
 -- What holds of the values in registers of kinds that no instruction makes: packets that a routine
 -- was handed, and packets on their way up.
 use Rattle.std.proofs.Common.{◌≡◌, ℕ, zero, suc, Bool, true, false, List, [], ◌∷◌, sym, subst, ◌∙◌, refl, Option}
-use Rattle.std.specs.Prelude.{⊤, slice_index_or, slice_set}
+use Rattle.std.specs.Prelude.{⊤, slice_index_or, slice_set, ◌&&◌}
 use Rattle.std.specs.List.{list_any}
 use Rattle.std.proofs.lemmas.Bool.{cond_both}
 use Rattle.model.specs.declared.abs.Abs.{Abs}
 use Rattle.model.specs.declared.abs.Kind.{Kind}
-use Rattle.model.specs.declared.abs.Kind.TheVariants.{Blank as BlankKind, Num as NumKind, Lower, New, Own, Listed, Armed, Taken}
+use Rattle.model.specs.declared.abs.Kind.TheVariants.{Blank as BlankKind, Num as NumKind, Lower, New, Own, Queued as QueuedKind}
+use Rattle.model.specs.declared.abs.Stage.TheVariants.{Listed, Armed, Taken}
 use Rattle.model.specs.declared.instr.Instr.{Instr}
 use Rattle.model.specs.declared.instr.Instr.TheVariants.{Const, Move, Clear, Load, LoadPaged, Get, Mark, Release, Insert, Remove, Unlink, Arm, Disarm, Start, Take, Begin, Next, Pass, Call, Complete, ReleaseCancel, Dequeue}
 use Rattle.model.specs.declared.set.Guard.{Guard}
@@ -17,7 +18,7 @@ use Rattle.model.specs.declared.world.Value.{Value}
 use Rattle.model.specs.declared.world.Value.TheVariants.{Blank, Num, Ref}
 use Rattle.model.specs.Action.{Action}
 use Rattle.model.specs.LocalRule.{given_down, handed, handed_at_label, kind_of, marked}
-use Rattle.model.specs.Kinds.{all_let_go, is_guard, kind_disarmed, kind_inserted, kind_removed, let_go, left_behind}
+use Rattle.model.specs.Kinds.{all_let_go, is_guard, kind_disarmed, kind_inserted, kind_removed, let_go, left_behind, is_stage}
 use Rattle.model.specs.Queues.{StartState}
 use Rattle.model.specs.Set.{Set, cancel_routine_of, flow_of, guard_named, sort_of}
 use Rattle.model.specs.World.{Shared, next}
@@ -121,15 +122,16 @@ module _ (f : Kind → Bool) (given : IsHanded f) (P : Value → Type 0) where
       (h.0, hold_becomes kinds values r k was h.1)
 
   disarmed_was : (k : Kind) → f (kind_disarmed k) ≡ true → f k ≡ true
-  disarmed_was (Armed name) is = absurd (is_not (Listed name) (given.listed name) is)
-  disarmed_was (Taken name) is = absurd (is_not Own given.own is)
+  disarmed_was (QueuedKind name Armed) is =
+      absurd (is_not (QueuedKind name Listed) (given.queued name Listed) is)
+  disarmed_was (QueuedKind name Taken) is = absurd (is_not Own given.own is)
   disarmed_was _ is = is
 
   go_was : (set : Set) (driver : ℕ) (lock : Guard) (k : Kind) → f (let_go set driver lock k) ≡ true
       → f k ≡ true
-  go_was set driver lock (Armed name) =
-      cond_both (is_guard (guard_named set driver name) lock) BlankKind (Armed name)
-      (λ k. f k ≡ true → f (Armed name) ≡ true)
+  go_was set driver lock (QueuedKind name stage) =
+      cond_both (is_stage stage Armed && is_guard (guard_named set driver name) lock) BlankKind
+      (QueuedKind name stage) (λ k. f k ≡ true → f (QueuedKind name stage) ≡ true)
       (λ guards is. absurd (is_not BlankKind given.blank is)) (λ other is. is)
   go_was set driver lock _ = λ is. is
 
@@ -178,7 +180,7 @@ module _ (f : Kind → Bool) (given : IsHanded f) (P : Value → Type 0) where
   handed_hold set driver s (Dequeue r) values plain h =
       hold_turn s.kinds values r Own given.own h
   handed_hold set driver s (Arm r q) values plain h =
-      hold_turn s.kinds values r (Armed (Declared q)) (given.armed (Declared q)) h
+      hold_turn s.kinds values r (QueuedKind (Declared q) Armed) (given.queued (Declared q) Armed) h
   handed_hold set driver s (Disarm r label) values plain h =
       hold_becomes s.kinds values r (kind_disarmed (kind_of s r)) (disarmed_was (kind_of s r)) h
   handed_hold set driver s (Release lock) values plain h =

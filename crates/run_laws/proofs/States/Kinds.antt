@@ -2,14 +2,15 @@
 -- instruction that breaks no rule finds its operands there, and leaves registers of the kinds that
 -- the local rule says.
 use Rattle.std.proofs.Common.{◌≡◌, ◌⊎◌, ℕ, zero, suc, ◌<◌, ◌≤◌, inl, inr, Bool, true, false, List, [], ◌∷◌, length, Option, None, Some, refl, arith, sym, subst, ap, ◌∙◌}
-use Rattle.std.specs.Prelude.{◌||◌, ⊤, slice_set, slice_index_or, nat_lt}
+use Rattle.std.specs.Prelude.{◌||◌, ⊤, slice_set, slice_index_or, nat_lt, ◌&&◌}
 use Rattle.std.proofs.lemmas.Bool.{cond_both, lt-ltb}
 use Rattle.std.proofs.lemmas.List.{length-set, set-get_or}
 use Rattle.model.specs.declared.set.QueueName.TheVariants.{DeviceQueue}
 use Rattle.model.specs.declared.set.QueueName.{QueueName}
 use Rattle.model.specs.declared.abs.Abs.{Abs}
 use Rattle.model.specs.declared.abs.Kind.{Kind}
-use Rattle.model.specs.declared.abs.Kind.TheVariants.{Blank as BlankKind, Num as NumKind, Lower, New, Own, Listed, Armed, Taken, Cancelling, View}
+use Rattle.model.specs.declared.abs.Kind.TheVariants.{Blank as BlankKind, Num as NumKind, Lower, New, Own, Queued, View}
+use Rattle.model.specs.declared.abs.Stage.TheVariants.{Armed, Taken, Listed, Cancelling}
 use Rattle.model.specs.declared.instr.Instr.{Instr}
 use Rattle.model.specs.declared.instr.Instr.TheVariants.{Const, Move, Clear, Add, Subtract, JumpIfZero, JumpIfLess, Load, Store, LoadPaged, StorePaged, Get, Put, Mark, Acquire, Release, Pass, Call, Complete, IfPending, Insert, Remove, Unlink, Arm, Disarm, IfCancel, Start, Take, Begin, ReleaseCancel, Dequeue}
 use Rattle.model.specs.declared.set.Guard.{Guard}
@@ -21,7 +22,7 @@ use Rattle.model.specs.declared.world.Activation.{Activation}
 use Rattle.model.specs.declared.world.Value.{Value}
 use Rattle.model.specs.declared.world.Value.TheVariants.{Blank, Num, Ref, Status as StatusValue}
 use Rattle.model.specs.LocalRule.{kind_of, Wanted, demanded, any_packet, a_new_one, one_handed_or_owned, one_to_mark, one_to_look_at, number_kind, complete_kind, mark_fault, refuses, marked, given_down, handed, handed_at_label, an_owned_one, queued_kind}
-use Rattle.model.specs.Kinds.{is_packet, is_right, is_lower, left_behind, all_let_go, is_cancelling, is_exchanged, is_guard, is_listed, kind_disarmed, kind_inserted, kind_removed, let_go}
+use Rattle.model.specs.Kinds.{is_packet, is_right, is_lower, left_behind, all_let_go, is_at, is_exchanged, is_guard, kind_disarmed, kind_inserted, kind_removed, let_go, is_stage}
 use Rattle.model.specs.Set.{Set, cancel_routine_of, guard_named}
 use Rattle.model.specs.World.{Shared, number_in, packet_in, status_in}
 use Rattle.run_laws.proofs.Lists.{copied}
@@ -39,10 +40,7 @@ Suits issued NumKind v = (n : ℕ) × (v ≡ Num n)
 Suits issued Lower v = (status : Status) × (v ≡ StatusValue status)
 Suits issued New v = IsPacket issued v
 Suits issued Own v = IsPacket issued v
-Suits issued (Listed name) v = IsPacket issued v
-Suits issued (Armed name) v = IsPacket issued v
-Suits issued (Taken name) v = IsPacket issued v
-Suits issued (Cancelling name) v = IsPacket issued v
+Suits issued (Queued name stage) v = IsPacket issued v
 Suits issued View v = IsPacket issued v
 
 abbrev pub HasKinds : ℕ → List Kind → List Value → Type 0
@@ -183,17 +181,17 @@ removed_suits issued (Some routine) name v h = h
 
 disarmed_suits : (issued : ℕ) (k : Kind) (v : Value) → Suits issued k v
     → Suits issued (kind_disarmed k) v
-disarmed_suits issued (Armed name) v h = h
-disarmed_suits issued (Taken name) v h = h
+disarmed_suits issued (Queued name Armed) v h = h
+disarmed_suits issued (Queued name Taken) v h = h
 disarmed_suits issued _ v h = h
 
 -- the kinds after the release of a guard
 module _ (set : Set) (driver : ℕ) (lock : Guard) where
   go_suits : (issued : ℕ) (k : Kind) (v : Value) → Suits issued k v
       → Suits issued (let_go set driver lock k) v
-  go_suits issued (Armed name) v h =
-      cond_both (is_guard (guard_named set driver name) lock) BlankKind (Armed name)
-      (λ k. Suits issued k v) (λ guards. tt) (λ other. h)
+  go_suits issued (Queued name stage) v h =
+      cond_both (is_stage stage Armed && is_guard (guard_named set driver name) lock) BlankKind
+      (Queued name stage) (λ k. Suits issued k v) (λ guards. tt) (λ other. h)
   go_suits issued _ v h = h
 
   go_kinds : (issued : ℕ) (kinds : List Kind) (values : List Value) → HasKinds issued kinds values
@@ -236,12 +234,12 @@ module _ (s : Abs) (sort : Sort) (set : Set) (driver : ℕ) where
       let one : q ≡ r = cc in
       subst IsPacketAt one
       (queued_packet
-      (is_listed (Declared list) (kind_of s q) || is_cancelling (Declared list) (kind_of s q))
+      (is_at Listed (Declared list) (kind_of s q) || is_at Cancelling (Declared list) (kind_of s q))
       (kind_of s q) (first_none _ _ h))
   packet_wanted (Arm q list) r h is =
       let one : q ≡ r = cc in
       subst IsPacketAt one
-      (queued_packet (is_listed (Declared list) (kind_of s q)) (kind_of s q) (first_none _ _ h))
+      (queued_packet (is_at Listed (Declared list) (kind_of s q)) (kind_of s q) (first_none _ _ h))
   packet_wanted (Disarm q label) r h is =
       let one : q ≡ r = cc in
       subst IsPacketAt one (queued_packet (is_exchanged (kind_of s q)) (kind_of s q) h)
@@ -249,7 +247,7 @@ module _ (s : Abs) (sort : Sort) (set : Set) (driver : ℕ) where
   packet_wanted (Dequeue q) r h is =
       let one : q ≡ r = cc in
       subst IsPacketAt one
-      (queued_packet (is_cancelling DeviceQueue (kind_of s q)) (kind_of s q) (first_none _ _ h))
+      (queued_packet (is_at Cancelling DeviceQueue (kind_of s q)) (kind_of s q) (first_none _ _ h))
   packet_wanted (IfPending q label) r h is = demands one_to_look_at q r (first_none _ _ h) is
   packet_wanted _ r h is = cc
 
@@ -343,7 +341,7 @@ module _ (s : Abs) (sort : Sort) (set : Set) (driver : ℕ) where
       kinds_turn issued s.kinds values r Own h
       (packet_there issued values (Dequeue r) r keeps refl h)
   same_kinds issued values (Arm r q) keeps same on stays h =
-      kinds_turn issued s.kinds values r (Armed (Declared q)) h
+      kinds_turn issued s.kinds values r (Queued (Declared q) Armed) h
       (packet_there issued values (Arm r q) r keeps refl h)
   same_kinds issued values (Disarm r label) keeps same on stays h =
       kinds_turn issued s.kinds values r (kind_disarmed (kind_of s r)) h
@@ -414,7 +412,7 @@ handed_long set driver s (Remove r q label) =
     length-set s.kinds r (kind_removed (cancel_routine_of set driver q) (Declared q))
 handed_long set driver s (Unlink r q) = length-set s.kinds r Own
 handed_long set driver s (Dequeue r) = length-set s.kinds r Own
-handed_long set driver s (Arm r q) = length-set s.kinds r (Armed (Declared q))
+handed_long set driver s (Arm r q) = length-set s.kinds r (Queued (Declared q) Armed)
 handed_long set driver s (Disarm r label) = length-set s.kinds r (kind_disarmed (kind_of s r))
 handed_long set driver s (Release lock) = go_long set driver (DeviceLock lock) s.kinds
 handed_long set driver s ReleaseCancel = go_long set driver CancelLock s.kinds

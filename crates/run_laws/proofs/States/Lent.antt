@@ -8,7 +8,8 @@ use Rattle.model.specs.declared.set.QueueName.TheVariants.{DeviceQueue}
 use Rattle.model.specs.declared.abs.Abs.{Abs}
 use Rattle.model.specs.declared.abs.Duty.TheVariants.{Fresh}
 use Rattle.model.specs.declared.abs.Kind.{Kind}
-use Rattle.model.specs.declared.abs.Kind.TheVariants.{Blank, Num, New, Own, Armed}
+use Rattle.model.specs.declared.abs.Kind.TheVariants.{Blank, Num, New, Own, Queued}
+use Rattle.model.specs.declared.abs.Stage.TheVariants.{Armed, Listed, Cancelling}
 use Rattle.model.specs.declared.abs.Settled.TheVariants.{Settled as SettledMark}
 use Rattle.model.specs.declared.instr.Instr.{Instr}
 use Rattle.model.specs.declared.instr.Instr.TheVariants.{Const, Move, Clear, Load, LoadPaged, Get, Mark, Release, Insert, Remove, Unlink, Arm, Disarm, Start, Take, Begin, Pass, Call, Complete, ReleaseCancel, Dequeue}
@@ -18,7 +19,7 @@ use Rattle.model.specs.declared.set.Guard.TheVariants.{DeviceLock, CancelLock}
 use Rattle.model.specs.declared.set.QueueName.TheVariants.{Declared}
 use Rattle.model.specs.declared.set.Sort.{Sort}
 use Rattle.model.specs.declared.set.Sort.TheVariants.{Dispatch, Hold}
-use Rattle.model.specs.Kinds.{all_let_go, is_cancelling, is_exchanged, is_listed, is_new, kind_disarmed, kind_inserted, kind_removed, left_behind, let_go}
+use Rattle.model.specs.Kinds.{all_let_go, is_at, is_exchanged, is_new, kind_disarmed, kind_inserted, kind_removed, left_behind, let_go}
 use Rattle.model.specs.LocalRule.{an_owned_one, demanded, entered_with, entry_of_sort, free_kind, handed, handed_at_label, is_fresh, kind_of, level_fault, marked, queued_kind, refuses, take_fault}
 use Rattle.model.specs.Paths.{Arrives}
 use Rattle.model.specs.Set.{Member, Set, cancel_routine_of, cancels_for}
@@ -135,16 +136,17 @@ module _ (set : Set) (driver : ℕ) where
       (free_not_new (kind_of s r) (first_none _ _ (second_none _ _ keeps))) (h fresh)
   handed_new s (Unlink r q) fits long keeps h fresh =
       new_set s.kinds r Own
-      (queued_not_new (is_listed (Declared q) (kind_of s r) || is_cancelling (Declared q)
+      (queued_not_new (is_at Listed (Declared q) (kind_of s r) || is_at Cancelling (Declared q)
       (kind_of s r))
       (kind_of s r) (first_none _ _ keeps)) (h fresh)
   handed_new s (Dequeue r) fits long keeps h fresh =
       new_set s.kinds r Own
-      (queued_not_new (is_cancelling DeviceQueue (kind_of s r))
+      (queued_not_new (is_at Cancelling DeviceQueue (kind_of s r))
       (kind_of s r) (first_none _ _ keeps)) (h fresh)
   handed_new s (Arm r q) fits long keeps h fresh =
-      new_set s.kinds r (Armed (Declared q))
-      (queued_not_new (is_listed (Declared q) (kind_of s r)) (kind_of s r) (first_none _ _ keeps))
+      new_set s.kinds r (Queued (Declared q) Armed)
+      (queued_not_new (is_at Listed (Declared q) (kind_of s r)) (kind_of s r)
+      (first_none _ _ keeps))
       (h fresh)
   handed_new s (Disarm r label) fits long keeps h fresh =
       new_set s.kinds r (kind_disarmed (kind_of s r))

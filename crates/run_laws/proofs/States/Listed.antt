@@ -2,6 +2,7 @@
 -- queue has one, and the thread holds its guard while it has a packet that stands in the queue, or
 -- was taken off it, or while it has one that IoCancelIrp handed to the cancel routine of the device
 -- queue.
+use Rattle.model.specs.declared.abs.Stage.{Stage}
 use Rattle.model.specs.declared.set.Sort.TheVariants.{Dispatch, StartIo, Dpc, Propagate, Hold, Cancel}
 use Rattle.model.specs.declared.abs.Settled.TheVariants.{Settled as SettledMark, Open}
 use Rattle.model.specs.declared.limits.TheConstants.{REGISTERS, SPIN_LOCKS}
@@ -11,13 +12,14 @@ use Rattle.model.specs.Paths.{Arrives}
 use Rattle.model.specs.declared.set.Driver.{Driver}
 use Rattle.model.specs.declared.abs.Duty.{Duty}
 use Rattle.std.proofs.Common.{◌≡◌, ℕ, zero, suc, ◌<◌, ◌+◌, Bool, true, false, List, [], ◌∷◌, length, Option, None, Some, refl, ap, sym, ◌∙◌, subst, arith, replicate, get_or-set_other, inl, eqb-true, inr, eq-eqb, ◌-◌}
-use Rattle.std.specs.Prelude.{slice_get, slice_set, slice_index_or, option_and_then, if◌then◌else◌, ⊤}
+use Rattle.std.specs.Prelude.{slice_get, slice_set, slice_index_or, option_and_then, if◌then◌else◌, ⊤, ◌&&◌, ◌||◌}
 use Rattle.std.specs.List.{list_any}
 use Rattle.std.proofs.lemmas.Bool.Decides.{eqb_tells}
 use Rattle.std.proofs.lemmas.List.{get_or-set_same}
 use Rattle.model.specs.declared.abs.Abs.{Abs}
 use Rattle.model.specs.declared.abs.Kind.{Kind}
-use Rattle.model.specs.declared.abs.Kind.TheVariants.{Blank, Num, Lower, New, Own, Listed, Armed, Taken, Cancelling, View}
+use Rattle.model.specs.declared.abs.Kind.TheVariants.{Blank, Num, Lower, New, Own, Queued, View}
+use Rattle.model.specs.declared.abs.Stage.TheVariants.{Listed, Armed, Taken, Cancelling}
 use Rattle.model.specs.declared.abs.Rule.TheVariants.{CancelState, Guard as GuardRule}
 use Rattle.model.specs.declared.instr.Instr.{Instr}
 use Rattle.model.specs.declared.instr.Instr.TheVariants.{Const, Move, Clear, Load, LoadPaged, Get, Mark, Acquire, Release, AcquireCancel, ReleaseCancel, Insert, Remove, Unlink, Arm, Disarm, Start, Take, Begin, Pass, Call, Complete, Dequeue}
@@ -27,14 +29,14 @@ use Rattle.model.specs.declared.set.Queue.{Queue}
 use Rattle.model.specs.declared.set.QueueName.{QueueName}
 use Rattle.model.specs.declared.set.QueueName.TheVariants.{Declared, DeviceQueue}
 use Rattle.model.specs.declared.set.Sort.{Sort}
-use Rattle.model.specs.Kinds.{all_let_go, is_guard, is_listed, is_name, kind_disarmed, kind_inserted, kind_removed, left_behind, let_go, needs_guard}
+use Rattle.model.specs.Kinds.{all_let_go, is_guard, is_at, is_name, kind_disarmed, kind_inserted, kind_removed, left_behind, let_go, needs_guard, is_stage, stays_under_guard}
 use Rattle.model.specs.LocalRule.{given_down, guard_fault, handed, handed_at_label, is_guarded, kind_of, marked, queued_kind, refuses, release_fault, with_held, entry_of_sort, entry_of_cancel, entered_with}
 use Rattle.std.proofs.lemmas.Bool.{cases_Bool, eqb-true}
 use Rattle.model.specs.Set.{Set, cancel_routine_named, cancel_routine_of, cancelled_from, guard_named, is_named, only_one, cancels_for, Member, cancelled_in}
 use Rattle.run_laws.proofs.States.Along.{arrives_keep}
 use Rattle.run_laws.proofs.Lists.{Each, each_map, each_set}
 use Rattle.run_laws.proofs.States.Rules.{first_none, second_none, unbroken, granted}
-use Rattle.run_laws.proofs.Tests.{or_left, or_right}
+use Rattle.run_laws.proofs.Tests.{or_left, or_right, or_both}
 
 -- a list of a driver has a cancel routine
 abbrev pub HasCancel : Set → ℕ → QueueName → Type 0
@@ -49,16 +51,14 @@ guards_in locks cancel (Some CancelLock) = cancel
 abbrev pub Guarded : Set → ℕ → List Bool → Bool → QueueName → Type 0
 Guarded set driver locks cancel name = guards_in locks cancel (guard_named set driver name) ≡ true
 
+-- while a register holds a packet at such a stage, the guard of its list is held
+abbrev pub is_under_guard : Stage → QueueName → Bool
+is_under_guard stage name = stays_under_guard stage name || is_stage stage Armed
+
 abbrev pub KindFits : Set → ℕ → List Bool → Bool → Kind → Type 0
-KindFits set driver locks cancel (Listed name) =
-    HasCancel set driver name × Guarded set driver locks cancel name
-KindFits set driver locks cancel (Armed name) =
-    HasCancel set driver name × Guarded set driver locks cancel name
-KindFits set driver locks cancel (Taken name) =
-    HasCancel set driver name × Guarded set driver locks cancel name
-KindFits set driver locks cancel (Cancelling (Declared q)) = HasCancel set driver (Declared q)
-KindFits set driver locks cancel (Cancelling DeviceQueue) =
-    HasCancel set driver DeviceQueue × Guarded set driver locks cancel DeviceQueue
+KindFits set driver locks cancel (Queued name stage) =
+    HasCancel set driver name
+    × (is_under_guard stage name ≡ true → Guarded set driver locks cancel name)
 KindFits set driver locks cancel Blank = ⊤
 KindFits set driver locks cancel Num = ⊤
 KindFits set driver locks cancel Lower = ⊤
@@ -123,6 +123,13 @@ named_same (Declared p) DeviceQueue h = cc
 named_same DeviceQueue (Declared q) h = cc
 named_same DeviceQueue DeviceQueue h = refl
 
+pub stage_same : (one other : Stage) → is_stage one other ≡ true → one ≡ other
+stage_same Listed Listed h = refl
+stage_same Armed Armed h = refl
+stage_same Taken Taken h = refl
+stage_same Cancelling Cancelling h = refl
+stage_same _ _ h = cc
+
 module _ (set : Set) (driver : ℕ) where
   -- one register
   pub fits_at : (locks : List Bool) (cancel : Bool) (kinds : List Kind) (r : ℕ)
@@ -139,15 +146,8 @@ module _ (set : Set) (driver : ℕ) where
   -- one lock more
   acquired_fits : (s : Abs) (lock : Guard) (k : Kind) → KindFits set driver s.locks s.cancel k
       → KindFits set driver (with_held s lock true).locks (with_held s lock true).cancel k
-  acquired_fits s lock (Listed name) h =
-      (h.0, acquired_guards s lock (guard_named set driver name) h.1)
-  acquired_fits s lock (Armed name) h =
-      (h.0, acquired_guards s lock (guard_named set driver name) h.1)
-  acquired_fits s lock (Taken name) h =
-      (h.0, acquired_guards s lock (guard_named set driver name) h.1)
-  acquired_fits s lock (Cancelling (Declared q)) h = h
-  acquired_fits s lock (Cancelling DeviceQueue) h =
-      (h.0, acquired_guards s lock (guard_named set driver DeviceQueue) h.1)
+  acquired_fits s lock (Queued name stage) h =
+      (h.0, λ under. acquired_guards s lock (guard_named set driver name) (h.1 under))
   acquired_fits s lock _ h = tt
 
   pub all_acquired : (s : Abs) (lock : Guard) → (with_held s lock true).kinds ≡ s.kinds
@@ -158,28 +158,28 @@ module _ (set : Set) (driver : ℕ) where
       (λ k fits. acquired_fits s lock k fits) h)
 
   -- a guard is released with no packet left that needs it
-  armed_goes : (s : Abs) (lock : Guard) (name : QueueName) (b : Bool)
-      → is_guard (guard_named set driver name) lock ≡ b
-      → HasCancel set driver name → Guarded set driver s.locks s.cancel name
+  freed_at : (s : Abs) (lock : Guard) (name : QueueName) (stage : Stage) (stays armed b : Bool)
+      → stays_under_guard stage name ≡ stays → is_stage stage Armed ≡ armed
+      → is_guard (guard_named set driver name) lock ≡ b → (stays && b) ≡ false
+      → KindFits set driver s.locks s.cancel (Queued name stage)
       → KindFits set driver (with_held s lock false).locks (with_held s lock false).cancel
-      (if b then Blank else Armed name)
-  armed_goes s lock name true is has held = tt
-  armed_goes s lock name false is has held =
-      (has, other_guard s lock (guard_named set driver name) is held)
+      (if armed && b then Blank else Queued name stage)
+  freed_at s lock name stage true armed true stay arms is free h = cc
+  freed_at s lock name stage false true true stay arms is free h = tt
+  freed_at s lock name stage false false true stay arms is free h =
+      (h.0, λ under. (let no : false ≡ true = sym (or_both _ _ stay arms) ∙ under in cc))
+  freed_at s lock name stage stays true false stay arms is free h =
+      (h.0, λ under. other_guard s lock (guard_named set driver name) is (h.1 under))
+  freed_at s lock name stage stays false false stay arms is free h =
+      (h.0, λ under. other_guard s lock (guard_named set driver name) is (h.1 under))
 
   freed_fits : (s : Abs) (lock : Guard) (k : Kind) → needs_guard set driver lock k ≡ false
       → KindFits set driver s.locks s.cancel k
       → KindFits set driver (with_held s lock false).locks (with_held s lock false).cancel
       (let_go set driver lock k)
-  freed_fits s lock (Listed name) free h =
-      (h.0, other_guard s lock (guard_named set driver name) free h.1)
-  freed_fits s lock (Armed name) free h =
-      armed_goes s lock name (is_guard (guard_named set driver name) lock) refl h.0 h.1
-  freed_fits s lock (Taken name) free h =
-      (h.0, other_guard s lock (guard_named set driver name) free h.1)
-  freed_fits s lock (Cancelling (Declared q)) free h = h
-  freed_fits s lock (Cancelling DeviceQueue) free h =
-      (h.0, other_guard s lock (guard_named set driver DeviceQueue) free h.1)
+  freed_fits s lock (Queued name stage) free h =
+      freed_at s lock name stage (stays_under_guard stage name) (is_stage stage Armed)
+      (is_guard (guard_named set driver name) lock) refl refl refl free h
   freed_fits s lock _ free h = tt
 
   all_freed : (s : Abs) (lock : Guard) (kinds : List Kind)
@@ -217,30 +217,31 @@ module _ (set : Set) (driver : ℕ) where
       → Guarded set driver locks cancel name
       → KindFits set driver locks cancel (kind_inserted o name)
   inserted_fits locks cancel name None is held = tt
-  inserted_fits locks cancel name (Some routine) is held = ((routine, is), held)
+  inserted_fits locks cancel name (Some routine) is held = ((routine, is), λ under. held)
 
   removed_fits : (locks : List Bool) (cancel : Bool) (name : QueueName) (o : Option ℕ)
       → cancel_routine_named set driver name ≡ o
       → Guarded set driver locks cancel name
       → KindFits set driver locks cancel (kind_removed o name)
   removed_fits locks cancel name None is held = tt
-  removed_fits locks cancel name (Some routine) is held = ((routine, is), held)
+  removed_fits locks cancel name (Some routine) is held = ((routine, is), λ under. held)
 
   pub armed_fits : (locks : List Bool) (cancel : Bool) (name : QueueName) (k : Kind)
-      → queued_kind (is_listed name k) k ≡ None → KindFits set driver locks cancel k
-      → KindFits set driver locks cancel (Armed name)
-  armed_fits locks cancel name (Listed other) rule h =
+      → queued_kind (is_at Listed name k) k ≡ None → KindFits set driver locks cancel k
+      → KindFits set driver locks cancel (Queued name Armed)
+  armed_fits locks cancel name (Queued other Listed) rule h =
       let same : other ≡ name = named_same other name (granted (is_name other name) CancelState
       rule) in
-      subst (λ (x : QueueName). HasCancel set driver x × Guarded set driver locks cancel x) same h
+      subst (λ (x : QueueName). KindFits set driver locks cancel (Queued x Armed)) same
+      (h.0, λ under. h.1 refl)
   armed_fits locks cancel name _ rule h = cc
 
   disarmed_fits : (locks : List Bool) (cancel : Bool) (k : Kind)
       → KindFits set driver locks cancel k → KindFits set driver locks cancel (kind_disarmed k)
-  disarmed_fits locks cancel (Armed name) h = h
-  disarmed_fits locks cancel (Taken name) h = tt
-  disarmed_fits locks cancel (Listed name) h = h
-  disarmed_fits locks cancel (Cancelling name) h = h
+  disarmed_fits locks cancel (Queued name Armed) h = (h.0, λ under. h.1 refl)
+  disarmed_fits locks cancel (Queued name Taken) h = tt
+  disarmed_fits locks cancel (Queued name Listed) h = h
+  disarmed_fits locks cancel (Queued name Cancelling) h = h
   disarmed_fits locks cancel _ h = tt
 
   left_fits : (locks : List Bool) (cancel : Bool) (k : Kind)
@@ -250,10 +251,7 @@ module _ (set : Set) (driver : ℕ) where
   left_fits locks cancel Lower = tt
   left_fits locks cancel New = tt
   left_fits locks cancel Own = tt
-  left_fits locks cancel (Listed name) = tt
-  left_fits locks cancel (Armed name) = tt
-  left_fits locks cancel (Taken name) = tt
-  left_fits locks cancel (Cancelling name) = tt
+  left_fits locks cancel (Queued name stage) = tt
   left_fits locks cancel View = tt
 
   set_fits : (s : Abs) (r : ℕ) (k : Kind) → KindFits set driver s.locks s.cancel k
@@ -299,7 +297,7 @@ module _ (set : Set) (driver : ℕ) where
   handed_fits s (Unlink r q) sort keeps h = set_fits s r Own tt h
   handed_fits s (Dequeue r) sort keeps h = set_fits s r Own tt h
   handed_fits s (Arm r q) sort keeps h =
-      set_fits s r (Armed (Declared q))
+      set_fits s r (Queued (Declared q) Armed)
       (armed_fits s.locks s.cancel (Declared q) (kind_of s r) (first_none _ _ keeps)
       (kind_fits_at s r h)) h
   handed_fits s (Disarm r label) sort keeps h =
@@ -512,17 +510,17 @@ module _ (set : Set) (driver number : ℕ) where
       → entry_of_cancel name ≡ Some s → AllFit set driver s
   cancel_fits None s is h = cc
   cancel_fits (Some (Declared q)) s is h =
-      let same : record (entered_with (Cancelling (Declared q)) NoDuty SettledMark false)
+      let same : record (entered_with (Queued (Declared q) Cancelling) NoDuty SettledMark false)
       { cancel = true } ≡ s = cc in
       subst (AllFit set driver) same (
-        named_fits set driver number (Declared q) is,
+        (named_fits set driver number (Declared q) is, λ under. cc),
         blank_fit set driver (replicate SPIN_LOCKS false) true (REGISTERS - 1),
       )
   cancel_fits (Some DeviceQueue) s is h =
-      let same : record (entered_with (Cancelling DeviceQueue) NoDuty SettledMark false)
+      let same : record (entered_with (Queued DeviceQueue Cancelling) NoDuty SettledMark false)
       { cancel = true } ≡ s = cc in
       subst (AllFit set driver) same (
-        (named_fits set driver number DeviceQueue is, refl),
+        (named_fits set driver number DeviceQueue is, λ under. refl),
         blank_fit set driver (replicate SPIN_LOCKS false) true (REGISTERS - 1),
       )
 

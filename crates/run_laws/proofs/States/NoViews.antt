@@ -2,15 +2,17 @@
 -- where a routine begins alone: a dispatch routine and a deferred routine have no packet on its way
 -- up, in no state that arrives at a position, and a deferred routine and a completion routine have
 -- none that was handed over.
+use Rattle.model.specs.declared.abs.Stage.{Stage}
 use Rattle.model.specs.declared.limits.TheConstants.{REGISTERS}
 use Rattle.std.proofs.Common.{true, ◌≡◌, ℕ, zero, suc, Bool, false, List, [], ◌∷◌, Option, None, Some, refl, ap, sym, ◌∙◌, subst, replicate, ◌-◌}
-use Rattle.std.specs.Prelude.{slice_set, slice_index_or}
+use Rattle.std.specs.Prelude.{slice_set, slice_index_or, ◌&&◌}
 use Rattle.std.specs.List.{list_any}
 use Rattle.std.proofs.lemmas.Bool.{cond_both}
 use Rattle.model.specs.declared.abs.Abs.{Abs}
 use Rattle.model.specs.declared.abs.Duty.TheVariants.{NoDuty, Fresh}
 use Rattle.model.specs.declared.abs.Kind.{Kind}
-use Rattle.model.specs.declared.abs.Kind.TheVariants.{Blank, Num, Lower, New, Own, Listed, Armed, Taken, Cancelling, View}
+use Rattle.model.specs.declared.abs.Kind.TheVariants.{Blank, Num, Lower, New, Own, Queued, View}
+use Rattle.model.specs.declared.abs.Stage.TheVariants.{Listed, Armed, Taken, Cancelling}
 use Rattle.model.specs.declared.abs.Settled.TheVariants.{Settled as SettledMark}
 use Rattle.model.specs.declared.instr.Instr.{Instr}
 use Rattle.model.specs.declared.instr.Instr.TheVariants.{Const, Move, Clear, Load, LoadPaged, Get, Mark, Pass, Call, Complete, Release, Insert, Remove, Unlink, Arm, Disarm, Start, Take, Begin, ReleaseCancel, Dequeue}
@@ -20,7 +22,7 @@ use Rattle.model.specs.declared.set.QueueName.{QueueName}
 use Rattle.model.specs.declared.set.QueueName.TheVariants.{Declared}
 use Rattle.model.specs.declared.set.Sort.TheVariants.{Propagate, Dpc, Dispatch, StartIo, Hold, Cancel}
 use Rattle.model.specs.LocalRule.{entered_with, entry_of_sort, entry_state, given_down, handed, handed_at_label, kind_of, marked, queued_kind, refuses, entry_of_cancel}
-use Rattle.model.specs.Kinds.{all_let_go, is_guard, is_listed, is_new, is_view, kind_disarmed, kind_inserted, kind_removed, left_behind, let_go}
+use Rattle.model.specs.Kinds.{all_let_go, is_guard, is_at, is_new, is_view, kind_disarmed, kind_inserted, kind_removed, left_behind, let_go, is_stage}
 use Rattle.model.specs.Paths.{Arrives}
 use Rattle.model.specs.Set.{Set, Member, cancel_routine_of, cancels_for, guard_named}
 use Rattle.run_laws.proofs.States.Along.{arrives_keep}
@@ -34,9 +36,7 @@ pub record IsHanded (f : Kind → Bool) : Type 0 where
   pub number : f Num ≡ false
   pub lower : f Lower ≡ false
   pub own : f Own ≡ false
-  pub listed : (name : QueueName) → f (Listed name) ≡ false
-  pub armed : (name : QueueName) → f (Armed name) ≡ false
-  pub taken : (name : QueueName) → f (Taken name) ≡ false
+  pub queued : (name : QueueName) (stage : Stage) → f (Queued name stage) ≡ false
 
 pub handed_views : IsHanded is_view
 handed_views =
@@ -45,9 +45,7 @@ handed_views =
       number = refl;
       lower = refl;
       own = refl;
-      listed = λ name. refl;
-      armed = λ name. refl;
-      taken = λ name. refl;
+      queued = λ name stage. refl;
     }
 
 pub handed_news : IsHanded is_new
@@ -57,9 +55,7 @@ handed_news =
       number = refl;
       lower = refl;
       own = refl;
-      listed = λ name. refl;
-      armed = λ name. refl;
-      taken = λ name. refl;
+      queued = λ name stage. refl;
     }
 
 -- a packet that stands in a list with a cancel routine, or was taken off it, or handed to that
@@ -69,10 +65,7 @@ is_queued Num = false
 is_queued Lower = false
 is_queued New = false
 is_queued Own = false
-is_queued (Listed name) = true
-is_queued (Armed name) = true
-is_queued (Taken name) = true
-is_queued (Cancelling name) = true
+is_queued (Queued name stage) = true
 is_queued View = false
 
 -- kinds that no instruction of a driver makes where there are none and it breaks no rule
@@ -83,24 +76,24 @@ pub record NeverMade (set : Set) (driver : ℕ) (f : Kind → Bool) : Type 0 whe
   pub own : f Own ≡ false
   pub inserted : (q : ℕ) → f (kind_inserted (cancel_routine_of set driver q) (Declared q)) ≡ false
   pub removed : (q : ℕ) → f (kind_removed (cancel_routine_of set driver q) (Declared q)) ≡ false
-  pub armed : (q : ℕ) (k : Kind) → queued_kind (is_listed (Declared q) k) k ≡ None → f k ≡ false
-      → f (Armed (Declared q)) ≡ false
+  pub armed : (q : ℕ) (k : Kind) → queued_kind (is_at Listed (Declared q) k) k ≡ None → f k ≡ false
+      → f (Queued (Declared q) Armed) ≡ false
   pub disarmed : (k : Kind) → f k ≡ false → f (kind_disarmed k) ≡ false
 
 module _ (f : Kind → Bool) (given : IsHanded f) where
   pub handed_inserted : (cancel : Option ℕ) (name : QueueName)
       → f (kind_inserted cancel name) ≡ false
   handed_inserted None name = given.blank
-  handed_inserted (Some routine) name = given.listed name
+  handed_inserted (Some routine) name = given.queued name Listed
 
   pub handed_removed : (cancel : Option ℕ) (name : QueueName)
       → f (kind_removed cancel name) ≡ false
   handed_removed None name = given.own
-  handed_removed (Some routine) name = given.taken name
+  handed_removed (Some routine) name = given.queued name Taken
 
   handed_disarmed : (k : Kind) → f k ≡ false → f (kind_disarmed k) ≡ false
-  handed_disarmed (Armed name) h = given.listed name
-  handed_disarmed (Taken name) h = given.own
+  handed_disarmed (Queued name Armed) h = given.queued name Listed
+  handed_disarmed (Queued name Taken) h = given.own
   handed_disarmed _ h = h
 
   pub handed_never : (set : Set) (driver : ℕ) → NeverMade set driver f
@@ -112,7 +105,7 @@ module _ (f : Kind → Bool) (given : IsHanded f) where
         own = given.own;
         inserted = λ q. handed_inserted (cancel_routine_of set driver q) (Declared q);
         removed = λ q. handed_removed (cancel_routine_of set driver q) (Declared q);
-        armed = λ q k keeps h. given.armed (Declared q);
+        armed = λ q k keeps h. given.queued (Declared q) Armed;
         disarmed = handed_disarmed;
       }
 
@@ -151,9 +144,9 @@ none_at f given kinds r h = none_blank f given.blank kinds r h
 
 module _ (set : Set) (driver : ℕ) (f : Kind → Bool) (never : NeverMade set driver f) where
   go_none : (lock : Guard) (k : Kind) → f k ≡ false → f (let_go set driver lock k) ≡ false
-  go_none lock (Armed name) h =
-      cond_both (is_guard (guard_named set driver name) lock) Blank (Armed name)
-      (λ k. f k ≡ false) (λ guards. never.blank) (λ other. h)
+  go_none lock (Queued name stage) h =
+      cond_both (is_stage stage Armed && is_guard (guard_named set driver name) lock) Blank
+      (Queued name stage) (λ k. f k ≡ false) (λ guards. never.blank) (λ other. h)
   go_none lock _ h = h
 
   all_go_none : (lock : Guard) (kinds : List Kind) → list_any f kinds ≡ false
@@ -195,7 +188,7 @@ module _ (set : Set) (driver : ℕ) (f : Kind → Bool) (never : NeverMade set d
   handed_none s (Unlink r q) sort keeps h = none_set f s.kinds r Own never.own h
   handed_none s (Dequeue r) sort keeps h = none_set f s.kinds r Own never.own h
   handed_none s (Arm r q) sort keeps h =
-      none_set f s.kinds r (Armed (Declared q))
+      none_set f s.kinds r (Queued (Declared q) Armed)
       (never.armed q (kind_of s r) (first_none _ _ keeps) (none_blank f never.blank s.kinds r h)) h
   handed_none s (Disarm r label) sort keeps h =
       none_set f s.kinds r (kind_disarmed (kind_of s r))
@@ -266,38 +259,39 @@ hold_no_view m p s is arrives =
     refl arrives
 
 cancel_none : (f : Kind → Bool) (name : Option QueueName) (s : Abs)
-    → ((name : QueueName) → f (Cancelling name) ≡ false)
+    → ((name : QueueName) → f (Queued name Cancelling) ≡ false)
     → list_any f (replicate (REGISTERS - 1) Blank) ≡ false
     → entry_of_cancel name ≡ Some s → HasNone f s
 cancel_none f None s none blank enters = cc
 cancel_none f (Some name) s none blank enters =
-    let same : record (entered_with (Cancelling name) NoDuty SettledMark false) { cancel = true }
+    let same : record (entered_with (Queued name Cancelling) NoDuty SettledMark false)
+    { cancel = true }
     ≡ s = cc in
-    subst (HasNone f) same (or_both (f (Cancelling name)) _ (none name) blank)
+    subst (HasNone f) same (or_both (f (Queued name Cancelling)) _ (none name) blank)
 
 deferred_none : (f : Kind → Bool) → IsHanded f
     → HasNone f (entered_with Own NoDuty SettledMark true)
     → HasNone f (entered_with Blank NoDuty SettledMark false)
-    → ((name : QueueName) → f (Cancelling name) ≡ false)
     → list_any f (replicate (REGISTERS - 1) Blank) ≡ false
     → (m : Member) (p : ℕ) (s : Abs) (sort : Sort) → m.routine.sort ≡ sort
     → is_deferred sort ≡ true → Arrives m p s → HasNone f s
-deferred_none f given startio dpc cancelling blank m p s StartIo is deferred arrives =
+deferred_none f given startio dpc blank m p s StartIo is deferred arrives =
     arrives_none f given m p s StartIo (entered_with Own NoDuty SettledMark true) is refl startio
     arrives
-deferred_none f given startio dpc cancelling blank m p s Dpc is deferred arrives =
+deferred_none f given startio dpc blank m p s Dpc is deferred arrives =
     arrives_none f given m p s Dpc (entered_with Blank NoDuty SettledMark false) is refl dpc arrives
-deferred_none f given startio dpc cancelling blank m p s Cancel is deferred arrives =
+deferred_none f given startio dpc blank m p s Cancel is deferred arrives =
     none_arrives f m p s (handed_never f given m.set m.driver)
-    (λ first enters. cancel_none f (cancels_for m.set m.driver m.number) first cancelling blank
+    (λ first enters. cancel_none f (cancels_for m.set m.driver m.number) first
+    (λ name. given.queued name Cancelling) blank
     (sym (ap (λ (x : Sort). entry_of_sort x (cancels_for m.set m.driver m.number)) is) ∙ enters))
     arrives
-deferred_none f given startio dpc cancelling blank m p s _ is deferred arrives = cc
+deferred_none f given startio dpc blank m p s _ is deferred arrives = cc
 
 pub deferred_no_view : (m : Member) (p : ℕ) (s : Abs) (sort : Sort) → m.routine.sort ≡ sort
     → is_deferred sort ≡ true → Arrives m p s → HasNone is_view s
-deferred_no_view = deferred_none is_view handed_views refl refl (λ name. refl) refl
+deferred_no_view = deferred_none is_view handed_views refl refl refl
 
 pub deferred_no_new : (m : Member) (p : ℕ) (s : Abs) (sort : Sort) → m.routine.sort ≡ sort
     → is_deferred sort ≡ true → Arrives m p s → HasNone is_new s
-deferred_no_new = deferred_none is_new handed_news refl refl (λ name. refl) refl
+deferred_no_new = deferred_none is_new handed_news refl refl refl
