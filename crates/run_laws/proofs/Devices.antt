@@ -1,11 +1,6 @@
 -- The devices of a sound set: each fits at its place, and is the one that its routines are for.
-use Rattle.std.proofs.Common.{◌≡◌, ◌+◌, ℕ, zero, suc, List, [], ◌∷◌, length, Option, None, Some, refl, arith, subst}
-use Rattle.std.specs.Prelude.{slice_get}
-use Rattle.model.specs.declared.set.Device.{Device}
-use Rattle.model.specs.declared.status.Major.{Major}
-use Rattle.model.specs.Effect.{dispatched}
-use Rattle.model.specs.Set.{Set}
-use Rattle.model.specs.Sound.{IsSound, DeviceFits, DevicesFit}
+use Rattle.run_laws.specs.Prelude.{arith, refl, subst, zero, List, None, Option, Some, [], length, slice_get, suc, ℕ, ◌+◌, ◌∷◌, ◌≡◌, dispatched, Set, DeviceFits, IsSound, Device, Major}
+use Rattle.model.specs.Sound.{DevicesFit}
 
 fits_from : (drivers first : ℕ) (devices : List Device) (i : ℕ) (d : Device)
     → DevicesFit drivers first devices

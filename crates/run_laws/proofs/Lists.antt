@@ -1,8 +1,6 @@
 -- Small facts on lists: from a place on, and at the end.
-use Rattle.std.proofs.Common.{◌≤◌, ◌≡◌, ◌≢◌, ◌<◌, ◌+◌, ◌-◌, ℕ, zero, suc, List, [], ◌∷◌, ◌++◌, Some, length, take, drop, get_or, refl, ap, sym, ◌∙◌, arith, subst}
-use Rattle.std.specs.Prelude.{⊤, slice_get, slice_index_or, slice_set, remove, replicate, All}
-use Rattle.std.proofs.lemmas.List.{take_all, take_more, take_at, length-append}
-use Rattle.std.proofs.lemmas.Option.{slice_get_within, get_or_from_slice_get}
+use Rattle.run_laws.specs.Prelude.{ap, arith, drop, get_or, refl, subst, sym, take, zero, ◌-◌, ◌∙◌, length-append, get_or_from_slice_get, slice_get_within, All, List, Some, [], length, remove, replicate, slice_get, slice_index_or, slice_set, suc, ℕ, ⊤, ◌++◌, ◌+◌, ◌<◌, ◌∷◌, ◌≡◌, ◌≢◌, ◌≤◌}
+use Rattle.std.proofs.lemmas.List.{take_all, take_more, take_at}
 
 -- what stands at a place is the first from there on
 pub from_here : {A : Type 0} (xs : List A) (p : ℕ) (x : A) → slice_get xs p ≡ Some x

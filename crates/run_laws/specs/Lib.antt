@@ -1,3 +1,4 @@
+pub mod Prelude
 pub mod NoWrong
 pub mod ArrivingStates
 pub mod Holder

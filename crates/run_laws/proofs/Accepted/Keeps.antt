@@ -1,14 +1,7 @@
 -- What every run of an accepted set keeps, a field a family; no event has a bug check, goes wrong
 -- or passes a bound; and each event keeps it.
 use Rattle.run_laws.proofs.Claims.Runs.{claimed_begun, claimed_kept}
-use Rattle.std.proofs.Common.{◌≡◌, ℕ, List, [], length, refl, ◌∙◌, Bool, None, false}
-use Rattle.std.specs.Prelude.{slice_get}
-use Rattle.std.proofs.lemmas.List.{length-replicate}
-use Rattle.model.specs.Events.{Change}
-use Rattle.model.specs.Run.{begun, root_of}
-use Rattle.model.specs.Set.{Set}
-use Rattle.model.specs.Trace.{Entry, Actor, recorded}
-use Rattle.model.specs.World.{World, idle_thread}
+use Rattle.run_laws.specs.Prelude.{refl, ◌∙◌, length-replicate, Bool, List, None, [], false, length, slice_get, ℕ, ◌≡◌, Action, Change, first_fault, begun, root_of, Set, Actor, Entry, recorded, World, idle_thread}
 use Rattle.run_laws.specs.Rules.{Faultless}
 use Rattle.run_laws.proofs.Accepted.Trace.{NoneWrong, recorded_right}
 use Rattle.run_laws.proofs.Depth.Granted.{same_count}
@@ -26,8 +19,6 @@ use Rattle.run_laws.proofs.Claims.Sums.{Claimed}
 use Rattle.run_laws.proofs.Live.Claimed.{claims_live, entries_live}
 use Rattle.run_laws.proofs.Runs.Events.{Happens, StepsFrame, begins, nothing, steps}
 use Rattle.run_laws.proofs.Runs.Roots.{root_told}
-use Rattle.model.specs.Action.{Action}
-use Rattle.model.specs.Fault.{first_fault}
 use Rattle.run_laws.proofs.Runs.Faultless.{recorded_faultless}
 use Rattle.run_laws.proofs.Runs.Kept.{GoesOnBy, with_queued}
 use Rattle.run_laws.proofs.States.Frames.{IsGood}

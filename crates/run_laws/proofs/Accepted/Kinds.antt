@@ -1,21 +1,5 @@
 -- Registers from which something may be taken are of their kinds, in the words of the law.
-use Rattle.std.proofs.Common.{◌≡◌, ℕ, true, suc, ◌+◌, List, Option, None, Some, refl, subst, sym, arith, is_some}
-use Rattle.std.specs.Prelude.{slice_get}
-use Rattle.model.specs.declared.abs.Abs.{Abs}
-use Rattle.model.specs.declared.abs.Kind.{Kind}
-use Rattle.model.specs.declared.abs.Kind.TheVariants.{Blank as BlankKind, Num as NumKind, Lower}
-use Rattle.model.specs.declared.world.Activation.{Activation}
-use Rattle.model.specs.declared.world.Frame.TheVariants.{Routine}
-use Rattle.model.specs.declared.world.Packet.{Packet}
-use Rattle.model.specs.declared.world.Value.{Value}
-use Rattle.model.specs.declared.world.Value.TheVariants.{Ref}
-use Rattle.model.specs.Kinds.{is_packet}
-use Rattle.model.specs.LocalRule.{kind_of}
-use Rattle.model.specs.Run.{frames_on}
-use Rattle.model.specs.Set.{Set, member}
-use Rattle.model.specs.Shown.{MayBeTaken}
-use Rattle.model.specs.Trace.{Entry}
-use Rattle.model.specs.World.{Shared, World, packet_of, register}
+use Rattle.run_laws.specs.Prelude.{arith, refl, subst, sym, List, None, Option, Some, is_some, slice_get, suc, true, ℕ, ◌+◌, ◌≡◌, is_packet, kind_of, frames_on, Set, member, MayBeTaken, Entry, Shared, World, packet_of, register, Abs, Kind, BlankKind, Lower, NumKind, Activation, Routine, Packet, Value, Ref}
 use Rattle.run_laws.specs.ArrivingStates.{States}
 use Rattle.run_laws.specs.KindsAgree.{IsOfKind, NamesLive}
 use Rattle.run_laws.proofs.Accepted.Keeps.{Keeps}

@@ -1,11 +1,6 @@
 -- The one induction over the runs of an accepted set: no event stops one, and all that it keeps
 -- lasts.
-use Rattle.std.proofs.Common.{◌≡◌, ℕ, List, Some, None, true, false, refl, ap, sym, ◌∙◌, subst, Bool}
-use Rattle.std.specs.Prelude.{if◌then◌else◌}
-use Rattle.model.specs.declared.event.Event.{Event}
-use Rattle.model.specs.Events.{Change, effect}
-use Rattle.model.specs.Run.{Run, Answered, actor_on, goes, step, run, refused, thread_of}
-use Rattle.model.specs.Set.{Set}
+use Rattle.run_laws.specs.Prelude.{ap, refl, subst, sym, ◌∙◌, Bool, List, None, Some, false, if◌then◌else◌, true, ℕ, ◌≡◌, Change, effect, Answered, Run, actor_on, goes, refused, run, step, thread_of, Set, Event}
 use Rattle.run_laws.proofs.Accepted.Keeps.{Keeps, keeps_begun, goes_on_by, keeps_event, known_world, keeps_queued}
 use Rattle.run_laws.proofs.Certificates.Kept.{Tallied, tally_kept, tally_queued}
 use Rattle.run_laws.proofs.Certificates.Steps.{frame_due}

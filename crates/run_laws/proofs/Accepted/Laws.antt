@@ -1,17 +1,5 @@
 -- The laws of the runs of accepted sets, in their own words.
-use Rattle.std.proofs.Common.{◌≡◌, ◌≢◌, ℕ, ◌<◌, ◌≤◌, length, List, None, true, false, ap, sym, ◌∙◌, refl}
-use Rattle.std.specs.Prelude.{slice_get}
-use Rattle.model.specs.declared.event.Event.{Event}
-use Rattle.model.specs.declared.event.Event.TheVariants.{Step}
-use Rattle.model.specs.declared.event.Reply.{Reply}
-use Rattle.model.specs.declared.event.Reply.TheVariants.{Refused}
-use Rattle.model.specs.declared.world.Frame.TheVariants.{Walk, Cancel as CancelFrame}
-use Rattle.model.specs.Events.{effect}
-use Rattle.model.specs.Machine.{reply_to}
-use Rattle.model.specs.Run.{Run, Answered, frames_on, tags_on, step, run}
-use Rattle.model.specs.Set.{Set, member}
-use Rattle.model.specs.Sound.{IsSound}
-use Rattle.model.specs.Typable.{IsTypable}
+use Rattle.run_laws.specs.Prelude.{ap, refl, sym, ◌∙◌, List, None, false, length, slice_get, true, ℕ, ◌<◌, ◌≡◌, ◌≢◌, ◌≤◌, effect, reply_to, Answered, Run, frames_on, run, step, tags_on, Set, member, IsSound, IsTypable, Event, Step, Reply, Refused, CancelFrame, Walk}
 use Rattle.run_laws.specs.Holder.{HasOneHolder, PacketsHaveOneHolder}
 use Rattle.run_laws.specs.KindsAgree.{AcceptedRunsKeepKinds, RegistersAreOfTheirKinds}
 use Rattle.run_laws.specs.Lifetime.{KeepCertificates, ActivationsKeepTheirCertificate}

@@ -1,9 +1,5 @@
 -- Nothing in the trace of a run that goes on goes wrong.
-use Rattle.std.proofs.Common.{◌≡◌, ◌≢◌, zero, suc, List, [], ◌∷◌, true, false, ap, sym, ◌∙◌, arith}
-use Rattle.std.specs.Prelude.{All}
-use Rattle.std.specs.List.{list_any}
-use Rattle.model.specs.Action.{Action, GoesWrong}
-use Rattle.model.specs.Trace.{Entry, Actor, entry, recorded}
+use Rattle.run_laws.specs.Prelude.{ap, arith, sym, zero, ◌∙◌, list_any, All, List, [], false, suc, true, ◌∷◌, ◌≡◌, ◌≢◌, Action, GoesWrong, Actor, Entry, entry, recorded}
 use Rattle.run_laws.proofs.Lists.{Each}
 use Rattle.run_laws.proofs.States.Fine.{is_wrong}
 use Rattle.run_laws.proofs.Tests.{or_left, or_right}

@@ -1,20 +1,5 @@
 -- Every event does the same to worlds of runs of an accepted set that a machine may not tell apart.
-use Rattle.std.proofs.Common.{◌≡◌, ℕ, suc, ◌<◌, arith, subst, Bool, true, false, List, [], ◌∷◌, ◌++◌, length, Option, None, Some, refl, sym, ◌∙◌, ap, is_some, nat_eq, inl, inr}
-use Rattle.std.specs.Prelude.{slice_get, if◌then◌else◌}
-use Rattle.std.proofs.lemmas.Bool.Decides.{eqb_tells}
-use Rattle.model.specs.declared.event.Event.{Event}
-use Rattle.model.specs.declared.event.Event.TheVariants.{Issue, Cancel as CancelEvent, Interrupt, Dpc as DpcEvent, StartIo as StartIoEvent, Step}
-use Rattle.model.specs.declared.event.Reply.{Reply}
-use Rattle.model.specs.declared.event.Reply.TheVariants.{Idle, Refused}
-use Rattle.model.specs.declared.set.Device.{Device}
-use Rattle.model.specs.declared.status.Major.{Major}
-use Rattle.model.specs.declared.world.Frame.{Frame}
-use Rattle.model.specs.declared.world.Packet.{Packet}
-use Rattle.model.specs.declared.world.Thread.{Thread}
-use Rattle.model.specs.Events.{Change, with_thread, with_new_packet, unchanged, is_idle, interrupted, interrupt_on, effect}
-use Rattle.model.specs.Set.{Set, dpc_of}
-use Rattle.model.specs.Trace.{Entry}
-use Rattle.model.specs.World.{new_packet, with_dpc, Shared, World, is_queued}
+use Rattle.run_laws.specs.Prelude.{ap, arith, inl, inr, refl, subst, sym, ◌∙◌, eqb_tells, Bool, List, None, Option, Some, [], false, if◌then◌else◌, is_some, length, nat_eq, slice_get, suc, true, ℕ, ◌++◌, ◌<◌, ◌∷◌, ◌≡◌, Change, effect, interrupt_on, interrupted, is_idle, unchanged, with_new_packet, with_thread, Set, dpc_of, Entry, Shared, World, is_queued, new_packet, with_dpc, Event, CancelEvent, DpcEvent, Interrupt, Issue, StartIoEvent, Step, Reply, Idle, Refused, Device, Major, Frame, Packet, Thread}
 use Rattle.run_laws.proofs.Accepted.Keeps.{Keeps}
 use Rattle.run_laws.proofs.Alike.Frames.{AlikeFrames, IsLive}
 use Rattle.run_laws.proofs.Alike.Outcomes.{alike_same}

@@ -1,21 +1,7 @@
 -- Frames that a machine may not tell apart: the same routines at the same positions, with registers
 -- that hold the same wherever something may be taken from them; or the I/O manager's, of the same
 -- packet while it is live.
-use Rattle.std.proofs.Common.{◌≡◌, ℕ, ◌-◌, Bool, true, false, List, [], ◌∷◌, length, Option, None, Some, refl, sym, ◌∙◌, subst, is_some}
-use Rattle.std.specs.Prelude.{⊤, slice_set}
-use Rattle.std.proofs.lemmas.List.{length-set}
-use Rattle.model.specs.declared.abs.Kind.{Kind}
-use Rattle.model.specs.declared.abs.Kind.TheVariants.{Blank as BlankKind}
-use Rattle.model.specs.declared.status.Status.{Status}
-use Rattle.model.specs.declared.world.Activation.{Activation}
-use Rattle.model.specs.declared.world.Frame.{Frame}
-use Rattle.model.specs.declared.world.Frame.TheVariants.{Routine, Walk, Cancel as CancelFrame}
-use Rattle.model.specs.declared.world.Value.{Value}
-use Rattle.model.specs.declared.world.Value.TheVariants.{Status as StatusValue}
-use Rattle.model.specs.Effect.{operand_of, answered_in, answered}
-use Rattle.model.specs.Set.{Set, instruction_at}
-use Rattle.model.specs.Shown.{told_register}
-use Rattle.model.specs.World.{Shared, packet_of}
+use Rattle.run_laws.specs.Prelude.{refl, subst, sym, ◌-◌, ◌∙◌, length-set, Bool, List, None, Option, Some, [], false, is_some, length, slice_set, true, ℕ, ⊤, ◌∷◌, ◌≡◌, answered, answered_in, operand_of, Set, instruction_at, told_register, Shared, packet_of, Kind, BlankKind, Status, Activation, Frame, CancelFrame, Routine, Walk, Value, StatusValue}
 use Rattle.run_laws.proofs.Alike.Registers.{SameRegisters, same_turn, same_told}
 use Rattle.run_laws.proofs.States.Frames.{state_of}
 use Rattle.run_laws.specs.ArrivingStates.{States}

@@ -1,11 +1,5 @@
 -- Runs of an accepted set that a machine may not tell apart go on alike.
-use Rattle.std.proofs.Common.{◌≡◌, ℕ, Bool, List, ap, sym, ◌∙◌, subst}
-use Rattle.std.specs.Prelude.{if◌then◌else◌}
-use Rattle.model.specs.declared.event.Event.{Event}
-use Rattle.model.specs.Events.{effect}
-use Rattle.model.specs.Run.{Run, Answered, refused, run, step}
-use Rattle.model.specs.Set.{Set}
-use Rattle.model.specs.World.{Shared, World}
+use Rattle.run_laws.specs.Prelude.{ap, subst, sym, ◌∙◌, Bool, List, if◌then◌else◌, ℕ, ◌≡◌, effect, Answered, Run, refused, run, step, Set, Shared, World, Event}
 use Rattle.run_laws.specs.AlikeRuns.{AlikeRunsGoOnAlike, GoOnAlike}
 use Rattle.run_laws.proofs.Accepted.Lasts.{GoesOn, Lasts, goes_on_at, lasts}
 use Rattle.run_laws.proofs.Alike.Events.{effects_alike}

@@ -1,19 +1,7 @@
 -- A packet that was issued before an event and is live after it was live before it; and what a step
 -- touches is live.
-use Rattle.std.proofs.Common.{◌≡◌, inl, inr, ℕ, ◌<◌, Bool, true, false, List, [], ◌∷◌, Option, None, Some, is_some, refl, sym, ◌∙◌}
-use Rattle.std.specs.Prelude.{◌||◌, nat_eq, slice_get}
-use Rattle.std.proofs.lemmas.Bool.{cases_Bool}
-use Rattle.model.specs.declared.event.BugCheck.TheVariants.{IrqlNotLessOrEqual}
-use Rattle.model.specs.declared.event.Subject.TheVariants.{Packet as PacketSubject}
-use Rattle.model.specs.declared.world.Packet.{Packet}
-use Rattle.model.specs.Action.{Action, OnPacket, OfRoutine, Touch, TopOut, Execute}
-use Rattle.model.specs.Effect.{top_of}
-use Rattle.model.specs.Events.{Change}
-use Rattle.model.specs.Fault.{bug_if, topped, tops}
-use Rattle.model.specs.Run.{root_of}
-use Rattle.model.specs.Set.{Set}
-use Rattle.model.specs.Trace.{Entry, Actor, Managing, entry, recorded}
-use Rattle.model.specs.World.{Shared, World, packet_of}
+use Rattle.run_laws.specs.Prelude.{inl, inr, refl, sym, ◌∙◌, cases_Bool, Bool, List, None, Option, Some, [], false, is_some, nat_eq, slice_get, true, ℕ, ◌<◌, ◌||◌, ◌∷◌, ◌≡◌, Action, Execute, OfRoutine, OnPacket, TopOut, Touch, top_of, Change, bug_if, topped, root_of, Set, Actor, Entry, Managing, entry, recorded, Shared, World, packet_of, IrqlNotLessOrEqual, PacketSubject, Packet}
+use Rattle.model.specs.Fault.{tops}
 use Rattle.run_laws.proofs.Accepted.Keeps.{Keeps, goes_on_by}
 use Rattle.run_laws.proofs.Alike.Frames.{IsLive}
 use Rattle.run_laws.proofs.Alike.Routines.{TouchesLive, first_touch}

@@ -1,23 +1,6 @@
 -- What a step leaves of a routine's frame that a machine may not tell from another one: the same
 -- but for what stands in registers from which nothing may be taken.
-use Rattle.std.proofs.Common.{◌≡◌, ◌⊎◌, ℕ, ◌+◌, Bool, true, false, List, [], ◌∷◌, length, Option, None, Some, refl, sym, ◌∙◌, ap, subst}
-use Rattle.std.specs.Prelude.{nat_lt, slice_set}
-use Rattle.std.proofs.lemmas.List.{length-set}
-use Rattle.model.specs.declared.abs.Kind.{Kind}
-use Rattle.model.specs.declared.abs.Kind.TheVariants.{Num as NumKind}
-use Rattle.model.specs.declared.instr.Instr.{Instr}
-use Rattle.model.specs.declared.instr.Instr.TheVariants.{End}
-use Rattle.model.specs.declared.world.Activation.{Activation}
-use Rattle.model.specs.declared.world.Frame.{Frame}
-use Rattle.model.specs.declared.world.Frame.TheVariants.{Routine, Walk, Cancel as CancelFrame}
-use Rattle.model.specs.declared.world.OpenLoop.{OpenLoop}
-use Rattle.model.specs.declared.world.Value.{Value}
-use Rattle.model.specs.declared.world.Value.TheVariants.{Num}
-use Rattle.model.specs.Effect.{Outcome, goes_wrong, turned}
-use Rattle.model.specs.Kinds.{is_blank}
-use Rattle.model.specs.LocalRule.{handed}
-use Rattle.model.specs.Set.{Set, flow_of, label_of}
-use Rattle.model.specs.World.{Shared, register, next, at_label, with_register, innermost}
+use Rattle.run_laws.specs.Prelude.{ap, refl, subst, sym, ◌∙◌, length-set, Bool, List, None, Option, Some, [], false, length, nat_lt, slice_set, true, ℕ, ◌+◌, ◌∷◌, ◌≡◌, ◌⊎◌, Outcome, goes_wrong, turned, is_blank, handed, Set, flow_of, label_of, Shared, at_label, innermost, next, register, with_register, Kind, NumKind, Instr, End, Activation, Frame, CancelFrame, Routine, Walk, OpenLoop, Value, Num}
 use Rattle.run_laws.proofs.Alike.Frames.{AlikeFrame, AlikeFrames, AlikeActivation}
 use Rattle.run_laws.proofs.Alike.Registers.{SameRegisters, same_get, same_set, same_refl, same_handed, same_labelled, operand_some}
 use Rattle.run_laws.proofs.States.Frames.{Runs, state_of}

@@ -1,25 +1,7 @@
 -- Whether the I/O manager has a packet need not be shown: it has what nothing else holds. So worlds
 -- of runs of an accepted set that a machine may not tell apart share the same.
-use Rattle.std.proofs.Common.{◌≡◌, inl, inr, ℕ, zero, suc, ◌+◌, Bool, true, false, List, [], ◌∷◌, Option, None, Some, refl, sym, ◌∙◌, ap, arith, map}
-use Rattle.std.specs.Prelude.{slice_get, slice_index_or, slice_set, if◌then◌else◌}
-use Rattle.std.proofs.lemmas.Bool.{eq-eqb}
-use Rattle.std.proofs.lemmas.Bool.Decides.{eqb_tells}
-use Rattle.model.specs.declared.abs.Kind.{Kind}
-use Rattle.model.specs.declared.abs.Kind.TheVariants.{Blank as BlankKind, Num as NumKind, Lower, View}
-use Rattle.model.specs.declared.status.Status.{Status}
-use Rattle.model.specs.declared.status.Status.TheVariants.{Success}
-use Rattle.model.specs.declared.world.Activation.{Activation}
-use Rattle.model.specs.declared.world.Frame.{Frame}
-use Rattle.model.specs.declared.world.Frame.TheVariants.{Routine, Walk, Cancel as CancelFrame}
-use Rattle.model.specs.declared.world.Packet.{Packet}
-use Rattle.model.specs.declared.world.Thread.{Thread}
-use Rattle.model.specs.declared.world.Value.{Value}
-use Rattle.model.specs.declared.world.Value.TheVariants.{Ref, Status as StatusValue}
-use Rattle.model.specs.Effect.{answered_in}
-use Rattle.model.specs.Kinds.{is_blank, is_right}
-use Rattle.model.specs.Set.{Set}
-use Rattle.model.specs.Shown.{ShownPacket, shown_packet}
-use Rattle.model.specs.World.{Shared, World, packet_of}
+use Rattle.run_laws.specs.Prelude.{ap, arith, inl, inr, map, refl, sym, zero, ◌∙◌, eq-eqb, eqb_tells, Bool, List, None, Option, Some, [], false, if◌then◌else◌, slice_get, slice_index_or, slice_set, suc, true, ℕ, ◌+◌, ◌∷◌, ◌≡◌, answered_in, is_blank, is_right, Set, shown_packet, Shared, World, packet_of, Kind, BlankKind, Lower, NumKind, View, Status, Success, Activation, Frame, CancelFrame, Routine, Walk, Packet, Thread, Value, Ref, StatusValue}
+use Rattle.model.specs.Shown.{ShownPacket}
 use Rattle.run_laws.specs.Holder.{frame_rights, named_as, rights, stack_sum, thread_sum, times_named, times_waiting}
 use Rattle.run_laws.proofs.Alike.Frames.{AlikeFrame, AlikeFrames, waiting_for}
 use Rattle.run_laws.proofs.Alike.Registers.{SameRegisters}

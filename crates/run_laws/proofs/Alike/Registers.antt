@@ -1,22 +1,6 @@
 -- Registers that hold the same wherever their kind says that something may be taken from them; and
 -- an instruction that breaks no rule leaves such registers such.
-use Rattle.std.proofs.Common.{◌≡◌, ℕ, zero, suc, true, false, List, [], ◌∷◌, None, Some, refl, sym, subst}
-use Rattle.std.specs.Prelude.{⊤, slice_index_or, slice_set}
-use Rattle.model.specs.declared.abs.Abs.{Abs}
-use Rattle.model.specs.declared.abs.Kind.{Kind}
-use Rattle.model.specs.declared.abs.Kind.TheVariants.{Blank as BlankKind, Num as NumKind, Lower, New, Own, Queued}
-use Rattle.model.specs.declared.abs.Stage.TheVariants.{Armed}
-use Rattle.model.specs.declared.instr.Instr.{Instr}
-use Rattle.model.specs.declared.instr.Instr.TheVariants.{Const, Move, Clear, Load, LoadPaged, Get, Mark, Release, Insert, Remove, Unlink, Arm, Disarm, Start, Take, Begin, Pass, Call, Complete, ReleaseCancel, Dequeue}
-use Rattle.model.specs.declared.set.Guard.{Guard}
-use Rattle.model.specs.declared.set.Guard.TheVariants.{DeviceLock, CancelLock}
-use Rattle.model.specs.declared.set.QueueName.TheVariants.{Declared}
-use Rattle.model.specs.declared.set.Sort.{Sort}
-use Rattle.model.specs.declared.world.Value.{Value}
-use Rattle.model.specs.declared.world.Value.TheVariants.{Blank}
-use Rattle.model.specs.Kinds.{is_blank, is_packet, left_behind, all_let_go, let_go, kind_disarmed, kind_inserted}
-use Rattle.model.specs.LocalRule.{kind_of, refuses, marked, given_down, handed, handed_at_label}
-use Rattle.model.specs.Set.{Set, cancel_routine_of}
+use Rattle.run_laws.specs.Prelude.{refl, subst, sym, zero, List, None, Some, [], false, slice_index_or, slice_set, suc, true, ℕ, ⊤, ◌∷◌, ◌≡◌, all_let_go, is_blank, is_packet, kind_disarmed, kind_inserted, left_behind, let_go, given_down, handed, handed_at_label, kind_of, marked, refuses, Set, cancel_routine_of, Abs, Kind, BlankKind, Lower, New, NumKind, Own, Queued, Armed, Instr, Arm, Begin, Call, Clear, Complete, Const, Dequeue, Disarm, Get, Insert, Load, LoadPaged, Mark, Move, Pass, Release, ReleaseCancel, Remove, Start, Take, Unlink, Guard, CancelLock, DeviceLock, Declared, Sort, Value, Blank}
 use Rattle.run_laws.proofs.Lists.{copied}
 use Rattle.run_laws.proofs.States.Kinds.{packet_wanted}
 use Rattle.run_laws.proofs.Steps.Words.{keeps_registers, packet_operand}

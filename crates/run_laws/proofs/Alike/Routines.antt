@@ -1,32 +1,7 @@
 -- A step does the same to routines that a machine may not tell apart, over frames below that it may
 -- not tell apart either.
-use Rattle.std.proofs.Common.{◌≡◌, ◌⊎◌, inl, inr, ℕ, ◌+◌, ◌<◌, true, false, List, [], ◌∷◌, ◌++◌, length, Option, None, Some, refl, sym, subst, ◌∙◌, ap, is_some}
-use Rattle.std.specs.Prelude.{⊤, nat_lt, slice_get, slice_set, not}
-use Rattle.std.proofs.lemmas.List.{length-set}
-use Rattle.model.specs.declared.abs.Kind.{Kind}
-use Rattle.model.specs.declared.abs.Kind.TheVariants.{Lower as LowerKind, Blank as BlankKind}
-use Rattle.model.specs.declared.abs.Rule.{Rule}
-use Rattle.model.specs.declared.event.Lock.TheVariants.{SystemCancel}
-use Rattle.model.specs.declared.instr.Instr.{Instr}
-use Rattle.model.specs.declared.instr.Instr.TheVariants.{Const, Move, Clear, Add, Subtract, JumpIfZero, JumpIfLess, Jump, Loop, End, Load, Store, LoadPaged, StorePaged, Get, Put, Mark, Acquire, Release, AcquireCancel, ReleaseCancel, Insert, Remove, Unlink, Arm, Disarm, IfCancel, Start, Take, Begin, Next, Pass, Call, Complete, IfPending, Ret, Dequeue}
-use Rattle.model.specs.declared.instr.Return.{Return}
-use Rattle.model.specs.declared.instr.Return.TheVariants.{WithStatus, Lower, Continue, Stop, Void}
-use Rattle.model.specs.declared.limits.TheConstants.{MAX_LOOPS}
-use Rattle.model.specs.declared.set.Sort.{Sort}
-use Rattle.model.specs.declared.set.Sort.TheVariants.{Dispatch, StartIo, Dpc, Propagate, Hold, Cancel}
-use Rattle.model.specs.declared.status.Status.{Status}
-use Rattle.model.specs.declared.world.Activation.{Activation}
-use Rattle.model.specs.declared.world.Frame.{Frame}
-use Rattle.model.specs.declared.world.Frame.TheVariants.{Routine, Walk, Cancel as CancelFrame}
-use Rattle.model.specs.declared.world.Packet.{Packet}
-use Rattle.model.specs.declared.world.Value.{Value}
-use Rattle.model.specs.declared.world.Value.TheVariants.{Blank}
-use Rattle.model.specs.Action.{Action, OnPacket, OfRoutine, Touch, Execute}
-use Rattle.model.specs.Effect.{Outcome, arm_effect, ask_effect, begin_effect, call_effect, complete_effect, difference_of, disarm_effect, get_effect, insert_effect, instruction_effect, is_less_at, is_walk, is_zero_at, jump_effect, let_on, look_effect, mark_effect, number_effect, pass_effect, put_effect, return_effect, return_lower, spin_lock, start_effect, store_effect, store_paged_effect, sum_of, unlink_effect, routine_effect, frame_effect, dequeue_effect}
-use Rattle.model.specs.Kinds.{is_blank, is_lower}
-use Rattle.model.specs.LocalRule.{kind_of, broken_if, duty_fault}
-use Rattle.model.specs.Set.{Set, cancel_routine_of, lower_of, sort_of, instruction_at}
-use Rattle.model.specs.World.{Shared, innermost, register, packet_of, packet_in, number_in, status_in, queue_of, start_of, owner_of}
+use Rattle.run_laws.specs.Prelude.{ap, inl, inr, refl, subst, sym, ◌∙◌, length-set, List, None, Option, Some, [], false, is_some, length, nat_lt, not, slice_get, slice_set, true, ℕ, ⊤, ◌++◌, ◌+◌, ◌<◌, ◌∷◌, ◌≡◌, ◌⊎◌, Action, Execute, OfRoutine, OnPacket, Touch, Outcome, arm_effect, ask_effect, begin_effect, call_effect, complete_effect, dequeue_effect, difference_of, disarm_effect, frame_effect, get_effect, insert_effect, instruction_effect, is_less_at, is_walk, is_zero_at, jump_effect, let_on, look_effect, mark_effect, number_effect, pass_effect, put_effect, return_effect, return_lower, routine_effect, spin_lock, start_effect, store_effect, store_paged_effect, sum_of, unlink_effect, is_blank, is_lower, broken_if, duty_fault, kind_of, Set, cancel_routine_of, instruction_at, lower_of, sort_of, Shared, innermost, number_in, owner_of, packet_in, packet_of, queue_of, register, start_of, status_in, Kind, BlankKind, LowerKind, Rule, SystemCancel, Instr, Acquire, AcquireCancel, Add, Arm, Begin, Call, Clear, Complete, Const, Dequeue, Disarm, End, Get, IfCancel, IfPending, Insert, Jump, JumpIfLess, JumpIfZero, Load, LoadPaged, Loop, Mark, Move, Next, Pass, Put, Release, ReleaseCancel, Remove, Ret, Start, Store, StorePaged, Subtract, Take, Unlink, Return, Continue, Stop, Void, WithStatus, MAX_LOOPS, Sort, Cancel, Dispatch, Dpc, Hold, Propagate, StartIo, Status, Activation, Frame, CancelFrame, Routine, Walk, Packet, Value, Blank}
+use Rattle.model.specs.declared.instr.Return.TheVariants.{Lower}
 use Rattle.run_laws.proofs.Alike.Frames.{AlikeActivation, AlikeFrame, IsLive}
 use Rattle.run_laws.proofs.Alike.Outcomes.{AlikeOutcome, by_same, by_one, wrong, packet_same, number_same, on_next, on_number, on_set, on_label}
 use Rattle.run_laws.proofs.Alike.Registers.{SameRegisters, same_get, same_move}

@@ -1,22 +1,6 @@
 -- What shows a world of a run of an accepted set, and shows another one, can't tell them apart; and
 -- the other way round.
-use Rattle.std.proofs.Common.{◌≡◌, ◌≢◌, ℕ, zero, suc, Bool, true, false, List, [], ◌∷◌, length, Option, None, Some, refl, sym, ◌∙◌, ap, map}
-use Rattle.std.specs.Prelude.{slice_index_or, slice_set}
-use Rattle.std.proofs.lemmas.List.{get_or-set_other}
-use Rattle.model.specs.declared.abs.Kind.{Kind}
-use Rattle.model.specs.declared.abs.Kind.TheVariants.{Blank as BlankKind}
-use Rattle.model.specs.declared.status.Status.{Status}
-use Rattle.model.specs.declared.status.Status.TheVariants.{Success}
-use Rattle.model.specs.declared.world.Activation.{Activation}
-use Rattle.model.specs.declared.world.Frame.{Frame}
-use Rattle.model.specs.declared.world.Value.{Value}
-use Rattle.model.specs.declared.world.Value.TheVariants.{Blank, Num, Ref, Status as StatusValue}
-use Rattle.model.specs.Effect.{answered_in}
-use Rattle.model.specs.Kinds.{is_blank}
-use Rattle.model.specs.LocalRule.{kind_of}
-use Rattle.model.specs.Set.{Set}
-use Rattle.model.specs.Shown.{MayBeTaken, Reads, blank_register, told_register, whole_register}
-use Rattle.model.specs.World.{register}
+use Rattle.run_laws.specs.Prelude.{ap, map, refl, sym, zero, ◌∙◌, get_or-set_other, Bool, List, None, Option, Some, [], false, length, slice_index_or, slice_set, suc, true, ℕ, ◌∷◌, ◌≡◌, ◌≢◌, answered_in, is_blank, kind_of, Set, MayBeTaken, Reads, blank_register, told_register, whole_register, register, Kind, BlankKind, Status, Success, Activation, Frame, Value, Blank, Num, Ref, StatusValue}
 use Rattle.run_laws.proofs.Alike.Frames.{waiting_for}
 use Rattle.run_laws.proofs.Alike.Registers.{SameRegisters}
 use Rattle.run_laws.proofs.States.Frames.{IsGood, Ready, state_of}

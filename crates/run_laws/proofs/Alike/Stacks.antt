@@ -1,14 +1,6 @@
 -- Threads that a machine may not tell apart: their frames from the lowest on, and what stands below
 -- the top ones, which is told what it is to know.
-use Rattle.std.proofs.Common.{◌≡◌, ℕ, zero, suc, ◌<◌, List, [], ◌∷◌, ◌++◌, Option, None, Some, refl, ◌∙◌, ap, subst}
-use Rattle.std.specs.Prelude.{⊤, slice_get, slice_set}
-use Rattle.model.specs.declared.status.Status.{Status}
-use Rattle.model.specs.declared.world.Frame.{Frame}
-use Rattle.model.specs.declared.world.Frame.TheVariants.{Routine, Walk, Cancel as CancelFrame}
-use Rattle.model.specs.declared.world.Thread.{Thread}
-use Rattle.model.specs.Effect.{told_to, told_top}
-use Rattle.model.specs.Set.{Set}
-use Rattle.model.specs.World.{Shared}
+use Rattle.run_laws.specs.Prelude.{ap, refl, subst, zero, ◌∙◌, List, None, Option, Some, [], slice_get, slice_set, suc, ℕ, ⊤, ◌++◌, ◌<◌, ◌∷◌, ◌≡◌, told_to, told_top, Set, Shared, Status, Frame, CancelFrame, Routine, Walk, Thread}
 use Rattle.run_laws.proofs.Alike.Frames.{AlikeFrame, AlikeFrames, IsLive, above_in}
 use Rattle.run_laws.proofs.Lists.{Each, before_last, last_of}
 use Rattle.run_laws.proofs.Past.Walks.{WalkIssued}

@@ -1,16 +1,5 @@
 -- A step does the same to threads that a machine may not tell apart.
-use Rattle.std.proofs.Common.{◌≡◌, ℕ, ◌-◌, ◌<◌, Bool, true, false, List, [], ◌∷◌, ◌++◌, length, take, Option, None, Some, refl, sym, ◌∙◌, ap, subst, append-nil}
-use Rattle.model.specs.declared.set.Sort.{Sort}
-use Rattle.model.specs.declared.set.Sort.TheVariants.{Dispatch, StartIo, Dpc, Propagate, Hold, Cancel}
-use Rattle.model.specs.declared.status.Status.{Status}
-use Rattle.model.specs.declared.world.Activation.{Activation}
-use Rattle.model.specs.declared.world.Frame.{Frame}
-use Rattle.model.specs.declared.world.Frame.TheVariants.{Routine, Walk, Cancel as CancelFrame}
-use Rattle.model.specs.Effect.{Outcome, frame_effect, walk_packet, cancel_step, told_to, kept_below, top_of}
-use Rattle.model.specs.Events.{standing}
-use Rattle.model.specs.LocalRule.{is_completion}
-use Rattle.model.specs.Set.{Set, sort_of}
-use Rattle.model.specs.World.{Shared, packet_of}
+use Rattle.run_laws.specs.Prelude.{ap, append-nil, refl, subst, sym, take, ◌-◌, ◌∙◌, Bool, List, None, Option, Some, [], false, length, true, ℕ, ◌++◌, ◌<◌, ◌∷◌, ◌≡◌, Outcome, cancel_step, frame_effect, kept_below, told_to, top_of, walk_packet, standing, is_completion, Set, sort_of, Shared, packet_of, Sort, Cancel, Dispatch, Dpc, Hold, Propagate, StartIo, Status, Activation, Frame, CancelFrame, Routine, Walk}
 use Rattle.run_laws.proofs.Alike.Frames.{AlikeFrame, AlikeFrames, IsLive, above_in, is_routine, alike_told, alike_under, alike_still, alike_unless}
 use Rattle.run_laws.proofs.Alike.Outcomes.{AlikeOutcome, outcome_same}
 use Rattle.run_laws.proofs.Alike.Routines.{AlikeUnder, TouchesLive, live_of, routine_steps}

@@ -1,25 +1,7 @@
 -- A machine that keeps one world of a run of an accepted set whole shows another exactly where the
 -- two can't be told apart.
-use Rattle.std.proofs.Common.{◌≡◌, ◌≢◌, ℕ, suc, false, List, [], ◌∷◌, length, Option, None, Some, refl, sym, ◌∙◌, ap, subst, map}
-use Rattle.std.specs.Prelude.{slice_get, slice_index_or, slice_set}
-use Rattle.std.proofs.lemmas.List.{get_or-set_other, length-set}
-use Rattle.model.specs.declared.abs.Abs.{Abs}
-use Rattle.model.specs.declared.abs.Kind.TheVariants.{Blank as BlankKind}
-use Rattle.model.specs.declared.limits.TheConstants.{REGISTERS}
-use Rattle.model.specs.declared.status.Status.TheVariants.{Success}
-use Rattle.model.specs.declared.world.Activation.{Activation}
-use Rattle.model.specs.declared.world.Frame.{Frame}
-use Rattle.model.specs.declared.world.Frame.TheVariants.{Routine, Walk, Cancel as CancelFrame}
-use Rattle.model.specs.declared.world.OpenLoop.{OpenLoop}
-use Rattle.model.specs.declared.world.Thread.{Thread}
-use Rattle.model.specs.declared.world.Value.TheVariants.{Blank, Status as StatusValue}
-use Rattle.model.specs.Effect.{answered_in}
-use Rattle.model.specs.Kinds.{is_blank}
-use Rattle.model.specs.LocalRule.{kind_of}
-use Rattle.model.specs.Set.{Set}
-use Rattle.model.specs.Shown.{MayBeTaken, Reads, ShownActivation, ShownRegister, ShowsFrame, ShowsFrames, ShowsRoutine, ShowsThreads, ShowsWorld, blank_register, shown_packet, told_register, whole, whole_frame, whole_register, whole_thread}
-use Rattle.model.specs.Trace.{Entry}
-use Rattle.model.specs.World.{Shared, World, register}
+use Rattle.run_laws.specs.Prelude.{ap, map, refl, subst, sym, ◌∙◌, get_or-set_other, length-set, List, None, Option, Some, [], false, length, slice_get, slice_index_or, slice_set, suc, ℕ, ◌∷◌, ◌≡◌, ◌≢◌, answered_in, is_blank, kind_of, Set, MayBeTaken, Reads, ShowsWorld, blank_register, shown_packet, told_register, whole, whole_register, Entry, Shared, World, register, Abs, BlankKind, REGISTERS, Success, Activation, Frame, CancelFrame, Routine, Walk, OpenLoop, Thread, Blank, StatusValue}
+use Rattle.model.specs.Shown.{ShownActivation, ShownRegister, ShowsFrame, ShowsFrames, ShowsRoutine, ShowsThreads, whole_frame, whole_thread}
 use Rattle.run_laws.proofs.Accepted.Keeps.{Keeps}
 use Rattle.run_laws.proofs.Alike.Frames.{AlikeActivation, AlikeFrame, AlikeFrames, waiting_for}
 use Rattle.run_laws.proofs.Alike.Packets.{packets_alike}

@@ -1,27 +1,6 @@
 -- An instruction does the same to routines that a machine may not tell apart: it takes nothing from
 -- registers in which they differ.
-use Rattle.std.proofs.Common.{◌≡◌, ℕ, Bool, true, false, List, [], ◌∷◌, length, Option, None, Some, refl, is_none, not}
-use Rattle.std.specs.Prelude.{nat_eq, slice_get, if◌then◌else◌, ◌&&◌}
-use Rattle.model.specs.declared.set.QueueName.TheVariants.{Declared, DeviceQueue}
-use Rattle.model.specs.declared.abs.Kind.TheVariants.{Own}
-use Rattle.model.specs.declared.event.Lock.{Lock}
-use Rattle.model.specs.declared.instr.Field.{Field}
-use Rattle.model.specs.declared.instr.Instr.{Instr}
-use Rattle.model.specs.declared.instr.Instr.TheVariants.{Loop, End, Load, LoadPaged, Get, Remove, Take}
-use Rattle.model.specs.declared.status.Status.{Status}
-use Rattle.model.specs.declared.world.Activation.{Activation}
-use Rattle.model.specs.declared.world.Cells.{Cells}
-use Rattle.model.specs.declared.world.Frame.TheVariants.{Routine, Walk}
-use Rattle.model.specs.declared.world.OpenLoop.{OpenLoop}
-use Rattle.model.specs.declared.world.Packet.{Packet}
-use Rattle.model.specs.declared.world.Value.{Value}
-use Rattle.model.specs.declared.world.Value.TheVariants.{Ref}
-use Rattle.model.specs.Action.{Action, Acquires}
-use Rattle.model.specs.Effect.{acquire_effect, dispatched, arm_effect, arm_packet, asks, ask_effect, ask_packet, begin_effect, call_effect, call_packet, complete_effect, complete_packet, disarm_effect, disarm_packet, get_effect, get_packet, goes_on, insert_effect, jump_effect, load_effect, load_paged_effect, look_effect, look_packet, end_effect, mark_effect, mark_packet, next_effect, number_effect, pass_effect, pass_packet, put_effect, put_packet, release_effect, remove_effect, remove_from, start_effect, store_effect, store_paged_effect, take_effect, take_from, unlink_effect, waits, goes_wrong, start_waiting, start_packet, next_packet, next_waiting, next_disarmed, dequeue_effect}
-use Rattle.model.specs.Kinds.{kind_removed}
-use Rattle.model.specs.Queues.{StartState, has_room_to_start, has_room_for_next}
-use Rattle.model.specs.Set.{Set, cancel_routine_of, flow_of, label_of, has_cancel}
-use Rattle.model.specs.World.{Shared, asked_of, current_location, next, at_label, innermost, with_loops, packet_of}
+use Rattle.run_laws.specs.Prelude.{refl, Bool, List, None, Option, Some, [], false, if◌then◌else◌, is_none, length, nat_eq, not, slice_get, true, ℕ, ◌&&◌, ◌∷◌, ◌≡◌, Acquires, Action, acquire_effect, arm_effect, arm_packet, ask_effect, ask_packet, asks, begin_effect, call_effect, call_packet, complete_effect, complete_packet, dequeue_effect, disarm_effect, disarm_packet, dispatched, end_effect, get_effect, get_packet, goes_on, goes_wrong, insert_effect, jump_effect, load_effect, load_paged_effect, look_effect, look_packet, mark_effect, mark_packet, next_disarmed, next_effect, next_packet, next_waiting, number_effect, pass_effect, pass_packet, put_effect, put_packet, release_effect, remove_effect, remove_from, start_effect, start_packet, start_waiting, store_effect, store_paged_effect, take_effect, take_from, unlink_effect, waits, kind_removed, StartState, has_room_for_next, has_room_to_start, Set, cancel_routine_of, flow_of, has_cancel, label_of, Shared, asked_of, at_label, current_location, innermost, next, packet_of, with_loops, Own, Lock, Field, Instr, End, Get, Load, LoadPaged, Loop, Remove, Take, Declared, DeviceQueue, Status, Activation, Cells, Routine, Walk, OpenLoop, Packet, Value, Ref}
 use Rattle.run_laws.proofs.Alike.Frames.{AlikeFrames, AlikeActivation, alike_under}
 use Rattle.run_laws.proofs.Alike.Outcomes.{AlikeOutcome, alike_self, stays, wrong, on_next, on_set, on_kept, on_number, on_label, on_turn}
 use Rattle.run_laws.proofs.Alike.Registers.{SameRegisters}

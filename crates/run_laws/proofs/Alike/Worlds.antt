@@ -1,17 +1,6 @@
 -- Worlds of runs of an accepted set that a machine may not tell apart: a step of a thread leaves
 -- such worlds, and is answered alike.
-use Rattle.std.proofs.Common.{◌≡◌, ℕ, ◌-◌, ◌<◌, List, [], ◌∷◌, ◌++◌, length, take, Option, None, Some, refl, sym, ◌∙◌, ap, subst}
-use Rattle.std.specs.Prelude.{slice_get}
-use Rattle.model.specs.declared.event.Reply.{Reply}
-use Rattle.model.specs.declared.event.Reply.TheVariants.{Idle, Refused}
-use Rattle.model.specs.declared.world.Frame.{Frame}
-use Rattle.model.specs.declared.world.Irql.{Irql}
-use Rattle.model.specs.declared.world.Thread.{Thread}
-use Rattle.model.specs.Effect.{Outcome, frame_effect, top_of}
-use Rattle.model.specs.Events.{Change, unchanged, finished_or, root_over, with_stack, with_thread, standing, settled, top_effect, step_thread}
-use Rattle.model.specs.Set.{Set}
-use Rattle.model.specs.Trace.{Entry}
-use Rattle.model.specs.World.{Shared, World}
+use Rattle.run_laws.specs.Prelude.{ap, refl, subst, sym, take, ◌-◌, ◌∙◌, List, None, Option, Some, [], length, slice_get, ℕ, ◌++◌, ◌<◌, ◌∷◌, ◌≡◌, Outcome, frame_effect, top_of, Change, finished_or, root_over, settled, standing, step_thread, top_effect, unchanged, with_stack, with_thread, Set, Entry, Shared, World, Reply, Idle, Refused, Frame, Irql, Thread}
 use Rattle.run_laws.proofs.Accepted.Keeps.{Keeps}
 use Rattle.run_laws.proofs.Alike.Frames.{AlikeFrames, AlikeFrame, IsLive}
 use Rattle.run_laws.proofs.Alike.Lives.{lives_before, touches_live}

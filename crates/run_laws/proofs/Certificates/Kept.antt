@@ -1,17 +1,6 @@
 -- Every activation of a run of an accepted set keeps its routine's certificate.
-use Rattle.std.proofs.Common.{◌≡◌, ℕ, zero, suc, ◌+◌, List, [], ◌∷◌, ◌++◌, Some, refl, ap, sym, ◌∙◌, subst, arith, true, ◌≤◌, inl, inr, None}
-use Rattle.std.specs.Prelude.{All, slice_get, slice_set}
-use Rattle.std.proofs.lemmas.List.{set-get_or, append-nil, append_assoc}
-use Rattle.model.specs.declared.world.Activation.{Activation}
-use Rattle.model.specs.declared.world.Frame.{Frame}
-use Rattle.model.specs.declared.world.Frame.TheVariants.{Routine, Walk, Cancel as CancelFrame}
-use Rattle.model.specs.declared.world.Irql.{Irql}
-use Rattle.model.specs.Effect.{Outcome, told_to, top_of}
-use Rattle.model.specs.Events.{Change, unchanged, settled, standing, with_stack, with_thread}
-use Rattle.model.specs.Run.{Run, actor_on, activations_after, frames_on, goes, tags_after, tags_on, top_tag}
-use Rattle.model.specs.Set.{Set}
-use Rattle.model.specs.declared.event.Reply.TheVariants.{Idle}
-use Rattle.model.specs.Trace.{Entry, Tag, Managing, Activated, recorded}
+use Rattle.run_laws.specs.Prelude.{ap, arith, inl, inr, refl, subst, sym, zero, ◌∙◌, append_assoc, set-get_or, get_or_from_slice_get, All, List, None, Some, [], slice_get, slice_set, suc, true, ℕ, ◌++◌, ◌+◌, ◌∷◌, ◌≡◌, ◌≤◌, Outcome, told_to, top_of, Change, settled, standing, unchanged, with_stack, with_thread, Run, activations_after, actor_on, frames_on, goes, tags_after, tags_on, top_tag, Set, Activated, Entry, Managing, Tag, recorded, World, Idle, Activation, Frame, CancelFrame, Routine, Walk, Irql, Thread}
+use Rattle.std.proofs.lemmas.List.{append-nil}
 use Rattle.run_laws.specs.Lifetime.{AreOneRoutine, IsOneRoutine, KeepsCertificate, StandsWithin}
 use Rattle.run_laws.proofs.Certificates.Owed.{executed_in, Follows, follows_idle, follows_step, Pays, IsFresh, follows_stop}
 use Rattle.run_laws.proofs.Certificates.Steps.{frame_due, pays, told_alike}
@@ -27,9 +16,6 @@ use Rattle.run_laws.proofs.States.Frames.{IsGood}
 use Rattle.run_laws.specs.ArrivingStates.{States}
 use Rattle.run_laws.proofs.States.Standing.{Standing, on_top, root_there}
 use Rattle.run_laws.proofs.Steps.Below.{stood}
-use Rattle.std.proofs.lemmas.Option.{get_or_from_slice_get}
-use Rattle.model.specs.declared.world.Thread.{Thread}
-use Rattle.model.specs.World.{World}
 
 -- the tags of a thread whose top frame is known
 record TopTag (given : List Tag) (below : List Frame) (f : Frame) (row : List Tag) : Type 0 where

@@ -1,20 +1,8 @@
 -- What the frames that stand still owe under each activation's number, and what it is after a step.
 -- How much a frame owes is any measure of it here.
-use Rattle.std.proofs.Common.{◌≡◌, ℕ, zero, suc, ◌+◌, ◌<◌, ◌≤◌, inl, inr, List, [], ◌∷◌, ◌++◌, Option, Some, Bool, true, false, refl, ap, sym, ◌∙◌, arith, nat_eq}
-use Rattle.std.specs.Prelude.{⊤, slice_get, slice_set, if◌then◌else◌}
-use Rattle.std.proofs.lemmas.Bool.Decides.{eqb_tells}
-use Rattle.model.specs.declared.world.Activation.{Activation}
-use Rattle.model.specs.declared.world.Frame.{Frame}
-use Rattle.model.specs.declared.world.Frame.TheVariants.{Routine, Walk, Cancel as CancelFrame}
-use Rattle.model.specs.declared.world.Thread.{Thread}
-use Rattle.model.specs.Action.{Action}
-use Rattle.model.specs.Certificate.{certificate_of}
-use Rattle.model.specs.Run.{activations_after, counted_kept, kept_tag, tags_after}
-use Rattle.model.specs.Set.{Set}
-use Rattle.model.specs.Trace.{Entry, Actor, Serving, Tag, Managing, Activated, entry, recorded}
+use Rattle.run_laws.specs.Prelude.{ap, arith, inl, inr, refl, sym, zero, ◌∙◌, eqb_tells, Bool, List, Option, Some, [], false, if◌then◌else◌, nat_eq, slice_get, slice_set, suc, true, ℕ, ⊤, ◌++◌, ◌+◌, ◌<◌, ◌∷◌, ◌≡◌, ◌≤◌, Action, certificate_of, activations_after, counted_kept, kept_tag, tags_after, Set, Activated, Actor, Entry, Managing, Serving, Tag, entry, recorded, Activation, Canceller, Frame, CancelFrame, Routine, Walk, Thread}
 use Rattle.run_laws.specs.Lifetime.{is_activation, instructions_in, executions}
 use Rattle.run_laws.proofs.Certificates.Tags.{IsAmong, Fits, Matched, Numbered, fresh_tags, fresh_matched, fresh_numbered, fits_more, matched_more, matched_append, among_right, numbered_from}
-use Rattle.model.specs.declared.world.Canceller.{Canceller}
 use Rattle.run_laws.proofs.Tests.{if_none, if_le}
 
 -- a number of one tag

@@ -1,24 +1,6 @@
 -- What a step executes is paid for by what its frame had left to execute, and a routine that begins
 -- has its certificate left.
-use Rattle.std.proofs.Common.{inr, inl, ◌≡◌, ℕ, ◌+◌, ◌<◌, ◌≤◌, List, [], ◌∷◌, Option, None, Some, true, false, refl, ap, sym, subst, arith, drop, ◌-◌}
-use Rattle.std.specs.Prelude.{slice_set}
-use Rattle.model.specs.declared.event.Lock.{Lock}
-use Rattle.model.specs.declared.instr.Instr.{Instr}
-use Rattle.model.specs.declared.instr.Instr.TheVariants.{Acquire, Release, AcquireCancel, ReleaseCancel, Loop, End, Put, Mark, Pass, Call, Complete, Ret}
-use Rattle.model.specs.declared.set.Routine.{Routine as RoutineOf}
-use Rattle.model.specs.declared.status.Status.{Status}
-use Rattle.model.specs.declared.world.Activation.{Activation}
-use Rattle.model.specs.declared.world.Frame.{Frame}
-use Rattle.model.specs.declared.world.Packet.{Packet}
-use Rattle.model.specs.declared.abs.Abs.{Abs}
-use Rattle.model.specs.declared.instr.Return.TheVariants.{Continue, Stop, Void}
-use Rattle.model.specs.declared.world.Frame.TheVariants.{Routine, Walk, Cancel as CancelFrame}
-use Rattle.model.specs.declared.world.Value.{Value}
-use Rattle.model.specs.declared.world.Value.TheVariants.{Status as StatusValue}
-use Rattle.model.specs.Effect.{Outcome, answered_in, asks, turned, operand_of, told_to}
-use Rattle.model.specs.Loops.{open_at}
-use Rattle.model.specs.Set.{Set, routine_of, instruction_at, flow_of, lower_of}
-use Rattle.model.specs.World.{Shared, asked_of, current_location, next, register}
+use Rattle.run_laws.specs.Prelude.{ap, arith, drop, inl, inr, refl, subst, sym, ◌-◌, List, None, Option, Some, [], false, slice_set, true, ℕ, ◌+◌, ◌<◌, ◌∷◌, ◌≡◌, ◌≤◌, Outcome, answered_in, asks, operand_of, told_to, turned, open_at, Set, flow_of, instruction_at, lower_of, routine_of, Shared, asked_of, current_location, next, register, Abs, Lock, Instr, Acquire, AcquireCancel, Call, Complete, End, Loop, Mark, Pass, Put, Release, ReleaseCancel, Ret, Continue, Stop, Void, RoutineOf, Status, Activation, CancelStep, Frame, CancelFrame, Routine, Walk, Packet, Value, StatusValue}
 use Rattle.run_laws.proofs.Past.Packets.{named}
 use Rattle.run_laws.proofs.Certificates.Owed.{executed_in, Alike, AllAlike, self_alike, Pays}
 use Rattle.run_laws.proofs.States.Entering.{begins_lower, begins_back, begins_lent}
@@ -34,7 +16,6 @@ use Rattle.run_laws.proofs.Steps.Comes.{Executing, Comes, errs, awaits_lock, com
 use Rattle.run_laws.proofs.Steps.Words.{lock_taken, lock_freed}
 use Rattle.run_laws.proofs.States.Queueing.{queue_moves, MovedOn}
 use Rattle.run_laws.proofs.Steps.Queues.{queued_touches}
-use Rattle.model.specs.declared.world.CancelStep.{CancelStep}
 use Rattle.run_laws.proofs.States.Cancelled.{begins_called}
 use Rattle.run_laws.proofs.Steps.Comes.{works_on_waiting}
 use Rattle.run_laws.proofs.States.Queueing.{waits_move}

@@ -1,13 +1,6 @@
 -- The tags of the frames that stand: that of a routine's frame names its own routine, under a
 -- number that no other activation has.
-use Rattle.std.proofs.Common.{◌≡◌, ℕ, zero, suc, ◌+◌, ◌≤◌, ◌⊎◌, inl, inr, List, [], ◌∷◌, ◌++◌, Some, refl, sym, subst, arith}
-use Rattle.std.specs.Prelude.{⊤, Option, slice_get}
-use Rattle.model.specs.declared.world.Activation.{Activation}
-use Rattle.model.specs.declared.world.Frame.{Frame}
-use Rattle.model.specs.declared.world.Frame.TheVariants.{Routine, Walk, Cancel as CancelFrame}
-use Rattle.model.specs.Run.{tags_after, activations_after}
-use Rattle.model.specs.Set.{Set}
-use Rattle.model.specs.Trace.{Entry, Serving, Tag, Managing, Activated}
+use Rattle.run_laws.specs.Prelude.{arith, inl, inr, refl, subst, sym, zero, List, Option, Some, [], slice_get, suc, ℕ, ⊤, ◌++◌, ◌+◌, ◌∷◌, ◌≡◌, ◌≤◌, ◌⊎◌, activations_after, tags_after, Set, Activated, Entry, Managing, Serving, Tag, Activation, Frame, CancelFrame, Routine, Walk}
 
 -- a tag is among these
 abbrev pub IsAmong : Tag → List Tag → Type 0

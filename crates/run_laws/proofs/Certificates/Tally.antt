@@ -1,18 +1,7 @@
 -- What the activations of a run have executed, and what their frames still owe, are at most their
 -- certificates: kept by every event with which a run goes on. How much a frame owes is any measure
 -- of it here.
-use Rattle.std.proofs.Common.{◌≡◌, ℕ, zero, suc, ◌+◌, ◌<◌, ◌≤◌, inl, inr, List, [], ◌∷◌, ◌++◌, length, Some, refl, ap, sym, ◌∙◌, subst, arith}
-use Rattle.std.specs.Prelude.{⊤, slice_get, slice_set, slice_index_or, replicate}
-use Rattle.std.proofs.lemmas.Bool.{cases_eq}
-use Rattle.std.proofs.lemmas.List.{get_or-set_same, get_or-set_other, length-set, length-replicate}
-use Rattle.std.proofs.lemmas.Option.{slice_get_within, slice_get-get_or}
-use Rattle.model.specs.declared.world.Frame.{Frame}
-use Rattle.model.specs.declared.world.Thread.{Thread}
-use Rattle.model.specs.Action.{Action}
-use Rattle.model.specs.Run.{begun, frames_on, frames_of, tags_after, activations_after}
-use Rattle.model.specs.Set.{Set}
-use Rattle.model.specs.Trace.{Entry, Actor, Tag, Managing, Activated, entry, recorded}
-use Rattle.model.specs.World.{World, idle_thread}
+use Rattle.run_laws.specs.Prelude.{ap, arith, inl, inr, refl, subst, sym, zero, ◌∙◌, cases_eq, get_or-set_other, get_or-set_same, length-replicate, length-set, slice_get-get_or, slice_get_within, List, Some, [], length, replicate, slice_get, slice_index_or, slice_set, suc, ℕ, ⊤, ◌++◌, ◌+◌, ◌<◌, ◌∷◌, ◌≡◌, ◌≤◌, Action, activations_after, begun, frames_of, frames_on, tags_after, Set, Activated, Actor, Entry, Managing, Tag, entry, recorded, World, idle_thread, Frame, Thread}
 use Rattle.run_laws.specs.Lifetime.{AreOneRoutine, KeepsCertificate, executions}
 use Rattle.run_laws.proofs.Lists.{set_same, set_other}
 use Rattle.run_laws.proofs.Runs.Threads.{idle_frames}

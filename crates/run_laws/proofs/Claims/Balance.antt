@@ -1,18 +1,9 @@
 -- What a step does to the numbers of claims: one register's packet becomes of another kind, and
 -- with it the packet's word may change, and whether it stands in a queue of the device. Each kind
 -- of step keeps the balance.
-use Rattle.std.proofs.Common.{◌≡◌, ℕ, ◌+◌, ◌≤◌, ◌⊎◌, inl, inr, Bool, true, false, refl, sym, ◌∙◌, arith, subst, eq-eqb, ◌≢◌, ap}
-use Rattle.std.specs.Prelude.{nat_eq, if◌then◌else◌}
-use Rattle.std.proofs.lemmas.Bool.Decides.{eqb_tells}
-use Rattle.model.specs.declared.abs.Stage.{Stage}
-use Rattle.model.specs.declared.abs.Kind.{Kind}
-use Rattle.model.specs.declared.abs.Kind.TheVariants.{Blank as BlankKind, Own, Queued}
-use Rattle.model.specs.declared.abs.Stage.TheVariants.{Listed, Armed, Taken, Cancelling}
-use Rattle.model.specs.declared.set.QueueName.{QueueName}
-use Rattle.model.specs.declared.set.QueueName.TheVariants.{Declared, DeviceQueue}
-use Rattle.model.specs.declared.world.Value.TheVariants.{Ref}
-use Rattle.model.specs.Kinds.{is_at, is_name, is_claim, stage_number}
-use Rattle.model.specs.Set.{Set}
+use Rattle.run_laws.specs.Prelude.{ap, arith, inl, inr, refl, subst, sym, ◌∙◌, eqb_tells, Bool, false, if◌then◌else◌, nat_eq, true, ℕ, ◌+◌, ◌≡◌, ◌≢◌, ◌≤◌, ◌⊎◌, is_at, is_claim, is_name, Set, Kind, BlankKind, Own, Queued, Stage, Armed, Cancelling, Listed, Taken, QueueName, Declared, DeviceQueue, Ref}
+use Rattle.std.proofs.Common.{eq-eqb}
+use Rattle.model.specs.Kinds.{stage_number}
 use Rattle.run_laws.specs.Holder.{named_as}
 use Rattle.run_laws.proofs.Claims.Sums.{Balanced, Numbers, is_cancelable, was_taken, is_declared}
 

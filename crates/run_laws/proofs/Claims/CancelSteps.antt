@@ -1,20 +1,6 @@
 -- The steps of IoCancelIrp keep claims, and so does a packet that tops out: the cancel routine that
 -- is called has the right that the word had.
-use Rattle.std.proofs.Common.{◌≡◌, ℕ, ◌+◌, ◌≤◌, Bool, true, false, List, [], ◌∷◌, Option, None, Some, refl, ap, sym, ◌∙◌, subst, arith, inl, inr, ◌<◌, cond}
-use Rattle.std.specs.Prelude.{nat_eq, slice_get, if◌then◌else◌}
-use Rattle.std.proofs.lemmas.Bool.Decides.{eqb_tells}
-use Rattle.model.specs.declared.abs.Kind.{Kind}
-use Rattle.model.specs.declared.abs.Kind.TheVariants.{Blank as BlankKind, Queued}
-use Rattle.model.specs.declared.abs.Stage.TheVariants.{Cancelling, Armed, Taken}
-use Rattle.model.specs.declared.world.Activation.{Activation}
-use Rattle.model.specs.declared.world.Frame.{Frame}
-use Rattle.model.specs.declared.world.Frame.TheVariants.{Routine, Walk, Cancel as CancelFrame}
-use Rattle.model.specs.declared.world.Value.TheVariants.{Ref}
-use Rattle.model.specs.Effect.{routine_of_device, Outcome}
-use Rattle.model.specs.Kinds.{is_at, is_name}
-use Rattle.model.specs.Set.{Set, cancel_routine_named, cancels_for}
-use Rattle.model.specs.Trace.{Entry}
-use Rattle.model.specs.World.{Shared, World, packet_of, with_armer, with_packet, entered, without_packet}
+use Rattle.run_laws.specs.Prelude.{ap, arith, cond, inl, inr, refl, subst, sym, ◌∙◌, eqb_tells, Bool, List, None, Option, Some, [], false, if◌then◌else◌, nat_eq, slice_get, true, ℕ, ◌+◌, ◌<◌, ◌∷◌, ◌≡◌, ◌≤◌, Outcome, routine_of_device, is_at, is_name, Set, cancel_routine_named, cancels_for, Entry, Shared, World, entered, packet_of, with_armer, with_packet, without_packet, Abs, Kind, BlankKind, Queued, Armed, Cancelling, Taken, QueueName, Cancel, Activation, Armer, Canceller, Frame, CancelFrame, Routine, Walk, Packet, Ref}
 use Rattle.run_laws.specs.Holder.{named_as, named_in, stack_sum, thread_sum, times_waiting, frame_rights}
 use Rattle.run_laws.proofs.Claims.Balance.{KindTurns, at_kind, at_swapped, balanced_calls, once_turned}
 use Rattle.run_laws.proofs.Claims.Held.{word_holds}
@@ -32,13 +18,7 @@ use Rattle.run_laws.proofs.States.Fine.{StepLeaves}
 use Rattle.run_laws.proofs.States.Frames.{IsGood}
 use Rattle.run_laws.specs.ArrivingStates.{States}
 use Rattle.run_laws.proofs.States.Standing.{Standing}
-use Rattle.model.specs.declared.set.QueueName.{QueueName}
-use Rattle.model.specs.declared.world.Armer.{Armer}
-use Rattle.model.specs.declared.world.Packet.{Packet}
 use Rattle.run_laws.proofs.Past.Packets.{found}
-use Rattle.model.specs.declared.world.Canceller.{Canceller}
-use Rattle.model.specs.declared.set.Sort.TheVariants.{Cancel}
-use Rattle.model.specs.declared.abs.Abs.{Abs}
 use Rattle.run_laws.proofs.Claims.Changed.{changed}
 use Rattle.run_laws.proofs.Claims.WordSteps.{word_emptied}
 use Rattle.run_laws.proofs.States.Entering.{Begins, begins_cancelled, cancelled_name, first_state}

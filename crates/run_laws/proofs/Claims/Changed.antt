@@ -1,18 +1,6 @@
 -- The sums of names over threads after a step: those of the frame that ran go, and those of the
 -- frames in place of it come.
-use Rattle.std.proofs.Common.{◌≡◌, ℕ, ◌+◌, ◌-◌, Bool, List, [], ◌∷◌, ◌++◌, Option, None, Some, refl, ap, ◌∙◌, arith, inl, inr}
-use Rattle.std.specs.Prelude.{slice_set, if◌then◌else◌}
-use Rattle.model.specs.declared.abs.Kind.{Kind}
-use Rattle.model.specs.declared.status.Status.{Status}
-use Rattle.model.specs.declared.world.Activation.{Activation}
-use Rattle.model.specs.declared.world.Frame.{Frame}
-use Rattle.model.specs.declared.world.Frame.TheVariants.{Routine, Walk, Cancel as CancelFrame}
-use Rattle.model.specs.declared.world.Thread.{Thread}
-use Rattle.model.specs.Effect.{Outcome, answered_in, operand_of, told_to}
-use Rattle.model.specs.Events.{standing, with_stack}
-use Rattle.model.specs.Set.{Set, instruction_at}
-use Rattle.model.specs.Trace.{Entry}
-use Rattle.model.specs.World.{World}
+use Rattle.run_laws.specs.Prelude.{ap, arith, inl, inr, refl, ◌-◌, ◌∙◌, Bool, List, None, Option, Some, [], if◌then◌else◌, slice_set, ℕ, ◌++◌, ◌+◌, ◌∷◌, ◌≡◌, Outcome, answered_in, operand_of, told_to, standing, with_stack, Set, instruction_at, Entry, World, Kind, Status, Activation, Frame, CancelFrame, Routine, Walk, Thread}
 use Rattle.run_laws.specs.Holder.{stack_sum, thread_sum}
 use Rattle.run_laws.proofs.Claims.Names.{OfQueues, queue_packets}
 use Rattle.run_laws.proofs.Claims.Sums.{frame_names}

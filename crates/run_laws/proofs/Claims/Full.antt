@@ -1,28 +1,9 @@
 -- A queue, a start list and a device queue have room for a packet that a routine has the right to,
 -- and the start list for the first one of the device queue: the packet and the entries are
 -- different live packets, and there are no more of these than a list takes.
-use Rattle.std.proofs.Common.{true, ◌≡◌, ◌≤◌, ◌+◌, ℕ, Bool, false, List, [], ◌∷◌, length, Option, None, Some, refl, ap, arith, subst, ◌∙◌, ◌++◌, inl, inr}
-use Rattle.std.specs.Prelude.{nat_eq, not, if◌then◌else◌, ⊤, ◌&&◌}
-use Rattle.std.proofs.lemmas.List.{length-append}
-use Rattle.model.specs.declared.abs.Kind.{Kind}
-use Rattle.model.specs.declared.abs.Kind.TheVariants.{Blank as BlankKind, Own}
-use Rattle.model.specs.declared.instr.Instr.{Instr}
-use Rattle.model.specs.declared.instr.Instr.TheVariants.{Insert, Start}
-use Rattle.model.specs.declared.limits.TheConstants.{MAX_ENTRIES, MAX_LIVE_PACKETS}
-use Rattle.model.specs.declared.world.Activation.{Activation}
-use Rattle.model.specs.declared.world.Frame.{Frame}
-use Rattle.model.specs.declared.world.Frame.TheVariants.{Routine, Walk, Cancel as CancelFrame}
-use Rattle.model.specs.declared.world.Packet.{Packet}
-use Rattle.model.specs.declared.world.Value.{Value}
-use Rattle.model.specs.declared.world.Value.TheVariants.{Ref}
-use Rattle.model.specs.Action.{Action}
-use Rattle.model.specs.Effect.{Outcome}
-use Rattle.model.specs.Kinds.{is_right}
-use Rattle.model.specs.LocalRule.{handed, kind_of}
-use Rattle.model.specs.Queues.{StartState, inserted, is_full, room_for_next}
-use Rattle.model.specs.Set.{Set, flow_of, cancel_routine_of}
-use Rattle.model.specs.Trace.{Entry}
-use Rattle.model.specs.World.{Shared, start_of, queue_of, register, World}
+use Rattle.run_laws.specs.Prelude.{ap, arith, inl, inr, refl, subst, ◌∙◌, cases_Bool, length-append, Bool, List, None, Option, Some, [], false, if◌then◌else◌, length, nat_eq, not, option_map, true, ℕ, ⊤, ◌&&◌, ◌++◌, ◌+◌, ◌∷◌, ◌≡◌, ◌≤◌, Action, Outcome, is_right, handed, kind_of, StartState, inserted, is_full, Set, cancel_routine_of, flow_of, has_cancel, Entry, Shared, World, queue_of, register, start_of, Kind, BlankKind, Own, Instr, Insert, Start, MAX_LIVE_PACKETS, QueueName, Declared, DeviceQueue, Activation, Armer, Frame, CancelFrame, Routine, Walk, Packet, Value, Ref}
+use Rattle.model.specs.declared.limits.TheConstants.{MAX_ENTRIES}
+use Rattle.model.specs.Queues.{room_for_next}
 use Rattle.run_laws.specs.Holder.{times_at, times_in, times_waiting, named_in, named_as}
 use Rattle.run_laws.proofs.Claims.Held.{is_own, owns_in, rights_cover, word_holds}
 use Rattle.run_laws.proofs.Claims.Sums.{Claimed, frame_names, is_cancelable, times_of}
@@ -52,12 +33,6 @@ use Rattle.run_laws.proofs.Holders.Counts.{right_lives}
 use Rattle.run_laws.proofs.Holders.Started.{waits_in}
 use Rattle.run_laws.proofs.Steps.Comes.{Waits, arms_waiting, disarms_next, starts_gone, dequeues_packet, works_on_waiting, waits_armed}
 use Rattle.run_laws.specs.Holder.{times_at, times_started, times_to_start, times_listed, waits_cancelable}
-use Rattle.std.specs.Prelude.{option_map}
-use Rattle.std.proofs.lemmas.Bool.{cases_Bool}
-use Rattle.model.specs.declared.world.Armer.{Armer}
-use Rattle.model.specs.Set.{has_cancel}
-use Rattle.model.specs.declared.set.QueueName.{QueueName}
-use Rattle.model.specs.declared.set.QueueName.TheVariants.{DeviceQueue, Declared}
 
 -- a list has room for a packet, where that and the entries are different live packets
 room_for : (s : Shared) → length s.packets ≤ MAX_LIVE_PACKETS → (entries : List ℕ) (n : ℕ)

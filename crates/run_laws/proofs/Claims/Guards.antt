@@ -1,35 +1,9 @@
 -- A register has a packet of a queue with a cancel routine, that stands in it or was taken off it,
 -- only while its thread holds the guard of the queue. So where a thread holds the guard, no other
 -- frame of the device has such a packet.
-use Rattle.std.proofs.Common.{◌≡◌, ◌≢◌, ℕ, zero, suc, ◌+◌, ◌-◌, ◌<◌, Bool, true, false, List, [], ◌∷◌, ◌++◌, length, Option, None, Some, refl, ap, sym, ◌∙◌, subst, arith, eqb-true, eq-eqb, inl, inr}
-use Rattle.std.specs.Prelude.{nat_eq, slice_get, slice_index_or}
-use Rattle.std.specs.List.{list_any}
-use Rattle.std.proofs.lemmas.Bool.{cases_Bool}
+use Rattle.run_laws.specs.Prelude.{ap, arith, eqb-true, inl, inr, refl, subst, sym, zero, ◌-◌, ◌∙◌, cases_Bool, list_any, Bool, List, None, Option, Some, [], false, length, nat_eq, slice_get, slice_index_or, suc, true, ℕ, ◌++◌, ◌+◌, ◌<◌, ◌∷◌, ◌≡◌, ◌≢◌, answered_in, operand_of, holds, is_at, is_name, is_stage, is_guarded, frames_of, frames_on, Set, guard_named, instruction_at, member, routine_of, Entry, Locks, World, Kind, BlankKind, Queued, Stage, Lock, Spin, SystemCancel, Device, Guard, CancelLock, DeviceLock, QueueName, RoutineOf, Status, Success, Activation, Frame, CancelFrame, Routine, Walk, Thread}
+use Rattle.std.proofs.Common.{eq-eqb}
 use Rattle.run_laws.proofs.Tests.{and_left, and_right}
-use Rattle.model.specs.declared.abs.Stage.{Stage}
-use Rattle.model.specs.declared.abs.Kind.{Kind}
-use Rattle.model.specs.declared.abs.Kind.TheVariants.{Blank as BlankKind, Queued}
-use Rattle.model.specs.declared.event.Lock.{Lock}
-use Rattle.model.specs.declared.event.Lock.TheVariants.{Spin, SystemCancel}
-use Rattle.model.specs.declared.set.Device.{Device}
-use Rattle.model.specs.declared.set.Guard.{Guard}
-use Rattle.model.specs.declared.set.Guard.TheVariants.{DeviceLock, CancelLock}
-use Rattle.model.specs.declared.set.QueueName.{QueueName}
-use Rattle.model.specs.declared.set.Routine.{Routine as RoutineOf}
-use Rattle.model.specs.declared.status.Status.{Status}
-use Rattle.model.specs.declared.status.Status.TheVariants.{Success}
-use Rattle.model.specs.declared.world.Activation.{Activation}
-use Rattle.model.specs.declared.world.Frame.{Frame}
-use Rattle.model.specs.declared.world.Frame.TheVariants.{Routine, Walk, Cancel as CancelFrame}
-use Rattle.model.specs.declared.world.Thread.{Thread}
-use Rattle.model.specs.Effect.{answered_in, operand_of}
-use Rattle.model.specs.Fault.{holds}
-use Rattle.model.specs.Kinds.{is_at, is_name, is_stage}
-use Rattle.model.specs.LocalRule.{is_guarded}
-use Rattle.model.specs.Run.{frames_of, frames_on}
-use Rattle.model.specs.Set.{Set, guard_named, instruction_at, member, routine_of}
-use Rattle.model.specs.Trace.{Entry}
-use Rattle.model.specs.World.{Locks, World}
 use Rattle.run_laws.specs.Holder.{stack_sum, thread_sum}
 use Rattle.run_laws.proofs.Claims.Names.{names}
 use Rattle.run_laws.proofs.Claims.Sums.{frame_names, names_on}

@@ -1,22 +1,7 @@
 -- What the holders of packets say of claims: a register at the stage Listed or Cancelling, one of
 -- kind Own, and a cancel word that isn't empty hold the packet, and it has one holder.
-use Rattle.std.proofs.Common.{◌≡◌, ℕ, ◌+◌, ◌≤◌, Bool, true, false, List, [], ◌∷◌, Option, None, Some, refl, ap, arith, eq-eqb}
-use Rattle.std.specs.Prelude.{nat_eq, is_some, if◌then◌else◌}
-use Rattle.model.specs.declared.set.QueueName.TheVariants.{Declared, DeviceQueue}
-use Rattle.model.specs.declared.abs.Kind.{Kind}
-use Rattle.model.specs.declared.abs.Kind.TheVariants.{Own, Queued}
-use Rattle.model.specs.declared.abs.Stage.TheVariants.{Listed, Taken, Cancelling, Armed}
-use Rattle.model.specs.declared.set.QueueName.{QueueName}
-use Rattle.model.specs.declared.set.QueueName.TheVariants.{Declared}
-use Rattle.model.specs.declared.world.Armer.{Armer}
-use Rattle.model.specs.declared.world.Frame.{Frame}
-use Rattle.model.specs.declared.world.Frame.TheVariants.{Routine, Walk, Cancel as CancelFrame}
-use Rattle.model.specs.declared.world.Packet.{Packet}
-use Rattle.model.specs.declared.world.Thread.{Thread}
-use Rattle.model.specs.declared.world.Value.{Value}
-use Rattle.model.specs.Kinds.{is_at, is_right}
-use Rattle.model.specs.Set.{Set}
-use Rattle.model.specs.World.{World, packet_of}
+use Rattle.run_laws.specs.Prelude.{ap, arith, refl, Bool, List, None, Option, Some, [], false, if◌then◌else◌, is_some, nat_eq, true, ℕ, ◌+◌, ◌∷◌, ◌≡◌, ◌≤◌, is_at, is_right, Set, World, packet_of, Kind, Own, Queued, Armed, Cancelling, Listed, Taken, QueueName, Declared, DeviceQueue, Armer, Frame, CancelFrame, Routine, Walk, Packet, Thread, Value}
+use Rattle.std.proofs.Common.{eq-eqb}
 use Rattle.run_laws.specs.Holder.{frame_rights, named_as, named_in, names as value_names, stack_sum, thread_sum, times_listed, times_named, times_queued, times_waiting, times_to_start}
 use Rattle.run_laws.proofs.Claims.Names.{names}
 use Rattle.run_laws.proofs.Claims.Queues.{queued_zero, to_start_zero}

@@ -1,26 +1,6 @@
 -- What an instruction does to the registers with packets of queues with a cancel routine: most do
 -- nothing, and those that do change the kind of one register.
-use Rattle.std.proofs.Common.{◌≡◌, ℕ, ◌+◌, ◌<◌, ◌≤◌, Bool, true, false, List, [], ◌∷◌, length, None, Some, refl, ap, sym, ◌∙◌, subst, arith}
-use Rattle.std.specs.Prelude.{slice_set, slice_index_or, if◌then◌else◌, ◌&&◌}
-use Rattle.model.specs.declared.abs.Stage.{Stage}
-use Rattle.model.specs.declared.abs.Abs.{Abs}
-use Rattle.model.specs.declared.abs.Kind.{Kind}
-use Rattle.model.specs.declared.abs.Kind.TheVariants.{Blank as BlankKind, Num as NumKind, Lower as LowerKind, New, Own, Queued}
-use Rattle.model.specs.declared.abs.Stage.TheVariants.{Armed}
-use Rattle.model.specs.declared.instr.Instr.{Instr}
-use Rattle.model.specs.declared.instr.Instr.TheVariants.{Add, Subtract, Const, Move, Clear, Load, LoadPaged, Get, Mark, Release, Insert, Remove, Unlink, Arm, Disarm, Start, Take, Begin, Pass, Call, Complete, ReleaseCancel, Dequeue}
-use Rattle.model.specs.declared.limits.TheConstants.{REGISTERS}
-use Rattle.model.specs.declared.set.Guard.{Guard}
-use Rattle.model.specs.declared.set.QueueName.{QueueName}
-use Rattle.model.specs.declared.world.Activation.{Activation}
-use Rattle.model.specs.declared.world.Value.{Value}
-use Rattle.model.specs.declared.world.Value.TheVariants.{Blank, Ref, Num}
-use Rattle.model.specs.Kinds.{all_let_go, is_at, is_guard, is_packet, let_go, is_stage}
-use Rattle.model.specs.LocalRule.{handed, handed_at_label, kind_of, marked, given_down, number_kind, refuses}
-use Rattle.model.specs.declared.set.Sort.{Sort}
-use Rattle.model.specs.Set.{Set, flow_of, guard_named, label_of, sort_of}
-use Rattle.model.specs.Sound.{OperandFits}
-use Rattle.model.specs.World.{Shared, at_label, next, register, with_register}
+use Rattle.run_laws.specs.Prelude.{ap, arith, refl, subst, sym, ◌∙◌, Bool, List, None, Some, [], false, if◌then◌else◌, length, slice_index_or, slice_set, true, ℕ, ◌&&◌, ◌+◌, ◌<◌, ◌∷◌, ◌≡◌, ◌≤◌, all_let_go, is_at, is_guard, is_packet, is_stage, let_go, given_down, handed, handed_at_label, kind_of, marked, number_kind, refuses, Set, flow_of, guard_named, label_of, sort_of, OperandFits, Shared, at_label, next, register, with_register, Abs, Kind, BlankKind, LowerKind, New, NumKind, Own, Queued, Stage, Armed, Instr, Add, Arm, Begin, Call, Clear, Complete, Const, Dequeue, Disarm, Get, Insert, Load, LoadPaged, Mark, Move, Pass, Release, ReleaseCancel, Remove, Start, Subtract, Take, Unlink, REGISTERS, Guard, QueueName, Sort, Activation, Value, Blank, Num, Ref}
 use Rattle.run_laws.specs.Holder.{named_as, named_in}
 use Rattle.run_laws.proofs.Claims.Sums.{was_taken}
 use Rattle.run_laws.proofs.Holders.Rights.{OfPackets, named_both, named_move, named_none, named_turn, named_write}

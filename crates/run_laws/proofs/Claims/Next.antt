@@ -2,36 +2,12 @@
 -- packets there have one: it stands in the queue, so that its word or the cancel routine has it;
 -- and while the routine holds the system cancel spin lock no other one has a packet that was handed
 -- to the cancel routine, nor has this one, which has the token of its device.
-use Rattle.std.proofs.Common.{◌≡◌, ◌≤◌, ℕ, Bool, true, false, List, [], ◌∷◌, Option, None, Some, refl, ap, sym, ◌∙◌, subst, arith, ◌+◌, eq-eqb}
-use Rattle.model.specs.Set.{Set, Member, cancel_routine_of, cancels_for, guard_named, has_cancel, member}
-use Rattle.model.specs.Queues.{StartState, head_of}
-use Rattle.model.specs.World.{World, packet_of, start_of}
-use Rattle.model.specs.Trace.{Entry}
-use Rattle.std.specs.Prelude.{option_map, not, ◌&&◌}
-use Rattle.model.specs.Paths.{Arrives}
-use Rattle.model.specs.Kinds.{is_at, is_stage, kind_disarmed, kind_inserted, kind_removed}
-use Rattle.model.specs.LocalRule.{entered_with, entry_of_sort, take_fault, waiting_fault, guard_fault, is_guarded, free_kind, given_down, handed, handed_at_label, kind_of, marked, refuses, broken_if}
-use Rattle.model.specs.declared.abs.Abs.{Abs}
-use Rattle.model.specs.declared.abs.Duty.TheVariants.{NoDuty, Fresh}
-use Rattle.model.specs.declared.abs.Kind.{Kind}
-use Rattle.model.specs.declared.abs.Kind.TheVariants.{Blank as BlankKind, New, Own, Queued, View}
-use Rattle.model.specs.declared.abs.Stage.{Stage}
-use Rattle.model.specs.declared.abs.Stage.TheVariants.{Listed, Armed, Taken, Cancelling}
+use Rattle.run_laws.specs.Prelude.{ap, arith, refl, subst, sym, ◌∙◌, Bool, List, None, Option, Some, [], false, not, option_map, true, ℕ, ◌&&◌, ◌+◌, ◌∷◌, ◌≡◌, ◌≤◌, is_at, is_stage, kind_disarmed, kind_inserted, kind_removed, broken_if, entered_with, entry_of_sort, free_kind, given_down, guard_fault, handed, handed_at_label, is_guarded, kind_of, marked, refuses, take_fault, Arrives, StartState, head_of, Member, Set, cancel_routine_of, cancels_for, guard_named, has_cancel, member, Entry, World, packet_of, start_of, Abs, Fresh, NoDuty, Kind, BlankKind, New, Own, Queued, View, GuardRule, Token, Open, SettledMark, Stage, Armed, Cancelling, Listed, Taken, Instr, Begin, Call, IfPending, Mark, Next, Pass, Take, QueueName, Declared, DeviceQueue, Sort, Cancel, Dispatch, Dpc, Hold, Propagate, StartIo, Activation, Armer, Frame, CancelFrame, Routine, Walk, Packet}
+use Rattle.std.proofs.Common.{eq-eqb}
+use Rattle.model.specs.LocalRule.{waiting_fault}
 use Rattle.run_laws.proofs.States.Listed.{stage_same}
 use Rattle.run_laws.proofs.Tests.{and_false}
-use Rattle.model.specs.declared.abs.Rule.TheVariants.{Guard as GuardRule, Sort as SortRule, Token}
-use Rattle.model.specs.declared.abs.Settled.TheVariants.{Settled as SettledMark, Open}
-use Rattle.model.specs.declared.instr.Instr.{Instr}
-use Rattle.model.specs.declared.instr.Instr.TheVariants.{Mark, Pass, Call, Take, Begin, Next, IfPending}
-use Rattle.model.specs.declared.set.QueueName.{QueueName}
-use Rattle.model.specs.declared.set.QueueName.TheVariants.{Declared, DeviceQueue}
-use Rattle.model.specs.declared.set.Sort.{Sort}
-use Rattle.model.specs.declared.set.Sort.TheVariants.{Dispatch, StartIo, Dpc, Propagate, Hold, Cancel}
-use Rattle.model.specs.declared.world.Activation.{Activation}
-use Rattle.model.specs.declared.world.Armer.{Armer}
-use Rattle.model.specs.declared.world.Frame.{Frame}
-use Rattle.model.specs.declared.world.Frame.TheVariants.{Routine, Walk, Cancel as CancelFrame}
-use Rattle.model.specs.declared.world.Packet.{Packet}
+use Rattle.model.specs.declared.abs.Rule.TheVariants.{Sort as SortRule}
 use Rattle.run_laws.specs.ArrivingStates.{States}
 use Rattle.run_laws.specs.Holder.{times_in}
 use Rattle.run_laws.proofs.Claims.Guards.{NeedsGuard, excluded, at_needs}

@@ -1,12 +1,7 @@
 -- A packet stands at most once in all lists together, and in none where it isn't live: who has it
 -- is a queue without a cancel routine, what a device has for StartIo, its cancel word, or a
 -- register.
-use Rattle.std.proofs.Common.{◌≡◌, ℕ, ◌+◌, ◌≤◌, Option, None, Some, refl, ap, arith}
-use Rattle.std.specs.Prelude.{if◌then◌else◌}
-use Rattle.model.specs.declared.world.Packet.{Packet}
-use Rattle.model.specs.Run.{Run}
-use Rattle.model.specs.Set.{Set}
-use Rattle.model.specs.World.{World, packet_of}
+use Rattle.run_laws.specs.Prelude.{ap, arith, refl, None, Option, Some, if◌then◌else◌, ℕ, ◌+◌, ◌≡◌, ◌≤◌, Run, Set, World, packet_of, Packet}
 use Rattle.run_laws.specs.Holder.{alive, frame_rights, is_live, thread_sum, times_listed, times_waiting}
 use Rattle.run_laws.proofs.Claims.Held.{none_alone, rights_cover}
 use Rattle.run_laws.proofs.Claims.Sums.{Claimed, takes_in}

@@ -1,26 +1,8 @@
 -- An instruction about queues keeps claims: a packet goes into a queue or off it, or to what a
 -- device has for StartIo.
-use Rattle.std.proofs.Common.{◌≡◌, ℕ, ◌+◌, ◌≤◌, Bool, true, false, List, [], ◌∷◌, Option, None, Some, refl, ap, ◌∙◌, subst, arith, inl, inr, eq-eqb}
-use Rattle.std.specs.Prelude.{nat_eq, if◌then◌else◌}
-use Rattle.std.specs.List.{list_any}
-use Rattle.model.specs.declared.abs.Kind.{Kind}
-use Rattle.model.specs.declared.abs.Kind.TheVariants.{Blank as BlankKind, Own, Queued}
-use Rattle.model.specs.declared.abs.Stage.TheVariants.{Listed, Taken, Cancelling, Armed}
-use Rattle.model.specs.declared.abs.Rule.TheVariants.{Guard as GuardRule}
-use Rattle.model.specs.declared.instr.Instr.{Instr}
-use Rattle.model.specs.declared.instr.Instr.TheVariants.{Insert, Remove, Unlink}
-use Rattle.model.specs.declared.set.QueueName.{QueueName}
-use Rattle.model.specs.declared.set.QueueName.TheVariants.{Declared, DeviceQueue}
-use Rattle.model.specs.declared.world.Activation.{Activation}
-use Rattle.model.specs.declared.world.Frame.TheVariants.{Routine}
-use Rattle.model.specs.declared.world.Value.TheVariants.{Ref}
-use Rattle.model.specs.Kinds.{is_at, kind_inserted, kind_removed, names_list}
-use Rattle.model.specs.LocalRule.{guard_fault, is_guarded, kind_of, unlink_kind}
-use Rattle.model.specs.Queues.{inserted, unlinked}
-use Rattle.model.specs.Set.{Set, cancel_routine_of, guard_named}
-use Rattle.model.specs.Sound.{OperandFits}
-use Rattle.model.specs.Trace.{Entry}
-use Rattle.model.specs.World.{World, next, queue_of, register, with_queue, with_register}
+use Rattle.run_laws.specs.Prelude.{ap, arith, inl, inr, refl, subst, ◌∙◌, list_any, Bool, List, None, Option, Some, [], false, if◌then◌else◌, nat_eq, true, ℕ, ◌+◌, ◌∷◌, ◌≡◌, ◌≤◌, is_at, kind_inserted, kind_removed, guard_fault, is_guarded, kind_of, unlink_kind, inserted, unlinked, Set, cancel_routine_of, guard_named, OperandFits, Entry, World, next, queue_of, register, with_queue, with_register, Kind, BlankKind, Own, Queued, GuardRule, Armed, Cancelling, Listed, Taken, Instr, Insert, Remove, Unlink, QueueName, Declared, DeviceQueue, Activation, Routine, Ref}
+use Rattle.std.proofs.Common.{eq-eqb}
+use Rattle.model.specs.Kinds.{names_list}
 use Rattle.run_laws.specs.Holder.{named_as, named_in, stack_sum, thread_sum, times_in, times_listed, times_waiting}
 use Rattle.run_laws.proofs.Claims.Balance.{KindTurns, balanced_cancels, balanced_inserts, balanced_joins, balanced_leaves, balanced_removes, balanced_unlinks, hit, once_turned}
 use Rattle.run_laws.proofs.Claims.Guards.{NeedsGuard, at_needs, excluded}

@@ -1,35 +1,6 @@
 -- Steps that leave the claims to packets as they are: the frames in place of the one that ran name
 -- the same packets of queues with a cancel routine, and cancel words and queues are as before.
-use Rattle.std.proofs.Common.{◌≡◌, ℕ, ◌+◌, ◌-◌, Bool, true, false, List, [], ◌∷◌, ◌++◌, Option, None, Some, refl, ap, sym, ◌∙◌, arith, inl, inr}
-use Rattle.std.specs.Prelude.{⊤, nat_eq, replicate, slice_get, if◌then◌else◌}
-use Rattle.std.specs.List.{list_any}
-use Rattle.std.proofs.lemmas.Bool.{cond_both}
-use Rattle.std.proofs.lemmas.Bool.Decides.{eqb_tells}
-use Rattle.model.specs.declared.abs.Stage.TheVariants.{Armed, Taken, Cancelling}
-use Rattle.model.specs.declared.abs.Abs.{Abs}
-use Rattle.model.specs.declared.abs.Kind.{Kind}
-use Rattle.model.specs.declared.abs.Kind.TheVariants.{Blank as BlankKind, New, Own, Queued, View}
-use Rattle.model.specs.declared.event.Lock.{Lock}
-use Rattle.model.specs.declared.instr.Instr.{Instr}
-use Rattle.model.specs.declared.instr.Instr.TheVariants.{Acquire, AcquireCancel, Call, Complete, End, Loop, Mark, Pass, Put, Ret}
-use Rattle.model.specs.declared.instr.Return.{Return}
-use Rattle.model.specs.declared.instr.Return.TheVariants.{Continue, Stop, Void}
-use Rattle.model.specs.declared.limits.TheConstants.{REGISTERS}
-use Rattle.model.specs.declared.set.QueueName.{QueueName}
-use Rattle.model.specs.declared.set.Sort.{Sort}
-use Rattle.model.specs.declared.set.Sort.TheVariants.{Cancel, Dispatch, Dpc, Hold, Propagate, StartIo}
-use Rattle.model.specs.declared.world.Activation.{Activation}
-use Rattle.model.specs.declared.world.Frame.{Frame}
-use Rattle.model.specs.declared.world.Frame.TheVariants.{Routine, Walk}
-use Rattle.model.specs.declared.world.Packet.{Packet}
-use Rattle.model.specs.declared.world.Value.{Value}
-use Rattle.model.specs.declared.world.Value.TheVariants.{Blank}
-use Rattle.model.specs.Effect.{Outcome, completes_with, dispatched, set_by, turned}
-use Rattle.model.specs.Kinds.{is_at}
-use Rattle.model.specs.LocalRule.{complete_kind, gives_back, handed, is_dropped, kind_of}
-use Rattle.model.specs.Set.{Set, cancels_for, flow_of, lower_of, sort_of}
-use Rattle.model.specs.Trace.{Actor, Entry}
-use Rattle.model.specs.World.{Shared, asked_of, completed, current_location, left_location, mark_current, moved_up, next, packet_of, register, sent_down, shared_with, with_info, with_loops, with_packet}
+use Rattle.run_laws.specs.Prelude.{ap, arith, inl, inr, refl, sym, ◌-◌, ◌∙◌, cond_both, eqb_tells, list_any, Bool, List, None, Option, Some, [], false, if◌then◌else◌, nat_eq, replicate, slice_get, true, ℕ, ⊤, ◌++◌, ◌+◌, ◌∷◌, ◌≡◌, Outcome, completes_with, dispatched, set_by, turned, is_at, complete_kind, gives_back, handed, is_dropped, kind_of, Set, cancels_for, flow_of, lower_of, sort_of, Actor, Entry, Shared, asked_of, completed, current_location, left_location, mark_current, moved_up, next, packet_of, register, sent_down, shared_with, with_info, with_loops, with_packet, Abs, Kind, BlankKind, New, Own, Queued, View, Armed, Cancelling, Taken, Lock, Instr, Acquire, AcquireCancel, Call, Complete, End, Loop, Mark, Pass, Put, Ret, Return, Continue, Stop, Void, REGISTERS, QueueName, Sort, Cancel, Dispatch, Dpc, Hold, Propagate, StartIo, Activation, Frame, Routine, Walk, Packet, Value, Blank}
 use Rattle.run_laws.specs.Holder.{named_in, stack_sum}
 use Rattle.run_laws.proofs.Claims.Names.{KeepsNames, OfQueues, at_queues, given_names, goes_names, kinds_names, mark_names, names, next_names, queue_packets, unqueued_turn}
 use Rattle.run_laws.proofs.Claims.Sums.{FrameApart, frame_names, word_at, word_for}

@@ -1,18 +1,6 @@
 -- In every run of an accepted set claims are kept.
-use Rattle.std.proofs.Common.{◌≡◌, ℕ, ◌+◌, ◌≤◌, Bool, true, List, [], ◌∷◌, ◌++◌, None, Some, refl, sym, subst, arith, inl, inr, length, suc}
-use Rattle.std.specs.Prelude.{nat_eq, slice_set, if◌then◌else◌, replicate}
-use Rattle.std.proofs.lemmas.Bool.Decides.{eqb_tells}
-use Rattle.model.specs.declared.abs.Stage.TheVariants.{Listed, Armed, Taken}
-use Rattle.model.specs.declared.set.QueueName.{QueueName}
-use Rattle.model.specs.declared.abs.Kind.{Kind}
-use Rattle.model.specs.declared.set.QueueName.TheVariants.{DeviceQueue}
-use Rattle.model.specs.declared.world.Frame.{Frame}
-use Rattle.model.specs.Effect.{top_of}
-use Rattle.model.specs.Kinds.{is_at}
-use Rattle.model.specs.Queues.{idle as idle_start, without_first_to_start}
-use Rattle.model.specs.Set.{Set}
-use Rattle.model.specs.Trace.{Entry, Actor}
-use Rattle.model.specs.World.{World, with_start, idle_thread, new_packet}
+use Rattle.run_laws.specs.Prelude.{arith, inl, inr, refl, subst, sym, eqb_tells, Bool, List, None, Some, [], if◌then◌else◌, length, nat_eq, replicate, slice_set, suc, true, ℕ, ◌++◌, ◌+◌, ◌∷◌, ◌≡◌, ◌≤◌, top_of, Change, standing, with_stack, with_thread, first_fault, is_at, without_first_to_start, begun, Set, Actor, Entry, World, idle_thread, new_packet, with_start, Kind, Armed, Listed, Taken, QueueName, DeviceQueue, Sort, Cancel, Frame, Irql, Packet, Thread}
+use Rattle.model.specs.Queues.{idle as idle_start}
 use Rattle.run_laws.specs.Holder.{thread_sum, times_listed, times_to_start}
 use Rattle.run_laws.proofs.Claims.Names.{OfQueues}
 use Rattle.run_laws.proofs.Claims.Quiet.{BeginsPlain, apart_none, begins_none, frame_none}
@@ -32,16 +20,8 @@ use Rattle.run_laws.proofs.States.Fine.{StepLeaves, leaves_fine}
 use Rattle.run_laws.proofs.States.Frames.{IsGood}
 use Rattle.run_laws.specs.ArrivingStates.{States}
 use Rattle.run_laws.proofs.States.Standing.{Standing, on_top, root_there}
-use Rattle.model.specs.declared.world.Packet.{Packet}
-use Rattle.model.specs.declared.set.Sort.TheVariants.{Cancel}
 use Rattle.run_laws.proofs.States.OnTop.{OnTop}
 use Rattle.run_laws.proofs.Steps.Faults.{is_touch, quiet_among}
-use Rattle.model.specs.declared.set.Sort.{Sort}
-use Rattle.model.specs.declared.world.Irql.{Irql}
-use Rattle.model.specs.declared.world.Thread.{Thread}
-use Rattle.model.specs.Events.{Change, standing, with_stack, with_thread}
-use Rattle.model.specs.Fault.{first_fault}
-use Rattle.model.specs.Run.{begun}
 use Rattle.run_laws.proofs.Claims.Shapes.{shape_claims}
 use Rattle.run_laws.proofs.Holders.Runs.{idle_sum, top_holding}
 use Rattle.run_laws.proofs.Runs.Threads.{each_frames, idle_frames}

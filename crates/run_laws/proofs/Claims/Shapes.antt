@@ -1,22 +1,5 @@
 -- Every shape of a step keeps claims.
-use Rattle.std.proofs.Common.{◌≡◌, ℕ, ◌+◌, Bool, true, false, List, [], ◌∷◌, Option, None, Some, refl, ap, sym, ◌∙◌, subst, arith, ◌<◌, inl, inr}
-use Rattle.std.specs.Prelude.{◌≤◌, slice_get, is_none}
-use Rattle.model.specs.declared.set.Guard.TheVariants.{DeviceLock, CancelLock}
-use Rattle.model.specs.declared.abs.Kind.TheVariants.{Blank as BlankKind, Own, Queued as QueuedKind}
-use Rattle.model.specs.declared.instr.Instr.{Instr}
-use Rattle.model.specs.declared.instr.Instr.TheVariants.{Begin, Next, Remove, Start, Take, Arm, Disarm, Release, ReleaseCancel}
-use Rattle.model.specs.declared.world.Activation.{Activation}
-use Rattle.model.specs.declared.world.Frame.{Frame}
-use Rattle.model.specs.declared.world.Frame.TheVariants.{Routine, Walk, Cancel as CancelFrame}
-use Rattle.model.specs.declared.world.Value.TheVariants.{Ref}
-use Rattle.model.specs.Action.{Action}
-use Rattle.model.specs.Effect.{routine_of_device, armer_of, Outcome}
-use Rattle.model.specs.LocalRule.{kind_of}
-use Rattle.model.specs.Queues.{StartState, next_started, started, with_slot}
-use Rattle.model.specs.Set.{Set, cancel_routine_named}
-use Rattle.model.specs.Sound.{OperandFits}
-use Rattle.model.specs.Trace.{Entry, Actor}
-use Rattle.model.specs.World.{World, start_of, at_label, next, register, with_register, with_start, packet_of, with_armer, with_packet, cancelled}
+use Rattle.run_laws.specs.Prelude.{ap, arith, inl, inr, refl, subst, sym, ◌∙◌, Bool, List, None, Option, Some, [], false, is_none, option_map, slice_get, true, ℕ, ◌+◌, ◌<◌, ◌∷◌, ◌≡◌, ◌≤◌, Action, Outcome, armer_of, routine_of_device, is_at, is_right, kind_of, queued_kind, StartState, dequeued, head_of, next_started, started, with_slot, Set, cancel_routine_named, has_cancel, OperandFits, Actor, Entry, World, at_label, cancelled, next, packet_of, register, start_of, with_armer, with_packet, with_register, with_start, Kind, BlankKind, Own, QueuedKind, Armed, Cancelling, Taken, Lock, Instr, Arm, Begin, Dequeue, Disarm, Next, Release, ReleaseCancel, Remove, Start, Take, CancelLock, DeviceLock, Declared, DeviceQueue, Activation, Armer, CancelStep, Frame, CancelFrame, Routine, Walk, Packet, Ref}
 use Rattle.run_laws.specs.Holder.{times_listed, times_queued, times_to_start}
 use Rattle.run_laws.proofs.Claims.Names.{KeepsNames, kinds_names, label_names, next_takes, next_turns, turns_nothing}
 use Rattle.run_laws.proofs.Claims.Quiet.{word_kept, Quiet, quiet_step}
@@ -37,27 +20,14 @@ use Rattle.run_laws.specs.ArrivingStates.{States}
 use Rattle.run_laws.proofs.States.Rules.{first_none, second_none, unbroken}
 use Rattle.run_laws.proofs.States.Standing.{Standing}
 use Rattle.run_laws.proofs.Steps.Comes.{Queued, Reads, inserts, puts_in, removes, removes_none, starts_next, starts_packet, takes_none, takes_out, unlinks, Cancels, Comes, Exchanged, GoesTo, arms_for, awaits_cancel, calls_cancel, cancels, disarms, errs, exchanges, exchanges_gone, finds_empty, finds_none, flags_gone, frees_lock, jumping, keeps_all, makes_number, onward, queued_to, retakes_cancel, sets_flag, takes_cancel, tops_out, works_on_queues}
-use Rattle.model.specs.declared.world.Armer.{Armer}
-use Rattle.model.specs.declared.world.Packet.{Packet}
 use Rattle.run_laws.proofs.Claims.WordSteps.{arms_claims, empties_claims, gives_claims, releases_claims}
 use Rattle.run_laws.proofs.States.Fits.{ArmerLeads, word_leads, WordLeads}
-use Rattle.model.specs.declared.event.Lock.{Lock}
-use Rattle.model.specs.declared.world.CancelStep.{CancelStep}
 use Rattle.run_laws.proofs.Claims.CancelSteps.{cancel_quiet, calls_claims, tops_quiet}
 use Rattle.run_laws.proofs.Claims.QueueSteps.{inserts_claims, lists_claims, once_put, own_there, removes_claims, unlinks_claims}
 use Rattle.run_laws.proofs.States.Lacking.{never_lacks}
 use Rattle.run_laws.proofs.States.OnTop.{OnTop, runs}
 use Rattle.run_laws.proofs.Steps.Faults.{fault_among, is_touch, topped_faults}
 use Rattle.run_laws.proofs.Steps.Words.{lock_freed, packet_operand}
-use Rattle.std.specs.Prelude.{option_map}
-use Rattle.model.specs.declared.set.QueueName.TheVariants.{DeviceQueue, Declared}
-use Rattle.model.specs.declared.abs.Kind.{Kind}
-use Rattle.model.specs.declared.abs.Stage.TheVariants.{Cancelling, Armed, Taken}
-use Rattle.model.specs.declared.instr.Instr.TheVariants.{Dequeue}
-use Rattle.model.specs.Set.{has_cancel}
-use Rattle.model.specs.Kinds.{is_at, is_right}
-use Rattle.model.specs.LocalRule.{queued_kind}
-use Rattle.model.specs.Queues.{dequeued, head_of}
 use Rattle.run_laws.specs.Holder.{times_in}
 use Rattle.run_laws.proofs.Claims.Sums.{is_cancelable, list_of, names_on, times_of}
 use Rattle.run_laws.proofs.Claims.Guards.{NeedsGuard, at_needs}

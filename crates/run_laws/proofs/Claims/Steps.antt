@@ -1,22 +1,7 @@
 -- A step keeps the balance of claims: how the numbers of claims change where one register's packet
 -- becomes of another kind, and what the other frames have.
-use Rattle.std.proofs.Common.{◌≡◌, ℕ, ◌+◌, ◌-◌, ◌≤◌, Bool, true, false, List, [], ◌∷◌, ◌++◌, Option, None, Some, refl, ap, sym, ◌∙◌, subst, arith, inl, inr, eq-eqb}
-use Rattle.std.specs.Prelude.{nat_eq, if◌then◌else◌}
-use Rattle.model.specs.declared.set.QueueName.{QueueName}
-use Rattle.model.specs.declared.abs.Kind.{Kind}
-use Rattle.model.specs.declared.set.QueueName.TheVariants.{Declared, DeviceQueue}
-use Rattle.model.specs.declared.status.Status.{Status}
-use Rattle.model.specs.declared.world.Activation.{Activation}
-use Rattle.model.specs.declared.world.Frame.{Frame}
-use Rattle.model.specs.declared.world.Frame.TheVariants.{Routine, Walk, Cancel as CancelFrame}
-use Rattle.model.specs.declared.world.Value.TheVariants.{Ref}
-use Rattle.model.specs.Effect.{Outcome, answered_in, operand_of}
-use Rattle.model.specs.Events.{standing, with_stack, with_thread}
-use Rattle.model.specs.Kinds.{is_at}
-use Rattle.model.specs.Run.{frames_on}
-use Rattle.model.specs.Set.{Set, instruction_at}
-use Rattle.model.specs.Trace.{Entry}
-use Rattle.model.specs.World.{World}
+use Rattle.run_laws.specs.Prelude.{ap, arith, inl, inr, refl, subst, sym, ◌-◌, ◌∙◌, Bool, List, None, Option, Some, [], false, if◌then◌else◌, nat_eq, true, ℕ, ◌++◌, ◌+◌, ◌∷◌, ◌≡◌, ◌≤◌, Outcome, answered_in, operand_of, standing, with_stack, with_thread, is_at, frames_on, Set, instruction_at, Entry, World, Kind, QueueName, Declared, DeviceQueue, Status, Activation, Frame, CancelFrame, Routine, Walk, Ref}
+use Rattle.std.proofs.Common.{eq-eqb}
 use Rattle.run_laws.specs.Holder.{named_as, stack_sum, thread_sum, times_listed}
 use Rattle.run_laws.proofs.Claims.Balance.{KindTurns, Same, at_kind, at_swapped, balanced_less}
 use Rattle.run_laws.proofs.Claims.Changed.{changed}

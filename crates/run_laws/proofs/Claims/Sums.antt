@@ -1,23 +1,7 @@
 -- Claims to packets that may be cancelled. A register at the stage Armed or Taken is no right: the
 -- packet's cancel word has it, or the cancel routine that IoCancelIrp called. Counted over all
 -- frames, for a queue of a device and a packet.
-use Rattle.std.specs.Prelude.{ℕ, ◌≡◌, ◌≤◌, ◌+◌, ◌&&◌, Bool, true, false, List, Option, None, Some, nat_eq, if◌then◌else◌, slice_get, ⊤, option_map}
-use Rattle.model.specs.declared.abs.Stage.{Stage}
-use Rattle.model.specs.declared.abs.Kind.{Kind}
-use Rattle.model.specs.declared.abs.Kind.TheVariants.{Queued}
-use Rattle.model.specs.declared.abs.Stage.TheVariants.{Taken, Listed, Armed, Cancelling}
-use Rattle.model.specs.declared.set.QueueName.{QueueName}
-use Rattle.model.specs.declared.set.QueueName.TheVariants.{Declared, DeviceQueue}
-use Rattle.model.specs.declared.world.Armer.{Armer}
-use Rattle.model.specs.declared.world.Frame.{Frame}
-use Rattle.model.specs.declared.world.Frame.TheVariants.{Routine, Walk, Cancel as CancelFrame}
-use Rattle.model.specs.declared.world.Packet.{Packet}
-use Rattle.model.specs.declared.world.Thread.{Thread}
-use Rattle.model.specs.Effect.{routine_of_device}
-use Rattle.model.specs.Kinds.{is_at, is_name}
-use Rattle.model.specs.Run.{frames_on}
-use Rattle.model.specs.Set.{Set, has_cancel}
-use Rattle.model.specs.World.{World, queue_of, Shared, start_of}
+use Rattle.run_laws.specs.Prelude.{Bool, List, None, Option, Some, false, if◌then◌else◌, nat_eq, option_map, slice_get, true, ℕ, ⊤, ◌&&◌, ◌+◌, ◌≡◌, ◌≤◌, routine_of_device, is_at, is_name, frames_on, Set, has_cancel, Shared, World, queue_of, start_of, Kind, Queued, Stage, Armed, Cancelling, Listed, Taken, QueueName, Declared, DeviceQueue, Armer, Frame, CancelFrame, Routine, Walk, Packet, Thread}
 use Rattle.run_laws.specs.Holder.{named_in, thread_sum, times_in, times_listed}
 use Rattle.run_laws.proofs.Lists.{Each}
 use Rattle.run_laws.proofs.Past.LivePackets.{find}

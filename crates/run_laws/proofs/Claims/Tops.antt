@@ -1,18 +1,6 @@
 -- A register of a routine's frame, on top of its thread or below, is counted among all registers of
 -- its kind.
-use Rattle.std.proofs.Common.{◌≡◌, ℕ, ◌≤◌, Bool, true, false, List, Some, length, refl, ap, ◌∙◌, arith}
-use Rattle.std.specs.Prelude.{nat_eq, slice_get}
-use Rattle.std.proofs.lemmas.Bool.{eq-eqb}
-use Rattle.model.specs.declared.abs.Kind.{Kind}
-use Rattle.model.specs.declared.abs.Kind.TheVariants.{Blank as BlankKind}
-use Rattle.model.specs.declared.world.Activation.{Activation}
-use Rattle.model.specs.declared.world.Frame.{Frame}
-use Rattle.model.specs.declared.world.Frame.TheVariants.{Routine}
-use Rattle.model.specs.declared.world.Value.TheVariants.{Ref}
-use Rattle.model.specs.LocalRule.{kind_of}
-use Rattle.model.specs.Run.{frames_on}
-use Rattle.model.specs.Set.{Set}
-use Rattle.model.specs.World.{World, register}
+use Rattle.run_laws.specs.Prelude.{ap, arith, refl, ◌∙◌, eq-eqb, Bool, List, Some, false, length, nat_eq, slice_get, true, ℕ, ◌≡◌, ◌≤◌, kind_of, frames_on, Set, World, register, Kind, BlankKind, Activation, Frame, Routine, Ref}
 use Rattle.run_laws.specs.ArrivingStates.{States}
 use Rattle.run_laws.specs.Holder.{named_as, named_in}
 use Rattle.run_laws.proofs.Claims.Sums.{frame_names, names_on}

@@ -1,24 +1,7 @@
 -- An instruction that starts packets keeps claims where packets that wait can be cancelled: one
 -- that has to wait goes into the device queue with its cancel routine set, and the next one that is
 -- started leaves it without one.
-use Rattle.std.proofs.Common.{◌≡◌, ℕ, ◌+◌, ◌≤◌, Bool, true, List, [], ◌∷◌, Option, None, Some, refl, ap, subst, arith}
-use Rattle.std.specs.Prelude.{nat_eq, is_some, if◌then◌else◌}
-use Rattle.model.specs.declared.abs.Stage.TheVariants.{Armed, Taken}
-use Rattle.model.specs.declared.abs.Kind.{Kind}
-use Rattle.model.specs.declared.abs.Kind.TheVariants.{Blank as BlankKind, Own}
-use Rattle.model.specs.declared.instr.Instr.TheVariants.{Next, Start}
-use Rattle.model.specs.declared.set.QueueName.TheVariants.{DeviceQueue}
-use Rattle.model.specs.declared.world.Activation.{Activation}
-use Rattle.model.specs.declared.world.Armer.{Armer}
-use Rattle.model.specs.declared.world.Frame.TheVariants.{Routine}
-use Rattle.model.specs.declared.world.Packet.{Packet}
-use Rattle.model.specs.Effect.{armer_waiting}
-use Rattle.model.specs.Kinds.{is_at}
-use Rattle.model.specs.LocalRule.{kind_of}
-use Rattle.model.specs.Queues.{StartState, head_of, next_of, next_started, started}
-use Rattle.model.specs.Set.{Set}
-use Rattle.model.specs.Trace.{Entry}
-use Rattle.model.specs.World.{Shared, World, next, packet_of, register, start_of, with_armer, with_packet, with_start}
+use Rattle.run_laws.specs.Prelude.{ap, arith, refl, subst, Bool, List, None, Option, Some, [], if◌then◌else◌, is_some, nat_eq, true, ℕ, ◌+◌, ◌∷◌, ◌≡◌, ◌≤◌, armer_waiting, is_at, kind_of, StartState, head_of, next_of, next_started, started, Set, Entry, Shared, World, next, packet_of, register, start_of, with_armer, with_packet, with_start, Kind, BlankKind, Own, Armed, Taken, Next, Start, DeviceQueue, Activation, Armer, Routine, Packet}
 use Rattle.run_laws.specs.ArrivingStates.{States}
 use Rattle.run_laws.specs.Holder.{stack_sum, thread_sum, times_in, times_listed, times_named, times_queued, times_to_start}
 use Rattle.run_laws.proofs.Claims.Balance.{KindTurns, balanced_starts, balanced_waits, once_turned}

@@ -1,9 +1,6 @@
 -- How often a packet stands in what devices have for StartIo, but for their current slots; and that
 -- it stands in one list alone after it is put into one.
-use Rattle.std.proofs.Common.{◌≡◌, ℕ, ◌+◌, ◌≤◌, List, [], ◌∷◌, Some, refl, subst, arith, inl, inr}
-use Rattle.std.specs.Prelude.{nat_eq, slice_get, slice_set, if◌then◌else◌}
-use Rattle.std.proofs.lemmas.Bool.Decides.{eqb_tells}
-use Rattle.model.specs.Queues.{StartState, without_first_to_start}
+use Rattle.run_laws.specs.Prelude.{arith, inl, inr, refl, subst, eqb_tells, List, Some, [], if◌then◌else◌, nat_eq, slice_get, slice_set, ℕ, ◌+◌, ◌∷◌, ◌≡◌, ◌≤◌, StartState, without_first_to_start}
 use Rattle.run_laws.specs.Holder.{times_to_start}
 use Rattle.run_laws.proofs.Holders.Started.{waits_in}
 use Rattle.run_laws.proofs.Lists.{sum_put}

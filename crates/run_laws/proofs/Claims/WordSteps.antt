@@ -1,27 +1,9 @@
 -- An exchange of a packet's cancel word keeps claims, and so does the release of a lock: the word
 -- has the right that a register at the stage Listed had, and gives it back, or to the cancel
 -- routine.
-use Rattle.std.proofs.Common.{◌≡◌, ◌⊎◌, ℕ, ◌+◌, ◌≤◌, Bool, true, false, List, [], ◌∷◌, Option, None, Some, refl, ap, sym, ◌∙◌, subst, arith, inl, inr, eq-eqb, eqb-true, slice_get, option_map}
-use Rattle.std.specs.Prelude.{is_some, nat_eq, slice_set, if◌then◌else◌, ◌&&◌}
-use Rattle.std.proofs.lemmas.Bool.{cases_Bool}
-use Rattle.std.proofs.lemmas.Bool.Decides.{eqb_tells}
-use Rattle.model.specs.declared.abs.Stage.{Stage}
-use Rattle.model.specs.declared.abs.Kind.{Kind}
-use Rattle.model.specs.declared.abs.Kind.TheVariants.{Blank as BlankKind, Own, Queued}
-use Rattle.model.specs.declared.abs.Stage.TheVariants.{Listed, Armed, Taken, Cancelling}
-use Rattle.model.specs.declared.instr.Instr.{Instr}
-use Rattle.model.specs.declared.instr.Instr.TheVariants.{Arm, Disarm}
-use Rattle.model.specs.declared.set.Guard.{Guard}
-use Rattle.model.specs.declared.set.QueueName.TheVariants.{Declared, DeviceQueue}
-use Rattle.model.specs.declared.world.Activation.{Activation}
-use Rattle.model.specs.declared.world.Frame.TheVariants.{Routine}
-use Rattle.model.specs.Effect.{armer_of}
-use Rattle.model.specs.Kinds.{is_at, all_let_go, is_exchanged, is_name, kind_disarmed, is_stage, is_claim}
-use Rattle.model.specs.LocalRule.{handed, kind_of, queued_kind}
-use Rattle.model.specs.Set.{Set, flow_of}
+use Rattle.run_laws.specs.Prelude.{ap, arith, eqb-true, inl, inr, refl, subst, sym, ◌∙◌, cases_Bool, eqb_tells, Bool, List, None, Option, Some, [], false, if◌then◌else◌, is_some, nat_eq, option_map, slice_get, slice_set, true, ℕ, ◌&&◌, ◌+◌, ◌∷◌, ◌≡◌, ◌≤◌, ◌⊎◌, armer_of, all_let_go, is_at, is_claim, is_exchanged, is_name, is_stage, kind_disarmed, handed, kind_of, queued_kind, StartState, Set, flow_of, Entry, Shared, World, at_label, next, packet_of, queue_of, register, start_of, with_armer, with_packet, Kind, BlankKind, Own, Queued, Stage, Armed, Cancelling, Listed, Taken, Instr, Arm, Disarm, Guard, QueueName, Declared, DeviceQueue, Activation, Armer, Routine, Packet}
+use Rattle.std.proofs.Common.{eq-eqb}
 use Rattle.run_laws.proofs.States.Moves.{has_next}
-use Rattle.model.specs.Trace.{Entry}
-use Rattle.model.specs.World.{Shared, World, at_label, next, queue_of, register, packet_of, with_armer, with_packet, start_of}
 use Rattle.run_laws.specs.Holder.{named_as, named_in, stack_sum, thread_sum, times_listed, times_queued, times_waiting, times_named, times_to_start}
 use Rattle.run_laws.proofs.Claims.Balance.{KindTurns, balanced_gives, balanced_less, hit, balanced_arms, balanced_disarms, balanced_keeps_taken, once_turned, names_tell, name_same}
 use Rattle.run_laws.proofs.Claims.Held.{one_holder, owns_in, word_holds}
@@ -42,14 +24,10 @@ use Rattle.run_laws.specs.ArrivingStates.{States}
 use Rattle.run_laws.proofs.States.Rules.{first_none}
 use Rattle.run_laws.proofs.States.Standing.{Standing}
 use Rattle.run_laws.proofs.Steps.Comes.{Reads}
-use Rattle.model.specs.declared.set.QueueName.{QueueName}
-use Rattle.model.specs.declared.world.Armer.{Armer}
-use Rattle.model.specs.declared.world.Packet.{Packet}
 use Rattle.run_laws.proofs.Past.Packets.{found}
 use Rattle.run_laws.proofs.Tests.{if_le}
 use Rattle.run_laws.proofs.States.Listed.{named_same}
 use Rattle.run_laws.proofs.Holders.Started.{waits_in}
-use Rattle.model.specs.Queues.{StartState}
 use Rattle.run_laws.proofs.Lists.{sum_le}
 
 -- an exchange wants a packet that stands in a queue, or a claim

@@ -1,23 +1,5 @@
 -- The instructions about queues keep the balance of claims.
-use Rattle.std.proofs.Common.{◌≡◌, ◌⊎◌, ℕ, ◌+◌, ◌≤◌, Bool, true, false, List, [], ◌∷◌, Option, None, refl, ap, ◌∙◌, subst, arith, inl, inr}
-use Rattle.std.specs.Prelude.{is_some, nat_eq, slice_get, if◌then◌else◌}
-use Rattle.std.specs.List.{list_any}
-use Rattle.std.proofs.lemmas.Bool.{cases_Bool}
-use Rattle.std.proofs.lemmas.Bool.Decides.{eqb_tells}
-use Rattle.model.specs.declared.set.QueueName.{QueueName}
-use Rattle.model.specs.declared.abs.Kind.{Kind}
-use Rattle.model.specs.declared.abs.Kind.TheVariants.{Queued}
-use Rattle.model.specs.declared.abs.Stage.TheVariants.{Listed, Taken, Cancelling, Armed}
-use Rattle.model.specs.declared.world.Activation.{Activation}
-use Rattle.model.specs.declared.world.Frame.{Frame}
-use Rattle.model.specs.declared.world.Frame.TheVariants.{Routine}
-use Rattle.model.specs.declared.world.Value.{Value}
-use Rattle.model.specs.declared.world.Value.TheVariants.{Ref}
-use Rattle.model.specs.Effect.{routine_of_device}
-use Rattle.model.specs.Kinds.{is_at, is_name}
-use Rattle.model.specs.LocalRule.{unlink_kind}
-use Rattle.model.specs.Set.{Set, cancel_routine_named}
-use Rattle.model.specs.World.{World}
+use Rattle.run_laws.specs.Prelude.{ap, arith, inl, inr, refl, subst, ◌∙◌, cases_Bool, eqb_tells, list_any, Bool, List, None, Option, [], false, if◌then◌else◌, is_some, nat_eq, slice_get, true, ℕ, ◌+◌, ◌∷◌, ◌≡◌, ◌≤◌, ◌⊎◌, routine_of_device, is_at, is_name, unlink_kind, Set, cancel_routine_named, World, Kind, Queued, Armed, Cancelling, Listed, Taken, QueueName, Activation, Frame, Routine, Value, Ref}
 use Rattle.run_laws.specs.Holder.{named_as, named_in}
 use Rattle.run_laws.proofs.Claims.Held.{thread_most}
 use Rattle.run_laws.proofs.Claims.Names.{TurnsNames, at_queues, names}

@@ -1,22 +1,7 @@
 -- The frames of a thread: routines for devices that stand lower and lower, and at most an I/O
 -- manager's frame and a completion routine on them; or one of IoCancelIrp alone. Each step keeps
 -- them so.
-use Rattle.std.proofs.Common.{◌≡◌, ℕ, suc, ◌+◌, ◌-◌, ◌<◌, ◌≤◌, List, [], ◌∷◌, ◌++◌, length, Option, None, Some, Bool, false, refl, ap, sym, subst, arith, true, ◌∙◌}
-use Rattle.std.specs.Prelude.{⊤, slice_get, IfSome, option_and_then}
-use Rattle.std.proofs.lemmas.List.{length-append}
-use Rattle.model.specs.declared.instr.Instr.TheVariants.{Pass, Call, Complete}
-use Rattle.model.specs.declared.set.Device.{Device}
-use Rattle.model.specs.declared.set.Sort.TheVariants.{Dispatch}
-use Rattle.model.specs.declared.status.Status.{Status}
-use Rattle.model.specs.declared.world.Activation.{Activation}
-use Rattle.model.specs.declared.world.Frame.{Frame}
-use Rattle.model.specs.declared.world.Frame.TheVariants.{Routine, Walk, Cancel as CancelFrame}
-use Rattle.model.specs.declared.world.Packet.{Packet}
-use Rattle.model.specs.Effect.{Outcome, answered_in, asks, dispatched, operand_of, told_to, routine_of_device}
-use Rattle.model.specs.LocalRule.{is_completion}
-use Rattle.model.specs.Set.{Set, instruction_at, lower_of, sort_of}
-use Rattle.model.specs.Sound.{DeviceFits}
-use Rattle.model.specs.World.{Shared, asked_of, current_location, entered}
+use Rattle.run_laws.specs.Prelude.{ap, arith, refl, subst, sym, ◌-◌, ◌∙◌, length-append, slice_get_within, Bool, IfSome, List, None, Option, Some, [], false, length, option_and_then, slice_get, suc, true, ℕ, ⊤, ◌++◌, ◌+◌, ◌<◌, ◌∷◌, ◌≡◌, ◌≤◌, Outcome, answered_in, asks, dispatched, operand_of, routine_of_device, told_to, is_completion, Set, instruction_at, lower_of, sort_of, DeviceFits, Shared, asked_of, current_location, entered, Call, Complete, Pass, Device, Dispatch, Status, Activation, CancelStep, Canceller, Frame, CancelFrame, Routine, Walk, Packet, Ref}
 use Rattle.run_laws.proofs.Devices.{device_fits, dispatched_device}
 use Rattle.run_laws.proofs.States.Entering.{IsOfSort, IsCompleting}
 use Rattle.run_laws.proofs.States.Frames.{state_of, Serves}
@@ -29,10 +14,6 @@ use Rattle.run_laws.proofs.States.Told.{told_frame, told_last, told_is}
 use Rattle.run_laws.proofs.Steps.Comes.{Comes, computes, turns_loop, pages, looks_at, completes_packet, passes_down, calls_down, returns_status, lets_go, lets_walk, ends_dpc, walks_gone, walks_to, walks_up, carries_up, tops_out, works_on_queues, ends_startio, exchanges, resumes_walk, resumes_gone, resumes_none, stops_walk, stops_none, ends_cancel, lends_to, cancels, Cancels, calls_cancel}
 use Rattle.run_laws.proofs.States.Queueing.{queue_moves}
 use Rattle.run_laws.proofs.States.Cancelled.{begins_called}
-use Rattle.std.proofs.lemmas.Option.{slice_get_within}
-use Rattle.model.specs.declared.world.Value.TheVariants.{Ref}
-use Rattle.model.specs.declared.world.CancelStep.{CancelStep}
-use Rattle.model.specs.declared.world.Canceller.{Canceller}
 use Rattle.run_laws.proofs.Steps.Onward.{goes_device, turned_device}
 
 -- frames of a thread, the lowest first: routines for lower and lower devices, all under a first

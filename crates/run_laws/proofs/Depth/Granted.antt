@@ -1,19 +1,6 @@
 -- A step of a thread that is there is refused for want of room alone, and no thread comes to be or
 -- ends.
-use Rattle.std.proofs.Common.{◌≡◌, ℕ, ◌-◌, ◌<◌, List, [], length, take, Option, None, Some, Bool, true, false, refl, sym, ◌∙◌}
-use Rattle.std.specs.Prelude.{slice_get}
-use Rattle.std.proofs.lemmas.List.{length-set}
-use Rattle.std.proofs.lemmas.Option.{slice_get-get_or}
-use Rattle.model.specs.declared.event.Event.TheVariants.{Step}
-use Rattle.model.specs.declared.event.Reply.{Reply}
-use Rattle.model.specs.declared.event.Reply.TheVariants.{Stepped, Refused}
-use Rattle.model.specs.declared.world.CancelStep.{CancelStep}
-use Rattle.model.specs.declared.world.Frame.{Frame}
-use Rattle.model.specs.declared.world.Thread.{Thread}
-use Rattle.model.specs.Effect.{Outcome, top_of, frame_effect}
-use Rattle.model.specs.Events.{Change, finished_or, standing, top_effect, step_thread, effect}
-use Rattle.model.specs.Set.{Set}
-use Rattle.model.specs.World.{Shared, World, idle_thread}
+use Rattle.run_laws.specs.Prelude.{refl, sym, take, ◌-◌, ◌∙◌, length-set, slice_get-get_or, Bool, List, None, Option, Some, [], false, length, slice_get, true, ℕ, ◌<◌, ◌≡◌, Outcome, frame_effect, top_of, Change, effect, finished_or, standing, step_thread, top_effect, Set, Shared, World, idle_thread, Step, Reply, Refused, Stepped, CancelStep, Frame, Thread}
 use Rattle.run_laws.proofs.Runs.Events.{Happens, nothing}
 use Rattle.run_laws.proofs.Steps.Comes.{Cancels, takes_cancel, Comes, errs, cancels}
 use Rattle.run_laws.proofs.Steps.Walk.{comes}

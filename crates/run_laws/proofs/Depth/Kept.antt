@@ -1,20 +1,7 @@
 -- No thread of an accepted set ever has more than 18 frames, so no step of a thread that is there
 -- is refused.
-use Rattle.std.proofs.Common.{◌≡◌, ℕ, ◌≤◌, List, [], ◌∷◌, ◌++◌, length, Some, false, refl, sym, subst, arith, Option, true, inl, inr}
-use Rattle.std.specs.Prelude.{slice_get}
+use Rattle.run_laws.specs.Prelude.{arith, inl, inr, refl, subst, sym, slice_get_within, List, Option, Some, [], false, length, slice_get, true, ℕ, ◌++◌, ◌∷◌, ◌≡◌, ◌≤◌, Outcome, top_of, Change, settled, standing, with_stack, with_thread, begun, frames_on, Set, IsSound, Entry, Shared, World, MAX_FRAMES, CancelStep, Frame, CancelFrame, Routine, Walk, Irql, Thread}
 use Rattle.std.proofs.lemmas.Bool.{le-ltb}
-use Rattle.std.proofs.lemmas.Option.{slice_get_within}
-use Rattle.model.specs.declared.limits.TheConstants.{MAX_FRAMES}
-use Rattle.model.specs.declared.world.Frame.{Frame}
-use Rattle.model.specs.declared.world.Irql.{Irql}
-use Rattle.model.specs.declared.world.Thread.{Thread}
-use Rattle.model.specs.Effect.{Outcome, top_of}
-use Rattle.model.specs.Events.{Change, settled, standing, with_stack, with_thread}
-use Rattle.model.specs.Run.{begun, frames_on}
-use Rattle.model.specs.Set.{Set}
-use Rattle.model.specs.Sound.{IsSound}
-use Rattle.model.specs.Trace.{Entry}
-use Rattle.model.specs.World.{Shared, World}
 use Rattle.run_laws.proofs.Depth.Falls.{Falls, falls_length, falls_before, falls_after, short, is_cancelling}
 use Rattle.run_laws.proofs.Runs.Events.{Happens, StepsFrame, nothing, steps, begins}
 use Rattle.run_laws.proofs.Runs.Roots.{with_root}
@@ -25,14 +12,12 @@ use Rattle.run_laws.specs.ArrivingStates.{States}
 use Rattle.run_laws.proofs.States.Standing.{Standing, stands_there, on_top, root_there}
 use Rattle.run_laws.proofs.Steps.Below.{stood}
 use Rattle.run_laws.proofs.Steps.Comes.{walks_gone, Comes, Cancels, takes_cancel, cancels, works_on_queues, works_on_waiting}
-use Rattle.model.specs.declared.world.Frame.TheVariants.{Routine, Walk, Cancel as CancelFrame}
 use Rattle.run_laws.proofs.Holders.Counts.{Holding}
 use Rattle.run_laws.proofs.Holders.Sums.{Held}
 use Rattle.run_laws.proofs.States.OnTop.{OnTop}
 use Rattle.run_laws.proofs.Holders.Runs.{top_holding}
 use Rattle.run_laws.proofs.Claims.Full.{OwnApart, never_full, own_apart}
 use Rattle.run_laws.proofs.Claims.Sums.{Claimed}
-use Rattle.model.specs.declared.world.CancelStep.{CancelStep}
 
 -- the frames of every thread stand for lower and lower devices
 abbrev pub AllFall : Set → World → Type 0

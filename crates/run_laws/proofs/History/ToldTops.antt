@@ -1,28 +1,10 @@
 -- The replies of a run tell which packets have topped out: a packet that was issued is live exactly
 -- while no reply tells that it topped out.
-use Rattle.std.proofs.Common.{◌≡◌, ◌≤◌, ◌<◌, ◌+◌, ℕ, zero, suc, List, [], ◌∷◌, Option, None, Some, Bool, true, false, refl, ap, sym, ◌∙◌, inl, inr, arith, subst}
-use Rattle.std.specs.Prelude.{◌||◌, ◌&&◌, nat_lt, is_none, is_some, slice_get, if◌then◌else◌}
-use Rattle.std.proofs.lemmas.Bool.{cond_both}
-use Rattle.std.proofs.lemmas.Bool.Decides.{eqb_tells}
-use Rattle.model.specs.declared.event.Event.{Event}
-use Rattle.model.specs.declared.event.Event.TheVariants.{Issue}
-use Rattle.model.specs.declared.event.Reply.{Reply}
-use Rattle.model.specs.declared.event.Reply.TheVariants.{Started, Stepped, Finished, Topped, Idle, Refused}
+use Rattle.run_laws.specs.Prelude.{ap, arith, inl, inr, refl, subst, sym, zero, ◌∙◌, cond_both, eqb_tells, Bool, List, None, Option, Some, [], false, if◌then◌else◌, is_none, is_some, nat_lt, slice_get, suc, true, ℕ, ◌&&◌, ◌+◌, ◌<◌, ◌||◌, ◌∷◌, ◌≡◌, ◌≤◌, Outcome, set_by, top_of, Change, can_issue, effect, finished_or, is_idle, issue_on, issued, settled, standing, unchanged, with_new_packet, replies_of, request_started, top_out_of, Answered, Run, begun, refused, run, run_from, step, Set, Shared, World, cancelled, completed, left_location, mark_current, moved_up, new_packet, packet_of, sent_down, shared_with, with_armer, with_info, with_packet, without_packet, Event, Issue, Reply, Idle, Refused, Started, Stepped, Topped, Device, Major, Status, CancelStep, Frame, Packet, Thread}
+use Rattle.model.specs.declared.event.Reply.TheVariants.{Finished}
 use Rattle.model.specs.declared.history.Entry.{Entry}
 use Rattle.model.specs.declared.history.TopOut.{TopOut}
-use Rattle.model.specs.declared.set.Device.{Device}
-use Rattle.model.specs.declared.status.Major.{Major}
-use Rattle.model.specs.declared.status.Status.{Status}
-use Rattle.model.specs.declared.world.CancelStep.{CancelStep}
-use Rattle.model.specs.declared.world.Frame.{Frame}
-use Rattle.model.specs.declared.world.Packet.{Packet}
-use Rattle.model.specs.declared.world.Thread.{Thread}
-use Rattle.model.specs.Effect.{Outcome, set_by, top_of}
-use Rattle.model.specs.Events.{Change, can_issue, effect, finished_or, is_idle, issue_on, issued, settled, standing, unchanged, with_new_packet}
-use Rattle.model.specs.History.{events_of, or_else, replies_from, replies_of, request_started, started_by, top_out_in, top_out_of}
-use Rattle.model.specs.Run.{Run, Answered, begun, refused, run, run_from, step}
-use Rattle.model.specs.Set.{Set}
-use Rattle.model.specs.World.{Shared, World, cancelled, completed, left_location, mark_current, moved_up, new_packet, packet_of, sent_down, shared_with, with_armer, with_info, with_packet, without_packet}
+use Rattle.model.specs.History.{events_of, or_else, replies_from, started_by, top_out_in}
 use Rattle.run_laws.specs.ToldTops.{TopOutsAreTold}
 use Rattle.run_laws.proofs.Past.LivePackets.{Rises, find, find_place, find_push, find_remove, find_set, rises_push, rises_remove, rises_set}
 use Rattle.run_laws.proofs.Past.Packets.{absent, found, found_lt, lt_false, lt_more, lt_true, numbered}

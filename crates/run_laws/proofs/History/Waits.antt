@@ -1,19 +1,5 @@
 -- An event that waits, finds nothing to do or is refused leaves the world as it was.
-use Rattle.std.proofs.Common.{◌≡◌, ℕ, zero, suc, List, [], ◌∷◌, ◌++◌, Option, None, Some, Bool, true, false, refl, ap, sym, ◌∙◌, subst}
-use Rattle.std.specs.Prelude.{slice_get, slice_set, if◌then◌else◌}
-use Rattle.model.specs.declared.event.Event.{Event}
-use Rattle.model.specs.declared.event.Reply.{Reply}
-use Rattle.model.specs.declared.event.Reply.TheVariants.{Stepped}
-use Rattle.model.specs.declared.world.CancelStep.{CancelStep}
-use Rattle.model.specs.declared.world.Frame.{Frame}
-use Rattle.model.specs.declared.world.Frame.TheVariants.{Cancel as CancelFrame}
-use Rattle.model.specs.declared.world.Irql.{Irql}
-use Rattle.model.specs.declared.world.Thread.{Thread}
-use Rattle.model.specs.Effect.{Outcome, top_of}
-use Rattle.model.specs.Events.{Change, effect, finished_or, root_over, settled, standing, with_stack, with_thread}
-use Rattle.model.specs.Run.{Run, Answered, begun, refused, run, run_from, step}
-use Rattle.model.specs.Set.{Set}
-use Rattle.model.specs.World.{Shared, World}
+use Rattle.run_laws.specs.Prelude.{ap, refl, subst, sym, zero, ◌∙◌, Bool, List, None, Option, Some, [], false, if◌then◌else◌, slice_get, slice_set, suc, true, ℕ, ◌++◌, ◌∷◌, ◌≡◌, Outcome, top_of, Change, effect, finished_or, root_over, settled, standing, with_stack, with_thread, Answered, Run, begun, refused, run, run_from, step, Set, Shared, World, Event, Reply, Stepped, CancelStep, Frame, CancelFrame, Irql, Thread}
 use Rattle.run_laws.specs.Waits.{WaitingChangesNothing, says_unchanged}
 use Rattle.run_laws.proofs.Runs.Roots.{Root, Beside, issues}
 use Rattle.run_laws.proofs.Runs.Events.{StepsFrame, Happens, nothing, steps, begins, Sets, sets_nothing, Concerns, a_thread, no_thread, concerns, Answers, goes_on_with, answers, set_in, answers_none}

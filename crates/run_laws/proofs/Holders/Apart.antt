@@ -1,14 +1,6 @@
 -- Other frames: where they have the right to a packet, the frame that steps has none, and doesn't
 -- complete it.
-use Rattle.std.proofs.Common.{◌≡◌, ◌≢◌, ℕ, ◌+◌, ◌≤◌, List, [], ◌∷◌, Option, None, Some, Bool, true, false, refl, ap, ◌∙◌, arith}
-use Rattle.std.specs.Prelude.{slice_get, if◌then◌else◌}
-use Rattle.model.specs.declared.world.Frame.{Frame}
-use Rattle.model.specs.declared.world.Packet.{Packet}
-use Rattle.model.specs.declared.world.Thread.{Thread}
-use Rattle.model.specs.Run.{frames_of, frames_on}
-use Rattle.model.specs.Set.{Set}
-use Rattle.model.specs.Trace.{Entry}
-use Rattle.model.specs.World.{Shared, World}
+use Rattle.run_laws.specs.Prelude.{ap, arith, refl, ◌∙◌, Bool, List, None, Option, Some, [], false, if◌then◌else◌, slice_get, true, ℕ, ◌+◌, ◌∷◌, ◌≡◌, ◌≢◌, ◌≤◌, frames_of, frames_on, Set, Entry, Shared, World, Frame, Packet, Thread}
 use Rattle.run_laws.specs.Holder.{times_waiting, frame_rights, frame_walks, stack_sum, thread_sum}
 use Rattle.run_laws.proofs.Holders.Runs.{top_holding}
 use Rattle.run_laws.proofs.Holders.Sums.{unheld, held, Held, stack_append, stack_le, two_le}

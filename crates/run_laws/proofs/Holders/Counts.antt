@@ -1,21 +1,6 @@
 -- What a change of one packet does to the counts of packets that a register holds and that the I/O
 -- manager has; and the packet that a register has a right to.
-use Rattle.std.proofs.Common.{◌≡◌, ℕ, ◌+◌, ◌≤◌, List, [], ◌∷◌, ◌++◌, Option, None, Some, is_some, Bool, true, false, refl, subst, ap, sym, ◌∙◌, inl, inr, arith}
-use Rattle.std.specs.Prelude.{nat_eq, nat_lt, remove, slice_set, if◌then◌else◌}
-use Rattle.std.proofs.lemmas.Bool.{cases_Bool, eq-eqb}
-use Rattle.std.proofs.lemmas.Bool.Decides.{eqb_tells}
-use Rattle.model.specs.declared.world.Activation.{Activation}
-use Rattle.model.specs.declared.world.Frame.{Frame}
-use Rattle.model.specs.declared.world.Frame.TheVariants.{Routine, Walk}
-use Rattle.model.specs.declared.world.Packet.{Packet}
-use Rattle.model.specs.declared.world.Value.{Value}
-use Rattle.model.specs.declared.world.Value.TheVariants.{Ref}
-use Rattle.model.specs.Kinds.{is_right}
-use Rattle.model.specs.LocalRule.{kind_of}
-use Rattle.model.specs.Queues.{StartState}
-use Rattle.model.specs.Set.{Set}
-use Rattle.model.specs.Trace.{Entry}
-use Rattle.model.specs.World.{Shared, place_of, packet_of, packet_in, register, with_packet, without_packet}
+use Rattle.run_laws.specs.Prelude.{ap, arith, inl, inr, refl, subst, sym, ◌∙◌, cases_Bool, eq-eqb, eqb_tells, Bool, List, None, Option, Some, [], false, if◌then◌else◌, is_some, nat_eq, nat_lt, remove, slice_set, true, ℕ, ◌++◌, ◌+◌, ◌∷◌, ◌≡◌, ◌≤◌, is_right, kind_of, StartState, Set, Entry, Shared, packet_in, packet_of, place_of, register, with_packet, without_packet, Activation, Frame, Routine, Walk, Packet, Value, Ref}
 use Rattle.run_laws.specs.Holder.{times_named, times_plain, times_started, times_waiting, right, rights, frame_rights, frame_walks}
 use Rattle.run_laws.proofs.Holders.Rights.{one_right, right_le}
 use Rattle.run_laws.proofs.Holders.Sums.{unheld, unheld_one, held, held_apart, own_if, walked_if}

@@ -1,29 +1,7 @@
 -- What exchanges of a packet's cancel word do to its rights: a routine that sets a cancel routine
 -- gives its right to the word, and one that empties the word gets it. The release of a lock leaves
 -- all rights as they are.
-use Rattle.std.proofs.Common.{◌≡◌, ℕ, ◌+◌, List, [], ◌∷◌, Option, None, Some, is_some, is_none, Bool, true, false, refl, ap, sym, subst, arith}
-use Rattle.std.specs.Prelude.{nat_eq, if◌then◌else◌}
-use Rattle.std.proofs.lemmas.Bool.{cond_both}
-use Rattle.model.specs.declared.abs.Rule.TheVariants.{CancelState}
-use Rattle.model.specs.declared.abs.Abs.{Abs}
-use Rattle.model.specs.declared.abs.Kind.{Kind}
-use Rattle.model.specs.declared.abs.Kind.TheVariants.{Blank as BlankKind, Queued}
-use Rattle.model.specs.declared.abs.Stage.TheVariants.{Listed, Armed, Taken}
-use Rattle.model.specs.declared.instr.Instr.{Instr}
-use Rattle.model.specs.declared.instr.Instr.TheVariants.{Arm, Disarm, Release, Const, Move, Clear, Load, LoadPaged, Get, Mark, Insert, Remove, Unlink, Start, Take, Begin, Pass, Call, Complete, ReleaseCancel, Dequeue}
-use Rattle.model.specs.declared.set.Guard.{Guard}
-use Rattle.model.specs.declared.set.Guard.TheVariants.{DeviceLock, CancelLock}
-use Rattle.model.specs.declared.set.QueueName.TheVariants.{Declared}
-use Rattle.model.specs.declared.world.Activation.{Activation}
-use Rattle.model.specs.declared.world.Armer.{Armer}
-use Rattle.model.specs.declared.world.Frame.TheVariants.{Routine}
-use Rattle.model.specs.declared.world.Packet.{Packet}
-use Rattle.model.specs.declared.world.Value.{Value}
-use Rattle.model.specs.Kinds.{all_let_go, is_exchanged, is_guard, is_at, is_right, kind_disarmed, let_go, is_claim}
-use Rattle.model.specs.LocalRule.{handed, kind_of, queued_kind}
-use Rattle.model.specs.Set.{Set, guard_named}
-use Rattle.model.specs.Trace.{Entry}
-use Rattle.model.specs.World.{Shared, packet_of, with_armer, with_packet}
+use Rattle.run_laws.specs.Prelude.{ap, arith, refl, subst, sym, cond_both, Bool, List, None, Option, Some, [], false, if◌then◌else◌, is_none, is_some, nat_eq, true, ℕ, ◌+◌, ◌∷◌, ◌≡◌, all_let_go, is_at, is_claim, is_exchanged, is_guard, is_right, kind_disarmed, let_go, handed, kind_of, queued_kind, Set, guard_named, Entry, Shared, packet_of, with_armer, with_packet, Abs, Kind, BlankKind, Queued, CancelState, Armed, Listed, Taken, Instr, Arm, Begin, Call, Clear, Complete, Const, Dequeue, Disarm, Get, Insert, Load, LoadPaged, Mark, Move, Pass, Release, ReleaseCancel, Remove, Start, Take, Unlink, Guard, CancelLock, DeviceLock, Declared, Activation, Armer, Routine, Packet, Value}
 use Rattle.run_laws.specs.Holder.{frame_rights, names, right, rights, times_waiting}
 use Rattle.run_laws.proofs.Holders.Counts.{Holding, right_unarmed, waits_lost, waits_set, waits_won}
 use Rattle.run_laws.proofs.Holders.Waits.{rights_lost, rights_missed, rights_won}

@@ -1,27 +1,7 @@
 -- A completion routine that was lent a packet and lets its completion go on: its registers have one
 -- right, to that packet.
-use Rattle.std.proofs.Common.{◌≡◌, ℕ, suc, ◌≤◌, List, [], ◌∷◌, Option, None, Some, true, false, refl, ap, sym, ◌∙◌, subst, inl, inr, arith}
-use Rattle.std.specs.List.{list_any}
-use Rattle.std.specs.Prelude.{⊤, nat_eq, slice_index_or, if◌then◌else◌}
-use Rattle.std.proofs.lemmas.Bool.{cases_Bool}
-use Rattle.std.proofs.lemmas.Bool.Decides.{eqb_tells}
-use Rattle.model.specs.declared.abs.Kind.{Kind}
-use Rattle.model.specs.declared.abs.Kind.TheVariants.{Blank as BlankKind, New}
+use Rattle.run_laws.specs.Prelude.{ap, arith, inl, inr, refl, subst, sym, ◌∙◌, cases_Bool, eqb_tells, list_any, List, None, Option, Some, [], false, if◌then◌else◌, nat_eq, slice_index_or, suc, true, ℕ, ⊤, ◌∷◌, ◌≡◌, ◌≤◌, is_new, is_right, form_fault, is_completion, is_dropped, is_fresh, is_hold, kind_of, Set, member, sort_of, Entry, Shared, register, Kind, BlankKind, New, Ret, Continue, Stop, Sort, Hold, Activation, Frame, CancelFrame, Routine, Walk, Value, Blank, Num, Ref, StatusValue}
 use Rattle.model.specs.declared.abs.Rule.TheVariants.{Completion}
-use Rattle.model.specs.declared.instr.Instr.TheVariants.{Ret}
-use Rattle.model.specs.declared.instr.Return.TheVariants.{Continue, Stop}
-use Rattle.model.specs.declared.set.Sort.{Sort}
-use Rattle.model.specs.declared.set.Sort.TheVariants.{Hold}
-use Rattle.model.specs.declared.world.Activation.{Activation}
-use Rattle.model.specs.declared.world.Frame.{Frame}
-use Rattle.model.specs.declared.world.Frame.TheVariants.{Routine, Walk, Cancel as CancelFrame}
-use Rattle.model.specs.declared.world.Value.{Value}
-use Rattle.model.specs.declared.world.Value.TheVariants.{Blank, Num, Ref, Status as StatusValue}
-use Rattle.model.specs.Kinds.{is_new, is_right}
-use Rattle.model.specs.LocalRule.{form_fault, is_completion, is_dropped, is_fresh, is_hold, kind_of}
-use Rattle.model.specs.Set.{Set, member, sort_of}
-use Rattle.model.specs.Trace.{Entry}
-use Rattle.model.specs.World.{Shared, register}
 use Rattle.run_laws.specs.Holder.{frame_rights, right, rights}
 use Rattle.run_laws.proofs.Holders.Counts.{Holding}
 use Rattle.run_laws.proofs.Holders.Rights.{one_right, right_le}

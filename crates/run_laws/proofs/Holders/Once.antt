@@ -1,15 +1,6 @@
 -- No packet tops out twice: one that tops out is live, so it hasn't topped out.
-use Rattle.std.proofs.Common.{◌≡◌, ℕ, ◌≤◌, List, Option, Some, false, refl, subst, inl, inr, arith}
-use Rattle.std.specs.Prelude.{if◌then◌else◌}
-use Rattle.std.proofs.lemmas.Bool.Decides.{eqb_tells}
-use Rattle.model.specs.declared.world.CancelStep.{CancelStep}
-use Rattle.model.specs.declared.world.Frame.{Frame}
-use Rattle.model.specs.Effect.{Outcome, top_of as top_frame}
-use Rattle.model.specs.Events.{Change}
-use Rattle.model.specs.Fault.{topped}
-use Rattle.model.specs.Set.{Set}
-use Rattle.model.specs.Trace.{Entry, Actor, recorded}
-use Rattle.model.specs.World.{Shared, World}
+use Rattle.run_laws.specs.Prelude.{arith, inl, inr, refl, subst, eqb_tells, List, Option, Some, false, if◌then◌else◌, ℕ, ◌≡◌, ◌≤◌, Outcome, Change, topped, Set, Actor, Entry, recorded, Shared, World, CancelStep, Frame}
+use Rattle.model.specs.Effect.{top_of as top_frame}
 use Rattle.run_laws.specs.TopsOnce.{times_topped}
 use Rattle.run_laws.proofs.Past.Packets.{Tells, found, untopped}
 use Rattle.run_laws.proofs.Runs.Events.{Happens, nothing, steps, begins}

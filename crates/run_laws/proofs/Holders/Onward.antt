@@ -1,23 +1,6 @@
 -- The rights of a routine's frame after an instruction that leaves the packets with who has them,
 -- and after a mark; and those that a packet which is sent down takes along.
-use Rattle.std.proofs.Common.{◌≡◌, ℕ, ◌+◌, ◌<◌, List, length, None, Some, Bool, true, false, refl, ap, sym, ◌∙◌, arith}
-use Rattle.std.specs.Prelude.{slice_set, slice_index_or}
-use Rattle.model.specs.declared.abs.Abs.{Abs}
-use Rattle.model.specs.declared.abs.Kind.{Kind}
-use Rattle.model.specs.declared.abs.Kind.TheVariants.{Blank as BlankKind, Num as NumKind, Lower as LowerKind, New, Own}
-use Rattle.model.specs.declared.instr.Instr.{Instr}
-use Rattle.model.specs.declared.instr.Instr.TheVariants.{Const, Move, Add, Subtract, Load, LoadPaged, Get}
-use Rattle.model.specs.declared.limits.TheConstants.{REGISTERS}
-use Rattle.model.specs.declared.set.Sort.{Sort}
-use Rattle.model.specs.declared.world.Activation.{Activation}
-use Rattle.model.specs.declared.world.Frame.TheVariants.{Routine}
-use Rattle.model.specs.declared.world.Value.{Value}
-use Rattle.model.specs.declared.world.Value.TheVariants.{Blank, Num}
-use Rattle.model.specs.Kinds.{is_right}
-use Rattle.model.specs.LocalRule.{kind_of, handed, marked, given_down, number_kind, refuses}
-use Rattle.model.specs.Set.{Set, flow_of, sort_of}
-use Rattle.model.specs.Sound.{OperandFits}
-use Rattle.model.specs.World.{Shared, register, next}
+use Rattle.run_laws.specs.Prelude.{ap, arith, refl, sym, ◌∙◌, Bool, List, None, Some, false, length, slice_index_or, slice_set, true, ℕ, ◌+◌, ◌<◌, ◌≡◌, is_right, given_down, handed, kind_of, marked, number_kind, refuses, Set, flow_of, sort_of, OperandFits, Shared, next, register, Abs, Kind, BlankKind, LowerKind, New, NumKind, Own, Instr, Add, Const, Get, Load, LoadPaged, Move, Subtract, REGISTERS, Sort, Activation, Routine, Value, Blank, Num}
 use Rattle.run_laws.specs.Holder.{right, rights, frame_rights}
 use Rattle.run_laws.proofs.Holders.Exchanges.{rights_still}
 use Rattle.run_laws.proofs.Holders.Rights.{rights_write, rights_turn, rights_move, not_right}

@@ -1,11 +1,5 @@
 -- How often packets stand in queues without a cancel routine, after a queue of a device is changed.
-use Rattle.std.proofs.Common.{◌≡◌, ◌≤◌, ◌+◌, ℕ, zero, suc, List, [], ◌∷◌, None, Some, is_some, refl, arith}
-use Rattle.std.specs.Prelude.{replicate, slice_get, slice_index_or, slice_set, if◌then◌else◌}
-use Rattle.std.proofs.lemmas.Option.{get_or_from_slice_get}
-use Rattle.model.specs.declared.limits.TheConstants.{MAX_QUEUES}
-use Rattle.model.specs.Effect.{routine_of_device}
-use Rattle.model.specs.Set.{Set, cancel_routine_of}
-use Rattle.model.specs.World.{Shared, queue_of, with_queue}
+use Rattle.run_laws.specs.Prelude.{arith, refl, zero, get_or_from_slice_get, List, None, Some, [], if◌then◌else◌, is_some, replicate, slice_get, slice_index_or, slice_set, suc, ℕ, ◌+◌, ◌∷◌, ◌≡◌, ◌≤◌, routine_of_device, Set, cancel_routine_of, Shared, queue_of, with_queue, MAX_QUEUES}
 use Rattle.run_laws.specs.Holder.{times_in, times_plain, times_plain_on}
 use Rattle.run_laws.proofs.States.Fits.{queue_row}
 use Rattle.run_laws.proofs.Tests.{if_none}

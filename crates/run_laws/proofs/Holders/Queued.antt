@@ -1,17 +1,10 @@
 -- How often packets stand in queues: after a packet is put into one or taken off one, and that no
 -- queue of different live packets is longer than there are live packets.
-use Rattle.std.proofs.Common.{true, Option, ◌∙◌, sym, inr, inl, ◌⊎◌, ◌≡◌, ◌≤◌, ◌+◌, ℕ, zero, suc, List, [], ◌∷◌, ◌++◌, length, Some, refl, ap, arith}
-use Rattle.std.specs.Prelude.{option_and_then, nat_eq, replicate, slice_get, slice_index_or, slice_set, if◌then◌else◌}
-use Rattle.std.proofs.lemmas.Option.{get_or_from_slice_get}
-use Rattle.model.specs.declared.limits.TheConstants.{MAX_QUEUES}
-use Rattle.model.specs.World.{Shared, queue_of, with_queue}
+use Rattle.run_laws.specs.Prelude.{ap, arith, inl, inr, refl, sym, zero, ◌∙◌, cases_eq, eq-eqb, eqb_tells, get_or_from_slice_get, List, Option, Some, [], if◌then◌else◌, length, nat_eq, option_and_then, replicate, slice_get, slice_index_or, slice_set, suc, true, ℕ, ◌++◌, ◌+◌, ◌∷◌, ◌≡◌, ◌≤◌, ◌⊎◌, Shared, queue_of, with_queue, MAX_QUEUES, Packet}
 use Rattle.run_laws.specs.Holder.{times_in, times_on, times_queued}
 use Rattle.run_laws.proofs.States.Fits.{queue_row}
-use Rattle.std.proofs.lemmas.Bool.{eq-eqb, cases_eq}
 use Rattle.run_laws.proofs.Lists.{set_other, set_same, sum_le, sum_put}
-use Rattle.model.specs.declared.world.Packet.{Packet}
 use Rattle.run_laws.proofs.Past.LivePackets.{find}
-use Rattle.std.proofs.lemmas.Bool.Decides.{eqb_tells}
 
 pub times_pushed : (entries : List ℕ) (m n : ℕ)
     → times_in (entries ++ m ∷ []) n ≡ times_in entries n + (if nat_eq m n then 1 else 0)

@@ -1,25 +1,6 @@
 -- The packets that a frame's registers of some kinds name, and those that they have rights to, as
 -- they are written.
-use Rattle.std.proofs.Common.{◌≡◌, ℕ, zero, suc, ◌+◌, ◌-◌, ◌<◌, ◌≤◌, true, false, List, [], ◌∷◌, length, refl, arith, ap, ◌∙◌, Option, Some, None, is_some, Bool}
-use Rattle.std.specs.Prelude.{nat_eq, replicate, slice_set, slice_index_or, if◌then◌else◌}
-use Rattle.std.specs.List.{list_any}
-use Rattle.std.proofs.lemmas.Bool.{eq-eqb}
-use Rattle.model.specs.declared.set.QueueName.{QueueName}
-use Rattle.model.specs.declared.limits.TheConstants.{REGISTERS}
-use Rattle.model.specs.declared.abs.Abs.{Abs}
-use Rattle.model.specs.declared.abs.Kind.{Kind}
-use Rattle.model.specs.declared.abs.Kind.TheVariants.{Blank as BlankKind, Num as NumKind, New, Own, Queued, View}
-use Rattle.model.specs.declared.abs.Stage.TheVariants.{Cancelling}
-use Rattle.model.specs.declared.set.Sort.{Sort}
-use Rattle.model.specs.declared.set.Sort.TheVariants.{Dispatch, Dpc, Propagate, StartIo, Hold, Cancel}
-use Rattle.model.specs.declared.status.Status.{Status}
-use Rattle.model.specs.declared.world.Activation.{Activation}
-use Rattle.model.specs.declared.world.Frame.TheVariants.{Routine}
-use Rattle.model.specs.declared.world.Value.{Value}
-use Rattle.model.specs.declared.world.Value.TheVariants.{Blank, Ref, Status as StatusValue}
-use Rattle.model.specs.LocalRule.{is_dropped}
-use Rattle.model.specs.Kinds.{is_packet, is_right, left_behind}
-use Rattle.model.specs.Set.{Set, cancels_for}
+use Rattle.run_laws.specs.Prelude.{ap, arith, refl, zero, ◌-◌, ◌∙◌, eq-eqb, list_any, Bool, List, None, Option, Some, [], false, if◌then◌else◌, is_some, length, nat_eq, replicate, slice_index_or, slice_set, suc, true, ℕ, ◌+◌, ◌<◌, ◌∷◌, ◌≡◌, ◌≤◌, is_packet, is_right, left_behind, is_dropped, Set, cancels_for, Abs, Kind, BlankKind, New, NumKind, Own, Queued, View, Cancelling, REGISTERS, QueueName, Sort, Cancel, Dispatch, Dpc, Hold, Propagate, StartIo, Status, Activation, Routine, Value, Blank, Ref, StatusValue}
 use Rattle.run_laws.specs.Holder.{named_as, named_in, right, rights, frame_rights}
 use Rattle.run_laws.proofs.Lists.{copied}
 use Rattle.run_laws.proofs.States.NoViews.{left_none}

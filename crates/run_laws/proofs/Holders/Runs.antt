@@ -1,25 +1,6 @@
 -- In every run of an accepted set each live packet has one holder, and no packet tops out twice.
-use Rattle.std.proofs.Common.{length, ◌≡◌, ℕ, zero, suc, ◌+◌, ◌-◌, ◌≤◌, List, [], ◌∷◌, ◌++◌, Option, None, Some, Bool, true, false, refl, ap, ◌∙◌, arith, inl, inr, sym, append-nil, take, append_assoc}
-use Rattle.std.specs.Prelude.{◌&&◌, not, is_none, nat_eq, nat_lt, replicate, slice_get, slice_set, if◌then◌else◌}
-use Rattle.std.proofs.lemmas.Bool.{ltb-false, cases_Bool}
-use Rattle.model.specs.declared.instr.Instr.TheVariants.{Ret}
-use Rattle.model.specs.declared.instr.Return.TheVariants.{Stop}
-use Rattle.model.specs.declared.set.Sort.TheVariants.{Dispatch, StartIo}
-use Rattle.model.specs.declared.status.Status.{Status}
-use Rattle.model.specs.declared.world.Activation.{Activation}
-use Rattle.model.specs.declared.world.Frame.{Frame}
-use Rattle.model.specs.declared.world.Frame.TheVariants.{Routine, Walk, Cancel as CancelFrame}
-use Rattle.model.specs.declared.world.Packet.{Packet}
-use Rattle.model.specs.declared.world.Thread.{Thread}
-use Rattle.model.specs.Effect.{Outcome, operand_of, answered_in, top_of, kept_below, told_to}
-use Rattle.model.specs.Events.{Change, standing, with_stack, serves_request, dpc_activation}
-use Rattle.model.specs.Fault.{first_fault, topped}
-use Rattle.model.specs.LocalRule.{is_hold}
-use Rattle.model.specs.Queues.{without_first_to_start}
-use Rattle.model.specs.Run.{Run, begun}
-use Rattle.model.specs.Set.{Set, instruction_at, sort_of}
-use Rattle.model.specs.Trace.{Entry, Actor}
-use Rattle.model.specs.World.{World, idle_thread, new_packet, packet_of, Shared}
+use Rattle.run_laws.specs.Prelude.{ap, append-nil, arith, inl, inr, refl, sym, take, zero, ◌-◌, ◌∙◌, cases_Bool, ltb-false, Bool, List, None, Option, Some, [], false, if◌then◌else◌, is_none, length, nat_eq, nat_lt, not, replicate, slice_get, slice_set, suc, true, ℕ, ◌&&◌, ◌++◌, ◌+◌, ◌∷◌, ◌≡◌, ◌≤◌, Outcome, answered_in, kept_below, operand_of, told_to, top_of, Change, dpc_activation, serves_request, standing, with_stack, first_fault, topped, is_hold, without_first_to_start, Run, begun, Set, instruction_at, sort_of, Actor, Entry, Shared, World, idle_thread, new_packet, packet_of, Ret, Stop, Dispatch, StartIo, Status, Activation, Frame, CancelFrame, Routine, Walk, Packet, Thread}
+use Rattle.std.proofs.Common.{append_assoc}
 use Rattle.run_laws.specs.Holder.{times_waiting, frame_rights, frame_walks, stack_sum, thread_sum, holders, alive, is_live, walking, waits_cancelable}
 use Rattle.run_laws.proofs.Holders.Counts.{Holding, new_unheld, new_held, new_waits}
 use Rattle.run_laws.proofs.Holders.Lent.{IsLent, stops_hold}

@@ -1,37 +1,8 @@
 -- A step keeps the count of rights: what a register loses another one gets, or the packet's cancel
 -- word, or the I/O manager's frame, or the packet tops out. So no packet is completed that its
 -- routine has no right to, and none whose cancel word isn't empty.
-use Rattle.std.proofs.Common.{inr, inl, ◌≡◌, ℕ, ◌+◌, ◌<◌, ◌≤◌, List, [], ◌∷◌, ◌++◌, Option, None, Some, Bool, true, false, refl, ap, sym, ◌∙◌, arith, is_some, subst}
-use Rattle.std.specs.List.{list_any}
-use Rattle.std.specs.Prelude.{nat_eq, slice_get, slice_set, if◌then◌else◌}
-use Rattle.model.specs.declared.abs.Abs.{Abs}
-use Rattle.model.specs.declared.abs.Kind.{Kind}
-use Rattle.model.specs.declared.abs.Kind.TheVariants.{Blank as BlankKind}
-use Rattle.model.specs.declared.instr.Instr.{Instr}
-use Rattle.model.specs.declared.instr.Instr.TheVariants.{Loop, End, Put, Mark, Pass, Call, Complete, Ret}
-use Rattle.model.specs.declared.instr.Return.{Return}
-use Rattle.model.specs.declared.instr.Return.TheVariants.{Continue, Stop, Void}
-use Rattle.model.specs.declared.set.Sort.{Sort}
-use Rattle.model.specs.declared.set.Sort.TheVariants.{Dispatch, Propagate, Hold, Cancel}
-use Rattle.model.specs.declared.status.Status.{Status}
-use Rattle.model.specs.declared.world.Activation.{Activation}
-use Rattle.model.specs.declared.world.Armer.{Armer}
-use Rattle.model.specs.declared.world.CancelStep.{CancelStep}
-use Rattle.model.specs.declared.world.CancelStep.TheVariants.{Exchange}
-use Rattle.model.specs.declared.world.Frame.{Frame}
-use Rattle.model.specs.declared.world.Frame.TheVariants.{Routine, Walk, Cancel as CancelFrame}
-use Rattle.model.specs.declared.world.Packet.{Packet}
-use Rattle.model.specs.declared.world.Value.{Value}
-use Rattle.model.specs.declared.world.Value.TheVariants.{Ref}
-use Rattle.model.specs.Action.{Action}
-use Rattle.model.specs.Effect.{Outcome, turned, dispatched, completes_with, set_by, is_walk, routine_of_device}
-use Rattle.model.specs.Fault.{topped, completing, armed, completion_fault}
-use Rattle.model.specs.Kinds.{is_right, is_new}
-use Rattle.model.specs.LocalRule.{kind_of, gives_back, is_dropped, marked, given_down, is_hold}
-use Rattle.model.specs.Queues.{StartState}
-use Rattle.model.specs.Set.{Set, flow_of, sort_of, lower_of, cancel_routine_named}
-use Rattle.model.specs.Trace.{Entry, Actor}
-use Rattle.model.specs.World.{Shared, packet_of, register, next, with_loops, with_packet, with_info, mark_current, completed, shared_with, sent_down, left_location, moved_up, current_location, asked_of, with_armer, cancelled}
+use Rattle.run_laws.specs.Prelude.{ap, arith, inl, inr, refl, subst, sym, ◌∙◌, list_any, Bool, List, None, Option, Some, [], false, if◌then◌else◌, is_some, nat_eq, slice_get, slice_set, true, ℕ, ◌++◌, ◌+◌, ◌<◌, ◌∷◌, ◌≡◌, ◌≤◌, Action, Outcome, completes_with, dispatched, is_walk, routine_of_device, set_by, turned, armed, completing, topped, is_new, is_right, given_down, gives_back, is_dropped, is_hold, kind_of, marked, StartState, head_of, Set, cancel_routine_named, flow_of, has_cancel, lower_of, sort_of, Actor, Entry, Shared, asked_of, cancelled, completed, current_location, left_location, mark_current, moved_up, next, packet_of, register, sent_down, shared_with, with_armer, with_info, with_loops, with_packet, Abs, Kind, BlankKind, Instr, Call, Complete, End, Loop, Mark, Pass, Put, Ret, Return, Continue, Stop, Void, DeviceQueue, Sort, Cancel, Dispatch, Hold, Propagate, Status, Activation, Armer, CancelStep, Exchange, Frame, CancelFrame, Routine, Walk, Packet, Value, Ref}
+use Rattle.model.specs.Fault.{completion_fault}
 use Rattle.run_laws.specs.Holder.{times_waiting, right, rights, frame_rights, stack_sum, is_lent, walking, times_named}
 use Rattle.run_laws.proofs.Holders.Counts.{Holding, unheld_set, held_set, unheld_taken, held_taken, unheld_removed, held_removed, reads_ref, right_free, right_lives, walk_taken, walk_lives, waits_set, right_unarmed, unheld_lent, held_lent, waits_lost, walk_unarmed, waits_removed, waits_won}
 use Rattle.run_laws.proofs.Holders.Exchanges.{exchange_rights}
@@ -62,9 +33,6 @@ use Rattle.run_laws.proofs.Steps.Comes.{Waits, arms_waiting, disarms_next, works
 use Rattle.run_laws.proofs.Holders.Waits.{OwnsLive, waited_rights, first_both}
 use Rattle.run_laws.proofs.Steps.Queues.{is_gone}
 use Rattle.run_laws.proofs.States.StartsFit.{head_low, start_issued}
-use Rattle.model.specs.Set.{has_cancel}
-use Rattle.model.specs.declared.set.QueueName.TheVariants.{DeviceQueue}
-use Rattle.model.specs.Queues.{head_of}
 
 -- the rights before and after a step, those of the packets that are gone or came included; and the
 -- I/O manager's frames that aren't lent, where the frame below stays

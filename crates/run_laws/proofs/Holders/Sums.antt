@@ -1,14 +1,6 @@
 -- Sums of rights and of the I/O manager's frames over threads, and what they are by the packet:
 -- each live packet has one right, or one frame of the I/O manager.
-use Rattle.std.proofs.Common.{◌≡◌, ◌≢◌, ℕ, zero, suc, ◌+◌, ◌≤◌, List, [], ◌∷◌, ◌++◌, Option, None, Some, Bool, true, false, cond, refl, ap, ◌∙◌, arith}
-use Rattle.std.specs.Prelude.{slice_get, slice_set, if◌then◌else◌}
-use Rattle.model.specs.declared.status.Status.{Status}
-use Rattle.model.specs.declared.world.Frame.{Frame}
-use Rattle.model.specs.declared.world.Packet.{Packet}
-use Rattle.model.specs.declared.world.Thread.{Thread}
-use Rattle.model.specs.Run.{frames_of, frames_on}
-use Rattle.model.specs.Set.{Set}
-use Rattle.model.specs.World.{World}
+use Rattle.run_laws.specs.Prelude.{ap, arith, cond, refl, zero, ◌∙◌, Bool, List, None, Option, Some, [], false, if◌then◌else◌, slice_get, slice_set, suc, true, ℕ, ◌++◌, ◌+◌, ◌∷◌, ◌≡◌, ◌≢◌, ◌≤◌, frames_of, frames_on, Set, World, Status, Frame, Packet, Thread}
 use Rattle.run_laws.specs.Holder.{all_walking, times_waiting, frame_rights, stack_sum, thread_sum}
 use Rattle.run_laws.proofs.Lists.{sum_le}
 use Rattle.run_laws.proofs.Past.LivePackets.{find}

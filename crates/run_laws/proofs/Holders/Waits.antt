@@ -1,30 +1,6 @@
 -- What the instructions about queues do to the rights of a routine's frame: a packet goes from a
 -- register to a list or to the current slot, or from one of these to a register.
-use Rattle.std.proofs.Common.{◌≡◌, ℕ, ◌+◌, ◌<◌, List, ◌∷◌, length, Option, None, Some, Bool, true, false, refl, ap, ◌∙◌, arith, slice_get, subst, sym, inl, inr, is_some}
-use Rattle.std.specs.Prelude.{⊤, nat_eq, slice_set, if◌then◌else◌, ◌||◌, ◌&&◌}
-use Rattle.model.specs.declared.abs.Abs.{Abs}
-use Rattle.model.specs.declared.abs.Kind.{Kind}
-use Rattle.model.specs.declared.abs.Kind.TheVariants.{Blank as BlankKind, Own, Queued as QueuedKind}
-use Rattle.model.specs.declared.abs.Stage.TheVariants.{Listed, Taken, Cancelling}
-use Rattle.model.specs.declared.abs.Rule.{Rule}
-use Rattle.model.specs.declared.abs.Rule.TheVariants.{Dropped, Token, CancelState}
-use Rattle.model.specs.declared.instr.Instr.{Instr}
-use Rattle.model.specs.declared.instr.Instr.TheVariants.{Begin, Insert, Next, Remove, Start, Take, Unlink, Dequeue}
-use Rattle.model.specs.declared.limits.TheConstants.{REGISTERS}
-use Rattle.model.specs.declared.set.QueueName.{QueueName}
-use Rattle.model.specs.declared.set.QueueName.TheVariants.{Declared, DeviceQueue}
-use Rattle.model.specs.declared.world.Activation.{Activation}
-use Rattle.model.specs.declared.world.Frame.{Frame}
-use Rattle.model.specs.declared.world.Frame.TheVariants.{Routine, Walk, Cancel as CancelFrame}
-use Rattle.model.specs.declared.world.Value.TheVariants.{Ref}
-use Rattle.model.specs.Action.{Action}
-use Rattle.model.specs.Effect.{routine_of_device}
-use Rattle.model.specs.Kinds.{is_name, is_packet, is_right, kind_inserted, kind_removed, is_at}
-use Rattle.model.specs.LocalRule.{an_owned_one, demanded, free_kind, handed, handed_at_label, kind_of, least_of, unless, unlink_kind, queued_kind}
-use Rattle.model.specs.Queues.{StartState, inserted, next_started, started, with_slot, unlinked, dequeued}
-use Rattle.model.specs.Set.{Set, flow_of, label_of, cancel_routine_of, has_cancel}
-use Rattle.model.specs.Sound.{OperandFits}
-use Rattle.model.specs.World.{Shared, at_label, next, register, start_of, with_queue, with_register, queue_of, packet_of}
+use Rattle.run_laws.specs.Prelude.{ap, arith, inl, inr, refl, subst, sym, ◌∙◌, Bool, List, None, Option, Some, false, if◌then◌else◌, is_some, length, nat_eq, slice_get, slice_set, true, ℕ, ⊤, ◌&&◌, ◌+◌, ◌<◌, ◌||◌, ◌∷◌, ◌≡◌, Action, next_disarmed, routine_of_device, is_at, is_name, is_packet, is_right, kind_inserted, kind_removed, an_owned_one, demanded, free_kind, handed, handed_at_label, kind_of, least_of, queued_kind, unless, unlink_kind, StartState, dequeued, head_of, inserted, next_started, started, unlinked, with_slot, Set, cancel_routine_of, flow_of, has_cancel, label_of, OperandFits, Shared, at_label, next, packet_of, queue_of, register, start_of, with_queue, with_register, Abs, Kind, BlankKind, Own, QueuedKind, Rule, CancelState, Dropped, Token, Cancelling, Listed, Taken, Instr, Begin, Dequeue, Insert, Next, Remove, Start, Take, Unlink, REGISTERS, QueueName, Declared, DeviceQueue, Activation, Armer, Frame, CancelFrame, Routine, Walk, Packet, Ref}
 use Rattle.run_laws.specs.Holder.{frame_rights, right, rights, times_in, times_in_slot, times_waiting, names, waits_cancelable, times_started, times_at}
 use Rattle.run_laws.proofs.Holders.Counts.{reads_ref}
 use Rattle.run_laws.proofs.Holders.Plain.{plain_in, plain_counts, plain_put, plain_skips}
@@ -41,16 +17,10 @@ use Rattle.run_laws.specs.ArrivingStates.{States}
 use Rattle.run_laws.proofs.States.Rules.{first_none, granted, second_none, unbroken}
 use Rattle.run_laws.proofs.Steps.Comes.{Queued, Reads, inserts, jumping, puts_in, removes, removes_none, starts_next, starts_packet, takes_none, takes_out, unlinks, starts_gone, Waits, dequeues_packet}
 use Rattle.run_laws.proofs.Steps.Queues.{is_gone}
-use Rattle.model.specs.declared.world.Armer.{Armer}
-use Rattle.model.specs.declared.world.Packet.{Packet}
 use Rattle.run_laws.proofs.Steps.Comes.{Waits, arms_waiting, disarms_next}
-use Rattle.model.specs.Queues.{head_of, next_started, started}
 use Rattle.run_laws.specs.Holder.{times_at, times_named, times_started, times_plain}
 use Rattle.run_laws.proofs.Holders.Started.{times_waited, times_disarmed, started_put}
-use Rattle.model.specs.World.{packet_of}
 use Rattle.run_laws.proofs.Steps.Comes.{Executing}
-use Rattle.model.specs.Effect.{next_disarmed}
-use Rattle.std.specs.Prelude.{⊤}
 
 -- a routine's frame that has the token of its device finds the current slot empty
 abbrev pub FreesSlot : States → Shared → Frame → Type 0

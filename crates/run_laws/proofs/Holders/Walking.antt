@@ -1,18 +1,6 @@
 -- Sums of the I/O manager's frames that aren't lent to the completion routine on them: over the
 -- frames of a thread, and over all threads. Only the last of the frames below looks at those above.
-use Rattle.std.proofs.Common.{◌≡◌, ℕ, zero, suc, ◌+◌, ◌-◌, ◌≤◌, List, [], ◌∷◌, ◌++◌, length, Option, None, Some, Bool, false, refl, ap, sym, ◌∙◌, arith}
-use Rattle.std.specs.Prelude.{slice_get, slice_set, replicate, if◌then◌else◌}
-use Rattle.std.proofs.lemmas.Bool.{eq-eqb}
-use Rattle.model.specs.declared.status.Status.{Status}
-use Rattle.model.specs.declared.world.Activation.{Activation}
-use Rattle.model.specs.declared.world.Frame.{Frame}
-use Rattle.model.specs.declared.world.Frame.TheVariants.{Routine, Walk, Cancel as CancelFrame}
-use Rattle.model.specs.declared.world.Thread.{Thread}
-use Rattle.model.specs.Effect.{answered_in, operand_of, top_of}
-use Rattle.model.specs.LocalRule.{is_hold}
-use Rattle.model.specs.Run.{frames_of, frames_on}
-use Rattle.model.specs.Set.{Set, instruction_at, sort_of}
-use Rattle.model.specs.World.{World, idle_thread}
+use Rattle.run_laws.specs.Prelude.{ap, arith, refl, sym, zero, ◌-◌, ◌∙◌, eq-eqb, Bool, List, None, Option, Some, [], false, if◌then◌else◌, length, replicate, slice_get, slice_set, suc, ℕ, ◌++◌, ◌+◌, ◌∷◌, ◌≡◌, ◌≤◌, answered_in, operand_of, top_of, is_hold, frames_of, frames_on, Set, instruction_at, sort_of, World, idle_thread, Status, Activation, Frame, CancelFrame, Routine, Walk, Thread}
 use Rattle.run_laws.specs.Holder.{all_walking, frame_walks, is_lent, walking}
 use Rattle.run_laws.proofs.Lists.{get_at_length}
 use Rattle.run_laws.proofs.States.Told.{last_under, told_frame, told_last}

@@ -2,26 +2,10 @@
 -- routine holds it; and so is what stands in a queue.
 use Rattle.run_laws.proofs.Holders.Plain.{plain_in, driver_at, plain_le, plain_counts}
 use Rattle.run_laws.proofs.Claims.Balance.{at_same, claim_le}
-use Rattle.model.specs.declared.set.QueueName.{QueueName}
-use Rattle.model.specs.declared.world.Value.TheVariants.{Ref}
+use Rattle.run_laws.specs.Prelude.{ap, arith, refl, Bool, List, None, Option, Some, false, is_some, length, option_map, slice_get, true, ℕ, ◌+◌, ◌≡◌, ◌≤◌, is_at, is_exchanged, kind_of, StartState, frames_on, Set, Entry, World, register, start_of, Kind, Queued, Armed, Cancelling, Listed, Taken, QueueName, Declared, DeviceQueue, Activation, Frame, Routine, Ref}
 use Rattle.run_laws.proofs.Claims.Tops.{named_some, top_there}
 use Rattle.run_laws.proofs.Claims.Held.{holder_lives}
 use Rattle.run_laws.proofs.Live.Steps.{ClaimsLive, EntriesLive}
-use Rattle.std.proofs.Common.{◌≡◌, ℕ, ◌+◌, ◌≤◌, Bool, true, false, List, Some, refl, ap, arith, Option, is_some, None}
-use Rattle.std.specs.Prelude.{length, slice_get}
-use Rattle.model.specs.declared.abs.Kind.{Kind}
-use Rattle.model.specs.declared.abs.Kind.TheVariants.{Queued}
-use Rattle.model.specs.declared.abs.Stage.TheVariants.{Armed, Taken, Listed, Cancelling}
-use Rattle.model.specs.declared.set.QueueName.TheVariants.{Declared}
-use Rattle.model.specs.declared.world.Activation.{Activation}
-use Rattle.model.specs.declared.world.Frame.{Frame}
-use Rattle.model.specs.declared.world.Frame.TheVariants.{Routine}
-use Rattle.model.specs.Kinds.{is_at, is_exchanged}
-use Rattle.model.specs.LocalRule.{kind_of}
-use Rattle.model.specs.Run.{frames_on}
-use Rattle.model.specs.Set.{Set}
-use Rattle.model.specs.Trace.{Entry}
-use Rattle.model.specs.World.{World, register}
 use Rattle.run_laws.specs.Holder.{times_in}
 use Rattle.run_laws.proofs.Claims.Sums.{Claimed, names_on, word_at, is_cancelable, times_of}
 use Rattle.run_laws.proofs.Holders.Sums.{Held, unheld}
@@ -31,10 +15,6 @@ use Rattle.run_laws.proofs.States.Frames.{IsGood, state_of}
 use Rattle.run_laws.specs.ArrivingStates.{States}
 use Rattle.run_laws.proofs.States.Standing.{Standing}
 use Rattle.run_laws.proofs.Claims.Sums.{list_of}
-use Rattle.model.specs.declared.set.QueueName.TheVariants.{Declared, DeviceQueue}
-use Rattle.model.specs.Queues.{StartState}
-use Rattle.model.specs.World.{start_of}
-use Rattle.std.specs.Prelude.{option_map}
 use Rattle.run_laws.specs.Holder.{times_at, waits_cancelable}
 use Rattle.run_laws.proofs.Holders.Started.{started_le}
 

@@ -3,22 +3,7 @@
 use Rattle.run_laws.proofs.States.NoViews.{is_deferred}
 use Rattle.run_laws.proofs.Holders.Walking.{walking_under}
 use Rattle.run_laws.proofs.Holders.Lent.{IsLent}
-use Rattle.std.proofs.Common.{◌≡◌, ℕ, suc, ◌+◌, ◌-◌, ◌≤◌, ◌⊎◌, inl, inr, List, [], ◌∷◌, ◌++◌, length, Option, None, Some, refl, ap, sym, ◌∙◌, subst, arith, false, true}
-use Rattle.std.specs.Prelude.{slice_get}
-use Rattle.model.specs.declared.set.Sort.TheVariants.{Dpc, StartIo, Hold, Dispatch}
-use Rattle.model.specs.declared.status.Status.{Status}
-use Rattle.model.specs.declared.world.CancelStep.{CancelStep}
-use Rattle.model.specs.declared.world.Frame.{Frame}
-use Rattle.model.specs.declared.world.Frame.TheVariants.{Routine, Walk, Cancel as CancelFrame}
-use Rattle.model.specs.declared.world.Irql.{Irql}
-use Rattle.model.specs.declared.world.Packet.{Packet}
-use Rattle.model.specs.declared.world.Thread.{Thread}
-use Rattle.model.specs.Effect.{Outcome, told_to, top_of}
-use Rattle.model.specs.Events.{Change, standing, with_stack, with_thread}
-use Rattle.model.specs.Run.{begun, frames_on}
-use Rattle.model.specs.Set.{Set}
-use Rattle.model.specs.Trace.{Entry, Actor}
-use Rattle.model.specs.World.{Shared, World}
+use Rattle.run_laws.specs.Prelude.{ap, arith, inl, inr, refl, subst, sym, ◌-◌, ◌∙◌, List, None, Option, Some, [], false, length, slice_get, suc, true, ℕ, ◌++◌, ◌+◌, ◌∷◌, ◌≡◌, ◌≤◌, ◌⊎◌, Outcome, told_to, top_of, Change, standing, with_stack, with_thread, begun, frames_on, Set, Actor, Entry, Shared, World, Dispatch, Dpc, Hold, StartIo, Status, CancelStep, Frame, CancelFrame, Routine, Walk, Irql, Packet, Thread}
 use Rattle.run_laws.specs.Holder.{all_walking}
 use Rattle.run_laws.proofs.Holders.Counts.{Holding}
 use Rattle.run_laws.proofs.Holders.Sums.{Held, held, walked_if}

@@ -1,20 +1,7 @@
 -- Every register of a packet's kind, in any frame of any thread, names a live packet: who has the
 -- right to it holds it; who has a claim is backed by its cancel word or its cancel routine; and one
 -- on its way up is the I/O manager's.
-use Rattle.std.proofs.Common.{◌≡◌, ℕ, ◌≤◌, true, false, List, Option, None, Some, inl, inr, refl, sym, ◌∙◌, arith}
-use Rattle.std.specs.Prelude.{slice_get}
-use Rattle.std.proofs.lemmas.Bool.{cases_Bool}
-use Rattle.model.specs.declared.world.Activation.{Activation}
-use Rattle.model.specs.declared.world.Frame.{Frame}
-use Rattle.model.specs.declared.world.Frame.TheVariants.{Routine, Walk, Cancel as CancelFrame}
-use Rattle.model.specs.declared.world.Packet.{Packet}
-use Rattle.model.specs.declared.world.Value.TheVariants.{Ref}
-use Rattle.model.specs.Kinds.{is_packet, is_right, is_view}
-use Rattle.model.specs.LocalRule.{is_hold, kind_of}
-use Rattle.model.specs.Run.{frames_on}
-use Rattle.model.specs.Set.{Set, sort_of}
-use Rattle.model.specs.Trace.{Entry}
-use Rattle.model.specs.World.{World, packet_of, register}
+use Rattle.run_laws.specs.Prelude.{arith, inl, inr, refl, sym, ◌∙◌, cases_Bool, List, None, Option, Some, false, slice_get, true, ℕ, ◌≡◌, ◌≤◌, is_packet, is_right, is_view, is_hold, kind_of, frames_on, Set, sort_of, Entry, World, packet_of, register, Activation, Frame, CancelFrame, Routine, Walk, Packet, Ref}
 use Rattle.run_laws.specs.ArrivingStates.{States}
 use Rattle.run_laws.specs.Holder.{StandsInside, all_walking, frame_rights}
 use Rattle.run_laws.proofs.Claims.Sums.{Claimed}

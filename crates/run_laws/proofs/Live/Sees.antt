@@ -1,20 +1,7 @@
 -- Which packets the frames of a thread see: a completion routine's registers refer to the packet of
 -- the I/O manager's frame below it, where they refer to one on its way up, and every other routine
 -- is a dispatch routine, or a deferred one: a DPC, a StartIo or a cancel routine.
-use Rattle.std.proofs.Common.{true, ap, ◌≡◌, ◌⊎◌, ℕ, zero, suc, ◌-◌, List, [], ◌∷◌, ◌++◌, Option, None, Some, inl, inr, refl, sym, subst, ◌∙◌}
-use Rattle.std.specs.Prelude.{⊤, nat_lt, replicate, slice_get}
-use Rattle.std.proofs.lemmas.Bool.{cases_Bool}
-use Rattle.model.specs.declared.set.Sort.{Sort}
-use Rattle.model.specs.declared.set.Sort.TheVariants.{Propagate, Dispatch, Hold}
-use Rattle.model.specs.declared.status.Status.{Status}
-use Rattle.model.specs.declared.world.Activation.{Activation}
-use Rattle.model.specs.declared.world.Frame.{Frame}
-use Rattle.model.specs.declared.world.Frame.TheVariants.{Routine, Walk, Cancel as CancelFrame}
-use Rattle.model.specs.declared.world.Value.{Value}
-use Rattle.model.specs.declared.world.Value.TheVariants.{Blank, Ref, Status as StatusValue}
-use Rattle.model.specs.Effect.{operand_of, answered_in, told_to}
-use Rattle.model.specs.Set.{Set, instruction_at, sort_of}
-use Rattle.model.specs.World.{Shared, packet_in, register}
+use Rattle.run_laws.specs.Prelude.{ap, inl, inr, refl, subst, sym, zero, ◌-◌, ◌∙◌, cases_Bool, List, None, Option, Some, [], nat_lt, replicate, slice_get, suc, true, ℕ, ⊤, ◌++◌, ◌∷◌, ◌≡◌, ◌⊎◌, answered_in, operand_of, told_to, is_new, is_view, kind_of, Set, instruction_at, sort_of, Shared, packet_in, register, BlankKind, Sort, Dispatch, Hold, Propagate, Status, Activation, Frame, CancelFrame, Routine, Walk, Value, Blank, Ref, StatusValue}
 use Rattle.run_laws.proofs.Holders.Walking.{under_at}
 use Rattle.run_laws.proofs.States.Entering.{Begins, IsOfSort}
 use Rattle.run_laws.proofs.States.Stacks.{answered_in_sort}
@@ -22,11 +9,8 @@ use Rattle.run_laws.proofs.States.Told.{last_under, told_frame, told_last, told_
 use Rattle.run_laws.proofs.Steps.Comes.{Reads}
 use Rattle.run_laws.specs.ArrivingStates.{States}
 use Rattle.run_laws.proofs.States.HandedOver.{hold_get, hold_none, hold_told, HoldOf}
-use Rattle.model.specs.LocalRule.{kind_of}
-use Rattle.model.specs.Kinds.{is_view, is_new}
 use Rattle.run_laws.proofs.States.Frames.{state_of}
 use Rattle.run_laws.proofs.States.NoViews.{handed_views, is_deferred, handed_news}
-use Rattle.model.specs.declared.abs.Kind.TheVariants.{Blank as BlankKind}
 
 abbrev pub RefersTo : ℕ → Value → Type 0
 RefersTo m (Ref n) = n ≡ m

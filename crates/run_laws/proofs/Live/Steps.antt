@@ -2,37 +2,11 @@
 -- the right to it, or refers to the packet of the I/O manager's frame below, and that frame holds
 -- its packet.
 use Rattle.run_laws.proofs.Tests.{not_false}
-use Rattle.model.specs.declared.set.QueueName.{QueueName}
-use Rattle.model.specs.declared.instr.Return.TheVariants.{Continue}
+use Rattle.run_laws.specs.Prelude.{ap, arith, inl, inr, refl, subst, sym, ◌∙◌, cases_Bool, eq-eqb, Bool, List, None, Option, Some, false, slice_get, true, ℕ, ⊤, ◌+◌, ◌<◌, ◌∷◌, ◌≡◌, ◌≤◌, ◌⊎◌, Action, Executes, Touches, Outcome, asks, completes_with, routine_of_device, turned, bug_if, fault_of, is_claim, is_exchanged, is_new, is_packet, is_right, is_view, is_hold, kind_of, Arrives, StartState, head_of, Set, flow_of, has_cancel, lower_of, member, routine_of, sort_of, Actor, Entry, Shared, asked_of, current_location, entered, next, packet_in, packet_of, register, Kind, QueuedKind, View, IrqlNotLessOrEqual, PacketSubject, Instr, Begin, Call, Complete, Dequeue, End, Insert, Loop, Mark, Next, Pass, Put, Ret, Start, Unlink, Continue, QueueName, Declared, DeviceQueue, RoutineOf, Sort, Cancel, Dispatch, Hold, Activation, Armer, CancelStep, Frame, CancelFrame, Routine, Walk, Packet, Value, Ref}
 use Rattle.run_laws.proofs.Claims.Next.{head_counts}
 use Rattle.run_laws.proofs.States.Cancelled.{begins_called}
-use Rattle.model.specs.declared.world.CancelStep.{CancelStep}
 use Rattle.run_laws.proofs.Holders.Lent.{back_unheld, hold_sort}
-use Rattle.std.proofs.Common.{◌+◌, ◌≤◌, ◌≡◌, ℕ, ◌<◌, List, ◌∷◌, Option, None, Some, Bool, true, false, refl, ap, sym, ◌∙◌, subst, inl, inr, arith, ◌⊎◌, Continue, slice_get}
-use Rattle.std.specs.Prelude.{⊤}
-use Rattle.std.proofs.lemmas.Bool.{eq-eqb, cases_Bool}
-use Rattle.model.specs.declared.abs.Kind.{Kind}
-use Rattle.model.specs.declared.abs.Kind.TheVariants.{Queued as QueuedKind, View}
-use Rattle.model.specs.declared.instr.Instr.{Instr}
-use Rattle.model.specs.declared.set.Routine.{Routine as RoutineOf}
-use Rattle.model.specs.declared.set.Sort.TheVariants.{Dispatch, Hold, Cancel}
-use Rattle.model.specs.declared.world.Activation.{Activation}
-use Rattle.model.specs.declared.world.Frame.{Frame}
-use Rattle.model.specs.declared.world.Frame.TheVariants.{Routine, Walk, Cancel as CancelFrame}
-use Rattle.model.specs.declared.world.Packet.{Packet}
-use Rattle.model.specs.declared.world.Value.{Value}
-use Rattle.model.specs.declared.world.Value.TheVariants.{Ref}
-use Rattle.model.specs.declared.event.BugCheck.TheVariants.{IrqlNotLessOrEqual}
-use Rattle.model.specs.declared.event.Subject.TheVariants.{Packet as PacketSubject}
-use Rattle.model.specs.Action.{Executes, Action, Touches}
-use Rattle.model.specs.Effect.{completes_with, Outcome, asks, turned, routine_of_device}
-use Rattle.model.specs.Fault.{bug_if, fault_of}
-use Rattle.model.specs.LocalRule.{kind_of, is_hold}
-use Rattle.model.specs.Kinds.{is_packet, is_right, is_view, is_new, is_exchanged, is_claim}
-use Rattle.model.specs.Paths.{Arrives}
-use Rattle.model.specs.Set.{flow_of, Set, lower_of, member, routine_of, sort_of}
-use Rattle.model.specs.Trace.{Entry, Actor}
-use Rattle.model.specs.World.{Shared, asked_of, current_location, next, packet_of, packet_in, register, entered}
+use Rattle.std.proofs.Common.{Continue}
 use Rattle.run_laws.proofs.Holders.Counts.{Holding, right_lives, walk_lives}
 use Rattle.run_laws.proofs.Live.Sees.{view_refers, Views, RefersTo, Seen, AllSeen, IsDeferred, News, propagate_sees, hold_sees, lent_refers, deferred_sort}
 use Rattle.run_laws.proofs.States.NoViews.{deferred_no_view, handed_views, HasNoView, no_view_at, dispatch_no_view, handed_news, hold_no_view}
@@ -51,23 +25,14 @@ use Rattle.run_laws.proofs.States.Moves.{falls_next, has_next}
 use Rattle.run_laws.proofs.States.HandedOver.{queued_hold, touching_copies, next_hold, keeps_copies, copies, goes_hold}
 use Rattle.run_laws.proofs.Steps.Locking.{freed_word, taken_word, LockWord}
 use Rattle.run_laws.proofs.States.LoopEnds.{moved_end, moved_loop}
-use Rattle.model.specs.declared.set.Sort.{Sort}
-use Rattle.model.specs.Queues.{StartState}
-use Rattle.model.specs.declared.instr.Instr.TheVariants.{Begin, Call, Pass, Complete, Mark, Insert, Put, End, Loop, Start, Unlink, Ret, Next}
 use Rattle.run_laws.proofs.Holders.Sums.{own_if, unheld}
 use Rattle.run_laws.proofs.Past.LivePackets.{find}
 use Rattle.run_laws.specs.Holder.{times_in}
 use Rattle.run_laws.proofs.States.Queueing.{queue_moves, MovedOn}
 use Rattle.run_laws.proofs.Claims.Sums.{list_of}
-use Rattle.model.specs.declared.set.QueueName.TheVariants.{Declared, DeviceQueue}
-use Rattle.model.specs.Queues.{head_of}
-use Rattle.model.specs.Set.{has_cancel}
 use Rattle.run_laws.proofs.Holders.Waits.{first_both}
 use Rattle.run_laws.proofs.Steps.Comes.{Waits, starts_gone, dequeues_packet, works_on_waiting}
-use Rattle.model.specs.declared.instr.Instr.TheVariants.{Dequeue}
 use Rattle.run_laws.proofs.Steps.Comes.{Waits, arms_waiting, disarms_next}
-use Rattle.model.specs.declared.world.Armer.{Armer}
-use Rattle.std.proofs.Common.{◌∷◌}
 
 -- a routine that goes on sees what it saw
 goes_seen : (set : Set) (states : States) (under : Option Frame) (a b : Activation)

@@ -1,24 +1,8 @@
 -- Locks and levels are kept in every run of an accepted set: every thread holds the locks that the
 -- state of its top frame says.
-use Rattle.std.proofs.Common.{inl, inr, ◌≡◌, ◌≢◌, ◌+◌, ◌-◌, ℕ, List, [], ◌∷◌, ◌++◌, Option, None, Some, Bool, false, refl, ap, sym, ◌∙◌, subst}
-use Rattle.std.specs.Prelude.{slice_get}
-use Rattle.std.proofs.lemmas.Bool.{ne_eqb}
-use Rattle.std.proofs.lemmas.List.{append-nil, append_assoc}
-use Rattle.model.specs.declared.event.Lock.{Lock}
-use Rattle.model.specs.declared.status.Status.{Status}
-use Rattle.model.specs.declared.world.Activation.{Activation}
-use Rattle.model.specs.declared.world.Frame.{Frame}
-use Rattle.model.specs.declared.world.Frame.TheVariants.{Routine, Walk, Cancel as CancelFrame}
-use Rattle.model.specs.declared.world.Irql.{Irql}
-use Rattle.model.specs.declared.world.Thread.{Thread}
-use Rattle.model.specs.Action.{Action, OnLock, Acquire, Release}
-use Rattle.model.specs.Effect.{Outcome, operand_of, answered_in, top_of}
-use Rattle.model.specs.Events.{Change, standing, with_thread, with_stack}
-use Rattle.model.specs.Fault.{holds_after, holds}
-use Rattle.model.specs.Run.{begun, root_of, frames_on}
-use Rattle.model.specs.Set.{Set, instruction_at}
-use Rattle.model.specs.Trace.{Entry, Actor, entry, recorded}
-use Rattle.model.specs.World.{Shared, World}
+use Rattle.run_laws.specs.Prelude.{ap, inl, inr, refl, subst, sym, ◌-◌, ◌∙◌, ne_eqb, append_assoc, Bool, List, None, Option, Some, [], false, slice_get, ℕ, ◌++◌, ◌+◌, ◌∷◌, ◌≡◌, ◌≢◌, Action, OnLock, Outcome, answered_in, operand_of, top_of, Change, standing, with_stack, with_thread, holds, holds_after, begun, frames_on, root_of, Set, instruction_at, Actor, Entry, entry, recorded, Shared, World, Lock, Status, Activation, Frame, CancelFrame, Routine, Walk, Irql, Thread}
+use Rattle.std.proofs.lemmas.List.{append-nil}
+use Rattle.model.specs.Action.{Acquire, Release}
 use Rattle.run_laws.proofs.Locks.Says.{frame_says, top_says, free_says}
 use Rattle.run_laws.proofs.Locks.Steps.{begun_says, own, lock_faults}
 use Rattle.run_laws.proofs.Runs.Events.{StepsFrame, Happens, nothing, steps, begins}

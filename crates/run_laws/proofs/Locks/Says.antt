@@ -1,30 +1,6 @@
 -- What the state of a frame says of locks, and what an instruction changes of it.
-use Rattle.std.proofs.Common.{◌≡◌, ◌<◌, ℕ, zero, suc, List, [], ◌∷◌, length, None, Some, Bool, true, false, refl, sym, inl, inr}
-use Rattle.std.specs.Prelude.{◌&&◌, nat_eq, slice_index_or, slice_set, if◌then◌else◌}
-use Rattle.std.specs.List.{list_any}
-use Rattle.std.proofs.lemmas.Bool.{eq-eqb}
-use Rattle.std.proofs.lemmas.Bool.Decides.{eqb_tells}
-use Rattle.std.proofs.lemmas.List.{get_or-set_same, get_or-set_other}
-use Rattle.model.specs.declared.limits.TheConstants.{SPIN_LOCKS}
-use Rattle.model.specs.declared.abs.Abs.{Abs}
-use Rattle.model.specs.declared.abs.Kind.{Kind}
-use Rattle.model.specs.declared.abs.Kind.TheVariants.{New}
-use Rattle.model.specs.declared.event.Lock.{Lock}
-use Rattle.model.specs.declared.event.Lock.TheVariants.{SystemCancel, Spin}
-use Rattle.model.specs.declared.instr.Instr.{Instr}
-use Rattle.model.specs.declared.instr.Instr.TheVariants.{Mark, Acquire, Release, AcquireCancel, ReleaseCancel, Pass, Call, IfPending}
-use Rattle.model.specs.declared.set.Guard.TheVariants.{DeviceLock, CancelLock}
-use Rattle.model.specs.declared.set.Sort.{Sort}
-use Rattle.model.specs.declared.world.Activation.{Activation}
-use Rattle.model.specs.declared.world.CancelStep.{CancelStep}
-use Rattle.model.specs.declared.world.CancelStep.TheVariants.{Acquire as AcquireStep, SetFlag, Exchange}
-use Rattle.model.specs.declared.world.Frame.{Frame}
-use Rattle.model.specs.declared.world.Frame.TheVariants.{Routine, Walk, Cancel as CancelFrame}
-use Rattle.model.specs.Effect.{spin_lock}
-use Rattle.model.specs.Fault.{is_lock}
-use Rattle.model.specs.LocalRule.{is_held, with_lock, with_cancel, holds_spin_lock, holds_lock, kind_of, marked, given_down, handed, handed_at_label, refuses, released}
-use Rattle.model.specs.Set.{Set}
-use Rattle.model.specs.Sound.{OperandFits}
+use Rattle.run_laws.specs.Prelude.{inl, inr, refl, sym, zero, eq-eqb, eqb_tells, get_or-set_other, get_or-set_same, list_any, Bool, List, None, Some, [], false, if◌then◌else◌, length, nat_eq, slice_index_or, slice_set, suc, true, ℕ, ◌&&◌, ◌<◌, ◌∷◌, ◌≡◌, spin_lock, is_lock, given_down, handed, handed_at_label, holds_lock, holds_spin_lock, kind_of, marked, refuses, Set, OperandFits, Abs, Kind, New, Lock, Spin, SystemCancel, Instr, Acquire, AcquireCancel, Call, IfPending, Mark, Pass, Release, ReleaseCancel, SPIN_LOCKS, CancelLock, DeviceLock, Sort, Activation, CancelStep, AcquireStep, Exchange, SetFlag, Frame, CancelFrame, Routine, Walk}
+use Rattle.model.specs.LocalRule.{is_held, with_lock, with_cancel, released}
 use Rattle.run_laws.specs.ArrivingStates.{States}
 use Rattle.run_laws.proofs.States.Rules.{first_none, unbroken}
 use Rattle.run_laws.proofs.Steps.Words.{Work, Locking, work_of, lock_taken, lock_freed}

@@ -1,34 +1,8 @@
 -- A thread holds the locks that the state of its top frame says, and every step of that frame keeps
 -- that; so no step has a bug check about locks or paged cells.
-use Rattle.std.proofs.Common.{inr, inl, ◌≡◌, ℕ, List, [], ◌∷◌, Option, None, Some, Bool, true, false, refl, ap, sym, ◌∙◌, is_some}
-use Rattle.std.specs.Prelude.{◌&&◌, not, nat_eq, slice_get, if◌then◌else◌}
-use Rattle.std.specs.List.{list_any}
-use Rattle.std.proofs.lemmas.Bool.{eq-eqb}
-use Rattle.model.specs.declared.abs.Abs.{Abs}
-use Rattle.model.specs.declared.event.BugCheck.{BugCheck}
-use Rattle.model.specs.declared.event.BugCheck.TheVariants.{IrqlNotLessOrEqual, SpinLockAlreadyOwned, SpinLockNotOwned}
-use Rattle.model.specs.declared.event.Lock.{Lock}
-use Rattle.model.specs.declared.event.Subject.{Subject}
-use Rattle.model.specs.declared.event.Subject.TheVariants.{Lock as LockSubject, Cell}
-use Rattle.model.specs.declared.instr.Instr.{Instr}
-use Rattle.model.specs.declared.instr.Instr.TheVariants.{Loop, End, LoadPaged, StorePaged, Put, Mark, Pass, Call, Complete, Ret}
-use Rattle.model.specs.declared.instr.Return.{Return}
-use Rattle.model.specs.declared.instr.Return.TheVariants.{Continue, Stop, Void}
-use Rattle.model.specs.declared.set.Sort.{Sort}
-use Rattle.model.specs.declared.set.Sort.TheVariants.{Dispatch, Dpc, Propagate, StartIo, Hold, Cancel}
-use Rattle.model.specs.declared.world.Activation.{Activation}
-use Rattle.model.specs.declared.world.Frame.{Frame}
-use Rattle.model.specs.declared.world.Frame.TheVariants.{Routine, Cancel as CancelFrame}
-use Rattle.model.specs.declared.world.Packet.{Packet}
-use Rattle.model.specs.declared.world.Value.{Value}
-use Rattle.model.specs.declared.world.Value.TheVariants.{Ref}
-use Rattle.model.specs.Effect.{Outcome, turned, dispatched, completes_with}
-use Rattle.model.specs.Fault.{is_lock, holds, acquired, is_dispatch_level, at_dispatch, bug_if, first_or}
-use Rattle.model.specs.LocalRule.{holds_lock, handed, level_fault, refuses, holds_spin_lock}
-use Rattle.model.specs.Set.{Set, flow_of, sort_of, lower_of, cancels_for}
-use Rattle.model.specs.Sound.{OperandFits}
-use Rattle.model.specs.Trace.{Entry, Actor, recorded}
-use Rattle.model.specs.World.{Shared, register, next, current_location, asked_of}
+use Rattle.run_laws.specs.Prelude.{ap, inl, inr, refl, sym, ◌∙◌, eq-eqb, list_any, Bool, List, None, Option, Some, [], false, if◌then◌else◌, is_some, nat_eq, not, slice_get, true, ℕ, ◌&&◌, ◌∷◌, ◌≡◌, Action, Outcome, completes_with, dispatched, turned, acquired, bug_if, first_or, holds, is_lock, handed, holds_lock, holds_spin_lock, level_fault, refuses, StartState, Set, cancels_for, flow_of, lower_of, sort_of, OperandFits, Actor, Entry, recorded, Shared, asked_of, current_location, next, register, Abs, BugCheck, IrqlNotLessOrEqual, SpinLockAlreadyOwned, SpinLockNotOwned, Lock, SystemCancel, Subject, LockSubject, Instr, Call, Complete, End, LoadPaged, Loop, Mark, Pass, Put, Ret, StorePaged, Return, Continue, Stop, Void, QueueName, Sort, Cancel, Dispatch, Dpc, Hold, Propagate, StartIo, Activation, CancelStep, Frame, CancelFrame, Routine, Packet, Value, Ref}
+use Rattle.model.specs.declared.event.Subject.TheVariants.{Cell}
+use Rattle.model.specs.Fault.{is_dispatch_level, at_dispatch}
 use Rattle.run_laws.proofs.Lists.{all_at}
 use Rattle.run_laws.proofs.Locks.Says.{state_says, frame_says, top_says, free_says, is_locking, handed_says, label_says, Locks, taken, freed, says_none, says_cancel}
 use Rattle.run_laws.proofs.Past.Packets.{named}
@@ -45,13 +19,8 @@ use Rattle.run_laws.proofs.Steps.Comes.{Queued, Reads, GoesTo, onward, jumping, 
 use Rattle.run_laws.proofs.Steps.Faults.{is_of_locks, fault_among}
 use Rattle.run_laws.proofs.Steps.Locking.{taken_word, freed_word}
 use Rattle.run_laws.proofs.Steps.Words.{Work, Locking, Paging, Forwarding, work_of, is_touching, packet_operand, lock_taken, lock_freed}
-use Rattle.model.specs.Queues.{StartState}
 use Rattle.run_laws.proofs.States.Queueing.{queue_moves, MovedOn}
 use Rattle.run_laws.proofs.Steps.Queues.{queued_work, queued_touches}
-use Rattle.model.specs.Action.{Action}
-use Rattle.model.specs.declared.set.QueueName.{QueueName}
-use Rattle.model.specs.declared.event.Lock.TheVariants.{SystemCancel}
-use Rattle.model.specs.declared.world.CancelStep.{CancelStep}
 use Rattle.run_laws.proofs.States.Cancelled.{begins_called}
 use Rattle.run_laws.proofs.Steps.Comes.{works_on_waiting}
 use Rattle.run_laws.proofs.States.Queueing.{waits_move}

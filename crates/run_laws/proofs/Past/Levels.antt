@@ -1,12 +1,7 @@
 -- A thread that holds a lock by the past holds one of those that were acquired.
-use Rattle.std.proofs.Common.{◌≡◌, ℕ, List, [], ◌∷◌, Bool, true, false, cond, sym, ◌∙◌, inl, inr, refl}
-use Rattle.std.specs.Prelude.{◌||◌, ◌&&◌, nat_eq}
-use Rattle.std.specs.List.{list_any}
-use Rattle.std.proofs.lemmas.Bool.{cases_Bool}
-use Rattle.model.specs.declared.event.Lock.{Lock}
-use Rattle.model.specs.Action.{Action, OnLock, Acquire, Release}
-use Rattle.model.specs.Fault.{is_lock, holds_after, holds, holds_any, with_acquired, acquired}
-use Rattle.model.specs.Trace.{Entry}
+use Rattle.run_laws.specs.Prelude.{cond, inl, inr, refl, sym, ◌∙◌, cases_Bool, list_any, Bool, List, [], false, nat_eq, true, ℕ, ◌&&◌, ◌||◌, ◌∷◌, ◌≡◌, Action, OnLock, acquired, holds, holds_after, holds_any, is_lock, Entry, Lock}
+use Rattle.model.specs.Action.{Acquire, Release}
+use Rattle.model.specs.Fault.{with_acquired}
 use Rattle.run_laws.proofs.Past.Owners.{lock_tells}
 use Rattle.run_laws.proofs.Tests.{or_first, or_second}
 

@@ -1,9 +1,5 @@
 -- The live packets by number: numbers rise along the list, and what a look-up finds after a change.
-use Rattle.std.proofs.Common.{◌≡◌, ◌≢◌, ◌≤◌, ◌<◌, ◌+◌, ℕ, suc, List, [], ◌∷◌, ◌++◌, Option, None, Some, true, false, cond, refl, sym, ◌∙◌, inl, inr, arith}
-use Rattle.std.specs.Prelude.{nat_eq, slice_get, slice_set, remove, if◌then◌else◌}
-use Rattle.std.proofs.lemmas.Bool.Decides.{eqb_tells}
-use Rattle.model.specs.declared.world.Packet.{Packet}
-use Rattle.model.specs.World.{place_of}
+use Rattle.run_laws.specs.Prelude.{arith, cond, inl, inr, refl, sym, ◌∙◌, eqb_tells, List, None, Option, Some, [], false, if◌then◌else◌, nat_eq, remove, slice_get, slice_set, suc, true, ℕ, ◌++◌, ◌+◌, ◌<◌, ◌∷◌, ◌≡◌, ◌≢◌, ◌≤◌, place_of, Packet}
 
 -- the live packet of a number
 abbrev pub find : List Packet → ℕ → Option Packet

@@ -1,16 +1,6 @@
 -- The owners of the locks tell what the past tells: which thread holds each lock.
-use Rattle.std.proofs.Common.{◌≡◌, ℕ, zero, suc, List, [], Option, None, Some, Bool, true, false, cond, refl, ap, sym, ◌∙◌, ◌⊎◌, inl, inr}
-use Rattle.std.specs.Prelude.{◌&&◌, nat_eq, replicate, option_and_then, slice_get, slice_set, slice_index_or}
-use Rattle.std.proofs.lemmas.Bool.{eq-eqb}
-use Rattle.std.proofs.lemmas.Bool.Decides.{eqb_tells}
-use Rattle.std.proofs.lemmas.Option.{get_or_from_slice_get}
-use Rattle.model.specs.declared.limits.TheConstants.{SPIN_LOCKS}
-use Rattle.model.specs.declared.event.Lock.{Lock}
-use Rattle.model.specs.declared.event.Lock.TheVariants.{SystemCancel, Spin}
-use Rattle.model.specs.declared.event.OfDevice.{OfDevice}
-use Rattle.model.specs.Fault.{is_lock, holds}
-use Rattle.model.specs.Trace.{Entry}
-use Rattle.model.specs.World.{Locks, free_locks, owner_of, with_owner}
+use Rattle.run_laws.specs.Prelude.{ap, cond, inl, inr, refl, sym, zero, ◌∙◌, eq-eqb, eqb_tells, get_or_from_slice_get, Bool, List, None, Option, Some, [], false, nat_eq, option_and_then, replicate, slice_get, slice_index_or, slice_set, suc, true, ℕ, ◌&&◌, ◌≡◌, ◌⊎◌, holds, is_lock, Entry, Locks, owner_of, with_owner, Lock, Spin, SystemCancel, OfDevice, SPIN_LOCKS}
+use Rattle.model.specs.World.{free_locks}
 use Rattle.run_laws.proofs.Lists.{set_same, set_other}
 
 -- the thread is the owner of a lock

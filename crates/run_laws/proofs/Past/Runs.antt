@@ -1,20 +1,5 @@
 -- In every run of a sound set, until it stops, the past tells what the world has.
-use Rattle.std.proofs.Common.{◌≡◌, ◌≤◌, ℕ, inl, inr, List, [], ◌∷◌, ◌++◌, length, Option, None, Some, Bool, true, false, sym, ◌∙◌, arith}
-use Rattle.std.specs.Prelude.{◌||◌, nat_lt, slice_get}
-use Rattle.std.proofs.lemmas.Bool.{cases_lt}
-use Rattle.model.specs.declared.event.Lock.{Lock}
-use Rattle.model.specs.declared.limits.TheConstants.{MAX_FRAMES}
-use Rattle.model.specs.declared.world.Frame.{Frame}
-use Rattle.model.specs.declared.world.Packet.{Packet}
-use Rattle.model.specs.declared.world.Thread.{Thread}
-use Rattle.model.specs.Effect.{top_of}
-use Rattle.model.specs.Events.{Change, settled, with_thread, with_stack, standing}
-use Rattle.model.specs.Fault.{first_fault, holds, armed, stack_size, completing, depth}
-use Rattle.model.specs.Run.{begun, Run, frames_on, run}
-use Rattle.model.specs.Set.{Set}
-use Rattle.model.specs.Sound.{IsSound}
-use Rattle.model.specs.Trace.{Entry, Actor, recorded}
-use Rattle.model.specs.World.{Shared, World, packet_of}
+use Rattle.run_laws.specs.Prelude.{arith, inl, inr, sym, ◌∙◌, cases_lt, Bool, List, None, Option, Some, [], false, length, nat_lt, slice_get, true, ℕ, ◌++◌, ◌||◌, ◌∷◌, ◌≡◌, ◌≤◌, top_of, Change, settled, standing, with_stack, with_thread, armed, completing, depth, first_fault, holds, stack_size, Run, begun, frames_on, run, Set, IsSound, Actor, Entry, recorded, Shared, World, packet_of, Lock, MAX_FRAMES, Frame, Packet, Thread}
 use Rattle.run_laws.specs.PastTells.{PastTells, TellsOfPacket, PastTellsOfTheWorld}
 use Rattle.run_laws.proofs.Devices.{device_fits}
 use Rattle.run_laws.proofs.Lists.{Each, each_after, each_before}

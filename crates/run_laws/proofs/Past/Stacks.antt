@@ -1,14 +1,5 @@
 -- What the past tells of a live packet, and the changes of a packet that a step makes.
-use Rattle.std.proofs.Common.{◌≡◌, ◌≤◌, ◌+◌, ◌-◌, ℕ, List, Option, None, Some, Bool, true, false, length, replicate, refl, arith}
-use Rattle.std.specs.Prelude.{is_some}
-use Rattle.std.proofs.lemmas.List.{length-set, length-replicate}
-use Rattle.model.specs.declared.world.Armer.{Armer}
-use Rattle.model.specs.declared.world.Location.{Location}
-use Rattle.model.specs.declared.world.Completion.{Completion}
-use Rattle.model.specs.declared.world.Packet.{Packet}
-use Rattle.model.specs.declared.status.Major.{Major}
-use Rattle.model.specs.declared.status.Status.{Status}
-use Rattle.model.specs.World.{current_location, marked_location, mark_current, shared_location, shared_with, sent_down, left_location, moved_up, copied_location, with_info, cancelled, with_armer, completed, unused_location, new_packet}
+use Rattle.run_laws.specs.Prelude.{arith, refl, ◌-◌, length-replicate, length-set, Bool, List, None, Option, Some, false, is_some, length, replicate, true, ℕ, ◌+◌, ◌≡◌, ◌≤◌, cancelled, completed, copied_location, current_location, left_location, mark_current, marked_location, moved_up, new_packet, sent_down, shared_location, shared_with, unused_location, with_armer, with_info, Major, Status, Armer, Completion, Location, Packet}
 
 -- whether the I/O manager has a packet, whether that has a cancel routine, how many locations it
 -- has, and how deep the current one is

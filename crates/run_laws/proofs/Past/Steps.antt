@@ -1,21 +1,6 @@
 -- After every step what the threads share tells what the past tells: of the packets, and, where
 -- there was no bug check, of the owners of the locks.
-use Rattle.std.proofs.Common.{◌≡◌, ◌+◌, ◌-◌, ℕ, List, [], ◌∷◌, Option, None, Some, Bool, true, false, cond, refl, ap, sym, ◌∙◌, inl, inr}
-use Rattle.std.specs.Prelude.{◌&&◌, is_some, nat_eq, not}
-use Rattle.std.proofs.lemmas.Bool.{eq-eqb}
-use Rattle.model.specs.declared.event.Bug.{Bug}
-use Rattle.model.specs.declared.event.BugCheck.TheVariants.{SpinLockAlreadyOwned, SpinLockNotOwned}
-use Rattle.model.specs.declared.event.Lock.{Lock}
-use Rattle.model.specs.declared.event.Lock.TheVariants.{SystemCancel}
-use Rattle.model.specs.declared.event.Subject.TheVariants.{Lock as LockSubject}
-use Rattle.model.specs.declared.world.CancelStep.{CancelStep}
-use Rattle.model.specs.declared.world.Frame.{Frame}
-use Rattle.model.specs.Action.{Action, Executes, Acquires, Exchanges, Releases}
-use Rattle.model.specs.Effect.{Outcome, set_by}
-use Rattle.model.specs.Fault.{bug_if, first_fault, holds, is_lock}
-use Rattle.model.specs.Set.{Set}
-use Rattle.model.specs.Trace.{Entry, Actor, recorded}
-use Rattle.model.specs.World.{Shared, owner_of, with_owner, register, with_info, mark_current, cancelled, with_armer, completed, sent_down, shared_with, left_location, moved_up}
+use Rattle.run_laws.specs.Prelude.{ap, cond, inl, inr, refl, sym, ◌-◌, ◌∙◌, eq-eqb, Bool, List, None, Option, Some, [], false, is_some, nat_eq, not, true, ℕ, ◌&&◌, ◌+◌, ◌∷◌, ◌≡◌, Acquires, Action, Exchanges, Executes, Releases, Outcome, set_by, bug_if, first_fault, holds, is_lock, Set, Actor, Entry, recorded, Shared, cancelled, completed, left_location, mark_current, moved_up, owner_of, register, sent_down, shared_with, with_armer, with_info, with_owner, Bug, SpinLockAlreadyOwned, SpinLockNotOwned, Lock, SystemCancel, LockSubject, CancelStep, Frame}
 use Rattle.run_laws.proofs.Past.Owners.{Owned, owns, owned_acquire, owned_release, owner_its}
 use Rattle.run_laws.proofs.Past.Packets.{Tells, named, tells_moved, tells_kept, tells_taken, tells_lent, tells_exchanged, tells_late, tells_top}
 use Rattle.run_laws.proofs.Past.Stacks.{changed_info, changed_mark, changed_completed, changed_share, changed_down, changed_up, changed_marked_up, changed_flag, changed_word, changed_back, changed_lent}

@@ -1,30 +1,11 @@
 -- What the steps of completion routines and of the I/O manager's frames tell: of the packet that is
 -- on its way up or lent alone, and no status. Those of deferred routines and of IoCancelIrp tell
 -- nothing.
-use Rattle.std.proofs.Common.{ap, ◌≡◌, ◌⊎◌, Bool, List, None, Option, Some, [], false, refl, subst, sym, true, ℕ, ◌∙◌, ◌∷◌, inl, inr, set}
-use Rattle.std.specs.Prelude.{⊤}
-use Rattle.std.specs.List.{list_any}
-use Rattle.model.specs.declared.world.Canceller.{Canceller}
-use Rattle.model.specs.declared.world.CancelStep.{CancelStep}
-use Rattle.model.specs.declared.world.Value.TheVariants.{Ref}
+use Rattle.run_laws.specs.Prelude.{ap, inl, inr, refl, subst, sym, ◌∙◌, eq-eqb, list_any, Bool, List, None, Option, Some, [], false, slice_get, true, ℕ, ⊤, ◌∷◌, ◌≡◌, ◌⊎◌, Action, Executes, Outcome, routine_of_device, is_new, is_view, completion_sort_fault, forward_fault, forward_sort_fault, is_completion, kind_of, refuses, StartState, Set, sort_of, Shared, entered, Abs, New, View, Instr, Call, Complete, Mark, Pass, Sort, Cancel, Dispatch, Hold, Propagate, Status, Activation, CancelStep, Canceller, Frame, CancelFrame, Routine, Walk, Ref}
+use Rattle.std.proofs.Common.{set}
 use Rattle.run_laws.proofs.States.OnTop.{OnTop}
 use Rattle.run_laws.proofs.States.Fits.{ArmerLeads, word_leads}
-use Rattle.std.specs.Prelude.{slice_get}
-use Rattle.std.proofs.lemmas.Bool.{eq-eqb}
-use Rattle.model.specs.declared.abs.Abs.{Abs}
-use Rattle.model.specs.declared.instr.Instr.{Instr}
-use Rattle.model.specs.declared.instr.Instr.TheVariants.{Mark, Call, Complete, Pass}
-use Rattle.model.specs.declared.set.Sort.{Sort}
-use Rattle.model.specs.declared.set.Sort.TheVariants.{Cancel, Dispatch, Hold, Propagate}
-use Rattle.model.specs.declared.status.Status.{Status}
-use Rattle.model.specs.declared.world.Activation.{Activation}
-use Rattle.model.specs.declared.world.Frame.{Frame}
-use Rattle.model.specs.declared.world.Frame.TheVariants.{Routine, Walk, Cancel as CancelFrame}
-use Rattle.model.specs.Effect.{Outcome, routine_of_device}
-use Rattle.model.specs.LocalRule.{kind_of, completion_fault, completion_sort_fault, forward_fault, refuses, forward_sort_fault, is_completion}
-use Rattle.model.specs.Kinds.{is_new, is_view}
-use Rattle.model.specs.Set.{Set, sort_of}
-use Rattle.model.specs.World.{Shared, entered}
+use Rattle.model.specs.LocalRule.{completion_fault}
 use Rattle.run_laws.proofs.Pending.Returned.{is_telling, tells_beyond}
 use Rattle.run_laws.proofs.Live.Sees.{IsDeferred, deferred_sort}
 use Rattle.run_laws.proofs.States.Entering.{Begins, IsCompleting, begins_cancelled}
@@ -33,9 +14,6 @@ use Rattle.run_laws.specs.ArrivingStates.{States}
 use Rattle.run_laws.proofs.States.Rules.{first_none, second_none}
 use Rattle.run_laws.proofs.Steps.Comes.{Cancels, calls_cancel, cancels, Queued, Comes, Executing, Reads, calls_down, completes_packet, computes, ends_cancel, exchanges, lets_go, lets_walk, looks_at, marks_packet, pages, passes_down, resumes_gone, resumes_none, resumes_walk, returns_status, stops_none, stops_walk, turns_loop, walks_gone, ends_dpc, works_on_queues, ends_startio}
 use Rattle.run_laws.proofs.States.NoViews.{is_deferred, handed_news, none_at, HasNone}
-use Rattle.model.specs.Queues.{StartState}
-use Rattle.model.specs.Action.{Executes, Action}
-use Rattle.model.specs.declared.abs.Kind.TheVariants.{New, View}
 use Rattle.run_laws.proofs.Steps.Onward.{goes_same, turned_same}
 use Rattle.run_laws.proofs.Uses.RoutineSteps.{marked_kind}
 use Rattle.run_laws.proofs.Steps.Queues.{queued_same, queued_touches}

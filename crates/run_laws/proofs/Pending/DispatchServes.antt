@@ -1,28 +1,7 @@
 -- What a step of a dispatch routine does with the packet that it serves: nothing, or it marks it,
 -- completes it, passes it on, sends it down in a location of its own, or returns a status. What it
 -- leaves serves on.
-use Rattle.std.proofs.Common.{◌≡◌, Bool, List, None, Option, Some, [], ap, arith, false, inl, inr, refl, subst, sym, true, ℕ, ◌∙◌, ◌∷◌, ◌≤◌, ◌⊎◌}
-use Rattle.std.specs.Prelude.{nat_eq, ⊤}
-use Rattle.std.specs.List.{list_any}
-use Rattle.std.proofs.lemmas.Bool.Decides.{eqb_tells}
-use Rattle.model.specs.declared.abs.Duty.{Duty}
-use Rattle.model.specs.declared.abs.Duty.TheVariants.{Finished, Fresh, GivenDown, NoDuty, Pending}
-use Rattle.model.specs.declared.abs.Kind.{Kind}
-use Rattle.model.specs.declared.event.Reply.{Reply}
-use Rattle.model.specs.declared.status.Status.{Status}
-use Rattle.model.specs.declared.world.Activation.{Activation}
-use Rattle.model.specs.declared.world.Frame.{Frame}
-use Rattle.model.specs.declared.world.Frame.TheVariants.{Routine, Walk, Cancel as CancelFrame}
-use Rattle.model.specs.declared.world.Packet.{Packet}
-use Rattle.model.specs.declared.world.Value.{Value}
-use Rattle.model.specs.Action.{Action, Calls, Completes, Executes, Marks, Touches}
-use Rattle.model.specs.Effect.{Outcome, goes_on, leaves, returned}
-use Rattle.model.specs.LocalRule.{is_pending}
-use Rattle.model.specs.Kinds.{is_new}
-use Rattle.model.specs.Run.{new_tag, tags_after}
-use Rattle.model.specs.Set.{Set}
-use Rattle.model.specs.Trace.{Activated, Actor, Entry, Serving, Tag, recorded, uses_opened}
-use Rattle.model.specs.World.{Shared, World, next}
+use Rattle.run_laws.specs.Prelude.{ap, arith, inl, inr, refl, subst, sym, ◌∙◌, eqb_tells, list_any, Bool, List, None, Option, Some, [], false, nat_eq, true, ℕ, ⊤, ◌∷◌, ◌≡◌, ◌≤◌, ◌⊎◌, Action, Calls, Completes, Executes, Marks, Touches, Outcome, goes_on, leaves, returned, is_new, is_pending, new_tag, tags_after, Set, Activated, Actor, Entry, Serving, Tag, recorded, uses_opened, Shared, World, next, Duty, Finished, Fresh, GivenDown, NoDuty, Pending, Kind, Reply, Status, Activation, Frame, CancelFrame, Routine, Walk, Packet, Value}
 use Rattle.run_laws.specs.Holder.{frame_rights}
 use Rattle.run_laws.proofs.Past.LivePackets.{find}
 use Rattle.run_laws.proofs.Pending.LowerStatuses.{Lowers}

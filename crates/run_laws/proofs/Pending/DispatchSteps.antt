@@ -1,39 +1,7 @@
 -- Every step of a dispatch routine, by what it does with the packet that it serves.
-use Rattle.std.proofs.Common.{◌≤◌, ◌≡◌, Bool, List, None, Option, Some, [], ap, arith, false, inl, inr, refl, subst, sym, true, ℕ, ◌+◌, ◌<◌, ◌∙◌, ◌∷◌, ◌++◌, ◌⊎◌}
-use Rattle.std.specs.Prelude.{is_some, nat_eq, slice_get, slice_index_or, slice_set}
-use Rattle.std.specs.List.{list_any}
-use Rattle.model.specs.declared.abs.Abs.{Abs}
-use Rattle.model.specs.declared.abs.Duty.{Duty}
-use Rattle.model.specs.declared.abs.Duty.TheVariants.{Finished, Fresh, GivenDown, NoDuty, Pending}
-use Rattle.model.specs.declared.abs.Kind.{Kind}
-use Rattle.model.specs.declared.abs.Kind.TheVariants.{Blank as BlankKind, Num as NumKind, Lower as LowerKind, New, Own, Queued as QueuedKind}
-use Rattle.model.specs.declared.abs.Stage.TheVariants.{Armed}
-use Rattle.model.specs.declared.abs.Settled.{Settled}
-use Rattle.model.specs.declared.event.Reply.TheVariants.{Stepped, Waited}
-use Rattle.model.specs.declared.instr.Instr.{Instr}
-use Rattle.model.specs.declared.instr.Instr.TheVariants.{Arm, Begin, Disarm, Next, Remove, Insert, Unlink, Start, Take, Call, Complete, Loop, Mark, Pass, Put, Ret}
-use Rattle.model.specs.declared.instr.Return.{Return}
-use Rattle.model.specs.declared.instr.Return.TheVariants.{Lower as LowerStatus, WithStatus}
-use Rattle.model.specs.declared.set.QueueName.TheVariants.{Declared}
-use Rattle.model.specs.declared.set.Sort.TheVariants.{Cancel, Dispatch, Dpc, StartIo}
-use Rattle.model.specs.declared.status.Status.{Status}
-use Rattle.model.specs.declared.world.Activation.{Activation}
-use Rattle.model.specs.declared.world.Armer.{Armer}
-use Rattle.model.specs.declared.world.Frame.{Frame}
-use Rattle.model.specs.declared.world.Frame.TheVariants.{Routine}
-use Rattle.model.specs.declared.world.Packet.{Packet}
-use Rattle.model.specs.declared.world.Value.{Value}
-use Rattle.model.specs.declared.world.Value.TheVariants.{Blank, Num, Ref, Status as StatusValue}
-use Rattle.model.specs.Action.{Action, Acquires, Exchanges, Executes, Releases, Touches, TouchesPaged}
-use Rattle.model.specs.Effect.{Outcome, answered, dispatched, operand_of, set_by, turned}
-use Rattle.model.specs.Fault.{first_fault}
-use Rattle.model.specs.LocalRule.{handed_at_label, complete_kind, demanded, given_down, handed, is_completion, is_given_down, is_hold, is_pending, kind_of, mark_fault, marked, one_handed_or_owned, queued_kind, status_fault, with_kind}
-use Rattle.model.specs.Kinds.{duty_completed, is_exchanged, is_kept, is_lower, is_new, is_right, is_view, kind_disarmed, kind_inserted, kind_removed}
-use Rattle.model.specs.Set.{Set, cancel_routine_of, flow_of, label_of, lower_of, sort_of}
-use Rattle.model.specs.Trace.{Actor, Entry}
-use Rattle.model.specs.World.{at_label, with_register, Shared, asked_of, completed, current_location, mark_current, next, packet_of, register, sent_down, shared_with, status_in, with_armer, with_info, with_locks, with_loops, with_owner, with_packet}
-use Rattle.model.specs.LocalRule.{handed_at_label}
-use Rattle.std.specs.Prelude.{if◌then◌else◌, nat_eq}
+use Rattle.run_laws.specs.Prelude.{ap, arith, inl, inr, refl, subst, sym, ◌∙◌, eqb_tells, list_any, Bool, List, None, Option, Some, [], false, if◌then◌else◌, is_some, nat_eq, slice_get, slice_index_or, slice_set, true, ℕ, ◌++◌, ◌+◌, ◌<◌, ◌∷◌, ◌≡◌, ◌≤◌, ◌⊎◌, Acquires, Action, Exchanges, Executes, Releases, Touches, TouchesPaged, Outcome, answered, dispatched, operand_of, set_by, turned, first_fault, duty_completed, is_exchanged, is_kept, is_lower, is_new, is_right, is_view, kind_disarmed, kind_inserted, kind_removed, complete_kind, demanded, given_down, handed, handed_at_label, is_completion, is_hold, is_pending, kind_of, mark_fault, marked, one_handed_or_owned, queued_kind, with_kind, StartState, Set, cancel_routine_of, flow_of, label_of, lower_of, sort_of, Actor, Entry, Shared, asked_of, at_label, completed, current_location, mark_current, next, packet_of, register, sent_down, shared_with, status_in, with_armer, with_info, with_locks, with_loops, with_owner, with_packet, with_register, Abs, Duty, Finished, Fresh, GivenDown, NoDuty, Pending, Kind, BlankKind, LowerKind, New, NumKind, Own, QueuedKind, Settled, Armed, Stepped, Waited, Instr, Arm, Begin, Call, Complete, Dequeue, Disarm, Insert, Loop, Mark, Next, Pass, Put, Remove, Ret, Start, Take, Unlink, Return, WithStatus, Declared, Cancel, Dispatch, Dpc, StartIo, Status, Activation, Armer, Frame, Routine, Packet, Value, Blank, Num, Ref, StatusValue}
+use Rattle.model.specs.declared.instr.Return.TheVariants.{Lower as LowerStatus}
+use Rattle.model.specs.LocalRule.{is_given_down, status_fault}
 use Rattle.run_laws.proofs.Holders.Steps.{named_right}
 use Rattle.run_laws.specs.Holder.{frame_rights, right, rights}
 use Rattle.run_laws.proofs.Past.LivePackets.{find}
@@ -59,16 +27,13 @@ use Rattle.run_laws.proofs.Uses.Steps.{found_put}
 use Rattle.run_laws.proofs.Uses.RoutineSteps.{StepsRoutine}
 use Rattle.run_laws.proofs.States.NoViews.{handed_news}
 use Rattle.run_laws.proofs.States.HandedOver.{hold_turn, queued_hold, hold_get, keeps_copies, handed_hold, HoldOf, goes_hold}
-use Rattle.model.specs.Queues.{StartState}
 use Rattle.run_laws.proofs.Steps.Queues.{queued_touches}
 use Rattle.run_laws.proofs.Live.Sees.{reads_to, RefersTo}
 use Rattle.run_laws.proofs.Holders.Rights.{rights_turn}
 use Rattle.run_laws.proofs.Holders.Counts.{reads_ref}
 use Rattle.run_laws.proofs.Holders.Sums.{unheld_one, unheld}
-use Rattle.std.proofs.lemmas.Bool.Decides.{eqb_tells}
 use Rattle.run_laws.proofs.Steps.Comes.{Waits, arms_waiting, disarms_next, works_on_waiting, starts_gone, dequeues_packet}
 use Rattle.run_laws.proofs.States.HandedOver.{next_hold}
-use Rattle.model.specs.declared.instr.Instr.TheVariants.{Dequeue}
 
 -- what leaves the packets with who has them leaves the duty
 onto_duty : (set : Set) (driver : ℕ) (s : Abs) (i : Instr) (jumped : Bool)

@@ -2,28 +2,8 @@
 -- positions: a packet that it was handed goes with no duty done yet, and a lower driver's status
 -- with a packet that was given down. A packet that it owns, which it marked or removed from a
 -- queue, goes with any duty.
-use Rattle.std.proofs.Common.{◌≡◌, ℕ, zero, suc, ◌+◌, ◌<◌, ◌≤◌, Bool, true, false, List, [], ◌∷◌, length, Option, None, Some, refl, ap, sym, ◌∙◌, subst, arith}
-use Rattle.std.specs.Prelude.{slice_set, slice_index_or, if◌then◌else◌, All}
-use Rattle.model.specs.declared.abs.Abs.{Abs}
-use Rattle.model.specs.declared.abs.Duty.{Duty}
-use Rattle.model.specs.declared.abs.Duty.TheVariants.{Fresh, Pending, Finished, GivenDown, NoDuty}
-use Rattle.model.specs.declared.abs.Kind.{Kind}
-use Rattle.model.specs.declared.abs.Kind.TheVariants.{Blank, Num, Lower, New, Own, Queued, View}
-use Rattle.model.specs.declared.abs.Stage.TheVariants.{Armed}
-use Rattle.model.specs.declared.abs.Settled.TheVariants.{Settled as SettledMark}
-use Rattle.model.specs.declared.instr.Instr.{Instr}
-use Rattle.model.specs.declared.instr.Instr.TheVariants.{Const, Move, Clear, Load, LoadPaged, Get, Mark, Pass, Call, Complete, IfPending, Insert, Release, Remove, Unlink, Arm, Disarm, Start, Take, Begin, ReleaseCancel, Dequeue}
-use Rattle.model.specs.declared.set.Guard.{Guard}
-use Rattle.model.specs.declared.set.Guard.TheVariants.{DeviceLock, CancelLock}
-use Rattle.model.specs.declared.set.QueueName.{QueueName}
-use Rattle.model.specs.declared.set.QueueName.TheVariants.{Declared}
-use Rattle.model.specs.declared.set.Sort.{Sort}
-use Rattle.model.specs.declared.set.Sort.TheVariants.{Dispatch}
-use Rattle.model.specs.LocalRule.{with_kind, a_new_one, complete_kind, demanded, entered_with, entry_of_sort, given_down, handed, handed_at_label, kind_of, mark_fault, marked, one_handed_or_owned, queued_kind, refuses}
-use Rattle.model.specs.Kinds.{all_let_go, duty_completed, is_guard, is_lower, is_new, is_packet, kind_disarmed, kind_inserted, kind_removed, left_behind, let_go}
-use Rattle.model.specs.Paths.{Arrives}
-use Rattle.model.specs.Set.{Set, Member, cancel_routine_of, cancels_for, guard_named}
-use Rattle.model.specs.Sound.{OperandFits}
+use Rattle.run_laws.specs.Prelude.{ap, arith, refl, subst, sym, zero, ◌∙◌, cond_both, eq-eqb, length-set, All, Bool, List, None, Option, Some, [], false, if◌then◌else◌, length, slice_index_or, slice_set, suc, true, ℕ, ◌+◌, ◌<◌, ◌∷◌, ◌≡◌, ◌≤◌, all_let_go, duty_completed, is_guard, is_lower, is_new, is_packet, kind_disarmed, kind_inserted, kind_removed, left_behind, let_go, a_new_one, complete_kind, demanded, entered_with, entry_of_sort, given_down, handed, handed_at_label, kind_of, mark_fault, marked, one_handed_or_owned, queued_kind, refuses, with_kind, Arrives, Member, Set, cancel_routine_of, cancels_for, guard_named, OperandFits, Abs, Duty, Finished, Fresh, GivenDown, NoDuty, Pending, Kind, Lower, New, Own, Queued, View, SettledMark, Armed, Instr, Arm, Begin, Call, Clear, Complete, Const, Dequeue, Disarm, Get, IfPending, Insert, Load, LoadPaged, Mark, Move, Pass, Release, ReleaseCancel, Remove, Start, Take, Unlink, Guard, CancelLock, DeviceLock, QueueName, Declared, Sort, Dispatch, Value}
+use Rattle.model.specs.declared.abs.Kind.TheVariants.{Blank, Num}
 use Rattle.run_laws.specs.Holder.{right, rights}
 use Rattle.run_laws.proofs.Lists.{all_at, copied}
 use Rattle.run_laws.proofs.Live.Sees.{RefersTo}
@@ -35,9 +15,6 @@ use Rattle.run_laws.proofs.States.Along.{arrives_keep}
 use Rattle.run_laws.proofs.States.Kinds.{handed_long}
 use Rattle.run_laws.proofs.States.NoViews.{left_none}
 use Rattle.run_laws.proofs.States.Rules.{first_none, second_none, unbroken}
-use Rattle.model.specs.declared.world.Value.{Value}
-use Rattle.std.proofs.lemmas.List.{length-set}
-use Rattle.std.proofs.lemmas.Bool.{cond_both, eq-eqb}
 
 -- how many registers are so
 abbrev pub counted : (Kind → Bool) → Kind → ℕ

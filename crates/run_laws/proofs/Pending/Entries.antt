@@ -1,20 +1,6 @@
 -- Each entry of the trace says who acts, or which use its action is about; and each frame's tag
 -- says whose it is.
-use Rattle.std.proofs.Common.{◌≡◌, ℕ, zero, suc, ◌<◌, ◌≤◌, List, [], ◌∷◌, length, drop, Option, None, Some, true, false, refl, ap, sym, ◌∙◌, subst, arith, inl, inr}
-use Rattle.std.specs.Prelude.{All, nat_eq, nat_lt, slice_get, slice_index_or, if◌then◌else◌}
-use Rattle.std.proofs.lemmas.Bool.{eq-eqb, ltb-true}
-use Rattle.model.specs.declared.set.Sort.TheVariants.{Dispatch}
-use Rattle.model.specs.declared.world.Activation.{Activation}
-use Rattle.model.specs.declared.world.CancelStep.{CancelStep}
-use Rattle.model.specs.declared.world.Frame.{Frame}
-use Rattle.model.specs.declared.world.Frame.TheVariants.{Routine, Walk, Cancel as CancelFrame}
-use Rattle.model.specs.declared.world.Packet.{Packet}
-use Rattle.model.specs.Effect.{Outcome, top_of}
-use Rattle.model.specs.Events.{Change}
-use Rattle.model.specs.Run.{top_tag}
-use Rattle.model.specs.Set.{Set, sort_of}
-use Rattle.model.specs.Trace.{Activated, Actor, Entry, Managing, Serving, Tag, current_use, recorded, uses}
-use Rattle.model.specs.World.{World, packet_of}
+use Rattle.run_laws.specs.Prelude.{ap, arith, drop, inl, inr, refl, subst, sym, zero, ◌∙◌, eq-eqb, ltb-true, All, List, None, Option, Some, [], false, if◌then◌else◌, length, nat_eq, nat_lt, slice_get, slice_index_or, suc, true, ℕ, ◌<◌, ◌∷◌, ◌≡◌, ◌≤◌, Outcome, top_of, Change, is_completion, top_tag, Set, sort_of, Activated, Actor, Entry, Managing, Serving, Tag, current_use, recorded, uses, World, packet_of, Dispatch, Activation, CancelStep, Frame, CancelFrame, Routine, Walk, Packet}
 use Rattle.run_laws.specs.NothingSkipped.{HasLocation, HasUses, IsActivation, RoutineTag, SaysWho, ServesUse}
 use Rattle.run_laws.proofs.Lists.{Each}
 use Rattle.run_laws.proofs.Past.Packets.{found}
@@ -24,7 +10,6 @@ use Rattle.run_laws.proofs.Pending.Threads.{TagOf, Tagged, TopServes, tagged_all
 use Rattle.run_laws.proofs.Runs.Events.{Happens, nothing, steps, begins}
 use Rattle.run_laws.proofs.Runs.Roots.{root_told}
 use Rattle.run_laws.proofs.Runs.Threads.{of_steps}
-use Rattle.model.specs.LocalRule.{is_completion}
 use Rattle.run_laws.proofs.States.Entering.{IsCompleting}
 use Rattle.run_laws.proofs.States.NoViews.{is_deferred}
 use Rattle.run_laws.specs.ArrivingStates.{States}

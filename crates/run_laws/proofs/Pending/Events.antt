@@ -1,29 +1,7 @@
 -- Every event keeps that the dispatch routines serve their uses, and that what they return is as
 -- agreed on.
-use Rattle.std.proofs.Common.{◌≡◌, ◌≢◌, ℕ, suc, ◌+◌, ◌-◌, ◌<◌, ◌≤◌, inl, inr, List, [], ◌∷◌, ◌++◌, length, Option, None, Some, false, refl, ap, sym, ◌∙◌, subst, arith, Bool}
-use Rattle.std.specs.Prelude.{nat_eq, slice_get, slice_index_or, slice_set}
-use Rattle.std.specs.List.{list_any}
-use Rattle.std.proofs.lemmas.List.{append-nil, append_assoc, get_or-set_other, get_or-set_same, length-replicate, length-set, set-get_or}
-use Rattle.std.proofs.lemmas.Bool.{ne_eqb, cases_eq, eq-eqb}
-use Rattle.std.proofs.lemmas.Option.{slice_get_within}
-use Rattle.model.specs.declared.event.Reply.TheVariants.{Idle}
-use Rattle.model.specs.declared.set.Sort.TheVariants.{Dpc, StartIo}
-use Rattle.model.specs.declared.status.Status.{Status}
-use Rattle.model.specs.declared.world.Activation.{Activation}
-use Rattle.model.specs.declared.world.Frame.{Frame}
-use Rattle.model.specs.declared.world.Frame.TheVariants.{Routine, Walk}
-use Rattle.model.specs.LocalRule.{is_hold}
-use Rattle.model.specs.declared.world.Packet.{Packet}
-use Rattle.model.specs.declared.world.Thread.{Thread}
-use Rattle.model.specs.Action.{Issues}
-use Rattle.model.specs.Effect.{Outcome, told_to, top_of}
-use Rattle.model.specs.Events.{Change, serves_request, standing, with_stack, with_thread, dpc_activation, unchanged}
-use Rattle.model.specs.Fault.{first_fault}
-use Rattle.model.specs.PendingAgreement.{was_marked}
-use Rattle.model.specs.Run.{begun, frames_on, new_tag, tags_after, top_tag}
-use Rattle.model.specs.Set.{Set}
-use Rattle.model.specs.Trace.{Activated, Actor, Entry, Managing, Serving, Tag, current_use, recorded, uses, uses_opened}
-use Rattle.model.specs.World.{Shared, World, current_location, idle_thread, is_marked}
+use Rattle.run_laws.specs.Prelude.{ap, arith, inl, inr, refl, subst, sym, ◌-◌, ◌∙◌, cases_eq, eq-eqb, ne_eqb, append_assoc, get_or-set_other, get_or-set_same, length-replicate, length-set, set-get_or, slice_get_within, list_any, Bool, List, None, Option, Some, [], false, length, nat_eq, slice_get, slice_index_or, slice_set, suc, ℕ, ◌++◌, ◌+◌, ◌<◌, ◌∷◌, ◌≡◌, ◌≢◌, ◌≤◌, Issues, Outcome, told_to, top_of, Change, dpc_activation, serves_request, standing, unchanged, with_stack, with_thread, first_fault, is_hold, was_marked, begun, frames_on, new_tag, tags_after, top_tag, Set, Activated, Actor, Entry, Managing, Serving, Tag, current_use, recorded, uses, uses_opened, Shared, World, current_location, idle_thread, is_marked, Idle, Dpc, StartIo, Status, Activation, Frame, Routine, Walk, Packet, Thread}
+use Rattle.std.proofs.lemmas.List.{append-nil}
 use Rattle.run_laws.specs.Holder.{all_walking, frame_rights, stack_sum}
 use Rattle.run_laws.proofs.Certificates.Kept.{top_is}
 use Rattle.run_laws.proofs.Certificates.Tally.{no_row, no_tags}

@@ -1,18 +1,6 @@
 -- The step of a thread's top frame, whatever it is: what it leaves serves on, and what it tells is
 -- of a packet that no other frame has.
-use Rattle.std.proofs.Common.{◌≡◌, Bool, List, None, Option, Some, [], ap, arith, false, inl, inr, refl, subst, sym, true, ℕ, ◌∷◌, ◌≤◌, ◌⊎◌, ◌∙◌}
-use Rattle.std.specs.List.{list_any}
-use Rattle.std.proofs.lemmas.Bool.Decides.{eqb_tells}
-use Rattle.model.specs.declared.status.Status.{Status}
-use Rattle.model.specs.declared.world.Activation.{Activation}
-use Rattle.model.specs.declared.world.Frame.{Frame}
-use Rattle.model.specs.declared.world.Frame.TheVariants.{Routine, Walk, Cancel as CancelFrame}
-use Rattle.model.specs.Effect.{Outcome}
-use Rattle.model.specs.Fault.{first_fault}
-use Rattle.model.specs.Run.{tags_after}
-use Rattle.model.specs.Set.{Set}
-use Rattle.model.specs.Trace.{Actor, Entry, Managing, Serving, Tag, recorded}
-use Rattle.model.specs.World.{World}
+use Rattle.run_laws.specs.Prelude.{ap, arith, inl, inr, refl, subst, sym, ◌∙◌, eqb_tells, list_any, Bool, List, None, Option, Some, [], false, true, ℕ, ◌∷◌, ◌≡◌, ◌≤◌, ◌⊎◌, Outcome, first_fault, is_new, is_right, is_view, kind_of, tags_after, Set, sort_of, Actor, Entry, Managing, Serving, Tag, recorded, World, register, New, View, Hold, Propagate, Status, Activation, Canceller, Frame, CancelFrame, Routine, Walk}
 use Rattle.run_laws.specs.Holder.{frame_rights}
 use Rattle.run_laws.proofs.Holders.Sums.{held, held_apart, unheld}
 use Rattle.run_laws.proofs.Past.LivePackets.{find}
@@ -32,13 +20,6 @@ use Rattle.run_laws.proofs.States.NoViews.{handed_news, is_deferred}
 use Rattle.run_laws.proofs.States.HandedOver.{hold_get}
 use Rattle.run_laws.proofs.States.Entering.{IsOfSort}
 use Rattle.run_laws.proofs.Steps.Comes.{Reads}
-use Rattle.model.specs.Kinds.{is_new, is_right, is_view}
-use Rattle.model.specs.LocalRule.{kind_of}
-use Rattle.model.specs.Set.{sort_of}
-use Rattle.model.specs.World.{register}
-use Rattle.model.specs.declared.abs.Kind.TheVariants.{New, View}
-use Rattle.model.specs.declared.set.Sort.TheVariants.{Hold, Propagate}
-use Rattle.model.specs.declared.world.Canceller.{Canceller}
 use Rattle.run_laws.proofs.Uses.Fates.{late_marks}
 use Rattle.run_laws.proofs.Uses.RoutineSteps.{OnWalk, completion_sort}
 use Rattle.run_laws.proofs.Uses.TopFrames.{lent_views, stays, steps_routine, deferred_views, deferred_news, KnownTop}

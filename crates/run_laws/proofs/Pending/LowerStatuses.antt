@@ -1,21 +1,6 @@
 -- The statuses of lower drivers in a routine's registers: all STATUS_PENDING, or none.
-use Rattle.std.proofs.Common.{◌≡◌, ℕ, zero, suc, Bool, true, false, List, [], ◌∷◌, arith}
-use Rattle.std.proofs.lemmas.Bool.{cond_both}
-use Rattle.model.specs.declared.set.Guard.{Guard}
-use Rattle.model.specs.declared.set.Guard.TheVariants.{DeviceLock, CancelLock}
-use Rattle.model.specs.declared.abs.Abs.{Abs}
-use Rattle.model.specs.declared.instr.Instr.{Instr}
-use Rattle.model.specs.declared.instr.Instr.TheVariants.{Arm, Begin, Call, Clear, Complete, Const, Disarm, Get, Insert, Load, LoadPaged, Mark, Move, Pass, Release, Remove, Start, Take, Unlink, ReleaseCancel, Dequeue}
-use Rattle.model.specs.Set.{Set, guard_named}
+use Rattle.run_laws.specs.Prelude.{arith, zero, cond_both, Bool, List, [], false, slice_index_or, slice_set, suc, true, ℕ, ⊤, ◌∷◌, ◌≡◌, all_let_go, is_guard, is_lower, left_behind, let_go, handed, is_pending, Set, guard_named, Abs, Kind, BlankKind, Lower, NumKind, Queued, Armed, Instr, Arm, Begin, Call, Clear, Complete, Const, Dequeue, Disarm, Get, Insert, Load, LoadPaged, Mark, Move, Pass, Release, ReleaseCancel, Remove, Start, Take, Unlink, Guard, CancelLock, DeviceLock, Value, Blank, Ref, StatusValue}
 use Rattle.run_laws.proofs.Steps.Words.{is_giving, keeps_registers, work_of}
-use Rattle.std.specs.Prelude.{⊤, slice_set, slice_index_or}
-use Rattle.model.specs.declared.abs.Kind.{Kind}
-use Rattle.model.specs.declared.abs.Kind.TheVariants.{Blank as BlankKind, Num as NumKind, Lower, Queued}
-use Rattle.model.specs.declared.abs.Stage.TheVariants.{Armed}
-use Rattle.model.specs.declared.world.Value.{Value}
-use Rattle.model.specs.declared.world.Value.TheVariants.{Blank, Ref, Status as StatusValue}
-use Rattle.model.specs.LocalRule.{handed, is_pending}
-use Rattle.model.specs.Kinds.{all_let_go, is_guard, is_lower, left_behind, let_go}
 use Rattle.run_laws.proofs.Pending.Duties.{counted, kinds_that}
 
 -- a status is STATUS_PENDING, or it isn't

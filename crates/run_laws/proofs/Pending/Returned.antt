@@ -1,16 +1,9 @@
 -- The statuses that were returned from uses are as agreed on: so pending agreement holds of the
 -- trace. And which actions tell something of uses.
-use Rattle.std.proofs.Common.{◌≡◌, Bool, List, Some, [], ap, arith, cond, false, inl, inr, refl, subst, suc, sym, true, zero, ℕ, ◌∙◌, ◌∷◌}
-use Rattle.std.specs.Prelude.{All, nat_eq, not, slice_index_or}
-use Rattle.std.specs.List.{list_any}
+use Rattle.run_laws.specs.Prelude.{ap, arith, cond, inl, inr, refl, subst, sym, zero, ◌∙◌, eqb_tells, list_any, All, Bool, List, Some, [], false, nat_eq, not, slice_index_or, suc, true, ℕ, ◌∷◌, ◌≡◌, Action, Executes, OfRoutine, OnLocation, is_pending, PendingAgree, statuses_returned, Activated, Actor, Entry, Serving, Tag, entry, recorded, World, Status}
 use Rattle.std.proofs.lemmas.Bool.{eqb-true}
-use Rattle.std.proofs.lemmas.Bool.Decides.{eqb_tells}
-use Rattle.model.specs.declared.status.Status.{Status}
-use Rattle.model.specs.Action.{Action, OnLocation, OfRoutine, Issue, Call, Return, Executes, Returns}
-use Rattle.model.specs.LocalRule.{is_pending}
-use Rattle.model.specs.PendingAgreement.{statuses_returned, PendingAgree, serves}
-use Rattle.model.specs.Trace.{Actor, Activated, Entry, Serving, Tag, entry, recorded}
-use Rattle.model.specs.World.{World}
+use Rattle.model.specs.Action.{Issue, Call, Return, Returns}
+use Rattle.model.specs.PendingAgreement.{serves}
 use Rattle.run_laws.proofs.Pending.Serving.{KeepsAgreed, served}
 use Rattle.run_laws.specs.ArrivingStates.{States}
 use Rattle.run_laws.proofs.Tests.{and_left, and_right, or_left, or_right}

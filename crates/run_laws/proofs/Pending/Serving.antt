@@ -1,21 +1,6 @@
 -- Dispatch routines that serve uses: the packet is the use's while the routine has it, and what the
 -- routine will return is what is agreed on for the use.
-use Rattle.std.proofs.Common.{◌≡◌, Bool, List, None, Option, Some, [], ap, arith, false, refl, subst, sym, true, ℕ, ◌-◌, ◌∙◌, ◌∷◌, ◌≤◌, inl, inr, ◌⊎◌}
-use Rattle.std.specs.Prelude.{slice_get, ⊤}
-use Rattle.model.specs.declared.abs.Abs.{Abs}
-use Rattle.model.specs.declared.abs.Duty.{Duty}
-use Rattle.model.specs.declared.abs.Duty.TheVariants.{Finished, Fresh, GivenDown, NoDuty, Pending}
-use Rattle.model.specs.declared.status.Status.{Status}
-use Rattle.model.specs.declared.world.Activation.{Activation}
-use Rattle.model.specs.declared.world.Frame.{Frame}
-use Rattle.model.specs.declared.world.Frame.TheVariants.{Routine, Walk, Cancel as CancelFrame}
-use Rattle.model.specs.Effect.{answered, answered_in, operand_of}
-use Rattle.model.specs.LocalRule.{is_pending}
-use Rattle.model.specs.Kinds.{is_new}
-use Rattle.model.specs.PendingAgreement.{was_marked}
-use Rattle.model.specs.Set.{Set, instruction_at}
-use Rattle.model.specs.Trace.{Serving, Activated, Entry, Managing, Tag, current_use}
-use Rattle.model.specs.World.{World}
+use Rattle.run_laws.specs.Prelude.{ap, arith, inl, inr, refl, subst, sym, ◌-◌, ◌∙◌, Bool, List, None, Option, Some, [], false, slice_get, true, ℕ, ⊤, ◌∷◌, ◌≡◌, ◌≤◌, ◌⊎◌, answered, answered_in, operand_of, is_new, is_pending, was_marked, Set, instruction_at, Activated, Entry, Managing, Serving, Tag, current_use, World, Abs, Duty, Finished, Fresh, GivenDown, NoDuty, Pending, Status, Activation, Frame, CancelFrame, Routine, Walk, StatusValue}
 use Rattle.run_laws.specs.Holder.{frame_rights, stack_sum}
 use Rattle.run_laws.proofs.Pending.LowerStatuses.{Lowers}
 use Rattle.run_laws.proofs.States.Frames.{state_of}
@@ -26,7 +11,6 @@ use Rattle.run_laws.proofs.Uses.Traced.{SameUses}
 use Rattle.run_laws.proofs.States.HandedOver.{hold_told, HoldOf}
 use Rattle.run_laws.proofs.States.NoViews.{handed_news}
 use Rattle.run_laws.proofs.Live.Sees.{IsDeferred, RefersTo, answered_in_deferred}
-use Rattle.model.specs.declared.world.Value.TheVariants.{Status as StatusValue}
 
 -- a use is its packet's current one, and was marked or not
 abbrev pub Current : List Entry → Serving → Bool → Type 0

@@ -1,14 +1,6 @@
 -- The frames of a thread serve on when its top frame takes a step: those below it, and what it
 -- leaves.
-use Rattle.std.proofs.Common.{◌≡◌, List, None, Option, Some, [], ap, arith, refl, subst, sym, ℕ, ◌++◌, ◌∷◌, ◌≤◌}
-use Rattle.std.specs.Prelude.{⊤}
-use Rattle.model.specs.declared.status.Status.{Status}
-use Rattle.model.specs.declared.world.Frame.{Frame}
-use Rattle.model.specs.declared.world.Frame.TheVariants.{Routine, Walk, Cancel as CancelFrame}
-use Rattle.model.specs.Run.{counted_kept, kept_tag, tags_after}
-use Rattle.model.specs.Set.{Set}
-use Rattle.model.specs.Trace.{Entry, Managing, Serving, Tag}
-use Rattle.model.specs.World.{World}
+use Rattle.run_laws.specs.Prelude.{ap, arith, refl, subst, sym, List, None, Option, Some, [], ℕ, ⊤, ◌++◌, ◌∷◌, ◌≡◌, ◌≤◌, counted_kept, kept_tag, tags_after, Set, Entry, Managing, Serving, Tag, World, Status, Frame, CancelFrame, Routine, Walk}
 use Rattle.run_laws.specs.Holder.{frame_rights, stack_sum}
 use Rattle.run_laws.proofs.Pending.Serving.{Agreeing, AllServe, FrameServes, IsFollowed, KeepsAgreed, first_served, frame_kept, frame_told, served}
 use Rattle.run_laws.specs.ArrivingStates.{States}

@@ -1,19 +1,5 @@
 -- What is known of a dispatch routine's frame on top of its thread.
-use Rattle.std.proofs.Common.{◌≡◌, ℕ, List, Option, Some, refl, ap}
-use Rattle.std.specs.Prelude.{replicate, slice_get, slice_index_or}
-use Rattle.model.specs.declared.abs.Abs.{Abs}
-use Rattle.model.specs.declared.instr.Instr.{Instr}
-use Rattle.model.specs.declared.instr.Instr.TheVariants.{Call, Pass}
-use Rattle.model.specs.declared.set.Sort.TheVariants.{Dispatch}
-use Rattle.model.specs.declared.world.Activation.{Activation}
-use Rattle.model.specs.declared.world.Frame.{Frame}
-use Rattle.model.specs.declared.world.Frame.TheVariants.{Routine}
-use Rattle.model.specs.declared.world.Value.{Value}
-use Rattle.model.specs.declared.world.Value.TheVariants.{Blank}
-use Rattle.model.specs.Effect.{dispatched, operand_of}
-use Rattle.model.specs.Set.{Set, member}
-use Rattle.model.specs.Trace.{Entry}
-use Rattle.model.specs.World.{Shared, asked_of, current_location}
+use Rattle.run_laws.specs.Prelude.{ap, refl, List, Option, Some, replicate, slice_get, slice_index_or, ℕ, ◌≡◌, dispatched, operand_of, is_new, Set, member, Entry, Shared, asked_of, current_location, Abs, BlankKind, Instr, Call, Pass, Dispatch, Activation, Frame, Routine, Value, Blank}
 use Rattle.run_laws.proofs.Holders.Rights.{begun_rights}
 use Rattle.run_laws.proofs.Pending.DispatchSteps.{StepsDispatch}
 use Rattle.run_laws.proofs.Pending.Duties.{dispatch_arrived}
@@ -29,9 +15,7 @@ use Rattle.run_laws.proofs.Pending.DispatchSteps.{StepsDispatch}
 use Rattle.run_laws.proofs.Uses.TopFrames.{KnownTop, known, sort_is, stays, steps_routine, unseen}
 use Rattle.run_laws.proofs.States.HandedOver.{hold_none}
 use Rattle.run_laws.proofs.States.NoViews.{handed_news}
-use Rattle.model.specs.Kinds.{is_new}
 use Rattle.run_laws.proofs.Live.Sees.{RefersTo}
-use Rattle.model.specs.declared.abs.Kind.TheVariants.{Blank as BlankKind}
 
 -- a routine that begins serves what it is handed
 pub begins_serving : (set : Set) (states : States) (issued : ℕ) (c : Activation) (n : ℕ)

@@ -1,27 +1,7 @@
 -- What the frames that a step of a dispatch routine leaves serve: the routine its use still, and
 -- the one that it asks the use that it was handed.
-use Rattle.std.proofs.Common.{◌≡◌, Bool, List, None, Option, Some, [], ap, arith, drop, false, inl, inr, refl, subst, sym, true, ℕ, ◌+◌, ◌<◌, ◌∙◌, ◌∷◌, ◌≤◌, ◌⊎◌}
-use Rattle.std.specs.Prelude.{if◌then◌else◌, nat_eq, slice_get, ◌||◌}
-use Rattle.std.proofs.lemmas.Bool.{eq-eqb}
-use Rattle.model.specs.declared.abs.Duty.{Duty}
-use Rattle.model.specs.declared.abs.Duty.TheVariants.{Finished, Fresh, GivenDown, NoDuty, Pending}
-use Rattle.model.specs.declared.set.Sort.{Sort}
-use Rattle.model.specs.declared.set.Sort.TheVariants.{Dispatch}
-use Rattle.model.specs.declared.status.Status.{Status}
-use Rattle.model.specs.declared.world.Activation.{Activation}
-use Rattle.model.specs.declared.world.Frame.TheVariants.{Routine}
-use Rattle.model.specs.declared.world.Packet.{Packet}
-use Rattle.model.specs.declared.world.Value.{Value}
-use Rattle.model.specs.declared.world.Value.TheVariants.{Ref}
-use Rattle.model.specs.Action.{Calls, Executes, Marks, Touches}
-use Rattle.model.specs.Effect.{answered}
-use Rattle.model.specs.LocalRule.{is_pending}
-use Rattle.model.specs.Kinds.{is_new}
-use Rattle.model.specs.PendingAgreement.{is_use, was_marked}
-use Rattle.model.specs.Run.{new_tag, serving_by, serving_in, serving_with}
-use Rattle.model.specs.Set.{Set, sort_of}
-use Rattle.model.specs.Trace.{Actor, Activated, Entry, Serving, current_use, recorded, uses, uses_opened}
-use Rattle.model.specs.World.{World, register}
+use Rattle.run_laws.specs.Prelude.{ap, arith, drop, inl, inr, refl, subst, sym, ◌∙◌, eq-eqb, Bool, List, None, Option, Some, [], false, if◌then◌else◌, nat_eq, slice_get, true, ℕ, ◌+◌, ◌<◌, ◌||◌, ◌∷◌, ◌≡◌, ◌≤◌, ◌⊎◌, Calls, Executes, Marks, Touches, answered, is_new, is_pending, is_use, was_marked, new_tag, Set, sort_of, Activated, Actor, Entry, Serving, current_use, recorded, uses, uses_opened, World, register, Duty, Finished, Fresh, GivenDown, NoDuty, Pending, Sort, Dispatch, Status, Activation, Routine, Packet, Value, Ref}
+use Rattle.model.specs.Run.{serving_by, serving_in, serving_with}
 use Rattle.run_laws.specs.Holder.{frame_rights}
 use Rattle.run_laws.proofs.Past.LivePackets.{find}
 use Rattle.run_laws.proofs.Pending.LowerStatuses.{Lowers}

@@ -1,30 +1,8 @@
 -- A packet that is sent down has room for the lower device, in a location of its own too: so no
 -- packet is sent past its last location. A completion routine that may hold the packet is stored
 -- under a location that is marked, since who sets it owns the packet.
-use Rattle.std.proofs.Common.{◌≡◌, ℕ, ◌+◌, ◌<◌, ◌≤◌, inl, inr, List, [], ◌∷◌, length, Option, None, Some, Bool, true, false, refl, ap, sym, ◌∙◌, subst, arith}
-use Rattle.std.specs.Prelude.{◌&&◌, nat_le, slice_get}
-use Rattle.std.proofs.lemmas.List.{length-set}
-use Rattle.model.specs.declared.abs.Abs.{Abs}
-use Rattle.model.specs.declared.abs.Kind.{Kind}
-use Rattle.model.specs.declared.abs.Kind.TheVariants.{New, Own}
-use Rattle.model.specs.declared.abs.Rule.TheVariants.{Completion as CompletionRule}
-use Rattle.model.specs.declared.instr.Instr.{Instr}
-use Rattle.model.specs.declared.instr.Instr.TheVariants.{Call}
-use Rattle.model.specs.declared.set.Sort.TheVariants.{Hold}
-use Rattle.model.specs.declared.world.Activation.{Activation}
-use Rattle.model.specs.declared.world.Completion.{Completion}
-use Rattle.model.specs.declared.world.Frame.{Frame}
-use Rattle.model.specs.declared.world.Frame.TheVariants.{Routine}
-use Rattle.model.specs.declared.world.Packet.{Packet}
-use Rattle.model.specs.declared.world.Value.TheVariants.{Ref}
-use Rattle.model.specs.Action.{Calls, Executes, Touches}
-use Rattle.model.specs.Effect.{Outcome, asks, dispatched, leaves, routine_of_device, set_by, sort_of_completion}
-use Rattle.model.specs.Fault.{depth, stack_size}
-use Rattle.model.specs.Kinds.{is_new, is_right}
-use Rattle.model.specs.LocalRule.{demanded, given_down, hold_fault, is_hold, kind_of, one_handed_or_owned}
-use Rattle.model.specs.Set.{Set, lower_of, sort_of}
-use Rattle.model.specs.Trace.{Entry}
-use Rattle.model.specs.World.{Shared, asked_of, current_location, is_marked, next, packet_of, register, sent_down, with_packet}
+use Rattle.run_laws.specs.Prelude.{ap, arith, inl, inr, refl, subst, sym, ◌∙◌, length-set, Bool, List, None, Option, Some, [], false, length, nat_le, slice_get, true, ℕ, ◌&&◌, ◌+◌, ◌<◌, ◌∷◌, ◌≡◌, ◌≤◌, Calls, Executes, Touches, Outcome, asks, dispatched, leaves, routine_of_device, set_by, sort_of_completion, depth, stack_size, is_new, is_right, demanded, given_down, is_hold, kind_of, one_handed_or_owned, Set, lower_of, sort_of, Entry, Shared, asked_of, current_location, is_marked, next, packet_of, register, sent_down, with_packet, Abs, Kind, New, Own, CompletionRule, Instr, Call, Hold, Activation, Completion, Frame, Routine, Packet, Ref}
+use Rattle.model.specs.LocalRule.{hold_fault}
 use Rattle.run_laws.specs.Holder.{frame_rights, frame_walks, right, rights}
 use Rattle.run_laws.proofs.Devices.{dispatched_device}
 use Rattle.run_laws.proofs.Holders.Counts.{Holding, reads_ref}

@@ -1,15 +1,6 @@
 -- What a change of one packet, or the end of one, leaves of the others: each is as it was, with its
 -- way up and its cancel word.
-use Rattle.std.proofs.Common.{◌⊎◌, ◌≡◌, ◌≢◌, ℕ, ◌+◌, ◌≤◌, inl, inr, List, None, Some, refl, sym, ◌∙◌, subst, arith}
-use Rattle.std.specs.Prelude.{nat_eq, if◌then◌else◌}
-use Rattle.std.proofs.lemmas.Bool.{cases_lt}
-use Rattle.std.proofs.lemmas.Bool.Decides.{eqb_tells}
-use Rattle.model.specs.declared.world.Armer.{Armer}
-use Rattle.model.specs.declared.world.Frame.{Frame}
-use Rattle.model.specs.declared.world.Packet.{Packet}
-use Rattle.model.specs.Set.{Set}
-use Rattle.model.specs.Trace.{Entry}
-use Rattle.model.specs.World.{Shared, packet_of, with_packet, without_packet}
+use Rattle.run_laws.specs.Prelude.{arith, inl, inr, refl, subst, sym, ◌∙◌, cases_lt, eqb_tells, List, None, Some, if◌then◌else◌, nat_eq, ℕ, ◌+◌, ◌≡◌, ◌≢◌, ◌≤◌, ◌⊎◌, Set, Entry, Shared, packet_of, with_packet, without_packet, Armer, Frame, Packet}
 use Rattle.run_laws.specs.Holder.{frame_rights, frame_walks, times_waiting}
 use Rattle.run_laws.proofs.Holders.Counts.{Holding}
 use Rattle.run_laws.proofs.Holders.Sums.{held, held_apart, unheld, unheld_one}

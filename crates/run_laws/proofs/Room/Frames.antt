@@ -1,27 +1,6 @@
 -- The room of a routine's frame: where the packets stay that it has the right to, where it goes on,
 -- and where it begins.
-use Rattle.std.proofs.Common.{◌≡◌, ℕ, ◌-◌, ◌≤◌, ◌∷◌, Option, None, Some, Bool, true, false, refl, ap, sym, ◌∙◌}
-use Rattle.std.specs.Prelude.{is_some, replicate}
-use Rattle.model.specs.declared.abs.Abs.{Abs}
-use Rattle.model.specs.declared.abs.Kind.{Kind}
-use Rattle.model.specs.declared.abs.Kind.TheVariants.{Blank as BlankKind, New, Own, Queued, View}
-use Rattle.model.specs.declared.abs.Stage.TheVariants.{Cancelling}
-use Rattle.model.specs.declared.instr.Instr.{Instr}
-use Rattle.model.specs.declared.limits.TheConstants.{REGISTERS}
-use Rattle.model.specs.declared.set.QueueName.{QueueName}
-use Rattle.model.specs.declared.set.Sort.TheVariants.{Cancel, Dispatch, Dpc, Hold, Propagate, StartIo}
-use Rattle.model.specs.declared.status.Status.{Status}
-use Rattle.model.specs.declared.world.Activation.{Activation}
-use Rattle.model.specs.declared.world.Frame.{Frame}
-use Rattle.model.specs.declared.world.Frame.TheVariants.{Routine, Walk, Cancel as CancelFrame}
-use Rattle.model.specs.declared.world.Packet.{Packet}
-use Rattle.model.specs.declared.world.Value.{Value}
-use Rattle.model.specs.declared.world.Value.TheVariants.{Blank, Ref}
-use Rattle.model.specs.Effect.{answered_in, operand_of}
-use Rattle.model.specs.Kinds.{is_right}
-use Rattle.model.specs.LocalRule.{kind_of}
-use Rattle.model.specs.Set.{Set, cancels_for, flow_of, instruction_at}
-use Rattle.model.specs.World.{Shared, next, register}
+use Rattle.run_laws.specs.Prelude.{ap, refl, sym, ◌-◌, ◌∙◌, Bool, None, Option, Some, false, is_some, replicate, true, ℕ, ◌∷◌, ◌≡◌, ◌≤◌, answered_in, operand_of, is_right, kind_of, Set, cancels_for, flow_of, instruction_at, Shared, next, register, Abs, Kind, BlankKind, New, Own, Queued, View, Cancelling, Instr, REGISTERS, QueueName, Cancel, Dispatch, Dpc, Hold, Propagate, StartIo, Status, Activation, Frame, CancelFrame, Routine, Walk, Packet, Value, Blank, Ref}
 use Rattle.run_laws.specs.Holder.{frame_rights}
 use Rattle.run_laws.proofs.Past.LivePackets.{find}
 use Rattle.run_laws.proofs.Room.Registers.{IsClaim, Refers, claim_first, claim_told, claimed_on, claims_owned, claims_right, brings, gained_by, goes_claims, is_gained, is_owned, next_claims}

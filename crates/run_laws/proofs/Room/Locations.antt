@@ -1,11 +1,6 @@
 -- Locations of a packet that are marked, or shared with a lower device: what that leaves of the
 -- marks and completion routines of all.
-use Rattle.std.proofs.Common.{◌≡◌, ◌≢◌, ℕ, ◌<◌, inl, inr, List, length, Option, None, Some, true, get_or, refl, ap, sym, ◌∙◌, subst}
-use Rattle.std.specs.Prelude.{slice_get, slice_set}
-use Rattle.std.proofs.lemmas.Bool.Decides.{eqb_tells}
-use Rattle.std.proofs.lemmas.Option.{slice_get-get_or}
-use Rattle.model.specs.declared.world.Location.{Location}
-use Rattle.model.specs.World.{completion_of, is_marked, marked_location, shared_location, unused_location}
+use Rattle.run_laws.specs.Prelude.{ap, get_or, inl, inr, refl, subst, sym, ◌∙◌, eqb_tells, slice_get-get_or, List, None, Option, Some, length, slice_get, slice_set, true, ℕ, ◌<◌, ◌≡◌, ◌≢◌, completion_of, is_marked, marked_location, shared_location, unused_location, Location}
 use Rattle.run_laws.proofs.Lists.{set_other, set_same}
 
 -- a location is there

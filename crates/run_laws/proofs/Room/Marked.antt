@@ -1,12 +1,6 @@
 -- Who owns a packet owns one whose current location is marked; so a location is marked under which
 -- a completion routine is stored that may hold the packet.
-use Rattle.std.specs.Prelude.{ℕ, suc, ◌≡◌, ◌<◌, Some, true, slice_get}
-use Rattle.model.specs.declared.set.Sort.TheVariants.{Hold}
-use Rattle.model.specs.declared.world.Completion.{Completion}
-use Rattle.model.specs.declared.world.Packet.{Packet}
-use Rattle.model.specs.Effect.{sort_of_completion}
-use Rattle.model.specs.Set.{Set}
-use Rattle.model.specs.World.{completion_of, is_marked}
+use Rattle.run_laws.specs.Prelude.{Some, slice_get, suc, true, ℕ, ◌<◌, ◌≡◌, sort_of_completion, Set, completion_of, is_marked, Hold, Completion, Packet}
 
 -- each location of a packet that is above one with such a routine, down to the current one
 abbrev pub LentMarked : Set → Packet → Type 0

@@ -1,30 +1,7 @@
 -- What holds of the packets in registers of kinds that are a right to them: where an instruction
 -- gives a register such a kind, or writes a value into it, it has to hold of the packet there; else
 -- it stays.
-use Rattle.std.proofs.Common.{◌≡◌, ℕ, zero, suc, ◌≤◌, Bool, true, false, List, [], ◌∷◌, Option, None, Some, refl, ap, sym, ◌∙◌, subst, arith}
-use Rattle.std.specs.Prelude.{replicate, slice_index_or, slice_set, ◌&&◌, not}
-use Rattle.std.proofs.lemmas.Bool.{cond_both}
-use Rattle.model.specs.declared.abs.Stage.{Stage}
-use Rattle.model.specs.declared.abs.Abs.{Abs}
-use Rattle.model.specs.declared.abs.Kind.{Kind}
-use Rattle.model.specs.declared.abs.Kind.TheVariants.{Blank as BlankKind, Num as NumKind, Lower, New, Own, Queued, View}
-use Rattle.model.specs.declared.abs.Stage.TheVariants.{Listed, Armed, Taken, Cancelling}
-use Rattle.model.specs.declared.abs.Settled.{Settled}
-use Rattle.model.specs.declared.instr.Instr.{Instr}
-use Rattle.model.specs.declared.instr.Instr.TheVariants.{Const, Move, Clear, Load, LoadPaged, Get, Mark, Release, Insert, Remove, Unlink, Arm, Disarm, Start, Take, Begin, Pass, Call, Complete, ReleaseCancel, Dequeue}
-use Rattle.model.specs.declared.set.Guard.{Guard}
-use Rattle.model.specs.declared.set.Guard.TheVariants.{DeviceLock, CancelLock}
-use Rattle.model.specs.declared.set.QueueName.{QueueName}
-use Rattle.model.specs.declared.set.QueueName.TheVariants.{Declared, DeviceQueue}
-use Rattle.model.specs.declared.set.Sort.{Sort}
-use Rattle.model.specs.declared.status.Status.{Status}
-use Rattle.model.specs.declared.world.Activation.{Activation}
-use Rattle.model.specs.declared.world.Value.{Value}
-use Rattle.model.specs.declared.world.Value.TheVariants.{Blank, Num, Ref, Status as StatusValue}
-use Rattle.model.specs.Kinds.{all_let_go, is_guard, is_right, kind_disarmed, kind_inserted, left_behind, let_go, is_at, is_stage, is_claim}
-use Rattle.model.specs.LocalRule.{given_down, handed, handed_at_label, kind_of, mark_fault, marked, refuses, unlink_kind, queued_kind}
-use Rattle.model.specs.Set.{Set, cancel_routine_of, flow_of, guard_named, sort_of}
-use Rattle.model.specs.World.{Shared, next}
+use Rattle.run_laws.specs.Prelude.{ap, arith, refl, subst, sym, zero, ◌∙◌, cond_both, Bool, List, None, Option, Some, [], false, not, replicate, slice_index_or, slice_set, suc, true, ℕ, ◌&&◌, ◌∷◌, ◌≡◌, ◌≤◌, all_let_go, is_at, is_claim, is_guard, is_right, is_stage, kind_disarmed, kind_inserted, left_behind, let_go, given_down, handed, handed_at_label, kind_of, mark_fault, marked, queued_kind, refuses, unlink_kind, Set, cancel_routine_of, flow_of, guard_named, sort_of, Shared, next, Abs, Kind, BlankKind, Lower, New, NumKind, Own, Queued, View, Settled, Stage, Armed, Cancelling, Listed, Taken, Instr, Arm, Begin, Call, Clear, Complete, Const, Dequeue, Disarm, Get, Insert, Load, LoadPaged, Mark, Move, Pass, Release, ReleaseCancel, Remove, Start, Take, Unlink, Guard, CancelLock, DeviceLock, QueueName, Declared, DeviceQueue, Sort, Status, Activation, Value, Blank, Num, Ref, StatusValue}
 use Rattle.run_laws.specs.Holder.{right, rights}
 use Rattle.run_laws.proofs.Holders.Rights.{one_right}
 use Rattle.run_laws.proofs.States.Frames.{Runs, state_of}

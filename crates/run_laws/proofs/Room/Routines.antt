@@ -1,26 +1,6 @@
 -- Each step of a routine keeps what who has the right to a packet finds: room for its device, and
 -- where it owns the packet the mark of the current location.
-use Rattle.std.proofs.Common.{◌≡◌, ℕ, ◌+◌, ◌-◌, ◌≤◌, inl, inr, List, [], ◌∷◌, Option, None, Some, Bool, true, false, refl, ap, sym, ◌∙◌, subst, arith}
-use Rattle.std.specs.Prelude.{⊤, is_none, slice_get}
-use Rattle.model.specs.declared.abs.Rule.TheVariants.{CancelState}
-use Rattle.model.specs.declared.abs.Kind.{Kind}
-use Rattle.model.specs.declared.abs.Kind.TheVariants.{New, Queued}
-use Rattle.model.specs.declared.abs.Stage.TheVariants.{Listed}
-use Rattle.model.specs.declared.instr.Instr.{Instr}
-use Rattle.model.specs.declared.instr.Instr.TheVariants.{Arm, Call, Complete, End, Loop, Mark, Pass, Put}
-use Rattle.model.specs.declared.set.QueueName.{QueueName}
-use Rattle.model.specs.declared.set.QueueName.TheVariants.{Declared}
-use Rattle.model.specs.declared.world.Activation.{Activation}
-use Rattle.model.specs.declared.world.Armer.{Armer}
-use Rattle.model.specs.declared.world.Frame.{Frame}
-use Rattle.model.specs.declared.world.Frame.TheVariants.{Routine, Walk, Cancel as CancelFrame}
-use Rattle.model.specs.declared.world.Packet.{Packet}
-use Rattle.model.specs.Effect.{Outcome, armer_of, dispatched, turned}
-use Rattle.model.specs.Kinds.{is_exchanged, is_at, is_right, is_claim}
-use Rattle.model.specs.LocalRule.{kind_of, queued_kind}
-use Rattle.model.specs.Set.{Set, lower_of, flow_of}
-use Rattle.model.specs.Trace.{Actor, Entry}
-use Rattle.model.specs.World.{Shared, asked_of, completed, current_location, is_marked, mark_current, next, packet_of, register, shared_with, with_armer, with_info, with_packet}
+use Rattle.run_laws.specs.Prelude.{ap, arith, inl, inr, refl, subst, sym, ◌-◌, ◌∙◌, Bool, List, None, Option, Some, [], false, is_none, slice_get, true, ℕ, ⊤, ◌+◌, ◌∷◌, ◌≡◌, ◌≤◌, Outcome, armer_of, armer_waiting, dispatched, turned, is_at, is_claim, is_exchanged, is_right, kind_of, queued_kind, StartState, Set, flow_of, lower_of, Actor, Entry, Shared, asked_of, completed, current_location, is_marked, mark_current, next, packet_of, register, shared_with, with_armer, with_info, with_packet, Kind, New, Queued, CancelState, Listed, Instr, Arm, Call, Complete, End, Loop, Mark, Pass, Put, QueueName, Declared, DeviceQueue, Activation, Armer, Frame, CancelFrame, Routine, Walk, Packet}
 use Rattle.run_laws.proofs.Holders.Counts.{Holding}
 use Rattle.run_laws.proofs.Lists.{Each}
 use Rattle.run_laws.proofs.Past.LivePackets.{find}
@@ -47,9 +27,6 @@ use Rattle.run_laws.proofs.Steps.Words.{is_giving, packet_operand, work_of, is_t
 use Rattle.run_laws.proofs.Holders.Waits.{NextArmed}
 use Rattle.run_laws.proofs.Room.Waiting.{waits_claims, waiting_waits, RoomFor, MarkedIn}
 use Rattle.run_laws.proofs.Steps.Comes.{Waits, arms_waiting, disarms_next, works_on_waiting, waited_to}
-use Rattle.model.specs.Effect.{armer_waiting}
-use Rattle.model.specs.declared.set.QueueName.TheVariants.{DeviceQueue}
-use Rattle.model.specs.Queues.{StartState}
 use Rattle.run_laws.proofs.States.Obeyed.{inserts_right}
 
 -- a cancel word that a routine finds set while it has a packet that may be cancelled names its

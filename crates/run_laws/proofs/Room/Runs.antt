@@ -1,24 +1,6 @@
 -- In every run of an accepted set who has the right to a packet has room for its device, who owns
 -- it finds its current location marked, and no packet is sent down past its last location.
-use Rattle.std.proofs.Common.{◌⊎◌, ◌≡◌, ◌≢◌, ℕ, ◌+◌, ◌-◌, ◌≤◌, inl, inr, List, [], ◌∷◌, ◌++◌, length, Option, None, Some, refl, ap, sym, ◌∙◌, subst, arith, Bool}
-use Rattle.std.specs.Prelude.{nat_eq, slice_get, replicate, if◌then◌else◌}
-use Rattle.std.proofs.lemmas.Bool.{eq-eqb}
-use Rattle.std.proofs.lemmas.Bool.Decides.{eqb_tells}
-use Rattle.std.proofs.lemmas.List.{length-replicate}
-use Rattle.model.specs.declared.limits.TheConstants.{MAX_QUEUES}
-use Rattle.model.specs.declared.status.Major.{Major}
-use Rattle.model.specs.declared.status.Status.{Status}
-use Rattle.model.specs.declared.world.Frame.{Frame}
-use Rattle.model.specs.declared.world.Frame.TheVariants.{Walk}
-use Rattle.model.specs.declared.world.Packet.{Packet}
-use Rattle.model.specs.declared.world.Thread.{Thread}
-use Rattle.model.specs.Effect.{Outcome, top_of, told_to}
-use Rattle.model.specs.Events.{Change, standing, with_thread, with_stack, with_new_packet, serves_request, dpc_activation}
-use Rattle.model.specs.Queues.{idle, without_first_to_start}
-use Rattle.model.specs.Run.{begun, frames_on}
-use Rattle.model.specs.Set.{Set}
-use Rattle.model.specs.Trace.{Entry, Actor}
-use Rattle.model.specs.World.{Shared, World, new_packet, unused_location, with_dpc, with_start}
+use Rattle.run_laws.specs.Prelude.{ap, arith, inl, inr, refl, subst, sym, ◌-◌, ◌∙◌, eq-eqb, eqb_tells, length-replicate, Bool, List, None, Option, Some, [], if◌then◌else◌, length, nat_eq, replicate, slice_get, ℕ, ◌++◌, ◌+◌, ◌∷◌, ◌≡◌, ◌≢◌, ◌≤◌, ◌⊎◌, Outcome, told_to, top_of, Change, dpc_activation, serves_request, standing, with_new_packet, with_stack, with_thread, idle, without_first_to_start, begun, frames_on, Set, Actor, Entry, Shared, World, new_packet, unused_location, with_dpc, with_start, MAX_QUEUES, Major, Status, Frame, Walk, Packet, Thread}
 use Rattle.run_laws.specs.Holder.{times_at, times_in, times_queued, times_started, frame_rights, stack_sum}
 use Rattle.run_laws.proofs.Claims.Sums.{Claimed}
 use Rattle.run_laws.proofs.Holders.Apart.{waiting_not_yet, IsApart, apart_below, apart_other, not_yet}

@@ -1,12 +1,6 @@
 -- The stack sizes of devices: a device under another one has a smaller one.
-use Rattle.std.proofs.Common.{◌≡◌, ℕ, suc, ◌+◌, ◌<◌, ◌≤◌, inl, inr, length, Option, None, Some, true, false, ap, sym, ◌∙◌, arith}
-use Rattle.std.specs.Prelude.{◌&&◌, nat_eq, nat_lt, slice_get, option_and_then}
-use Rattle.std.proofs.lemmas.Bool.{eq-eqb}
-use Rattle.std.proofs.lemmas.Bool.Decides.{leb_tells}
-use Rattle.model.specs.declared.set.Device.{Device}
-use Rattle.model.specs.Forwarding.{device_under, is_under, is_too_small}
-use Rattle.model.specs.Set.{Set, lower_of}
-use Rattle.model.specs.Sound.{IsSound, DeviceFits}
+use Rattle.run_laws.specs.Prelude.{ap, arith, inl, inr, sym, ◌∙◌, eq-eqb, leb_tells, None, Option, Some, false, length, nat_eq, nat_lt, option_and_then, slice_get, suc, true, ℕ, ◌&&◌, ◌+◌, ◌<◌, ◌≡◌, ◌≤◌, is_too_small, Set, lower_of, DeviceFits, IsSound, Device}
+use Rattle.model.specs.Forwarding.{device_under, is_under}
 use Rattle.run_laws.proofs.Devices.{device_fits}
 use Rattle.run_laws.proofs.States.Entering.{any_false}
 use Rattle.run_laws.proofs.States.Frames.{Serves}

@@ -1,18 +1,6 @@
 -- Every step keeps the room of frames and of packets that wait, and sends no packet past its last
 -- location.
-use Rattle.std.proofs.Common.{◌≡◌, ℕ, ◌+◌, ◌-◌, ◌≤◌, inl, inr, List, [], length, Option, None, Some, false, refl, sym, subst, arith}
-use Rattle.std.specs.Prelude.{◌≢◌}
-use Rattle.std.proofs.lemmas.Bool.{eq-eqb, ltb-true}
-use Rattle.model.specs.declared.instr.Instr.TheVariants.{Call}
-use Rattle.model.specs.declared.world.Armer.{Armer}
-use Rattle.model.specs.declared.world.CancelStep.{CancelStep}
-use Rattle.model.specs.declared.world.Frame.{Frame}
-use Rattle.model.specs.declared.world.Frame.TheVariants.{Routine, Walk, Cancel as CancelFrame}
-use Rattle.model.specs.declared.world.Packet.{Packet}
-use Rattle.model.specs.Effect.{Outcome, completes_with}
-use Rattle.model.specs.Set.{Set}
-use Rattle.model.specs.Trace.{Actor, Entry}
-use Rattle.model.specs.World.{Shared, cancelled, left_location, mark_current, moved_up, packet_of, with_armer, with_packet, without_packet}
+use Rattle.run_laws.specs.Prelude.{arith, inl, inr, refl, subst, sym, ◌-◌, eq-eqb, ltb-true, List, None, Option, Some, [], false, length, ℕ, ◌+◌, ◌≡◌, ◌≢◌, ◌≤◌, Outcome, completes_with, Set, Actor, Entry, Shared, cancelled, left_location, mark_current, moved_up, packet_of, with_armer, with_packet, without_packet, Call, Armer, CancelStep, Frame, CancelFrame, Routine, Walk, Packet}
 use Rattle.run_laws.specs.Holder.{frame_rights, frame_walks}
 use Rattle.run_laws.proofs.Holders.Counts.{Holding}
 use Rattle.run_laws.proofs.Lists.{Each}

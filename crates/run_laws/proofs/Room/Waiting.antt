@@ -1,29 +1,7 @@
 -- Who has the right to a packet has room for its device, and who owns it finds its current location
 -- marked: a register of a frame, a place in a queue without a cancel routine, in a start list or a
 -- device queue, a current slot, and a cancel word. What the instructions about queues do to that.
-use Rattle.std.proofs.Common.{◌≡◌, ℕ, ◌+◌, ◌≤◌, inl, inr, List, [], ◌∷◌, Option, None, Some, Bool, true, false, refl, ap, sym, ◌∙◌, subst, arith}
-use Rattle.std.specs.Prelude.{⊤, is_some, length, nat_eq, slice_get, option_and_then, if◌then◌else◌}
-use Rattle.std.proofs.lemmas.Bool.{eq-eqb}
-use Rattle.std.proofs.lemmas.Bool.Decides.{eqb_tells}
-use Rattle.model.specs.declared.abs.Stage.TheVariants.{Taken}
-use Rattle.model.specs.declared.abs.Abs.{Abs}
-use Rattle.model.specs.declared.abs.Kind.{Kind}
-use Rattle.model.specs.declared.abs.Kind.TheVariants.{Own}
-use Rattle.model.specs.declared.instr.Instr.{Instr}
-use Rattle.model.specs.declared.instr.Instr.TheVariants.{Begin, Insert, Next, Remove, Start, Take, Unlink}
-use Rattle.model.specs.declared.set.QueueName.TheVariants.{Declared}
-use Rattle.model.specs.declared.world.Activation.{Activation}
-use Rattle.model.specs.declared.world.Armer.{Armer}
-use Rattle.model.specs.declared.world.Frame.{Frame}
-use Rattle.model.specs.declared.world.Frame.TheVariants.{Routine, Walk, Cancel as CancelFrame}
-use Rattle.model.specs.declared.world.Packet.{Packet}
-use Rattle.model.specs.declared.world.Value.TheVariants.{Ref}
-use Rattle.model.specs.Action.{Action}
-use Rattle.model.specs.Kinds.{is_right, kind_removed}
-use Rattle.model.specs.LocalRule.{kind_of}
-use Rattle.model.specs.Queues.{StartState, inserted, next_started, started, unlinked, with_slot}
-use Rattle.model.specs.Set.{Set, cancel_routine_of}
-use Rattle.model.specs.World.{Shared, current_location, is_marked, packet_of, queue_of, register, start_of, with_queue, with_register, with_start, next}
+use Rattle.run_laws.specs.Prelude.{ap, arith, inl, inr, refl, subst, sym, ◌∙◌, cond_both, eq-eqb, eqb_tells, Bool, List, None, Option, Some, [], false, if◌then◌else◌, is_some, length, nat_eq, option_and_then, slice_get, slice_set, true, ℕ, ⊤, ◌+◌, ◌∷◌, ◌≡◌, ◌≤◌, Action, is_right, kind_removed, kind_of, StartState, dequeued, head_of, inserted, next_started, started, unlinked, with_slot, Set, cancel_routine_of, has_cancel, Shared, current_location, is_marked, next, packet_of, queue_of, register, start_of, with_queue, with_register, with_start, Abs, Kind, Own, Taken, Instr, Begin, Dequeue, Insert, Next, Remove, Start, Take, Unlink, Declared, DeviceQueue, Activation, Armer, Frame, CancelFrame, Routine, Walk, Packet, Ref}
 use Rattle.run_laws.specs.Holder.{times_at, times_in, times_in_slot, times_named, times_plain, times_waiting}
 use Rattle.run_laws.proofs.Claims.Sums.{is_cancelable}
 use Rattle.run_laws.proofs.Holders.Counts.{reads_ref}
@@ -47,14 +25,8 @@ use Rattle.run_laws.specs.Holder.{waits_cancelable}
 use Rattle.run_laws.proofs.Holders.Waits.{served_waits, first_both}
 use Rattle.run_laws.proofs.Holders.Started.{times_disarmed}
 use Rattle.run_laws.proofs.Steps.Comes.{Waits, arms_waiting, disarms_next, starts_gone, dequeues_packet}
-use Rattle.model.specs.Queues.{head_of, dequeued}
-use Rattle.model.specs.Set.{has_cancel}
-use Rattle.model.specs.declared.set.QueueName.TheVariants.{Declared, DeviceQueue}
-use Rattle.std.proofs.lemmas.Bool.{cond_both}
-use Rattle.model.specs.declared.instr.Instr.TheVariants.{Dequeue}
 use Rattle.run_laws.proofs.Holders.Waits.{and_both}
 use Rattle.run_laws.proofs.Holders.Started.{times_waited}
-use Rattle.std.specs.Prelude.{slice_get, slice_set}
 
 -- the locations that a packet has left, its current one among them, are as many as a device's stack
 -- size

@@ -2,22 +2,8 @@
 -- Armed or Taken for the packet, which the word backs, or a cancel routine that was called; and
 -- there is none of these where the word is set, since a packet has one holder.
 use Rattle.run_laws.proofs.Claims.Tops.{named_some, top_there}
-use Rattle.std.proofs.Common.{◌≡◌, ℕ, ◌+◌, ◌≤◌, true, List, Some, refl, ◌∙◌, arith, length}
+use Rattle.run_laws.specs.Prelude.{arith, refl, ◌∙◌, List, Some, length, true, ℕ, ◌+◌, ◌≡◌, ◌≤◌, is_at, is_exchanged, kind_of, Set, Entry, World, register, Kind, Queued, Armed, Taken, QueueName, Activation, Armer, Frame, Routine, Packet}
 use Rattle.run_laws.proofs.Claims.Balance.{at_same, claim_le}
-use Rattle.model.specs.declared.set.QueueName.{QueueName}
-use Rattle.model.specs.declared.abs.Kind.{Kind}
-use Rattle.model.specs.declared.abs.Kind.TheVariants.{Queued}
-use Rattle.model.specs.declared.abs.Stage.TheVariants.{Armed, Taken}
-use Rattle.model.specs.declared.world.Activation.{Activation}
-use Rattle.model.specs.declared.world.Armer.{Armer}
-use Rattle.model.specs.declared.world.Frame.{Frame}
-use Rattle.model.specs.declared.world.Frame.TheVariants.{Routine}
-use Rattle.model.specs.declared.world.Packet.{Packet}
-use Rattle.model.specs.Kinds.{is_at, is_exchanged}
-use Rattle.model.specs.LocalRule.{kind_of}
-use Rattle.model.specs.Set.{Set}
-use Rattle.model.specs.Trace.{Entry}
-use Rattle.model.specs.World.{World, register}
 use Rattle.run_laws.proofs.Claims.Sums.{Claimed, names_on}
 use Rattle.run_laws.proofs.Claims.WordSteps.{word_names}
 use Rattle.run_laws.proofs.Holders.Counts.{reads_ref}

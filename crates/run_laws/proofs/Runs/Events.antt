@@ -1,28 +1,11 @@
 -- What an event can be: nothing happens, the top frame of a thread steps, a root begins on an idle
 -- one, or a DPC is queued; and what a run answers to it.
-use Rattle.std.proofs.Common.{◌≡◌, ℕ, ◌-◌, List, [], ◌∷◌, ◌++◌, length, Option, None, Some, Bool, true, false, take, refl}
-use Rattle.std.specs.Prelude.{⊤, ◌&&◌, not, nat_eq, nat_lt, slice_get, if◌then◌else◌}
+use Rattle.run_laws.specs.Prelude.{refl, take, ◌-◌, Bool, List, None, Option, Some, [], false, if◌then◌else◌, length, nat_eq, nat_lt, not, slice_get, true, ℕ, ⊤, ◌&&◌, ◌++◌, ◌∷◌, ◌≡◌, Outcome, frame_effect, top_of, Change, can_issue, effect, interrupt_on, interrupted, is_idle, issue_on, issued, settled, step_thread, top_effect, unchanged, first_fault, StartState, head_of, Answered, Run, actor_on, goes, refused, step, thread_of, Set, dpc_of, startio_of, Entry, recorded, World, is_queued, packet_of, start_of, Bug, Event, CancelEvent, Interrupt, Issue, StartIoEvent, Step, Place, Reply, BugCheckReply, Idle, Refused, Wrong, Device, Major, Frame, Irql, Packet, Thread}
 use Rattle.std.proofs.lemmas.Bool.{eqb-true}
-use Rattle.model.specs.declared.event.Bug.{Bug}
-use Rattle.model.specs.declared.event.Event.{Event}
-use Rattle.model.specs.declared.event.Event.TheVariants.{Issue, Cancel as CancelEvent, Interrupt, Dpc, StartIo as StartIoEvent, Step}
-use Rattle.model.specs.declared.event.Place.{Place}
-use Rattle.model.specs.declared.event.Reply.{Reply}
-use Rattle.model.specs.declared.event.Reply.TheVariants.{Finished, Idle, Refused, Bug as BugCheckReply, Wrong}
-use Rattle.model.specs.declared.set.Device.{Device}
-use Rattle.model.specs.declared.status.Major.{Major}
-use Rattle.model.specs.declared.world.Frame.{Frame}
-use Rattle.model.specs.declared.world.Irql.{Irql}
-use Rattle.model.specs.declared.world.Packet.{Packet}
-use Rattle.model.specs.declared.world.Thread.{Thread}
-use Rattle.model.specs.Effect.{Outcome, frame_effect, top_of}
-use Rattle.model.specs.Events.{Change, settled, top_effect, step_thread, unchanged, issued, issue_on, is_idle, can_issue, irql_of, cancel_of, cancel_on, interrupted, interrupt_on, dpc_begun, dpc_on, effect, startio_for, startio_from, startio_on}
-use Rattle.model.specs.Fault.{first_fault}
-use Rattle.model.specs.Queues.{StartState, head_of}
-use Rattle.model.specs.Run.{Run, Answered, actor_on, goes, refused, stops, unless_wrong, unless_fault, thread_of, answered_on, step}
-use Rattle.model.specs.Set.{Set, dpc_of, startio_of}
-use Rattle.model.specs.Trace.{Entry, recorded}
-use Rattle.model.specs.World.{World, is_queued, packet_of, start_of}
+use Rattle.model.specs.declared.event.Event.TheVariants.{Dpc}
+use Rattle.model.specs.declared.event.Reply.TheVariants.{Finished}
+use Rattle.model.specs.Events.{irql_of, cancel_of, cancel_on, dpc_begun, dpc_on, startio_for, startio_from, startio_on}
+use Rattle.model.specs.Run.{stops, unless_wrong, unless_fault, answered_on}
 use Rattle.run_laws.proofs.Lists.{last_split}
 use Rattle.run_laws.proofs.Runs.Roots.{Root, Beside, issues, takes_dpc, takes_first, takes_nothing, IdleThread, root_begun, request_root, dpc_root, startio_root, cancel_root}
 use Rattle.run_laws.proofs.Steps.Comes.{Comes}

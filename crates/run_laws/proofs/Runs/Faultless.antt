@@ -1,8 +1,5 @@
 -- The trace of a run whose events have no bug check has no fault.
-use Rattle.std.proofs.Common.{◌≡◌, List, [], ◌∷◌, None}
-use Rattle.model.specs.Action.{Action}
-use Rattle.model.specs.Fault.{fault_of, first_fault}
-use Rattle.model.specs.Trace.{Entry, Actor, entry, recorded}
+use Rattle.run_laws.specs.Prelude.{List, None, [], ◌∷◌, ◌≡◌, Action, fault_of, first_fault, Actor, Entry, entry, recorded}
 use Rattle.run_laws.specs.Rules.{Faultless}
 use Rattle.run_laws.proofs.Steps.Faults.{none_first, none_later}
 

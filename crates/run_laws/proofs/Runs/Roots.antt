@@ -1,25 +1,6 @@
 -- What begins on an idle thread: the root of a request, a DPC, a StartIo routine or IoCancelIrp,
 -- with what changes beside it.
-use Rattle.std.proofs.Common.{◌≡◌, ℕ, ◌≤◌, List, [], ◌∷◌, Some, false, true, arith}
-use Rattle.std.specs.Prelude.{slice_get}
-use Rattle.model.specs.declared.event.Reply.{Reply}
-use Rattle.model.specs.declared.event.Reply.TheVariants.{Started, Stepped}
-use Rattle.model.specs.declared.set.Device.{Device}
-use Rattle.model.specs.declared.status.Major.{Major}
-use Rattle.model.specs.declared.world.CancelStep.TheVariants.{Acquire as AcquireStep}
-use Rattle.model.specs.declared.world.Frame.{Frame}
-use Rattle.model.specs.declared.world.Frame.TheVariants.{Routine, Cancel as CancelFrame}
-use Rattle.model.specs.declared.world.Irql.{Irql}
-use Rattle.model.specs.declared.world.Irql.TheVariants.{Passive, Dispatch as DispatchLevel}
-use Rattle.model.specs.declared.world.Packet.{Packet}
-use Rattle.model.specs.declared.world.Thread.{Thread}
-use Rattle.model.specs.declared.world.Value.TheVariants.{Ref}
-use Rattle.model.specs.Action.{Action, Issues}
-use Rattle.model.specs.Effect.{routine_of_device}
-use Rattle.model.specs.Events.{Change, can_issue, dpc_activation, serves_request, with_new_packet, with_thread}
-use Rattle.model.specs.Queues.{StartState, head_of, without_first_to_start}
-use Rattle.model.specs.Set.{Set, dpc_of, startio_of}
-use Rattle.model.specs.World.{Shared, World, entered, packet_of, start_of, with_dpc, with_start}
+use Rattle.run_laws.specs.Prelude.{arith, List, Some, [], false, slice_get, true, ℕ, ◌∷◌, ◌≡◌, ◌≤◌, Action, Issues, routine_of_device, Change, can_issue, dpc_activation, serves_request, with_new_packet, with_thread, StartState, head_of, without_first_to_start, Set, dpc_of, startio_of, Shared, World, entered, packet_of, start_of, with_dpc, with_start, Reply, Started, Stepped, Device, Major, AcquireStep, Frame, CancelFrame, Routine, Irql, DispatchLevel, Passive, Packet, Thread, Ref}
 
 -- a frame that begins at a level, what threads share then, the actions and the reply
 pub record Root : Type 0 where

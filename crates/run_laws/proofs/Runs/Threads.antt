@@ -1,13 +1,5 @@
 -- The threads of a world, where another stands in place of one.
-use Rattle.std.proofs.Common.{◌≡◌, ◌≢◌, ℕ, zero, suc, inl, inr, List, [], ◌∷◌, ◌++◌, ◌∙◌, Option, Some, refl, ap, sym, subst}
-use Rattle.std.specs.Prelude.{replicate, slice_get}
-use Rattle.std.proofs.lemmas.Bool.{cases_eq}
-use Rattle.model.specs.declared.world.Frame.{Frame}
-use Rattle.model.specs.declared.world.Thread.{Thread}
-use Rattle.model.specs.Events.{with_thread}
-use Rattle.model.specs.Run.{frames_of, frames_on}
-use Rattle.model.specs.World.{Shared, World, idle_thread}
-use Rattle.model.specs.Set.{Set}
+use Rattle.run_laws.specs.Prelude.{ap, inl, inr, refl, subst, sym, zero, ◌∙◌, cases_eq, List, Option, Some, [], replicate, slice_get, suc, ℕ, ◌++◌, ◌∷◌, ◌≡◌, ◌≢◌, with_thread, frames_of, frames_on, Set, Shared, World, idle_thread, Frame, Thread}
 use Rattle.run_laws.proofs.Lists.{set_same, set_other}
 use Rattle.run_laws.proofs.Runs.Events.{StepsFrame}
 

@@ -1,13 +1,6 @@
 -- What holds in the state of entry, and is kept by each instruction that breaks no rule, holds in
 -- every state that arrives at a position.
-use Rattle.std.proofs.Common.{◌≡◌, ℕ, ◌⊎◌, inl, inr, List, [], ◌∷◌, Option, None, Some, refl, subst}
-use Rattle.std.specs.Prelude.{slice_get}
-use Rattle.model.specs.declared.abs.Abs.{Abs}
-use Rattle.model.specs.declared.abs.Rule.{Rule}
-use Rattle.model.specs.declared.instr.Instr.{Instr}
-use Rattle.model.specs.LocalRule.{entry_state, handed, handed_at_label, outs, outs_by, refuses, rule_or}
-use Rattle.model.specs.Paths.{Along, Arrives, HandsOn, LeadsFrom}
-use Rattle.model.specs.Set.{Branches, Closes, Flow, Jumps, Leaves, Member, Onward, Opens, flow_of, label_of}
+use Rattle.run_laws.specs.Prelude.{inl, inr, refl, subst, List, None, Option, Some, [], slice_get, ℕ, ◌∷◌, ◌≡◌, ◌⊎◌, entry_state, handed, handed_at_label, outs, outs_by, refuses, rule_or, Along, Arrives, HandsOn, LeadsFrom, Branches, Closes, Flow, Jumps, Leaves, Member, Onward, Opens, flow_of, label_of, Abs, Rule, Instr}
 
 module _ (P : Abs → Type 0) (m : Member) (begins : (s : Abs) → entry_state m ≡ Some s → P s)
     (next : (s : Abs) (i : Instr) (q : ℕ) → slice_get m.routine.code q ≡ Some i

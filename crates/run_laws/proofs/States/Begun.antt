@@ -1,20 +1,6 @@
 -- What the frame of a root is: that of a dispatch routine at PASSIVE_LEVEL, of a DPC or a StartIo
 -- routine, or of IoCancelIrp; so it stands.
-use Rattle.std.proofs.Common.{◌≡◌, ℕ, ◌+◌, ◌<◌, [], ◌∷◌, List, Some, false, refl, sym, ◌∙◌, arith, Option}
-use Rattle.std.specs.Prelude.{⊤}
-use Rattle.model.specs.declared.set.QueueName.{QueueName}
-use Rattle.model.specs.declared.set.Sort.{Sort}
-use Rattle.model.specs.declared.set.Sort.TheVariants.{Dispatch, Dpc, StartIo}
-use Rattle.model.specs.declared.world.Activation.{Activation}
-use Rattle.model.specs.declared.world.Frame.{Frame}
-use Rattle.model.specs.declared.world.Frame.TheVariants.{Routine}
-use Rattle.model.specs.declared.world.Irql.{Irql}
-use Rattle.model.specs.declared.world.Irql.TheVariants.{Passive}
-use Rattle.model.specs.declared.world.Value.{Value}
-use Rattle.model.specs.declared.world.Value.TheVariants.{Blank, Ref}
-use Rattle.model.specs.Set.{Set}
-use Rattle.model.specs.Trace.{Entry}
-use Rattle.model.specs.World.{Shared}
+use Rattle.run_laws.specs.Prelude.{arith, refl, sym, ◌∙◌, List, Option, Some, [], false, ℕ, ⊤, ◌+◌, ◌<◌, ◌∷◌, ◌≡◌, Set, Entry, Shared, QueueName, Sort, Dispatch, Dpc, StartIo, Activation, Frame, Routine, Irql, Passive, Value, Blank, Ref}
 use Rattle.run_laws.specs.ArrivingStates.{States}
 use Rattle.run_laws.proofs.Lists.{Each}
 use Rattle.run_laws.proofs.Past.Packets.{Tells, found, found_lt}

@@ -1,13 +1,5 @@
 -- The cancel routine that IoCancelIrp calls begins as one that a packet's cancel word names.
-use Rattle.std.proofs.Common.{◌≡◌, ℕ, ◌<◌, Option, Some, subst}
-use Rattle.std.specs.Prelude.{slice_get}
-use Rattle.model.specs.declared.set.Sort.TheVariants.{Cancel}
-use Rattle.model.specs.declared.world.Armer.{Armer}
-use Rattle.model.specs.declared.world.Packet.{Packet}
-use Rattle.model.specs.declared.world.Value.TheVariants.{Ref}
-use Rattle.model.specs.Effect.{routine_of_device}
-use Rattle.model.specs.Set.{Set, cancel_routine_named}
-use Rattle.model.specs.World.{Shared, entered, packet_of}
+use Rattle.run_laws.specs.Prelude.{subst, Option, Some, slice_get, ℕ, ◌<◌, ◌≡◌, routine_of_device, Set, cancel_routine_named, Shared, entered, packet_of, Cancel, Armer, Packet, Ref}
 use Rattle.run_laws.proofs.States.Entering.{Begins, begins_cancelled}
 use Rattle.run_laws.proofs.States.Fits.{ArmerLeads, Fits, word_leads}
 use Rattle.run_laws.proofs.States.Frames.{IsGood}

@@ -1,43 +1,14 @@
 -- Routines that begin: those that serve a request of a device, its DPC and StartIo routines, and
 -- those that completion calls.
 use Rattle.run_laws.proofs.States.Listed.{named_only}
+use Rattle.run_laws.specs.Prelude.{ap, arith, refl, subst, sym, zero, ◌-◌, ◌∙◌, eq-eqb, slice_get-get_or, slice_get_within, list_any, Bool, IfSome, List, None, Option, Some, [], false, is_none, is_some, length, nat_eq, option_and_then, replicate, slice_get, slice_index_or, suc, true, ℕ, ◌&&◌, ◌+◌, ◌<◌, ◌∷◌, ◌≡◌, ◌≤◌, certificate, certificate_of, completes_with, dispatched, routine_of_device, sort_of_completion, dpc_activation, serves_request, lacks_lower, entered_with, entry_of_sort, is_completion, is_hold, Set, cancel_routine_named, cancels_for, default_number, default_routine, dpc_of, lower_of, member, routine_of, sort_in, sort_of, startio_of, DeviceFits, DriverFits, HasSort, IsSound, Shared, completion_of, current_location, entered, packet_of, Abs, Fresh, NoDuty, BlankKind, New, Own, Queued, View, Open, SettledMark, Cancelling, MAX_ROUTINES, REGISTERS, SPIN_LOCKS, Device, Driver, Queue, QueueName, Declared, DeviceQueue, RoutineOf, Sort, Cancel, Dispatch, Dpc, Hold, Propagate, StartIo, Major, Read, Activation, Armer, Completion, Packet, Value, Blank, Ref}
 use Rattle.model.specs.Sound.{WaitingFits}
-use Rattle.model.specs.declared.set.QueueName.TheVariants.{DeviceQueue}
-use Rattle.model.specs.declared.set.QueueName.TheVariants.{Declared}
-use Rattle.model.specs.declared.set.Queue.{Queue}
-use Rattle.std.proofs.Common.{◌≡◌, ℕ, zero, suc, ◌+◌, ◌-◌, ◌<◌, ◌≤◌, Bool, true, false, List, [], ◌∷◌, length, Option, None, Some, refl, ap, sym, ◌∙◌, subst, arith, nat_eq, is_some}
-use Rattle.std.specs.Prelude.{◌&&◌, slice_get, slice_index_or, replicate, unwrap_or, option_and_then, is_none, IfSome}
-use Rattle.std.specs.List.{list_any}
-use Rattle.std.proofs.lemmas.Bool.{eq-eqb}
-use Rattle.std.proofs.lemmas.Option.{slice_get_within, slice_get-get_or}
-use Rattle.model.specs.declared.abs.Abs.{Abs}
-use Rattle.model.specs.declared.abs.Duty.TheVariants.{Fresh, NoDuty}
-use Rattle.model.specs.declared.abs.Kind.TheVariants.{Blank as BlankKind, New, Own, Queued, View}
-use Rattle.model.specs.declared.abs.Stage.TheVariants.{Cancelling}
-use Rattle.model.specs.declared.abs.Settled.TheVariants.{Open, Settled as SettledMark}
-use Rattle.model.specs.declared.limits.TheConstants.{MAX_ROUTINES, REGISTERS, SPIN_LOCKS}
-use Rattle.model.specs.declared.set.Device.{Device}
-use Rattle.model.specs.declared.set.Driver.{Driver}
-use Rattle.model.specs.declared.set.QueueName.{QueueName}
-use Rattle.model.specs.declared.set.Routine.{Routine as RoutineOf}
-use Rattle.model.specs.declared.set.Sort.{Sort}
-use Rattle.model.specs.declared.set.Sort.TheVariants.{Dispatch, Dpc, Propagate, StartIo, Hold, Cancel}
-use Rattle.model.specs.declared.status.Major.{Major}
-use Rattle.model.specs.declared.status.Major.TheVariants.{Read, Write, Control}
-use Rattle.model.specs.declared.world.Armer.{Armer}
-use Rattle.model.specs.declared.world.Activation.{Activation}
-use Rattle.model.specs.declared.world.Completion.{Completion}
-use Rattle.model.specs.declared.world.Packet.{Packet}
-use Rattle.model.specs.declared.world.Value.{Value}
-use Rattle.model.specs.declared.world.Value.TheVariants.{Blank, Ref}
-use Rattle.model.specs.Certificate.{certificate, certificate_in, certificate_of}
-use Rattle.model.specs.Effect.{serving_for, dispatched, routine_of_device, completes_with, sort_of_completion}
-use Rattle.model.specs.Events.{serves_request, dpc_activation}
-use Rattle.model.specs.Forwarding.{lacks_lower}
-use Rattle.model.specs.LocalRule.{entered_with, entry_of_sort, is_completion, is_hold}
-use Rattle.model.specs.Set.{Set, cancels_for, member, handler_of, serving, dpc_of, startio_of, routine_of, sort_in, sort_of, lower_of, default_number, default_routine, cancel_routine_named}
-use Rattle.model.specs.Sound.{IsSound, DriverFits, DeviceFits, HandlerFits, HasSort, IsDispatch, IsDpc, IsStartIo, DpcFits, StartIoFits, IsCancel, CancelFits}
-use Rattle.model.specs.World.{Shared, completion_of, current_location, packet_of, entered}
+use Rattle.std.specs.Prelude.{unwrap_or}
+use Rattle.model.specs.declared.status.Major.TheVariants.{Write, Control}
+use Rattle.model.specs.Certificate.{certificate_in}
+use Rattle.model.specs.Effect.{serving_for}
+use Rattle.model.specs.Set.{handler_of, serving}
+use Rattle.model.specs.Sound.{HandlerFits, IsDispatch, IsDpc, IsStartIo, DpcFits, StartIoFits, IsCancel, CancelFits}
 use Rattle.run_laws.proofs.Devices.{device_fits}
 use Rattle.run_laws.proofs.Lists.{all_at}
 use Rattle.run_laws.proofs.States.Fits.{CompletionLeads, Fits, completion_leads, packet_leads, ArmerLeads}

@@ -1,38 +1,9 @@
 -- A step of a frame that stands as it should, and touches no packet that has topped out: it isn't
 -- wrong, and what it leaves stands as it should.
-use Rattle.model.specs.declared.world.CancelStep.TheVariants.{SetFlag, Exchange}
-use Rattle.model.specs.declared.event.Lock.TheVariants.{SystemCancel}
-use Rattle.model.specs.declared.world.Armer.{Armer}
-use Rattle.model.specs.declared.world.Canceller.{Canceller}
-use Rattle.model.specs.declared.world.CancelStep.{CancelStep}
+use Rattle.run_laws.specs.Prelude.{ap, arith, inl, inr, refl, subst, sym, ◌-◌, ◌∙◌, list_any, Bool, List, None, Option, Some, [], false, is_some, length, nat_lt, slice_get, slice_set, true, ℕ, ◌&&◌, ◌+◌, ◌<◌, ◌||◌, ◌∷◌, ◌≡◌, ◌≤◌, Acquires, Action, Completes, Exchanges, Executes, GoWrong, Marks, OfRoutine, Releases, Touches, TouchesPaged, Outcome, answered, answered_in, asks, completes_with, dispatched, goes_on, goes_on_cancelling, leaves, operand_of, routine_of_device, set_by, bug_if, completing, first_fault, topped, given_down, handed, holds_lock, is_completion, kind_of, StartState, Set, cancel_routine_named, cancel_routine_of, flow_of, has_cancel, instruction_at, lower_of, sort_of, Actor, Entry, Shared, asked_of, cancelled, completed, current_location, entered, left_location, mark_current, moved_up, next, packet_of, place_of, register, sent_down, shared_with, with_armer, with_info, with_locks, with_owner, with_packet, Abs, Kind, New, BugCheck, IrqlNotLessOrEqual, SystemCancel, Subject, PacketSubject, Instr, Call, Complete, End, Loop, Mark, Pass, Put, MAX_LIVE_PACKETS, DeviceQueue, Sort, Cancel, Dispatch, Dpc, Hold, Propagate, StartIo, Status, Activation, Armer, CancelStep, Exchange, SetFlag, Canceller, Frame, CancelFrame, Routine, Walk, Packet, Ref, StatusValue}
 use Rattle.run_laws.proofs.States.NoViews.{is_deferred}
-use Rattle.std.proofs.Common.{inr, inl, ◌≤◌, length, ◌≡◌, ℕ, ◌+◌, ◌-◌, ◌<◌, Bool, true, false, List, [], ◌∷◌, Option, None, Some, refl, arith, sym, subst, ◌∙◌, ap}
-use Rattle.std.specs.Prelude.{is_some, slice_get, slice_set, nat_lt, ◌||◌}
-use Rattle.std.specs.List.{list_any}
-use Rattle.model.specs.declared.abs.Abs.{Abs}
-use Rattle.model.specs.declared.abs.Kind.{Kind}
-use Rattle.model.specs.declared.abs.Kind.TheVariants.{New}
-use Rattle.model.specs.declared.event.BugCheck.{BugCheck}
-use Rattle.model.specs.declared.event.BugCheck.TheVariants.{IrqlNotLessOrEqual, MultipleIrpCompleteRequests}
-use Rattle.model.specs.declared.event.Subject.{Subject}
-use Rattle.model.specs.declared.event.Subject.TheVariants.{Packet as PacketSubject}
-use Rattle.model.specs.declared.instr.Instr.{Instr}
-use Rattle.model.specs.declared.instr.Instr.TheVariants.{Loop, End, Mark, Put, Pass, Call, Complete}
-use Rattle.model.specs.declared.set.Sort.{Sort}
-use Rattle.model.specs.declared.set.Sort.TheVariants.{Dispatch, Dpc, Propagate, StartIo, Cancel, Hold}
-use Rattle.model.specs.declared.status.Status.{Status}
-use Rattle.model.specs.declared.world.Activation.{Activation}
-use Rattle.model.specs.declared.world.Frame.{Frame}
-use Rattle.model.specs.declared.world.Frame.TheVariants.{Routine, Walk, Cancel as CancelFrame}
-use Rattle.model.specs.declared.world.Packet.{Packet}
-use Rattle.model.specs.declared.world.Value.TheVariants.{Status as StatusValue, Ref}
-use Rattle.model.specs.Action.{Action, OfRoutine, GoWrong, Executes, Acquires, Releases, TouchesPaged, Touches, Completes, Exchanges, Marks}
-use Rattle.model.specs.Effect.{Outcome, told_in, operand_of, answered_in, answered, goes_on, dispatched, set_by, completes_with, asks, leaves, goes_on_cancelling, routine_of_device}
-use Rattle.model.specs.Fault.{bug_if, first_fault, topped, completing}
-use Rattle.model.specs.LocalRule.{holds_lock, kind_of, given_down, handed, is_completion}
-use Rattle.model.specs.Set.{Set, instruction_at, sort_of, lower_of, flow_of, cancel_routine_of, cancel_routine_named}
-use Rattle.model.specs.Trace.{Entry, Actor}
-use Rattle.model.specs.World.{Shared, with_armer, with_info, mark_current, current_location, sent_down, shared_with, left_location, moved_up, asked_of, with_locks, with_owner, completed, place_of, packet_of, with_packet, register, next, cancelled, entered}
+use Rattle.model.specs.declared.event.BugCheck.TheVariants.{MultipleIrpCompleteRequests}
+use Rattle.model.specs.Effect.{told_in}
 use Rattle.run_laws.proofs.Lists.{length_removed, all_at, each_remove}
 use Rattle.run_laws.proofs.Past.LivePackets.{find}
 use Rattle.run_laws.proofs.Past.Packets.{Tells, found, named, lt_true}
@@ -55,15 +26,10 @@ use Rattle.run_laws.proofs.Steps.Locking.{freed_word, taken_word}
 use Rattle.run_laws.proofs.Steps.Faults.{none_first}
 use Rattle.run_laws.proofs.Steps.Words.{Forwarding, is_forwarding, work_of, goes_next, packet_operand}
 use Rattle.run_laws.proofs.Tests.{or_left}
-use Rattle.model.specs.declared.limits.TheConstants.{MAX_LIVE_PACKETS}
 use Rattle.run_laws.proofs.Steps.Queues.{queued_touches}
 use Rattle.run_laws.proofs.States.Queueing.{queue_moves, MovedOn}
 use Rattle.run_laws.proofs.Steps.Comes.{Waits, arms_waiting, disarms_next, works_on_waiting}
 use Rattle.run_laws.proofs.States.Queueing.{waits_move}
-use Rattle.model.specs.declared.set.QueueName.TheVariants.{DeviceQueue}
-use Rattle.model.specs.Set.{has_cancel, cancel_routine_named}
-use Rattle.model.specs.Queues.{StartState}
-use Rattle.std.specs.Prelude.{◌&&◌}
 
 abbrev pub is_wrong : Action → Bool
 is_wrong (OfRoutine GoWrong) = true

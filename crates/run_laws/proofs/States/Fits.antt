@@ -1,26 +1,10 @@
 -- What the threads share fits its set: it has cells and locks for each device, and each completion
 -- routine that is set in a location of a packet is one of its device's driver.
-use Rattle.std.proofs.Common.{◌≤◌, ◌≡◌, ℕ, zero, suc, ◌-◌, ◌<◌, ◌⊎◌, inl, inr, true, List, [], length, Option, None, Some, refl, arith, sym, subst, ◌∙◌, ap}
-use Rattle.std.specs.Prelude.{option_and_then, ⊤, slice_get, slice_set, slice_index_or, replicate}
-use Rattle.std.proofs.lemmas.Bool.{cases_eq}
-use Rattle.std.proofs.lemmas.List.{length-set, length-replicate}
-use Rattle.std.proofs.lemmas.Option.{get_or_from_slice_get, slice_get-get_or}
-use Rattle.model.specs.declared.event.Lock.{Lock}
-use Rattle.model.specs.declared.event.Lock.TheVariants.{SystemCancel, Spin}
-use Rattle.model.specs.declared.limits.TheConstants.{MAX_LIVE_PACKETS, MAX_QUEUES, SPIN_LOCKS}
-use Rattle.model.specs.declared.set.Device.{Device}
-use Rattle.model.specs.declared.status.Major.{Major}
-use Rattle.model.specs.declared.world.Armer.{Armer}
-use Rattle.model.specs.declared.world.Cells.{Cells}
-use Rattle.model.specs.declared.world.Completion.{Completion}
-use Rattle.model.specs.declared.world.Location.{Location}
-use Rattle.model.specs.declared.world.Packet.{Packet}
-use Rattle.model.specs.Set.{Set, cancel_routine_named}
-use Rattle.model.specs.World.{with_queue, queue_of, Shared, blank_cells, unused, owner_of, with_owner, with_locks, place_of, packet_of, with_packet, current_location, marked_location, mark_current, copied_location, sent_down, shared_location, shared_with, completion_of, new_packet, unused_location}
+use Rattle.run_laws.specs.Prelude.{ap, arith, inl, inr, refl, subst, sym, zero, ◌-◌, ◌∙◌, cases_eq, length-replicate, length-set, get_or_from_slice_get, slice_get-get_or, List, None, Option, Some, [], length, option_and_then, replicate, slice_get, slice_index_or, slice_set, suc, true, ℕ, ⊤, ◌<◌, ◌≡◌, ◌≤◌, ◌⊎◌, StartState, Set, cancel_routine_named, Shared, blank_cells, completion_of, copied_location, current_location, mark_current, marked_location, new_packet, owner_of, packet_of, place_of, queue_of, sent_down, shared_location, shared_with, unused_location, with_locks, with_owner, with_packet, with_queue, Lock, Spin, SystemCancel, MAX_LIVE_PACKETS, MAX_QUEUES, SPIN_LOCKS, Device, Major, Armer, Cells, Completion, Location, Packet}
+use Rattle.model.specs.World.{unused}
 use Rattle.run_laws.proofs.Lists.{each_map, Each, each_at, each_set, each_same, set_same, set_other}
 use Rattle.run_laws.proofs.States.Known.{Continues}
 use Rattle.run_laws.proofs.States.StartsFit.{AllStartsFit, WereIssued, idle_starts, issued_later}
-use Rattle.model.specs.Queues.{StartState}
 
 -- a completion routine of the driver of a device
 abbrev pub CompletionLeads : Set → Option Completion → Type 0

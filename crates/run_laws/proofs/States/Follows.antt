@@ -1,22 +1,11 @@
 -- From all paths through a routine to one state at each position: the states through which the
 -- local rule leads.
-use Rattle.std.proofs.Common.{◌≡◌, ◌≢◌, ℕ, zero, suc, ◌+◌, ◌<◌, ◌≤◌, ◌⊎◌, inl, inr, Bool, true, false, List, [], ◌∷◌, length, Option, None, Some, Ok, refl, arith, sym, subst, ◌∙◌, ap, nat_eq, eq-eqb}
-use Rattle.std.specs.Prelude.{slice_get, ◌&&◌}
-use Rattle.std.proofs.lemmas.Bool.{cases_lt}
-use Rattle.std.proofs.lemmas.Option.{slice_get_within}
-use Rattle.model.specs.declared.abs.Abs.{Abs}
-use Rattle.model.specs.declared.abs.Duty.TheVariants.{Finished, Fresh, NoDuty}
-use Rattle.model.specs.declared.abs.Kind.TheVariants.{Blank, New}
+use Rattle.run_laws.specs.Prelude.{ap, arith, inl, inr, refl, subst, sym, zero, ◌∙◌, cases_lt, slice_get_within, Bool, List, None, Option, Some, [], false, length, nat_eq, slice_get, suc, true, ℕ, ◌&&◌, ◌+◌, ◌<◌, ◌∷◌, ◌≡◌, ◌≢◌, ◌≤◌, ◌⊎◌, entered_with, entry_state, outs, outs_by, refuses, rule_or, with_kind, open_at, Along, Arrives, HandsOn, LeadsFrom, goes_forward, is_malformed, is_misplaced, is_misplaced_by, Branches, Flow, Jumps, Leaves, Member, Set, default_code, default_number, default_routine, flow_of, label_in, label_of, member, ArrivesAlone, IsTypableRoutine, fault_in, Abs, Finished, Fresh, NoDuty, New, Rule, Open, SettledMark, Instr, End}
+use Rattle.std.proofs.Common.{Ok, eq-eqb}
+use Rattle.model.specs.declared.abs.Kind.TheVariants.{Blank}
 use Rattle.model.specs.declared.abs.Outs.{Outs}
-use Rattle.model.specs.declared.abs.Rule.{Rule}
-use Rattle.model.specs.declared.abs.Settled.TheVariants.{Open, Settled as SettledMark}
-use Rattle.model.specs.declared.instr.Instr.{Instr}
-use Rattle.model.specs.declared.instr.Instr.TheVariants.{End}
-use Rattle.model.specs.LocalRule.{entered_with, entry_state, outs, outs_by, refuses, rule_or, with_kind}
-use Rattle.model.specs.Loops.{open_at}
-use Rattle.model.specs.Paths.{HandsOn, LeadsFrom, Along, Arrives, is_malformed, is_misplaced, is_misplaced_by, goes_forward, goes_on_by, isnt_return}
-use Rattle.model.specs.Set.{Set, Member, member, Flow, Branches, Jumps, Leaves, flow_of, label_in, label_of, default_number, default_routine, default_code}
-use Rattle.model.specs.Typable.{ArrivesAlone, ReachesLoop, ClosesAlike, ClosesAlikeBy, IsFineAt, IsTypableRoutine, fault_in}
+use Rattle.model.specs.Paths.{goes_on_by, isnt_return}
+use Rattle.model.specs.Typable.{ReachesLoop, ClosesAlike, ClosesAlikeBy, IsFineAt}
 use Rattle.run_laws.proofs.Tests.{or_left, or_right, and_left, and_right, not_false, lt_of}
 
 -- what the local rule hands on from a position, and the label of the instruction there

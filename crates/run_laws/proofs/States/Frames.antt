@@ -1,20 +1,7 @@
 -- Frames of accepted routines: a routine's frame stands as the state at its position says, for a
 -- device of its driver, with the loops open that are open there; and what it has left to execute.
-use Rattle.std.proofs.Common.{◌≡◌, ℕ, ◌+◌, ◌-◌, ◌*◌, ◌<◌, ◌≤◌, List, [], ◌∷◌, ◌++◌, length, drop, Option, None, Some, refl, arith, ◌∙◌, ap}
-use Rattle.std.specs.Prelude.{slice_get}
-use Rattle.std.proofs.lemmas.List.{length-append}
-use Rattle.model.specs.declared.abs.Abs.{Abs}
-use Rattle.model.specs.declared.instr.Instr.{Instr}
-use Rattle.model.specs.declared.limits.TheConstants.{REGISTERS, SPIN_LOCKS}
-use Rattle.model.specs.declared.set.Device.{Device}
+use Rattle.run_laws.specs.Prelude.{ap, arith, drop, refl, ◌*◌, ◌-◌, ◌∙◌, length-append, List, None, Option, Some, [], length, slice_get, ℕ, ◌++◌, ◌+◌, ◌<◌, ◌∷◌, ◌≡◌, ◌≤◌, refuses, open_at, Set, member, routine_of, sort_of, IsSound, Shared, Abs, Instr, REGISTERS, SPIN_LOCKS, Device, Activation, OpenLoop}
 use Rattle.model.specs.declared.set.Routine.{Routine}
-use Rattle.model.specs.declared.world.Activation.{Activation}
-use Rattle.model.specs.declared.world.OpenLoop.{OpenLoop}
-use Rattle.model.specs.LocalRule.{refuses}
-use Rattle.model.specs.Loops.{open_at}
-use Rattle.model.specs.Set.{Set, member, routine_of, sort_of}
-use Rattle.model.specs.Sound.{IsSound}
-use Rattle.model.specs.World.{Shared}
 use Rattle.run_laws.proofs.States.Fits.{Fits}
 use Rattle.run_laws.proofs.States.Kinds.{HasKinds}
 use Rattle.run_laws.proofs.States.Known.{IsKnown, IsLed}

@@ -1,27 +1,6 @@
 -- What holds of the values in registers of kinds that no instruction makes: packets that a routine
 -- was handed, and packets on their way up.
-use Rattle.std.proofs.Common.{◌≡◌, ℕ, zero, suc, Bool, true, false, List, [], ◌∷◌, sym, subst, ◌∙◌, refl, Option}
-use Rattle.std.specs.Prelude.{⊤, slice_index_or, slice_set, ◌&&◌}
-use Rattle.std.specs.List.{list_any}
-use Rattle.std.proofs.lemmas.Bool.{cond_both}
-use Rattle.model.specs.declared.abs.Abs.{Abs}
-use Rattle.model.specs.declared.abs.Kind.{Kind}
-use Rattle.model.specs.declared.abs.Kind.TheVariants.{Blank as BlankKind, Num as NumKind, Lower, New, Own, Queued as QueuedKind}
-use Rattle.model.specs.declared.abs.Stage.TheVariants.{Listed, Armed, Taken}
-use Rattle.model.specs.declared.instr.Instr.{Instr}
-use Rattle.model.specs.declared.instr.Instr.TheVariants.{Const, Move, Clear, Load, LoadPaged, Get, Mark, Release, Insert, Remove, Unlink, Arm, Disarm, Start, Take, Begin, Next, Pass, Call, Complete, ReleaseCancel, Dequeue}
-use Rattle.model.specs.declared.set.Guard.{Guard}
-use Rattle.model.specs.declared.set.Guard.TheVariants.{DeviceLock, CancelLock}
-use Rattle.model.specs.declared.set.QueueName.TheVariants.{Declared}
-use Rattle.model.specs.declared.world.Activation.{Activation}
-use Rattle.model.specs.declared.world.Value.{Value}
-use Rattle.model.specs.declared.world.Value.TheVariants.{Blank, Num, Ref}
-use Rattle.model.specs.Action.{Action}
-use Rattle.model.specs.LocalRule.{given_down, handed, handed_at_label, kind_of, marked}
-use Rattle.model.specs.Kinds.{all_let_go, is_guard, kind_disarmed, kind_inserted, kind_removed, let_go, left_behind, is_stage}
-use Rattle.model.specs.Queues.{StartState}
-use Rattle.model.specs.Set.{Set, cancel_routine_of, flow_of, guard_named, sort_of}
-use Rattle.model.specs.World.{Shared, next}
+use Rattle.run_laws.specs.Prelude.{refl, subst, sym, zero, ◌∙◌, cond_both, list_any, Bool, List, Option, [], false, slice_index_or, slice_set, suc, true, ℕ, ⊤, ◌&&◌, ◌∷◌, ◌≡◌, Action, all_let_go, is_guard, is_stage, kind_disarmed, kind_inserted, kind_removed, left_behind, let_go, given_down, handed, handed_at_label, kind_of, marked, StartState, Set, cancel_routine_of, flow_of, guard_named, sort_of, Shared, next, Abs, Kind, BlankKind, Lower, New, NumKind, Own, QueuedKind, Armed, Listed, Taken, Instr, Arm, Begin, Call, Clear, Complete, Const, Dequeue, Disarm, Get, Insert, Load, LoadPaged, Mark, Move, Next, Pass, Release, ReleaseCancel, Remove, Start, Take, Unlink, Guard, CancelLock, DeviceLock, Declared, Activation, Armer, Value, Blank, Num, Ref}
 use Rattle.run_laws.proofs.States.Frames.{Runs, state_of}
 use Rattle.run_laws.proofs.States.Kinds.{number_kinds}
 use Rattle.run_laws.proofs.States.Moves.{arrives, arrives_next, has_next}
@@ -31,7 +10,6 @@ use Rattle.run_laws.proofs.Steps.Comes.{GoesTo, Queued, Written, inserts, jumpin
 use Rattle.run_laws.proofs.Steps.Words.{is_touching, keeps_registers, work_of}
 use Rattle.run_laws.proofs.Tests.{or_left, or_right}
 use Rattle.run_laws.proofs.Steps.Comes.{Waits, arms_waiting, disarms_next, starts_gone, dequeues_packet}
-use Rattle.model.specs.declared.world.Armer.{Armer}
 
 abbrev pub HoldOf : (Kind → Bool) → (Value → Type 0) → List Kind → List Value → Type 0
 HoldOf f P [] values = ⊤

@@ -1,21 +1,6 @@
 -- Every routine's frame of a thread stands inside the code of its routine, with all its registers,
 -- which hold what their kinds say, on top or below: but for one in which it is told a status.
-use Rattle.std.proofs.Common.{◌≡◌, ◌≢◌, ℕ, zero, suc, ◌-◌, List, [], ◌∷◌, length, Option, None, Some, refl, ap, sym, ◌∙◌, subst}
-use Rattle.std.specs.Prelude.{slice_get, slice_set}
-use Rattle.std.proofs.lemmas.List.{get_or-set_other, length-set}
-use Rattle.model.specs.declared.abs.Kind.{Kind}
-use Rattle.model.specs.declared.status.Status.{Status}
-use Rattle.model.specs.declared.status.Status.TheVariants.{Success}
-use Rattle.model.specs.declared.world.Activation.{Activation}
-use Rattle.model.specs.declared.world.Frame.{Frame}
-use Rattle.model.specs.declared.world.Frame.TheVariants.{Routine, Walk, Cancel as CancelFrame}
-use Rattle.model.specs.declared.world.Value.{Value}
-use Rattle.model.specs.declared.world.Value.TheVariants.{Blank, Status as StatusValue}
-use Rattle.model.specs.Effect.{operand_of, answered_in, answered}
-use Rattle.model.specs.Set.{Set, instruction_at}
-use Rattle.model.specs.LocalRule.{kind_of}
-use Rattle.model.specs.Shown.{told_register}
-use Rattle.model.specs.World.{register}
+use Rattle.run_laws.specs.Prelude.{ap, refl, subst, sym, zero, ◌-◌, ◌∙◌, get_or-set_other, length-set, List, None, Option, Some, [], length, slice_get, slice_set, suc, ℕ, ◌∷◌, ◌≡◌, ◌≢◌, answered, answered_in, operand_of, kind_of, Set, instruction_at, told_register, register, Kind, Status, Success, Activation, Frame, CancelFrame, Routine, Walk, Value, Blank, StatusValue}
 use Rattle.run_laws.specs.Holder.{StandsInside}
 use Rattle.run_laws.proofs.States.Frames.{Ready, state_of}
 use Rattle.run_laws.proofs.States.Kinds.{HasKinds, Suits, kinds_get}

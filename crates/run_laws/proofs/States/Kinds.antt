@@ -1,30 +1,8 @@
 -- Registers hold what their kinds say: a number, a status, or a packet that was issued; and an
 -- instruction that breaks no rule finds its operands there, and leaves registers of the kinds that
 -- the local rule says.
-use Rattle.std.proofs.Common.{◌≡◌, ◌⊎◌, ℕ, zero, suc, ◌<◌, ◌≤◌, inl, inr, Bool, true, false, List, [], ◌∷◌, length, Option, None, Some, refl, arith, sym, subst, ap, ◌∙◌}
-use Rattle.std.specs.Prelude.{◌||◌, ⊤, slice_set, slice_index_or, nat_lt, ◌&&◌}
-use Rattle.std.proofs.lemmas.Bool.{cond_both, lt-ltb}
-use Rattle.std.proofs.lemmas.List.{length-set, set-get_or}
-use Rattle.model.specs.declared.set.QueueName.TheVariants.{DeviceQueue}
-use Rattle.model.specs.declared.set.QueueName.{QueueName}
-use Rattle.model.specs.declared.abs.Abs.{Abs}
-use Rattle.model.specs.declared.abs.Kind.{Kind}
-use Rattle.model.specs.declared.abs.Kind.TheVariants.{Blank as BlankKind, Num as NumKind, Lower, New, Own, Queued, View}
-use Rattle.model.specs.declared.abs.Stage.TheVariants.{Armed, Taken, Listed, Cancelling}
-use Rattle.model.specs.declared.instr.Instr.{Instr}
-use Rattle.model.specs.declared.instr.Instr.TheVariants.{Const, Move, Clear, Add, Subtract, JumpIfZero, JumpIfLess, Load, Store, LoadPaged, StorePaged, Get, Put, Mark, Acquire, Release, Pass, Call, Complete, IfPending, Insert, Remove, Unlink, Arm, Disarm, IfCancel, Start, Take, Begin, ReleaseCancel, Dequeue}
-use Rattle.model.specs.declared.set.Guard.{Guard}
-use Rattle.model.specs.declared.set.Guard.TheVariants.{DeviceLock, CancelLock}
-use Rattle.model.specs.declared.set.QueueName.TheVariants.{Declared}
-use Rattle.model.specs.declared.set.Sort.{Sort}
-use Rattle.model.specs.declared.status.Status.{Status}
-use Rattle.model.specs.declared.world.Activation.{Activation}
-use Rattle.model.specs.declared.world.Value.{Value}
-use Rattle.model.specs.declared.world.Value.TheVariants.{Blank, Num, Ref, Status as StatusValue}
-use Rattle.model.specs.LocalRule.{kind_of, Wanted, demanded, any_packet, a_new_one, one_handed_or_owned, one_to_mark, one_to_look_at, number_kind, complete_kind, mark_fault, refuses, marked, given_down, handed, handed_at_label, an_owned_one, queued_kind}
-use Rattle.model.specs.Kinds.{is_packet, is_right, is_lower, left_behind, all_let_go, is_at, is_exchanged, is_guard, kind_disarmed, kind_inserted, kind_removed, let_go, is_stage}
-use Rattle.model.specs.Set.{Set, cancel_routine_of, guard_named}
-use Rattle.model.specs.World.{Shared, number_in, packet_in, status_in}
+use Rattle.run_laws.specs.Prelude.{ap, arith, inl, inr, refl, subst, sym, zero, ◌∙◌, cond_both, lt-ltb, length-set, set-get_or, Bool, List, None, Option, Some, [], false, length, nat_lt, slice_index_or, slice_set, suc, true, ℕ, ⊤, ◌&&◌, ◌<◌, ◌||◌, ◌∷◌, ◌≡◌, ◌≤◌, ◌⊎◌, all_let_go, is_at, is_exchanged, is_guard, is_lower, is_packet, is_right, is_stage, kind_disarmed, kind_inserted, kind_removed, left_behind, let_go, a_new_one, an_owned_one, complete_kind, demanded, given_down, handed, handed_at_label, kind_of, mark_fault, marked, number_kind, one_handed_or_owned, queued_kind, refuses, Set, cancel_routine_of, guard_named, Shared, number_in, packet_in, status_in, Abs, Kind, BlankKind, Lower, New, NumKind, Own, Queued, View, Armed, Cancelling, Listed, Taken, Instr, Acquire, Add, Arm, Begin, Call, Clear, Complete, Const, Dequeue, Disarm, Get, IfCancel, IfPending, Insert, JumpIfLess, JumpIfZero, Load, LoadPaged, Mark, Move, Pass, Put, Release, ReleaseCancel, Remove, Start, Store, StorePaged, Subtract, Take, Unlink, Guard, CancelLock, DeviceLock, QueueName, Declared, DeviceQueue, Sort, Status, Activation, Value, Blank, Num, Ref, StatusValue}
+use Rattle.model.specs.LocalRule.{Wanted, any_packet, one_to_mark, one_to_look_at}
 use Rattle.run_laws.proofs.Lists.{copied}
 use Rattle.run_laws.proofs.States.NoViews.{is_queued}
 use Rattle.run_laws.proofs.States.Rules.{first_none, second_none}

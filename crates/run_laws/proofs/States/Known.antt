@@ -1,23 +1,9 @@
 -- A state for every position of every routine of an accepted set, the default routine included.
-use Rattle.std.proofs.Common.{◌≡◌, ℕ, zero, suc, ◌<◌, ◌≤◌, inl, inr, List, [], ◌∷◌, length, Option, None, Some, refl, arith, subst, false, true}
-use Rattle.std.specs.Prelude.{⊤, All, IfSome, slice_get, slice_index_or, option_and_then}
-use Rattle.std.proofs.lemmas.Bool.Decides.{eqb_tells}
-use Rattle.std.proofs.lemmas.Option.{slice_get_within}
-use Rattle.model.specs.declared.abs.Abs.{Abs}
-use Rattle.model.specs.declared.abs.Duty.TheVariants.{NoDuty}
+use Rattle.run_laws.specs.Prelude.{arith, inl, inr, refl, subst, zero, eqb_tells, slice_get_within, All, IfSome, List, None, Option, Some, [], false, length, option_and_then, slice_get, slice_index_or, suc, true, ℕ, ⊤, ◌<◌, ◌∷◌, ◌≡◌, ◌≤◌, entered_with, is_completion, open_at, Member, Set, default_code, default_number, default_routine, member, routine_of, DriverFits, HasSort, IsSound, OperandFits, QueueFits, queue_named, IsTypable, IsTypableRoutine, Abs, NoDuty, Open, Instr, MAX_QUEUES, MAX_ROUTINES, Driver, Sort, Hold, Propagate}
 use Rattle.model.specs.declared.abs.Kind.TheVariants.{Blank}
-use Rattle.model.specs.declared.abs.Settled.TheVariants.{Open}
-use Rattle.model.specs.declared.instr.Instr.{Instr}
-use Rattle.model.specs.declared.limits.TheConstants.{MAX_QUEUES, MAX_ROUTINES}
-use Rattle.model.specs.declared.set.Driver.{Driver}
 use Rattle.model.specs.declared.set.Routine.{Routine}
-use Rattle.model.specs.declared.set.Sort.{Sort}
-use Rattle.model.specs.declared.set.Sort.TheVariants.{Propagate, Hold}
-use Rattle.model.specs.LocalRule.{entered_with, is_completion}
-use Rattle.model.specs.Loops.{open_at}
-use Rattle.model.specs.Set.{Set, Member, member, routine_of, default_routine, default_number, default_code}
-use Rattle.model.specs.Sound.{IsSound, DriverFits, RoutineFits, OperandFits, HasSort, IsCompletion, CallsFit, completion_named, QueueFits, QueuesFit, queue_named}
-use Rattle.model.specs.Typable.{IsTypableRoutine, IsTypableDriver, IsTypable}
+use Rattle.model.specs.Sound.{RoutineFits, IsCompletion, CallsFit, completion_named, QueuesFit}
+use Rattle.model.specs.Typable.{IsTypableDriver}
 use Rattle.run_laws.proofs.Lists.{all_at}
 use Rattle.run_laws.proofs.States.Follows.{Follows, Typed, LoopsBefore, typed, default_typed}
 use Rattle.run_laws.proofs.States.Remaining.{Chain, chain}

@@ -1,27 +1,7 @@
 -- No step of an accepted set is wrong: the frame on top lacks nothing that its instruction wants.
 use Rattle.run_laws.proofs.States.Listed.{HasCancel, armed_fits}
-use Rattle.std.proofs.Common.{Option, subst, ◌≡◌, ℕ, ◌<◌, Bool, true, false, length, None, Some, refl, arith, sym, ◌∙◌}
-use Rattle.std.specs.Prelude.{IfSome, slice_get, slice_index_or, nat_lt, not}
-use Rattle.std.proofs.lemmas.Option.{slice_get-get_or, slice_get_within}
-use Rattle.model.specs.declared.set.QueueName.TheVariants.{Declared}
-use Rattle.model.specs.declared.abs.Rule.{Rule}
-use Rattle.model.specs.declared.event.Lock.{Lock}
-use Rattle.model.specs.declared.event.Lock.TheVariants.{SystemCancel}
-use Rattle.model.specs.declared.instr.Instr.{Instr}
-use Rattle.model.specs.declared.instr.Instr.TheVariants.{Acquire, Arm, Release, AcquireCancel, ReleaseCancel, Pass, Call, End, Ret}
-use Rattle.model.specs.declared.instr.Return.{Return}
-use Rattle.model.specs.declared.instr.Return.TheVariants.{WithStatus, Lower, Continue, Stop, Void}
-use Rattle.model.specs.declared.limits.TheConstants.{MAX_QUEUES, MAX_LOOPS}
-use Rattle.model.specs.declared.set.Sort.{Sort}
-use Rattle.model.specs.declared.set.Sort.TheVariants.{Dispatch, Dpc, Propagate, StartIo, Hold, Cancel}
-use Rattle.model.specs.declared.status.Status.{Status}
-use Rattle.model.specs.declared.world.Activation.{Activation}
-use Rattle.model.specs.declared.world.Frame.TheVariants.{Routine}
-use Rattle.model.specs.Effect.{spin_lock}
-use Rattle.model.specs.LocalRule.{broken_if, kind_of, duty_fault, form_fault}
-use Rattle.model.specs.Set.{Set, sort_of, cancel_routine_of}
-use Rattle.model.specs.Sound.{QueueFits, queue_named, OperandFits}
-use Rattle.model.specs.World.{Shared, blank_cells, status_in, register}
+use Rattle.run_laws.specs.Prelude.{arith, refl, subst, sym, ◌∙◌, slice_get-get_or, slice_get_within, Bool, IfSome, None, Option, Some, false, length, nat_lt, not, slice_get, slice_index_or, true, ℕ, ◌<◌, ◌≡◌, spin_lock, broken_if, duty_fault, form_fault, kind_of, Set, cancel_routine_of, sort_of, OperandFits, QueueFits, queue_named, Shared, blank_cells, register, status_in, Rule, Lock, SystemCancel, Instr, Acquire, AcquireCancel, Arm, Call, End, Pass, Release, ReleaseCancel, Ret, Return, Continue, Stop, Void, WithStatus, MAX_LOOPS, MAX_QUEUES, Declared, Sort, Cancel, Dispatch, Dpc, Hold, Propagate, StartIo, Status, Activation, Routine}
+use Rattle.model.specs.declared.instr.Return.TheVariants.{Lower}
 use Rattle.run_laws.proofs.Lists.{all_at}
 use Rattle.run_laws.proofs.States.Entering.{LowerThere, lower_there}
 use Rattle.run_laws.proofs.States.Fits.{queue_there, IsThere, owner_there}

@@ -1,29 +1,7 @@
 -- A completion routine that was lent a packet, and owes nothing for it yet, has it in a register:
 -- it was handed it there, and until it marks it no instruction that it may execute takes it away.
-use Rattle.std.proofs.Common.{◌≡◌, ◌≢◌, ℕ, zero, suc, ◌<◌, Bool, true, false, List, [], ◌∷◌, length, None, Some, refl, ap, sym, ◌∙◌, subst, inl, inr, arith}
-use Rattle.std.specs.Prelude.{◌||◌, slice_index_or, slice_set}
-use Rattle.std.proofs.lemmas.Bool.{cases_eq}
-use Rattle.std.proofs.lemmas.List.{get_or-set_same, get_or-set_other}
-use Rattle.model.specs.declared.set.QueueName.TheVariants.{DeviceQueue}
-use Rattle.model.specs.declared.abs.Abs.{Abs}
-use Rattle.model.specs.declared.abs.Duty.TheVariants.{Fresh}
-use Rattle.model.specs.declared.abs.Kind.{Kind}
-use Rattle.model.specs.declared.abs.Kind.TheVariants.{Blank, Num, New, Own, Queued}
-use Rattle.model.specs.declared.abs.Stage.TheVariants.{Armed, Listed, Cancelling}
-use Rattle.model.specs.declared.abs.Settled.TheVariants.{Settled as SettledMark}
-use Rattle.model.specs.declared.instr.Instr.{Instr}
-use Rattle.model.specs.declared.instr.Instr.TheVariants.{Const, Move, Clear, Load, LoadPaged, Get, Mark, Release, Insert, Remove, Unlink, Arm, Disarm, Start, Take, Begin, Pass, Call, Complete, ReleaseCancel, Dequeue}
-use Rattle.model.specs.declared.limits.TheConstants.{REGISTERS}
-use Rattle.model.specs.declared.set.Guard.{Guard}
-use Rattle.model.specs.declared.set.Guard.TheVariants.{DeviceLock, CancelLock}
-use Rattle.model.specs.declared.set.QueueName.TheVariants.{Declared}
-use Rattle.model.specs.declared.set.Sort.{Sort}
-use Rattle.model.specs.declared.set.Sort.TheVariants.{Dispatch, Hold}
-use Rattle.model.specs.Kinds.{all_let_go, is_at, is_exchanged, is_new, kind_disarmed, kind_inserted, kind_removed, left_behind, let_go}
-use Rattle.model.specs.LocalRule.{an_owned_one, demanded, entered_with, entry_of_sort, free_kind, handed, handed_at_label, is_fresh, kind_of, level_fault, marked, queued_kind, refuses, take_fault}
-use Rattle.model.specs.Paths.{Arrives}
-use Rattle.model.specs.Set.{Member, Set, cancel_routine_of, cancels_for}
-use Rattle.model.specs.Sound.{OperandFits}
+use Rattle.run_laws.specs.Prelude.{ap, arith, inl, inr, refl, subst, sym, zero, ◌∙◌, cases_eq, get_or-set_other, get_or-set_same, Bool, List, None, Some, [], false, length, slice_index_or, slice_set, suc, true, ℕ, ◌<◌, ◌||◌, ◌∷◌, ◌≡◌, ◌≢◌, all_let_go, is_at, is_exchanged, is_new, kind_disarmed, kind_inserted, kind_removed, left_behind, let_go, an_owned_one, demanded, entered_with, entry_of_sort, free_kind, handed, handed_at_label, is_fresh, kind_of, level_fault, marked, queued_kind, refuses, take_fault, Arrives, Member, Set, cancel_routine_of, cancels_for, OperandFits, Abs, Fresh, Kind, New, Own, Queued, SettledMark, Armed, Cancelling, Listed, Instr, Arm, Begin, Call, Clear, Complete, Const, Dequeue, Disarm, Get, Insert, Load, LoadPaged, Mark, Move, Pass, Release, ReleaseCancel, Remove, Start, Take, Unlink, REGISTERS, Guard, CancelLock, DeviceLock, Declared, DeviceQueue, Sort, Dispatch, Hold}
+use Rattle.model.specs.declared.abs.Kind.TheVariants.{Blank, Num}
 use Rattle.run_laws.proofs.Lists.{all_at}
 use Rattle.run_laws.proofs.States.Along.{arrives_keep}
 use Rattle.run_laws.proofs.States.Kinds.{handed_long, label_long}

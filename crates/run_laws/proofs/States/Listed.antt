@@ -2,37 +2,13 @@
 -- queue has one, and the thread holds its guard while it has a packet that stands in the queue, or
 -- was taken off it, or while it has one that IoCancelIrp handed to the cancel routine of the device
 -- queue.
-use Rattle.model.specs.declared.abs.Stage.{Stage}
-use Rattle.model.specs.declared.set.Sort.TheVariants.{Dispatch, StartIo, Dpc, Propagate, Hold, Cancel}
-use Rattle.model.specs.declared.abs.Settled.TheVariants.{Settled as SettledMark, Open}
-use Rattle.model.specs.declared.limits.TheConstants.{REGISTERS, SPIN_LOCKS}
-use Rattle.model.specs.declared.abs.Duty.TheVariants.{NoDuty, Fresh}
-use Rattle.model.specs.declared.abs.Settled.{Settled}
-use Rattle.model.specs.Paths.{Arrives}
-use Rattle.model.specs.declared.set.Driver.{Driver}
-use Rattle.model.specs.declared.abs.Duty.{Duty}
-use Rattle.std.proofs.Common.{◌≡◌, ℕ, zero, suc, ◌<◌, ◌+◌, Bool, true, false, List, [], ◌∷◌, length, Option, None, Some, refl, ap, sym, ◌∙◌, subst, arith, replicate, get_or-set_other, inl, eqb-true, inr, eq-eqb, ◌-◌}
-use Rattle.std.specs.Prelude.{slice_get, slice_set, slice_index_or, option_and_then, if◌then◌else◌, ⊤, ◌&&◌, ◌||◌}
-use Rattle.std.specs.List.{list_any}
-use Rattle.std.proofs.lemmas.Bool.Decides.{eqb_tells}
-use Rattle.std.proofs.lemmas.List.{get_or-set_same}
-use Rattle.model.specs.declared.abs.Abs.{Abs}
-use Rattle.model.specs.declared.abs.Kind.{Kind}
-use Rattle.model.specs.declared.abs.Kind.TheVariants.{Blank, Num, Lower, New, Own, Queued, View}
-use Rattle.model.specs.declared.abs.Stage.TheVariants.{Listed, Armed, Taken, Cancelling}
-use Rattle.model.specs.declared.abs.Rule.TheVariants.{CancelState, Guard as GuardRule}
-use Rattle.model.specs.declared.instr.Instr.{Instr}
-use Rattle.model.specs.declared.instr.Instr.TheVariants.{Const, Move, Clear, Load, LoadPaged, Get, Mark, Acquire, Release, AcquireCancel, ReleaseCancel, Insert, Remove, Unlink, Arm, Disarm, Start, Take, Begin, Pass, Call, Complete, Dequeue}
-use Rattle.model.specs.declared.set.Guard.{Guard}
-use Rattle.model.specs.declared.set.Guard.TheVariants.{DeviceLock, CancelLock}
-use Rattle.model.specs.declared.set.Queue.{Queue}
-use Rattle.model.specs.declared.set.QueueName.{QueueName}
-use Rattle.model.specs.declared.set.QueueName.TheVariants.{Declared, DeviceQueue}
-use Rattle.model.specs.declared.set.Sort.{Sort}
-use Rattle.model.specs.Kinds.{all_let_go, is_guard, is_at, is_name, kind_disarmed, kind_inserted, kind_removed, left_behind, let_go, needs_guard, is_stage, stays_under_guard}
-use Rattle.model.specs.LocalRule.{given_down, guard_fault, handed, handed_at_label, is_guarded, kind_of, marked, queued_kind, refuses, release_fault, with_held, entry_of_sort, entry_of_cancel, entered_with}
-use Rattle.std.proofs.lemmas.Bool.{cases_Bool, eqb-true}
-use Rattle.model.specs.Set.{Set, cancel_routine_named, cancel_routine_of, cancelled_from, guard_named, is_named, only_one, cancels_for, Member, cancelled_in}
+use Rattle.run_laws.specs.Prelude.{ap, arith, eqb-true, inl, inr, refl, subst, sym, zero, ◌-◌, ◌∙◌, cases_Bool, eqb_tells, get_or-set_same, list_any, Bool, List, None, Option, Some, [], false, if◌then◌else◌, length, option_and_then, replicate, slice_get, slice_index_or, slice_set, suc, true, ℕ, ⊤, ◌&&◌, ◌+◌, ◌<◌, ◌||◌, ◌∷◌, ◌≡◌, all_let_go, is_at, is_guard, is_name, is_stage, kind_disarmed, kind_inserted, kind_removed, left_behind, let_go, entered_with, entry_of_cancel, entry_of_sort, given_down, guard_fault, handed, handed_at_label, is_guarded, kind_of, marked, queued_kind, refuses, Arrives, Member, Set, cancel_routine_named, cancel_routine_of, cancels_for, guard_named, Abs, Duty, Fresh, NoDuty, Kind, Lower, New, Own, Queued, View, CancelState, GuardRule, Settled, Open, SettledMark, Stage, Armed, Cancelling, Listed, Taken, Instr, Acquire, AcquireCancel, Arm, Begin, Call, Clear, Complete, Const, Dequeue, Disarm, Get, Insert, Load, LoadPaged, Mark, Move, Pass, Release, ReleaseCancel, Remove, Start, Take, Unlink, REGISTERS, SPIN_LOCKS, Driver, Guard, CancelLock, DeviceLock, Queue, QueueName, Declared, DeviceQueue, Sort, Cancel, Dispatch, Dpc, Hold, Propagate, StartIo}
+use Rattle.std.proofs.Common.{get_or-set_other, eq-eqb}
+use Rattle.model.specs.declared.abs.Kind.TheVariants.{Blank, Num}
+use Rattle.model.specs.Kinds.{needs_guard, stays_under_guard}
+use Rattle.model.specs.LocalRule.{release_fault, with_held}
+use Rattle.std.proofs.lemmas.Bool.{eqb-true}
+use Rattle.model.specs.Set.{cancelled_from, is_named, only_one, cancelled_in}
 use Rattle.run_laws.proofs.States.Along.{arrives_keep}
 use Rattle.run_laws.proofs.Lists.{Each, each_map, each_set}
 use Rattle.run_laws.proofs.States.Rules.{first_none, second_none, unbroken, granted}

@@ -1,18 +1,6 @@
 -- Loops: a step into one, and the end of its body, where it turns again or is closed.
-use Rattle.std.proofs.Common.{◌≡◌, ℕ, zero, suc, ◌+◌, ◌-◌, ◌*◌, ◌<◌, ◌≤◌, true, false, List, [], ◌∷◌, ◌++◌, length, drop, take, Option, None, Some, refl, arith, sym, subst, ◌∙◌, ap}
-use Rattle.std.specs.Prelude.{slice_get, nat_lt, nat_le, nat_eq}
-use Rattle.std.proofs.lemmas.Bool.{leb-false, lt-ltb, ltb-true, cond_both}
-use Rattle.model.specs.declared.abs.Abs.{Abs}
-use Rattle.model.specs.declared.instr.Instr.{Instr}
-use Rattle.model.specs.declared.instr.Instr.TheVariants.{Loop, End}
-use Rattle.model.specs.declared.limits.TheConstants.{MAX_LOOPS}
-use Rattle.model.specs.declared.world.Activation.{Activation}
-use Rattle.model.specs.declared.world.OpenLoop.{OpenLoop}
-use Rattle.model.specs.Effect.{turned}
-use Rattle.model.specs.Loops.{open_by, open_at, loops_round}
-use Rattle.model.specs.Paths.{is_misplaced}
-use Rattle.model.specs.Set.{Set, Flow, Opens, Closes, flow_of}
-use Rattle.model.specs.World.{Shared, at_label, with_loops, next, innermost, outer_loops}
+use Rattle.run_laws.specs.Prelude.{ap, arith, drop, refl, subst, sym, take, zero, ◌*◌, ◌-◌, ◌∙◌, cond_both, leb-false, lt-ltb, ltb-true, List, None, Option, Some, [], false, length, nat_eq, nat_le, nat_lt, slice_get, suc, true, ℕ, ◌++◌, ◌+◌, ◌<◌, ◌∷◌, ◌≡◌, ◌≤◌, turned, loops_round, open_at, open_by, is_misplaced, Closes, Flow, Opens, Set, flow_of, Shared, at_label, innermost, next, with_loops, Abs, Instr, End, Loop, MAX_LOOPS, Activation, OpenLoop}
+use Rattle.model.specs.World.{outer_loops}
 use Rattle.run_laws.proofs.Lists.{last_of, before_last}
 use Rattle.run_laws.proofs.States.Follows.{next_state, placed}
 use Rattle.run_laws.proofs.States.Frames.{Nested, nested_length, extra, extra_more, state_of, Moved, Runs}

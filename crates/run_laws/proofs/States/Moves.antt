@@ -1,22 +1,9 @@
 -- How a step moves a routine's frame: where it goes on, its registers hold what the state there
 -- says, its loops are those that are open there, and it has less left to execute.
-use Rattle.std.proofs.Common.{◌≡◌, ℕ, suc, ◌+◌, ◌<◌, ◌≤◌, Bool, true, false, List, [], ◌∷◌, length, drop, Option, Some, refl, arith, sym, subst, ◌∙◌, ap}
-use Rattle.std.specs.Prelude.{◌&&◌, slice_get, nat_lt}
-use Rattle.std.proofs.lemmas.Bool.{ltb-true, eqb-true}
-use Rattle.model.specs.declared.abs.Abs.{Abs}
-use Rattle.model.specs.declared.instr.Instr.{Instr}
-use Rattle.model.specs.declared.instr.Instr.TheVariants.{Loop}
-use Rattle.model.specs.declared.limits.TheConstants.{REGISTERS, SPIN_LOCKS}
+use Rattle.run_laws.specs.Prelude.{ap, arith, drop, refl, subst, sym, ◌∙◌, ltb-true, Bool, List, Option, Some, [], false, length, nat_lt, slice_get, suc, true, ℕ, ◌&&◌, ◌+◌, ◌<◌, ◌∷◌, ◌≡◌, ◌≤◌, handed, handed_at_label, outs_by, loops_round, open_at, open_by, goes_forward, Branches, Closes, Flow, Jumps, Leaves, Onward, Opens, Set, flow_of, label_in, label_of, OperandFits, Shared, at_label, next, Abs, Instr, Loop, REGISTERS, SPIN_LOCKS, Activation, OpenLoop, Value}
+use Rattle.std.proofs.lemmas.Bool.{eqb-true}
 use Rattle.model.specs.declared.set.Routine.{Routine}
-use Rattle.model.specs.declared.world.Activation.{Activation}
-use Rattle.model.specs.declared.world.OpenLoop.{OpenLoop}
-use Rattle.model.specs.declared.world.Value.{Value}
-use Rattle.model.specs.LocalRule.{outs_by, handed, handed_at_label}
-use Rattle.model.specs.Loops.{open_by, open_at, loops_round}
-use Rattle.model.specs.Paths.{goes_forward, are_same_positions}
-use Rattle.model.specs.Set.{Set, Flow, Onward, Branches, Jumps, Opens, Closes, Leaves, flow_of, label_in, label_of}
-use Rattle.model.specs.Sound.{OperandFits}
-use Rattle.model.specs.World.{Shared, at_label, next}
+use Rattle.model.specs.Paths.{are_same_positions}
 use Rattle.run_laws.proofs.Lists.{from_here, all_at}
 use Rattle.run_laws.proofs.States.Follows.{next_state, jump_state, label_at, goes_to_label}
 use Rattle.run_laws.proofs.States.Frames.{Nested, extra, due_in, due, due_is, state_of, Moved, Runs}

@@ -2,33 +2,11 @@
 -- where a routine begins alone: a dispatch routine and a deferred routine have no packet on its way
 -- up, in no state that arrives at a position, and a deferred routine and a completion routine have
 -- none that was handed over.
-use Rattle.model.specs.declared.abs.Stage.{Stage}
-use Rattle.model.specs.declared.limits.TheConstants.{REGISTERS}
-use Rattle.std.proofs.Common.{true, ◌≡◌, ℕ, zero, suc, Bool, false, List, [], ◌∷◌, Option, None, Some, refl, ap, sym, ◌∙◌, subst, replicate, ◌-◌}
-use Rattle.std.specs.Prelude.{slice_set, slice_index_or, ◌&&◌}
-use Rattle.std.specs.List.{list_any}
-use Rattle.std.proofs.lemmas.Bool.{cond_both}
-use Rattle.model.specs.declared.abs.Abs.{Abs}
-use Rattle.model.specs.declared.abs.Duty.TheVariants.{NoDuty, Fresh}
-use Rattle.model.specs.declared.abs.Kind.{Kind}
-use Rattle.model.specs.declared.abs.Kind.TheVariants.{Blank, Num, Lower, New, Own, Queued, View}
-use Rattle.model.specs.declared.abs.Stage.TheVariants.{Listed, Armed, Taken, Cancelling}
-use Rattle.model.specs.declared.abs.Settled.TheVariants.{Settled as SettledMark}
-use Rattle.model.specs.declared.instr.Instr.{Instr}
-use Rattle.model.specs.declared.instr.Instr.TheVariants.{Const, Move, Clear, Load, LoadPaged, Get, Mark, Pass, Call, Complete, Release, Insert, Remove, Unlink, Arm, Disarm, Start, Take, Begin, ReleaseCancel, Dequeue}
-use Rattle.model.specs.declared.set.Guard.{Guard}
-use Rattle.model.specs.declared.set.Guard.TheVariants.{DeviceLock, CancelLock}
-use Rattle.model.specs.declared.set.QueueName.{QueueName}
-use Rattle.model.specs.declared.set.QueueName.TheVariants.{Declared}
-use Rattle.model.specs.declared.set.Sort.TheVariants.{Propagate, Dpc, Dispatch, StartIo, Hold, Cancel}
-use Rattle.model.specs.LocalRule.{entered_with, entry_of_sort, entry_state, given_down, handed, handed_at_label, kind_of, marked, queued_kind, refuses, entry_of_cancel}
-use Rattle.model.specs.Kinds.{all_let_go, is_guard, is_at, is_new, is_view, kind_disarmed, kind_inserted, kind_removed, left_behind, let_go, is_stage}
-use Rattle.model.specs.Paths.{Arrives}
-use Rattle.model.specs.Set.{Set, Member, cancel_routine_of, cancels_for, guard_named}
+use Rattle.run_laws.specs.Prelude.{ap, refl, subst, sym, zero, ◌-◌, ◌∙◌, cond_both, list_any, Bool, List, None, Option, Some, [], false, replicate, slice_index_or, slice_set, suc, true, ℕ, ◌&&◌, ◌∷◌, ◌≡◌, all_let_go, is_at, is_guard, is_new, is_stage, is_view, kind_disarmed, kind_inserted, kind_removed, left_behind, let_go, entered_with, entry_of_cancel, entry_of_sort, entry_state, given_down, handed, handed_at_label, kind_of, marked, queued_kind, refuses, Arrives, Member, Set, cancel_routine_of, cancels_for, guard_named, Abs, Fresh, NoDuty, Kind, Lower, New, Own, Queued, View, SettledMark, Stage, Armed, Cancelling, Listed, Taken, Instr, Arm, Begin, Call, Clear, Complete, Const, Dequeue, Disarm, Get, Insert, Load, LoadPaged, Mark, Move, Pass, Release, ReleaseCancel, Remove, Start, Take, Unlink, REGISTERS, Guard, CancelLock, DeviceLock, QueueName, Declared, Sort, Cancel, Dispatch, Dpc, Hold, Propagate, StartIo}
+use Rattle.model.specs.declared.abs.Kind.TheVariants.{Blank, Num}
 use Rattle.run_laws.proofs.States.Along.{arrives_keep}
 use Rattle.run_laws.proofs.States.Rules.{first_none}
 use Rattle.run_laws.proofs.Tests.{or_left, or_right, or_both}
-use Rattle.model.specs.declared.set.Sort.{Sort}
 
 -- kinds that no instruction makes
 pub record IsHanded (f : Kind → Bool) : Type 0 where

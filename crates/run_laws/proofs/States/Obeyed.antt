@@ -1,22 +1,7 @@
 -- What an instruction that breaks no rule tells of the state before it: where it sends a packet
 -- down, completes one, or returns.
-use Rattle.std.proofs.Common.{◌≡◌, ℕ, Bool, true, false, List, [], ◌∷◌, None, Some, refl, sym, ◌∙◌, subst}
-use Rattle.std.specs.Prelude.{◌&&◌}
-use Rattle.std.specs.List.{list_any}
-use Rattle.model.specs.declared.abs.Abs.{Abs}
-use Rattle.model.specs.declared.abs.Kind.{Kind}
-use Rattle.model.specs.declared.abs.Kind.TheVariants.{New, Own}
-use Rattle.model.specs.declared.abs.Rule.TheVariants.{MarkIrpPending, CancelSpinLock, SpinLock, LockHeld, Dropped, Completion as CompletionRule, StackTooSmall, NoLower}
-use Rattle.model.specs.declared.instr.Instr.{Instr}
-use Rattle.model.specs.declared.instr.Instr.TheVariants.{Pass, Call, Complete, Ret}
-use Rattle.model.specs.declared.instr.Return.{Return}
-use Rattle.model.specs.declared.set.Sort.{Sort}
-use Rattle.model.specs.declared.set.Sort.TheVariants.{Dispatch, Hold}
-use Rattle.model.specs.declared.status.Status.{Status}
-use Rattle.model.specs.Forwarding.{lacks_lower, is_too_small}
-use Rattle.model.specs.LocalRule.{an_owned_one, gives_back, is_dropped, is_hold, kind_of, is_pending, is_completion, holds_lock, holds_spin_lock, a_new_one, one_handed_or_owned, demanded, complete_kind, broken_if, least_of, completion_sort_fault, forward_sort_fault, kept_fault, given_down, handed, refuses, forward_fault, duty_fault, form_fault, settled_fault}
-use Rattle.model.specs.Kinds.{is_kept, is_right}
-use Rattle.model.specs.Set.{Set}
+use Rattle.run_laws.specs.Prelude.{refl, subst, sym, ◌∙◌, list_any, Bool, List, None, Some, [], false, true, ℕ, ◌&&◌, ◌∷◌, ◌≡◌, is_too_small, lacks_lower, is_kept, is_right, a_new_one, an_owned_one, broken_if, complete_kind, completion_sort_fault, demanded, duty_fault, form_fault, forward_fault, forward_sort_fault, given_down, gives_back, handed, holds_lock, holds_spin_lock, is_completion, is_dropped, is_hold, is_pending, kept_fault, kind_of, least_of, one_handed_or_owned, refuses, settled_fault, Set, Abs, Kind, New, Own, CancelSpinLock, CompletionRule, Dropped, SpinLock, Instr, Call, Complete, Pass, Ret, Return, Sort, Dispatch, Hold, Status}
+use Rattle.model.specs.declared.abs.Rule.TheVariants.{MarkIrpPending, LockHeld, StackTooSmall, NoLower}
 use Rattle.run_laws.proofs.States.NoViews.{is_queued}
 use Rattle.run_laws.proofs.States.Rules.{first_none, second_none, unbroken}
 use Rattle.run_laws.proofs.Steps.Words.{Forwarding, work_of, packet_operand}

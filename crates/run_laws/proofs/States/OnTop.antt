@@ -1,19 +1,6 @@
 -- The top frame of a thread of an accepted set: it stands as it should, what it executes is the
 -- instruction of a routine that breaks no rule, and it lacks nothing that the instruction wants.
-use Rattle.std.proofs.Common.{◌≡◌, ◌⊎◌, ℕ, Option, None, Some, sym, subst, ◌∙◌, ap}
-use Rattle.std.specs.Prelude.{slice_get, option_and_then}
-use Rattle.model.specs.declared.abs.Kind.TheVariants.{Num as NumKind}
-use Rattle.model.specs.declared.instr.Instr.{Instr}
-use Rattle.model.specs.declared.set.Routine.{Routine as RoutineOf}
-use Rattle.model.specs.declared.set.Sort.{Sort}
-use Rattle.model.specs.declared.world.Activation.{Activation}
-use Rattle.model.specs.declared.world.Frame.{Frame}
-use Rattle.model.specs.declared.world.Frame.TheVariants.{Routine}
-use Rattle.model.specs.declared.world.Value.TheVariants.{Ref}
-use Rattle.model.specs.LocalRule.{kind_of, refuses}
-use Rattle.model.specs.Set.{Set, member, routine_of, sort_in, sort_of, instruction_at}
-use Rattle.model.specs.Typable.{fault_in}
-use Rattle.model.specs.World.{Shared, number_in, packet_in, register}
+use Rattle.run_laws.specs.Prelude.{ap, subst, sym, ◌∙◌, None, Option, Some, option_and_then, slice_get, ℕ, ◌≡◌, ◌⊎◌, kind_of, refuses, Set, instruction_at, member, routine_of, sort_in, sort_of, fault_in, Shared, number_in, packet_in, register, NumKind, Instr, RoutineOf, Sort, Activation, Frame, Routine, Ref}
 use Rattle.run_laws.proofs.States.Fits.{Fits}
 use Rattle.run_laws.proofs.States.Frames.{state_of, Stays, IsGood, Runs}
 use Rattle.run_laws.proofs.States.Kinds.{Suits, kinds_get, number_there, packet_ref, packet_wanted, number_wanted}

@@ -1,19 +1,7 @@
 -- What the instructions about queues do to a routine's frame: it goes on to the next position, with
 -- the first packet of a queue or the one in the current slot in a register where one was taken, or
 -- to a label where there was none.
-use Rattle.std.proofs.Common.{◌<◌, ℕ, Bool, true, false, List, ◌∷◌, None, Some, refl, subst, Option}
-use Rattle.std.specs.Prelude.{slice_set}
-use Rattle.model.specs.declared.set.QueueName.TheVariants.{Declared}
-use Rattle.model.specs.declared.abs.Kind.TheVariants.{Own}
-use Rattle.model.specs.declared.instr.Instr.{Instr}
-use Rattle.model.specs.declared.instr.Instr.TheVariants.{Begin, Insert, Next, Remove, Start, Take, Unlink, Dequeue}
-use Rattle.model.specs.declared.world.Activation.{Activation}
-use Rattle.model.specs.declared.world.Value.TheVariants.{Ref}
-use Rattle.model.specs.Action.{Action}
-use Rattle.model.specs.Kinds.{kind_removed}
-use Rattle.model.specs.Queues.{StartState, inserted, next_started, started, unlinked, with_slot}
-use Rattle.model.specs.Set.{Set, cancel_routine_of}
-use Rattle.model.specs.World.{Shared, next}
+use Rattle.run_laws.specs.Prelude.{refl, subst, Bool, List, None, Option, Some, false, slice_set, true, ℕ, ◌<◌, ◌∷◌, Action, kind_removed, StartState, dequeued, inserted, next_started, started, unlinked, with_slot, Set, cancel_routine_of, Shared, next, Own, Instr, Begin, Dequeue, Insert, Next, Remove, Start, Take, Unlink, Declared, Activation, Armer, Ref}
 use Rattle.run_laws.proofs.Lists.{each_push}
 use Rattle.run_laws.proofs.Past.Packets.{named}
 use Rattle.run_laws.proofs.States.Fits.{AllQueuesFit, queue_issued, queue_put_fits}
@@ -25,8 +13,6 @@ use Rattle.run_laws.proofs.States.StartsFit.{AllStartsFit, SlotFits, StartFits, 
 use Rattle.run_laws.proofs.Steps.Comes.{Queued, inserts, removes, removes_none, puts_in, starts_next, starts_packet, takes_none, takes_out, unlinks}
 use Rattle.run_laws.proofs.States.StartsFit.{each_without, dequeued_fits}
 use Rattle.run_laws.proofs.Steps.Comes.{Waits, arms_waiting, disarms_next, starts_gone, dequeues_packet}
-use Rattle.model.specs.declared.world.Armer.{Armer}
-use Rattle.model.specs.Queues.{dequeued}
 
 -- where the frame goes on
 pub record MovedOn (set : Set) (states : States) (s : Shared) (a : Activation) (i : Instr)

@@ -1,17 +1,11 @@
 -- The loops that are open at a position, and what is left to execute there. `rest code d` is the
 -- cost of executing, once and with all inner loops' turns, what stands from here up to the `end`
 -- that closes the loop which has d open loops inside it.
-use Rattle.std.proofs.Common.{◌≡◌, ℕ, zero, suc, ◌+◌, ◌-◌, ◌*◌, ◌<◌, ◌≤◌, inl, inr, true, false, List, [], ◌∷◌, length, drop, Option, None, Some, refl, arith, sym, subst, ◌∙◌, ap, nat_eq, get_or}
-use Rattle.std.specs.Prelude.{⊤, slice_get, filter}
-use Rattle.std.proofs.lemmas.Option.{slice_get-get_or}
-use Rattle.std.proofs.lemmas.Bool.{cases_lt}
+use Rattle.run_laws.specs.Prelude.{ap, arith, drop, get_or, inl, inr, refl, subst, sym, zero, ◌*◌, ◌-◌, ◌∙◌, cases_lt, slice_get-get_or, List, None, Option, Some, [], false, length, nat_eq, slice_get, suc, true, ℕ, ⊤, ◌+◌, ◌<◌, ◌∷◌, ◌≡◌, ◌≤◌, certificate, loops_round, open_at, open_by, is_malformed, is_misplaced, is_misplaced_by, Closes, Flow, Opens, flow_of, Instr, End, Loop}
+use Rattle.std.specs.Prelude.{filter}
 use Rattle.std.proofs.lemmas.Nat.{mul-le}
-use Rattle.model.specs.declared.instr.Instr.{Instr}
-use Rattle.model.specs.declared.instr.Instr.TheVariants.{Loop, End}
-use Rattle.model.specs.Certificate.{turns_at, certificate_to, certificate}
-use Rattle.model.specs.Loops.{open_after, open_by, open_at, is_closed, loops_round, turns_in, turns_of, turns_product}
-use Rattle.model.specs.Paths.{is_malformed, is_misplaced, is_misplaced_by}
-use Rattle.model.specs.Set.{Flow, Opens, Closes, flow_of}
+use Rattle.model.specs.Certificate.{turns_at, certificate_to}
+use Rattle.model.specs.Loops.{open_after, is_closed, turns_in, turns_of, turns_product}
 use Rattle.run_laws.proofs.Lists.{from_here}
 use Rattle.run_laws.proofs.States.Follows.{placed}
 use Rattle.run_laws.proofs.Tests.{or_left, not_false}

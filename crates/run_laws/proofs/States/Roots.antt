@@ -1,23 +1,7 @@
 -- Where a thread's lowest frame began: each dispatch routine's frame is on a thread that began at
 -- PASSIVE_LEVEL, since only dispatch routines send packets down.
-use Rattle.model.specs.declared.world.Value.TheVariants.{Ref}
-use Rattle.model.specs.declared.world.Armer.{Armer}
+use Rattle.run_laws.specs.Prelude.{refl, subst, sym, ◌-◌, ◌∙◌, List, None, Option, Some, [], false, slice_get, ℕ, ⊤, ◌∷◌, ◌≡◌, Outcome, answered_in, completes_with, operand_of, routine_of_device, turned, root_over, Set, instruction_at, Shared, entered, Call, Pass, Cancel, Dispatch, Hold, Propagate, Status, Activation, Armer, CancelStep, Frame, CancelFrame, Routine, Walk, Irql, Passive, Ref}
 use Rattle.run_laws.proofs.States.Fits.{ArmerLeads, word_leads}
-use Rattle.model.specs.declared.world.CancelStep.{CancelStep}
-use Rattle.std.proofs.Common.{◌≡◌, ℕ, ◌-◌, List, [], ◌∷◌, Option, None, Some, false, refl, sym, ◌∙◌, subst, slice_get}
-use Rattle.std.specs.Prelude.{⊤}
-use Rattle.model.specs.declared.instr.Instr.TheVariants.{Pass, Call}
-use Rattle.model.specs.declared.set.Sort.TheVariants.{Dispatch, Propagate, Hold, Cancel}
-use Rattle.model.specs.declared.status.Status.{Status}
-use Rattle.model.specs.declared.world.Activation.{Activation}
-use Rattle.model.specs.declared.world.Frame.{Frame}
-use Rattle.model.specs.declared.world.Frame.TheVariants.{Routine, Walk, Cancel as CancelFrame}
-use Rattle.model.specs.declared.world.Irql.{Irql}
-use Rattle.model.specs.declared.world.Irql.TheVariants.{Passive}
-use Rattle.model.specs.Effect.{Outcome, answered_in, completes_with, operand_of, turned, routine_of_device}
-use Rattle.model.specs.Events.{root_over}
-use Rattle.model.specs.Set.{Set, instruction_at}
-use Rattle.model.specs.World.{Shared, entered}
 use Rattle.run_laws.proofs.Lists.{Each}
 use Rattle.run_laws.proofs.States.Entering.{IsOfSort, Begins, begins_back, begins_lent, begins_cancelled}
 use Rattle.run_laws.proofs.States.Lacking.{down}

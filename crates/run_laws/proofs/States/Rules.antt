@@ -1,8 +1,6 @@
 -- What follows where an instruction breaks no rule: each of its conditions holds.
-use Rattle.std.proofs.Common.{◌≡◌, Bool, true, false, Option, None, Some, refl, cond}
-use Rattle.std.specs.Prelude.{nat_le}
-use Rattle.model.specs.declared.abs.Rule.{Rule}
-use Rattle.model.specs.LocalRule.{broken_if, least_of, rule_number, unless}
+use Rattle.run_laws.specs.Prelude.{cond, refl, Bool, None, Option, Some, false, nat_le, true, ◌≡◌, broken_if, least_of, unless, Rule}
+use Rattle.model.specs.LocalRule.{rule_number}
 
 -- one of two broken rules is broken
 either_rule : (b : Bool) (one other : Rule) → cond {A = Option Rule} b (Some one) (Some other)

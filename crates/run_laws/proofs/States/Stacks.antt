@@ -1,16 +1,6 @@
 -- Frames on frames: how a frame stands that is the top one, or that stands below another; and that
 -- frames in place of one stand as they should.
-use Rattle.std.proofs.Common.{◌≡◌, ℕ, ◌-◌, ◌<◌, ◌≤◌, false, List, [], ◌∷◌, ◌++◌, Option, None, Some, append-nil, sym, subst, arith}
-use Rattle.std.specs.Prelude.{⊤}
-use Rattle.model.specs.declared.set.Sort.{Sort}
-use Rattle.model.specs.declared.set.Sort.TheVariants.{Dispatch}
-use Rattle.model.specs.declared.status.Status.{Status}
-use Rattle.model.specs.declared.world.Activation.{Activation}
-use Rattle.model.specs.declared.world.Frame.{Frame}
-use Rattle.model.specs.declared.world.Frame.TheVariants.{Routine, Walk, Cancel as CancelFrame}
-use Rattle.model.specs.Effect.{operand_of, answered_in, answered, told_to}
-use Rattle.model.specs.LocalRule.{holds_lock}
-use Rattle.model.specs.Set.{Set, instruction_at}
+use Rattle.run_laws.specs.Prelude.{append-nil, arith, subst, sym, ◌-◌, List, None, Option, Some, [], false, ℕ, ⊤, ◌++◌, ◌<◌, ◌∷◌, ◌≡◌, ◌≤◌, answered, answered_in, operand_of, told_to, holds_lock, Set, instruction_at, Sort, Dispatch, Status, Activation, Frame, CancelFrame, Routine, Walk}
 use Rattle.run_laws.proofs.Lists.{Each}
 use Rattle.run_laws.proofs.Past.Walks.{WalkIssued}
 use Rattle.run_laws.proofs.States.Entering.{IsOfSort, IsCompleting}

@@ -1,23 +1,7 @@
 -- Every run of an accepted set stands as it should: what is shared fits the set, the past tells of
 -- it, and each thread has frames that stand on one another, dispatch routines at PASSIVE_LEVEL.
-use Rattle.model.specs.declared.world.Frame.TheVariants.{Walk}
-use Rattle.std.proofs.Common.{◌<◌, ◌≡◌, ℕ, ◌+◌, ◌≤◌, List, [], ◌∷◌, ◌++◌, length, Option, None, Some, Bool, false, refl, ◌∙◌, subst, arith, inl, ap, inr, append_assoc}
-use Rattle.std.specs.Prelude.{slice_get}
-use Rattle.std.specs.List.{list_any}
-use Rattle.model.specs.declared.event.Reply.{Reply}
-use Rattle.model.specs.declared.event.Reply.TheVariants.{Stepped}
-use Rattle.model.specs.declared.world.Frame.{Frame}
-use Rattle.model.specs.declared.world.Irql.{Irql}
-use Rattle.model.specs.declared.world.Thread.{Thread}
-use Rattle.model.specs.Effect.{Outcome, top_of}
-use Rattle.model.specs.Events.{Change, standing, with_thread, with_stack, finished_or}
-use Rattle.model.specs.Fault.{first_fault}
-use Rattle.model.specs.Run.{begun, root_of, frames_of, frames_on}
-use Rattle.model.specs.Set.{Set}
-use Rattle.model.specs.Trace.{Entry, Actor, recorded}
-use Rattle.model.specs.Queues.{without_first_to_start}
-use Rattle.model.specs.declared.world.Packet.{Packet}
-use Rattle.model.specs.World.{Shared, World, new_packet}
+use Rattle.run_laws.specs.Prelude.{ap, arith, inl, inr, refl, subst, ◌∙◌, ltb-true, length-append, list_any, Bool, List, None, Option, Some, [], false, length, slice_get, ℕ, ◌++◌, ◌+◌, ◌<◌, ◌∷◌, ◌≡◌, ◌≤◌, Outcome, top_of, Change, finished_or, standing, with_stack, with_thread, first_fault, without_first_to_start, begun, frames_of, frames_on, root_of, Set, Actor, Entry, recorded, Shared, World, new_packet, Reply, Stepped, MAX_LIVE_PACKETS, Frame, Walk, Irql, Packet, Thread}
+use Rattle.std.proofs.Common.{append_assoc}
 use Rattle.run_laws.proofs.Lists.{Each, each_push, each_append, each_before, each_after}
 use Rattle.run_laws.proofs.Past.Packets.{Tells, tells_nothing}
 use Rattle.run_laws.proofs.Past.Runs.{root_tells}
@@ -38,10 +22,7 @@ use Rattle.run_laws.proofs.States.StartsFit.{begun_fits, start_issued, start_put
 use Rattle.run_laws.proofs.States.Stacks.{Stacked, top_stands, replaced, stacked_later, walks_stand, walk_taken}
 use Rattle.run_laws.proofs.States.Told.{told_last, told_is}
 use Rattle.run_laws.proofs.Steps.Below.{StopsBelow, stood}
-use Rattle.model.specs.declared.limits.TheConstants.{MAX_LIVE_PACKETS}
-use Rattle.std.proofs.lemmas.Bool.{ltb-true}
 use Rattle.run_laws.proofs.Tests.{and_left}
-use Rattle.std.proofs.lemmas.List.{length-append}
 
 -- what a run keeps
 pub record Standing (set : Set) (states : States) (w : World) (past : List Entry) : Type 0 where

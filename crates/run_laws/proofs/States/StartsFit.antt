@@ -1,16 +1,7 @@
 -- What the devices have for StartIo fits the set: each device has it, and the packets in it were
 -- issued.
-use Rattle.std.proofs.Common.{◌≡◌, ◌≤◌, ◌<◌, ℕ, true, List, [], ◌∷◌, length, Option, None, Some, sym, ◌∙◌, arith}
-use Rattle.std.specs.Prelude.{⊤, replicate, slice_get, slice_index_or}
-use Rattle.std.proofs.lemmas.Bool.{cond_both}
-use Rattle.std.proofs.lemmas.List.{length-set, length-replicate}
-use Rattle.std.proofs.lemmas.Option.{slice_get-get_or}
-use Rattle.model.specs.Queues.{StartState, head_of, idle, inserted, next_of, next_started, started, with_slot, without_first_to_start, without_head}
-use Rattle.model.specs.Set.{Set}
-use Rattle.model.specs.World.{Shared, start_of, with_start}
+use Rattle.run_laws.specs.Prelude.{arith, sym, ◌∙◌, cond_both, length-replicate, length-set, slice_get-get_or, List, None, Option, Some, [], length, nat_eq, replicate, slice_get, slice_index_or, true, ℕ, ⊤, ◌<◌, ◌∷◌, ◌≡◌, ◌≤◌, StartState, dequeued, head_of, idle, inserted, next_of, next_started, started, unlinked, with_slot, without_first_to_start, without_head, Set, Shared, start_of, with_start}
 use Rattle.run_laws.proofs.Lists.{Each, each_at, each_map, each_push, each_same, each_set}
-use Rattle.model.specs.Queues.{unlinked, dequeued}
-use Rattle.std.specs.Prelude.{nat_eq}
 
 abbrev pub WereIssued : ℕ → List ℕ → Type 0
 WereIssued issued entries = Each (λ (n : ℕ). n < issued) entries

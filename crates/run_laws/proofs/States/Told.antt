@@ -1,13 +1,6 @@
 -- What a step tells the frame below the one that ran: the last of those below is told, and the
 -- frame under the next.
-use Rattle.std.proofs.Common.{◌≡◌, ◌-◌, List, [], ◌∷◌, ◌++◌, length, take, Option, None, Some, get_or, refl, sym, ◌∙◌, ap, arith}
-use Rattle.std.specs.Prelude.{slice_get}
-use Rattle.std.proofs.lemmas.Option.{slice_get-get_or}
-use Rattle.model.specs.declared.status.Status.{Status}
-use Rattle.model.specs.declared.world.Frame.{Frame}
-use Rattle.model.specs.declared.world.Frame.TheVariants.{Routine, Walk, Cancel as CancelFrame}
-use Rattle.model.specs.Effect.{answered, top_of, told_top, told_to}
-use Rattle.model.specs.Set.{Set}
+use Rattle.run_laws.specs.Prelude.{ap, arith, get_or, refl, sym, take, ◌-◌, ◌∙◌, slice_get-get_or, List, None, Option, Some, [], length, slice_get, ◌++◌, ◌∷◌, ◌≡◌, answered, told_to, told_top, top_of, Set, Status, Frame, CancelFrame, Routine, Walk}
 use Rattle.run_laws.proofs.Lists.{last_split}
 
 -- a frame is told a status, if any

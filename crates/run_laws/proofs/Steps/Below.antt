@@ -1,18 +1,6 @@
 -- What stands after a step: no step takes the frame below away, but that of a completion routine
 -- which stops the completion.
-use Rattle.std.proofs.Common.{◌≡◌, ◌⊎◌, inl, inr, ℕ, ◌-◌, List, [], ◌∷◌, ◌++◌, length, take, Bool, true, false, Option, None, append-nil, refl, ap}
-use Rattle.model.specs.declared.instr.Instr.TheVariants.{Ret}
-use Rattle.model.specs.declared.instr.Return.TheVariants.{Stop}
-use Rattle.model.specs.declared.world.Activation.{Activation}
-use Rattle.model.specs.declared.world.CancelStep.{CancelStep}
-use Rattle.model.specs.declared.world.Frame.{Frame}
-use Rattle.model.specs.declared.world.Frame.TheVariants.{Routine, Walk}
-use Rattle.model.specs.Action.{Executes}
-use Rattle.model.specs.Effect.{Outcome, told_to, kept_below, top_of}
-use Rattle.model.specs.Events.{standing}
-use Rattle.model.specs.LocalRule.{is_completion}
-use Rattle.model.specs.Set.{Set, sort_of}
-use Rattle.model.specs.World.{Shared}
+use Rattle.run_laws.specs.Prelude.{ap, append-nil, inl, inr, refl, take, ◌-◌, Bool, List, None, Option, [], false, length, true, ℕ, ◌++◌, ◌∷◌, ◌≡◌, ◌⊎◌, Executes, Outcome, kept_below, told_to, top_of, standing, is_completion, Set, sort_of, Shared, Ret, Stop, Activation, CancelStep, Frame, Routine, Walk}
 use Rattle.run_laws.proofs.Lists.{last_split}
 use Rattle.run_laws.proofs.Steps.Comes.{Cancels, takes_cancel, Comes, Executing, errs, stops_walk, cancels}
 

@@ -1,38 +1,9 @@
 -- The shapes of a step: a thread's top frame, over another frame or none, leaves one of these
 -- outcomes. Each shape has the instruction, and all that decided it. What a step does to a law is
 -- then said once a shape, and an instruction of a known shape costs a law nothing.
-use Rattle.std.specs.Prelude.{ℕ, ◌≡◌, ◌⊎◌, ◌+◌, ◌∷◌, ◌++◌, ◌&&◌, not, Bool, true, false, List, [], length, Option, None, Some, is_none, is_some, nat_eq, nat_lt, slice_get, slice_set}
-use Rattle.model.specs.declared.set.QueueName.TheVariants.{DeviceQueue}
-use Rattle.model.specs.declared.event.Lock.{Lock}
-use Rattle.model.specs.declared.event.Lock.TheVariants.{SystemCancel}
-use Rattle.model.specs.declared.event.OfDevice.{OfDevice}
-use Rattle.model.specs.declared.event.Reply.TheVariants.{Topped, Waited}
-use Rattle.model.specs.declared.instr.Instr.{Instr}
-use Rattle.model.specs.declared.instr.Instr.TheVariants.{Move, Clear, Loop, End, Put, Mark, Insert, Remove, Unlink, Arm, Disarm, Start, Take, Begin, Next, Dequeue, Pass, Call, Complete, Ret}
-use Rattle.model.specs.declared.instr.Return.{Return}
-use Rattle.model.specs.declared.instr.Return.TheVariants.{Continue, Stop, Void}
-use Rattle.model.specs.declared.limits.TheConstants.{MAX_LOOPS}
-use Rattle.model.specs.declared.set.Sort.TheVariants.{Dispatch, StartIo, Dpc, Propagate, Hold, Cancel}
-use Rattle.model.specs.declared.status.Status.{Status}
-use Rattle.model.specs.declared.world.Activation.{Activation}
-use Rattle.model.specs.declared.world.Armer.{Armer}
-use Rattle.model.specs.declared.world.CancelStep.{CancelStep}
-use Rattle.model.specs.declared.world.CancelStep.TheVariants.{Acquire as AcquireStep, SetFlag, Exchange}
-use Rattle.model.specs.declared.world.Cells.{Cells}
-use Rattle.model.specs.declared.world.Completion.{Completion}
-use Rattle.model.specs.declared.world.Frame.{Frame}
-use Rattle.model.specs.declared.world.Frame.TheVariants.{Routine, Walk, Cancel as CancelFrame}
-use Rattle.model.specs.declared.world.OpenLoop.{OpenLoop}
-use Rattle.model.specs.declared.world.Packet.{Packet}
-use Rattle.model.specs.declared.world.Value.{Value}
-use Rattle.model.specs.declared.world.Value.TheVariants.{Blank, Num, Ref}
-use Rattle.model.specs.Action.{Action, Executes, Acquires, Releases, TouchesPaged, Touches, Calls, Ups, Completes, Continues, Lends, Exchanges, Marks, Leaves, TopsOut}
-use Rattle.model.specs.Effect.{Outcome, leaves, goes_wrong, goes_on, waits, turned, asks, set_by, returned, is_walk, routine_of_device, completes_with, sort_of_completion, armer_of, armer_waiting, next_disarmed, goes_on_cancelling, cancel_ends}
-use Rattle.model.specs.LocalRule.{is_completion, is_hold}
-use Rattle.model.specs.Queues.{StartState, dequeued, has_room_for_next, has_room_to_start, inserted, is_full, next_started, started, unlinked, with_slot}
-use Rattle.model.specs.Set.{Set, has_cancel, cancel_routine_named, cancel_routine_of, instruction_at, sort_of, lower_of, label_of}
-use Rattle.model.specs.Sound.{queue_named}
-use Rattle.model.specs.World.{Shared, entered, queue_of, with_queue, start_of, with_start, with_register, owner_of, with_owner, with_locks, packet_of, with_packet, without_packet, packet_in, number_in, register, next, at_label, innermost, with_loops, with_info, mark_current, cancelled, with_armer, current_location, sent_down, shared_with, left_location, moved_up, is_marked, completion_of, completed}
+use Rattle.run_laws.specs.Prelude.{Bool, List, None, Option, Some, [], false, is_none, is_some, length, nat_eq, nat_lt, not, slice_get, slice_set, true, ℕ, ◌&&◌, ◌++◌, ◌+◌, ◌∷◌, ◌≡◌, ◌⊎◌, Acquires, Action, Calls, Completes, Continues, Exchanges, Executes, Lends, Marks, Releases, TopsOut, Touches, TouchesPaged, Ups, Outcome, armer_of, armer_waiting, asks, completes_with, goes_on, goes_on_cancelling, goes_wrong, is_walk, leaves, next_disarmed, returned, routine_of_device, set_by, sort_of_completion, turned, waits, is_completion, is_hold, StartState, dequeued, has_room_for_next, has_room_to_start, inserted, is_full, next_started, started, unlinked, with_slot, Set, cancel_routine_named, cancel_routine_of, has_cancel, instruction_at, label_of, lower_of, sort_of, queue_named, Shared, at_label, cancelled, completed, completion_of, current_location, entered, innermost, is_marked, left_location, mark_current, moved_up, next, number_in, owner_of, packet_in, packet_of, queue_of, register, sent_down, shared_with, start_of, with_armer, with_info, with_locks, with_loops, with_owner, with_packet, with_queue, with_register, with_start, without_packet, Lock, SystemCancel, OfDevice, Topped, Waited, Instr, Arm, Begin, Call, Clear, Complete, Dequeue, Disarm, End, Insert, Loop, Mark, Move, Next, Pass, Put, Remove, Ret, Start, Take, Unlink, Return, Continue, Stop, Void, MAX_LOOPS, DeviceQueue, Cancel, Dispatch, Dpc, Hold, Propagate, StartIo, Status, Activation, Armer, CancelStep, AcquireStep, Exchange, SetFlag, Cells, Completion, Frame, CancelFrame, Routine, Walk, OpenLoop, Packet, Value, Blank, Num, Ref}
+use Rattle.model.specs.Action.{Leaves}
+use Rattle.model.specs.Effect.{cancel_ends}
 use Rattle.run_laws.proofs.Steps.Words.{Computing, Paging, Looking, Exchanging, Forwarding, work_of, starts_packets, is_touching, goes_next, packet_operand, number_operand, second_operand, keeps_registers, numbered_by, is_of_cells, lock_taken, lock_freed, jumps_on, status_returned, is_form_of}
 
 -- the instruction at an activation's position

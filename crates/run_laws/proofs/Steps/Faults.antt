@@ -1,14 +1,8 @@
 -- The bug checks of a list of actions, by the kind of action: of locks and paged cells, of packets
 -- that are touched, that are sent down, and that are completed. Where no kind has one there is
 -- none.
-use Rattle.std.proofs.Common.{◌≡◌, ℕ, List, [], ◌∷◌, Option, None, Some, Bool, true, false, refl}
-use Rattle.std.specs.Prelude.{if◌then◌else◌}
-use Rattle.model.specs.declared.event.Bug.{Bug}
-use Rattle.model.specs.declared.event.BugCheck.TheVariants.{IrqlNotLessOrEqual}
-use Rattle.model.specs.declared.event.Subject.TheVariants.{Packet as PacketSubject}
-use Rattle.model.specs.Action.{Action, OnLock, OnPacket, OnLocation, OfRoutine, Touch, Complete, Call, TouchPaged}
-use Rattle.model.specs.Fault.{bug_if, fault_of, first_or, first_fault, topped}
-use Rattle.model.specs.Trace.{Entry, Actor, entry}
+use Rattle.run_laws.specs.Prelude.{refl, Bool, List, None, Option, Some, [], false, if◌then◌else◌, true, ℕ, ◌∷◌, ◌≡◌, Action, OfRoutine, OnLocation, OnLock, OnPacket, Touch, TouchPaged, bug_if, fault_of, first_fault, first_or, topped, Actor, Entry, entry, Bug, IrqlNotLessOrEqual, PacketSubject}
+use Rattle.model.specs.Action.{Complete, Call}
 
 abbrev pub is_of_locks : Action → Bool
 is_of_locks (OnLock lock act) = true

@@ -1,11 +1,5 @@
 -- Where a routine goes on, it is the same one's, for the same device.
-use Rattle.std.proofs.Common.{◌≡◌, Bool, refl}
-use Rattle.std.specs.Prelude.{nat_lt}
-use Rattle.std.proofs.lemmas.Bool.{cond_both}
-use Rattle.model.specs.declared.instr.Instr.{Instr}
-use Rattle.model.specs.declared.world.Activation.{Activation}
-use Rattle.model.specs.declared.world.OpenLoop.{OpenLoop}
-use Rattle.model.specs.Effect.{turned}
+use Rattle.run_laws.specs.Prelude.{refl, cond_both, Bool, nat_lt, ◌≡◌, turned, Instr, Activation, OpenLoop}
 use Rattle.run_laws.proofs.Steps.Comes.{GoesTo, onward, jumping}
 
 abbrev pub SameRoutine : Activation → Activation → Type 0

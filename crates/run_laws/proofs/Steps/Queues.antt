@@ -1,15 +1,8 @@
 -- What the instructions about queues have in common: they touch one packet or none, and the routine
 -- goes on.
-use Rattle.std.proofs.Common.{◌≡◌, ◌⊎◌, ℕ, Bool, List, [], ◌∷◌, refl, inl, inr, Option, true, false}
-use Rattle.model.specs.declared.instr.Instr.{Instr}
-use Rattle.model.specs.declared.world.Activation.{Activation}
-use Rattle.model.specs.Action.{Action, Touches}
-use Rattle.model.specs.Queues.{StartState}
-use Rattle.model.specs.World.{Shared}
+use Rattle.run_laws.specs.Prelude.{inl, inr, refl, Bool, List, Option, [], false, true, ℕ, ◌∷◌, ◌≡◌, ◌⊎◌, Action, Touches, StartState, Set, Shared, Instr, Activation, Armer}
 use Rattle.run_laws.proofs.Steps.Comes.{Queued, Waits, arms_waiting, disarms_next, starts_gone, dequeues_packet, inserts, removes, removes_none, unlinks, starts_packet, takes_out, takes_none, puts_in, starts_next}
 use Rattle.run_laws.proofs.Steps.Words.{Queueing, work_of}
-use Rattle.model.specs.Set.{Set}
-use Rattle.model.specs.declared.world.Armer.{Armer}
 
 pub queued_work : {set : Set} {s : Shared} {a b : Activation} {i : Instr} {queues : List
     (List (List ℕ))}

@@ -1,38 +1,8 @@
 -- Every step has one of the shapes: the one walk over the instructions and the I/O manager's steps.
-use Rattle.std.proofs.Common.{◌≡◌, ℕ, ◌+◌, List, [], ◌∷◌, length, Option, None, Some, Bool, true, false, inl, inr, refl, ap, sym, ◌∙◌, not}
-use Rattle.std.specs.Prelude.{is_none, option_map, nat_eq, nat_lt, slice_get, slice_set, if◌then◌else◌}
-use Rattle.std.proofs.lemmas.Bool.{cond_both}
-use Rattle.std.proofs.lemmas.Bool.Decides.{eqb_tells}
-use Rattle.std.proofs.lemmas.List.{length-set}
-use Rattle.model.specs.declared.event.Lock.{Lock}
-use Rattle.model.specs.declared.event.Lock.TheVariants.{SystemCancel}
-use Rattle.model.specs.declared.event.Reply.TheVariants.{Waited}
-use Rattle.model.specs.declared.instr.Field.{Field}
-use Rattle.model.specs.declared.instr.Instr.{Instr}
-use Rattle.model.specs.declared.instr.Instr.TheVariants.{Const, Move, Clear, Add, Subtract, JumpIfZero, JumpIfLess, Jump, Loop, End, Load, Store, LoadPaged, StorePaged, Get, Put, Mark, Acquire, Release, AcquireCancel, ReleaseCancel, Insert, Remove, Unlink, Arm, Disarm, IfCancel, Start, Take, Begin, Next, Dequeue, Pass, Call, Complete, IfPending, Ret}
-use Rattle.model.specs.declared.instr.Return.{Return}
-use Rattle.model.specs.declared.instr.Return.TheVariants.{WithStatus, Lower, Continue, Stop, Void}
-use Rattle.model.specs.declared.limits.TheConstants.{MAX_LOOPS}
-use Rattle.model.specs.declared.set.Sort.{Sort}
-use Rattle.model.specs.declared.set.Sort.TheVariants.{Dispatch, StartIo, Dpc, Propagate, Hold, Cancel}
-use Rattle.model.specs.declared.status.Status.{Status}
-use Rattle.model.specs.declared.world.Activation.{Activation}
-use Rattle.model.specs.declared.world.Armer.{Armer}
-use Rattle.model.specs.declared.world.CancelStep.{CancelStep}
-use Rattle.model.specs.declared.world.CancelStep.TheVariants.{Acquire as AcquireStep, SetFlag, Exchange}
-use Rattle.model.specs.declared.world.Cells.{Cells}
-use Rattle.model.specs.declared.world.Completion.{Completion}
-use Rattle.model.specs.declared.world.Frame.{Frame}
-use Rattle.model.specs.declared.world.Frame.TheVariants.{Routine, Walk, Cancel as CancelFrame}
-use Rattle.model.specs.declared.world.OpenLoop.{OpenLoop}
-use Rattle.model.specs.declared.world.Packet.{Packet}
-use Rattle.model.specs.declared.world.Value.{Value}
-use Rattle.model.specs.Action.{Acquires, Continues, Exchanges, Executes, Touches, Ups, Marks, Leaves}
-use Rattle.model.specs.Effect.{Outcome, leaves, goes_wrong, goes_on, number_effect, of_both, sum_of, difference_of, jump_effect, is_zero_at, is_less_at, loop_effect, end_effect, cell_of, load_effect, load_paged_effect, stored, stored_paged, store_effect, store_paged_effect, get_packet, get_effect, put_packet, put_effect, waits, acquire_owned, acquire_effect, release_effect, spin_lock, insert_effect, remove_from, remove_effect, unlink_effect, arm_packet, arm_effect, disarm_packet, disarm_effect, ask_packet, ask_effect, start_effect, take_from, take_effect, begin_effect, next_effect, mark_packet, mark_effect, complete_packet, complete_effect, pass_packet, pass_effect, call_packet, call_effect, look_packet, look_effect, return_lower, continued, given_back, let_on, stopped, routine_of_device, sort_of_completion, lent_to, lending, completes_with, goes_on_cancelling, cancel_acquires, cancel_flags, cancel_calls, cancel_armed, cancel_exchanges, cancel_step, return_effect, instruction_effect, routine_effect, walk_up, walk_out, walk_from, walk_packet, frame_effect, next_disarmed, dequeue_effect, start_waiting, start_packet, next_packet, next_waiting}
-use Rattle.model.specs.LocalRule.{is_completion}
-use Rattle.model.specs.Queues.{StartState, has_room_to_start, has_room_for_next}
-use Rattle.model.specs.Set.{Set, cancel_routine_named, cancel_routine_of, instruction_at, sort_of, lower_of, label_of}
-use Rattle.model.specs.World.{Shared, queue_of, start_of, owner_of, packet_of, with_packet, packet_in, number_in, status_in, register, next, at_label, innermost, mark_current, current_location, left_location, moved_up, is_marked, completion_of, with_armer}
+use Rattle.run_laws.specs.Prelude.{ap, inl, inr, refl, sym, ◌∙◌, cond_both, eqb_tells, length-set, Bool, List, None, Option, Some, [], false, if◌then◌else◌, is_none, length, nat_eq, nat_lt, not, option_map, slice_get, slice_set, true, ℕ, ◌+◌, ◌∷◌, ◌≡◌, Acquires, Continues, Exchanges, Executes, Marks, Touches, Ups, Outcome, acquire_effect, arm_effect, arm_packet, ask_effect, ask_packet, begin_effect, call_effect, call_packet, cancel_step, complete_effect, complete_packet, completes_with, dequeue_effect, difference_of, disarm_effect, disarm_packet, end_effect, frame_effect, get_effect, get_packet, goes_on, goes_on_cancelling, goes_wrong, insert_effect, instruction_effect, is_less_at, is_zero_at, jump_effect, leaves, let_on, load_effect, load_paged_effect, look_effect, look_packet, mark_effect, mark_packet, next_disarmed, next_effect, next_packet, next_waiting, number_effect, pass_effect, pass_packet, put_effect, put_packet, release_effect, remove_effect, remove_from, return_effect, return_lower, routine_effect, routine_of_device, sort_of_completion, spin_lock, start_effect, start_packet, start_waiting, store_effect, store_paged_effect, sum_of, take_effect, take_from, unlink_effect, waits, walk_packet, is_completion, StartState, has_room_for_next, has_room_to_start, Set, cancel_routine_named, cancel_routine_of, instruction_at, label_of, lower_of, sort_of, Shared, at_label, completion_of, current_location, innermost, is_marked, left_location, mark_current, moved_up, next, number_in, owner_of, packet_in, packet_of, queue_of, register, start_of, status_in, with_armer, with_packet, Lock, SystemCancel, Waited, Field, Instr, Acquire, AcquireCancel, Add, Arm, Begin, Call, Clear, Complete, Const, Dequeue, Disarm, End, Get, IfCancel, IfPending, Insert, Jump, JumpIfLess, JumpIfZero, Load, LoadPaged, Loop, Mark, Move, Next, Pass, Put, Release, ReleaseCancel, Remove, Ret, Start, Store, StorePaged, Subtract, Take, Unlink, Return, Continue, Stop, Void, WithStatus, MAX_LOOPS, Sort, Cancel, Dispatch, Dpc, Hold, Propagate, StartIo, Status, Activation, Armer, CancelStep, AcquireStep, Exchange, SetFlag, Cells, Completion, Frame, CancelFrame, Routine, Walk, OpenLoop, Packet, Value}
+use Rattle.model.specs.declared.instr.Return.TheVariants.{Lower}
+use Rattle.model.specs.Action.{Leaves}
+use Rattle.model.specs.Effect.{of_both, loop_effect, cell_of, stored, stored_paged, acquire_owned, continued, given_back, stopped, lent_to, lending, cancel_acquires, cancel_flags, cancel_calls, cancel_armed, cancel_exchanges, walk_up, walk_out, walk_from}
 use Rattle.run_laws.proofs.Steps.Words.{Computing, work_of, goes_next, number_operand, second_operand, keeps_registers, numbered_by, lock_taken, lock_freed}
 use Rattle.run_laws.proofs.Steps.Comes.{Executing, Exchanged, Reads, Lacks, no_instruction, no_number, no_packet, no_room, no_loop, no_cells, none_taken, none_freed, no_queue, no_start, no_cancel, no_lower, no_status, no_form, Written, keeps_all, makes_number, moves_over, makes_blank, onward, jumping, inserts, removes, removes_none, unlinks, starts_packet, takes_out, takes_none, puts_in, starts_next, arms_for, disarms, Cancels, takes_cancel, retakes_cancel, awaits_cancel, flags_gone, sets_flag, exchanges_gone, finds_empty, finds_none, calls_cancel, Comes, errs, awaits_lock, computes, opens_loop, turns_loop, pages, touches_gone, looks_at, writes_info, marks_packet, exchanges, takes_lock, retakes_lock, frees_lock, works_on_queues, completes_packet, completes_gone, passes_down, calls_down, returns_status, lets_go, lets_walk, resumes_walk, resumes_gone, resumes_none, stops_walk, stops_none, ends_startio, ends_dpc, ends_cancel, walks_gone, walks_to, lends_to, walks_up, carries_up, tops_out, cancels, waits_armed, dequeues_packet, works_on_waiting, starts_gone, arms_waiting, disarms_next}
 

@@ -1,20 +1,7 @@
 -- What kind of work each instruction does, and which operands it has: what the laws ask of an
 -- instruction without naming it.
-use Rattle.std.specs.Prelude.{ℕ, Bool, true, false, Option, None, Some}
-use Rattle.model.specs.declared.event.Lock.{Lock}
-use Rattle.model.specs.declared.event.Lock.TheVariants.{SystemCancel}
-use Rattle.model.specs.declared.instr.Instr.{Instr}
-use Rattle.model.specs.declared.instr.Instr.TheVariants.{Const, Move, Clear, Add, Subtract, JumpIfZero, JumpIfLess, Jump, Loop, End, Load, Store, LoadPaged, StorePaged, Get, Put, Mark, Acquire, Release, AcquireCancel, ReleaseCancel, Insert, Remove, Unlink, Arm, Disarm, IfCancel, Start, Take, Begin, Next, Dequeue, Pass, Call, Complete, IfPending, Ret}
-use Rattle.model.specs.declared.instr.Return.{Return}
-use Rattle.model.specs.declared.instr.Return.TheVariants.{WithStatus, Lower, Continue, Stop, Void}
-use Rattle.model.specs.declared.set.Sort.{Sort}
-use Rattle.model.specs.declared.set.Sort.TheVariants.{Dispatch, StartIo, Dpc, Propagate, Hold, Cancel}
-use Rattle.model.specs.declared.status.Status.{Status}
-use Rattle.model.specs.declared.world.Activation.{Activation}
-use Rattle.model.specs.declared.world.Packet.{Packet}
-use Rattle.model.specs.Effect.{spin_lock}
-use Rattle.model.specs.Set.{Flow, Onward, Branches, Jumps, Opens, Closes, Leaves, flow_of}
-use Rattle.model.specs.World.{register, status_in}
+use Rattle.run_laws.specs.Prelude.{Bool, None, Option, Some, false, true, ℕ, spin_lock, Branches, Closes, Flow, Jumps, Leaves, Onward, Opens, flow_of, register, status_in, Lock, SystemCancel, Instr, Acquire, AcquireCancel, Add, Arm, Begin, Call, Clear, Complete, Const, Dequeue, Disarm, End, Get, IfCancel, IfPending, Insert, Jump, JumpIfLess, JumpIfZero, Load, LoadPaged, Loop, Mark, Move, Next, Pass, Put, Release, ReleaseCancel, Remove, Ret, Start, Store, StorePaged, Subtract, Take, Unlink, Return, Continue, Stop, Void, WithStatus, Sort, Cancel, Dispatch, Dpc, Hold, Propagate, StartIo, Status, Activation, Packet}
+use Rattle.model.specs.declared.instr.Return.TheVariants.{Lower}
 
 -- computing with registers and cells, opening and turning loops, touching paged cells, looking at a
 -- packet, writing to it, marking it, exchanging its cancel routine, taking and freeing locks,

@@ -1,19 +1,6 @@
 -- In every run of an accepted set a busy device has one token, and an idle one none.
-use Rattle.std.proofs.Common.{◌≡◌, ◌≢◌, ℕ, ◌+◌, Bool, true, false, List, [], ◌∷◌, length, Some, inl, inr, refl, ap, sym, ◌∙◌, arith, ◌++◌}
-use Rattle.std.specs.Prelude.{replicate, slice_get, slice_set, if◌then◌else◌}
-use Rattle.std.proofs.lemmas.Bool.{cases_eq}
-use Rattle.model.specs.declared.set.Sort.TheVariants.{StartIo}
-use Rattle.model.specs.declared.world.Activation.{Activation}
-use Rattle.model.specs.declared.world.Frame.TheVariants.{Routine, Walk}
-use Rattle.model.specs.declared.world.Irql.TheVariants.{Dispatch as DispatchLevel}
-use Rattle.model.specs.declared.world.Thread.{Thread}
-use Rattle.model.specs.Effect.{Outcome, top_of}
-use Rattle.model.specs.Events.{Change, rooted, settled, standing, with_stack}
-use Rattle.model.specs.Queues.{StartState, head_of, idle, without_first_to_start, without_head}
-use Rattle.model.specs.Run.{begun}
-use Rattle.model.specs.Set.{Set}
-use Rattle.model.specs.Trace.{Actor, Entry}
-use Rattle.model.specs.World.{World, start_of}
+use Rattle.run_laws.specs.Prelude.{ap, arith, inl, inr, refl, sym, ◌∙◌, cases_eq, Bool, List, Some, [], false, if◌then◌else◌, length, replicate, slice_get, slice_set, true, ℕ, ◌++◌, ◌+◌, ◌∷◌, ◌≡◌, ◌≢◌, Outcome, top_of, Change, settled, standing, with_stack, StartState, head_of, idle, without_first_to_start, without_head, begun, Set, Actor, Entry, World, start_of, StartIo, Activation, Frame, Routine, Walk, DispatchLevel, Thread}
+use Rattle.model.specs.Events.{rooted}
 use Rattle.run_laws.specs.Holder.{stack_sum, thread_sum}
 use Rattle.run_laws.specs.OneToken.{frame_tokens, start_tokens, tokens}
 use Rattle.run_laws.proofs.Holders.Runs.{idle_sum, top_changed}
@@ -32,7 +19,6 @@ use Rattle.run_laws.proofs.Tokens.Steps.{EvenFor, TokenStep, begun_tokens, frame
 use Rattle.run_laws.proofs.Tokens.Sums.{OneTokenEach, few_tokens}
 use Rattle.run_laws.proofs.Steps.Below.{stood}
 use Rattle.std.proofs.lemmas.List.{append-nil}
-use Rattle.model.specs.declared.world.Frame.{Frame}
 
 -- StartIo begins for the first packet of a start list
 without_first : (entries : List ℕ) (n : ℕ) → head_of entries ≡ Some n

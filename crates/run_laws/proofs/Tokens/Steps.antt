@@ -1,30 +1,7 @@
 -- A step keeps the tokens of devices: one goes from what a device has for StartIo to the routine
 -- that takes its packet, and back where the routine begins another, or starts the next one.
-use Rattle.std.proofs.Common.{◌≡◌, ◌≢◌, ◌≤◌, ℕ, ◌+◌, ◌-◌, Bool, true, false, List, [], ◌∷◌, Option, None, Some, inl, inr, refl, ap, sym, ◌∙◌, arith}
-use Rattle.std.specs.Prelude.{slice_get, slice_set, if◌then◌else◌}
-use Rattle.std.proofs.lemmas.Bool.{cases_eq, cond_both, eq-eqb, ne_eqb}
-use Rattle.std.proofs.lemmas.List.{length-append}
-use Rattle.model.specs.declared.abs.Abs.{Abs}
-use Rattle.model.specs.declared.abs.Kind.{Kind}
-use Rattle.model.specs.declared.abs.Kind.TheVariants.{New}
-use Rattle.model.specs.declared.abs.Rule.TheVariants.{CancelSpinLock, SpinLock, Token}
-use Rattle.model.specs.declared.instr.Instr.{Instr}
-use Rattle.model.specs.declared.instr.Instr.TheVariants.{Begin, Call, Complete, End, Insert, Loop, Mark, Next, Pass, Put, Remove, Ret, Start, Take, Unlink, Dequeue}
-use Rattle.model.specs.declared.instr.Return.{Return}
-use Rattle.model.specs.declared.instr.Return.TheVariants.{Continue, Stop, Void}
-use Rattle.model.specs.declared.set.Sort.{Sort}
-use Rattle.model.specs.declared.status.Status.{Status}
-use Rattle.model.specs.declared.world.Activation.{Activation}
-use Rattle.model.specs.declared.world.Frame.{Frame}
-use Rattle.model.specs.declared.world.Frame.TheVariants.{Routine, Walk, Cancel as CancelFrame}
-use Rattle.model.specs.declared.world.Packet.{Packet}
-use Rattle.model.specs.declared.world.Value.{Value}
-use Rattle.model.specs.Action.{Action}
-use Rattle.model.specs.Effect.{Outcome, answered_in, completes_with, dispatched, operand_of, turned, routine_of_device}
-use Rattle.model.specs.LocalRule.{broken_if, form_fault, given_down, gives_back, handed, handed_at_label, holds_spin_lock, kept_fault, kind_of, least_of, left_packet, marked, refuses, settled_fault}
-use Rattle.model.specs.Queues.{StartState, next_of, started, with_slot}
-use Rattle.model.specs.Set.{Set, flow_of, instruction_at, lower_of, sort_of, cancels_for}
-use Rattle.model.specs.World.{Shared, asked_of, current_location, next, register, start_of, entered, with_start}
+use Rattle.run_laws.specs.Prelude.{ap, arith, inl, inr, refl, sym, ◌-◌, ◌∙◌, cases_eq, cond_both, eq-eqb, ne_eqb, length-append, Bool, List, None, Option, Some, [], false, if◌then◌else◌, slice_get, slice_set, true, ℕ, ◌+◌, ◌∷◌, ◌≡◌, ◌≢◌, ◌≤◌, Action, Outcome, answered_in, completes_with, dispatched, operand_of, routine_of_device, turned, broken_if, form_fault, given_down, gives_back, handed, handed_at_label, holds_spin_lock, kept_fault, kind_of, least_of, marked, refuses, settled_fault, StartState, dequeued, next_of, next_started, started, with_slot, Set, cancels_for, flow_of, instruction_at, lower_of, sort_of, Shared, asked_of, current_location, entered, next, register, start_of, with_start, Abs, Kind, New, CancelSpinLock, SpinLock, Token, Instr, Begin, Call, Complete, Dequeue, End, Insert, Loop, Mark, Next, Pass, Put, Remove, Ret, Start, Take, Unlink, Return, Continue, Stop, Void, QueueName, Sort, Cancel, Status, Activation, Armer, CancelStep, Frame, CancelFrame, Routine, Walk, Packet, Value, Ref}
+use Rattle.model.specs.LocalRule.{left_packet}
 use Rattle.run_laws.specs.Holder.{stack_sum}
 use Rattle.run_laws.specs.OneToken.{frame_tokens, slot_tokens, start_tokens}
 use Rattle.run_laws.proofs.Lists.{set_other, set_same}
@@ -43,14 +20,8 @@ use Rattle.run_laws.proofs.Steps.Onward.{goes_device}
 use Rattle.run_laws.proofs.Steps.Words.{Queueing, Work, is_touching, work_of}
 use Rattle.run_laws.proofs.Tests.{and_false, if_one}
 use Rattle.run_laws.proofs.Tokens.Sums.{FewTokens, own_token}
-use Rattle.model.specs.declared.set.QueueName.{QueueName}
-use Rattle.model.specs.declared.set.Sort.TheVariants.{Cancel}
-use Rattle.model.specs.declared.world.CancelStep.{CancelStep}
 use Rattle.run_laws.proofs.States.Cancelled.{begins_called}
-use Rattle.model.specs.declared.world.Value.TheVariants.{Ref}
 use Rattle.run_laws.proofs.Steps.Comes.{Waits, arms_waiting, disarms_next, starts_gone, dequeues_packet, works_on_waiting}
-use Rattle.model.specs.declared.world.Armer.{Armer}
-use Rattle.model.specs.Queues.{dequeued, next_started}
 
 -- the tokens of a device with a frame and in what it has for StartIo, before and after a step, and
 -- whether it is busy

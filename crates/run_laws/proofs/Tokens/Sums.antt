@@ -1,14 +1,6 @@
 -- What a run keeps of the tokens of devices: a busy one has one, an idle one none and nothing that
 -- waits.
-use Rattle.std.proofs.Common.{◌≡◌, ◌≤◌, ℕ, ◌+◌, true, false, List, [], ◌∷◌, length, Option, None, Some, refl, arith}
-use Rattle.std.specs.Prelude.{if◌then◌else◌}
-use Rattle.std.proofs.lemmas.Bool.{eq-eqb}
-use Rattle.model.specs.declared.world.Activation.{Activation}
-use Rattle.model.specs.declared.world.Frame.{Frame}
-use Rattle.model.specs.declared.world.Frame.TheVariants.{Routine}
-use Rattle.model.specs.Queues.{StartState}
-use Rattle.model.specs.Set.{Set}
-use Rattle.model.specs.World.{Shared, World, start_of}
+use Rattle.run_laws.specs.Prelude.{arith, refl, eq-eqb, List, None, Option, Some, [], false, if◌then◌else◌, length, true, ℕ, ◌+◌, ◌∷◌, ◌≡◌, ◌≤◌, StartState, Set, Shared, World, start_of, Activation, Frame, Routine}
 use Rattle.run_laws.specs.OneToken.{frame_tokens, slot_tokens, start_tokens, tokens}
 use Rattle.run_laws.proofs.Holders.Sums.{top_le}
 use Rattle.run_laws.proofs.Runs.Events.{StepsFrame}

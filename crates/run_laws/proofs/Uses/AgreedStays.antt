@@ -1,14 +1,6 @@
 -- What was agreed on for a use isn't broken by what becomes of its packet, and what waits for the
 -- use below goes on to, until that is left.
-use Rattle.std.proofs.Common.{◌≡◌, ℕ, zero, suc, ◌-◌, ◌<◌, ◌≤◌, ◌⊎◌, inl, inr, List, [], ◌∷◌, length, drop, Option, None, Some, Bool, true, false, refl, ap, sym, ◌∙◌, subst, arith}
-use Rattle.std.specs.Prelude.{◌||◌, All, nat_eq, nat_lt, slice_get, slice_set, if◌then◌else◌}
-use Rattle.std.proofs.lemmas.Bool.{lt-ltb}
-use Rattle.std.proofs.lemmas.Bool.Decides.{eqb_tells}
-use Rattle.model.specs.declared.world.Location.{Location}
-use Rattle.model.specs.declared.world.Packet.{Packet}
-use Rattle.model.specs.PendingAgreement.{is_use, marks_left, was_marked}
-use Rattle.model.specs.Trace.{Entry, Serving, uses, uses_opened}
-use Rattle.model.specs.World.{copied_location, current_location, is_marked, mark_current, marked_location, new_packet, sent_down}
+use Rattle.run_laws.specs.Prelude.{ap, arith, drop, inl, inr, refl, subst, sym, zero, ◌-◌, ◌∙◌, lt-ltb, eqb_tells, All, Bool, List, None, Option, Some, [], false, if◌then◌else◌, length, nat_eq, nat_lt, slice_get, slice_set, suc, true, ℕ, ◌<◌, ◌||◌, ◌∷◌, ◌≡◌, ◌≤◌, ◌⊎◌, is_use, marks_left, was_marked, Entry, Serving, uses, uses_opened, copied_location, current_location, is_marked, mark_current, marked_location, new_packet, sent_down, Location, Packet}
 use Rattle.run_laws.proofs.Uses.Fates.{nth_use, Falls, MarksTell, PacketUses, Traced, fate_in}
 use Rattle.run_laws.proofs.Room.Locations.{marked_here}
 use Rattle.run_laws.proofs.Uses.FateFacts.{copied_unmarked, fate_absent, fate_head, fate_marked, fate_rest, fate_same, fate_there, fate_true, written_unmarked}

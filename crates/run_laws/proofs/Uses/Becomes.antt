@@ -1,18 +1,6 @@
 -- What an event does to a packet and its uses: what becomes of it, case by case; and what a live
 -- packet and the trace tell of each other is kept.
-use Rattle.std.proofs.Common.{◌≡◌, ◌≢◌, ℕ, ◌-◌, ◌<◌, ◌≤◌, ◌⊎◌, inl, inr, List, [], ◌∷◌, length, drop, Option, None, Some, Bool, true, false, refl, ap, sym, ◌∙◌, subst, arith}
-use Rattle.std.specs.Prelude.{◌||◌, replicate, slice_get, slice_set, if◌then◌else◌}
-use Rattle.std.proofs.lemmas.Bool.{eq-eqb}
-use Rattle.std.proofs.lemmas.Bool.Decides.{eqb_tells}
-use Rattle.std.proofs.lemmas.List.{length-replicate, length-set}
-use Rattle.model.specs.declared.status.Major.{Major}
-use Rattle.model.specs.declared.world.Completion.{Completion}
-use Rattle.model.specs.declared.world.Location.{Location}
-use Rattle.model.specs.declared.world.Packet.{Packet}
-use Rattle.model.specs.Fault.{depth, stack_size}
-use Rattle.model.specs.PendingAgreement.{is_use, marks_left, was_marked}
-use Rattle.model.specs.Trace.{Entry, Serving, current_use, uses, uses_opened}
-use Rattle.model.specs.World.{completion_of, copied_location, current_location, is_marked, mark_current, marked_location, new_packet, sent_down, unused_location}
+use Rattle.run_laws.specs.Prelude.{ap, arith, drop, inl, inr, refl, subst, sym, ◌-◌, ◌∙◌, eq-eqb, eqb_tells, length-replicate, length-set, Bool, List, None, Option, Some, [], false, if◌then◌else◌, length, replicate, slice_get, slice_set, true, ℕ, ◌<◌, ◌||◌, ◌∷◌, ◌≡◌, ◌≢◌, ◌≤◌, ◌⊎◌, depth, stack_size, is_use, marks_left, was_marked, Entry, Serving, current_use, uses, uses_opened, completion_of, copied_location, current_location, is_marked, mark_current, marked_location, new_packet, sent_down, unused_location, Major, Completion, Location, Packet}
 use Rattle.run_laws.proofs.Uses.Fates.{nth_use, Falls, MarksTell, PacketUses, Traced, Unleft}
 use Rattle.run_laws.proofs.Room.Locations.{marked_completion, marked_here, marked_other}
 use Rattle.run_laws.proofs.Uses.FateFacts.{copied_unmarked, written_unmarked}

@@ -1,20 +1,6 @@
 -- What a step of IoCancelIrp does to each packet and its uses: nothing, since it writes a packet's
 -- cancel flag and cancel word alone.
-use Rattle.std.proofs.Common.{◌≡◌, ℕ, List, [], ◌∷◌, None, Some, Bool, false, refl, ap}
-use Rattle.std.specs.Prelude.{slice_get}
-use Rattle.std.specs.List.{list_any}
-use Rattle.model.specs.declared.event.Lock.TheVariants.{SystemCancel}
-use Rattle.model.specs.declared.world.CancelStep.{CancelStep}
-use Rattle.model.specs.declared.world.CancelStep.TheVariants.{Exchange}
-use Rattle.model.specs.declared.world.Frame.{Frame}
-use Rattle.model.specs.declared.world.Frame.TheVariants.{Routine, Cancel as CancelFrame}
-use Rattle.model.specs.declared.world.Packet.{Packet}
-use Rattle.model.specs.declared.world.Value.TheVariants.{Ref}
-use Rattle.model.specs.Action.{Action, Exchanges, Releases}
-use Rattle.model.specs.Effect.{Outcome, goes_on_cancelling, leaves, routine_of_device}
-use Rattle.model.specs.Set.{Set}
-use Rattle.model.specs.Trace.{Actor, Entry}
-use Rattle.model.specs.World.{Shared, cancelled, entered, packet_of, with_armer, with_packet}
+use Rattle.run_laws.specs.Prelude.{ap, refl, list_any, Bool, List, None, Some, [], false, slice_get, ℕ, ◌∷◌, ◌≡◌, Action, Exchanges, Releases, Outcome, goes_on_cancelling, leaves, routine_of_device, Set, Actor, Entry, Shared, cancelled, entered, packet_of, with_armer, with_packet, SystemCancel, CancelStep, Exchange, Frame, CancelFrame, Routine, Packet, Ref}
 use Rattle.run_laws.proofs.Past.LivePackets.{find}
 use Rattle.run_laws.specs.ArrivingStates.{States}
 use Rattle.run_laws.proofs.Steps.Comes.{Cancels, awaits_cancel, calls_cancel, exchanges_gone, finds_empty, finds_none, flags_gone, retakes_cancel, sets_flag, takes_cancel}

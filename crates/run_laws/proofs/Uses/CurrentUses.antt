@@ -1,15 +1,7 @@
 -- Where something is agreed on for a use: its location is the current one and marked, or its packet
 -- is on its way up and it isn't; and what is agreed on for the use below is agreed on for one that
 -- is linked to it.
-use Rattle.std.proofs.Common.{◌≡◌, ℕ, suc, ◌-◌, ◌<◌, ◌⊎◌, inl, inr, List, [], ◌∷◌, length, Some, Bool, true, false, refl, ap, sym, ◌∙◌, subst, arith}
-use Rattle.std.specs.Prelude.{◌||◌, All, nat_eq, nat_lt, slice_get}
-use Rattle.std.proofs.lemmas.Bool.Decides.{eqb_tells}
-use Rattle.std.proofs.lemmas.List.Elements.{All-nil}
-use Rattle.model.specs.declared.world.Location.{Location}
-use Rattle.model.specs.declared.world.Packet.{Packet}
-use Rattle.model.specs.PendingAgreement.{marks_left}
-use Rattle.model.specs.Trace.{Entry, Serving, current_use, uses, uses_opened}
-use Rattle.model.specs.World.{World, current_location, is_marked}
+use Rattle.run_laws.specs.Prelude.{ap, arith, inl, inr, refl, subst, sym, ◌-◌, ◌∙◌, eqb_tells, All-nil, All, Bool, List, Some, [], false, length, nat_eq, nat_lt, slice_get, suc, true, ℕ, ◌<◌, ◌||◌, ◌∷◌, ◌≡◌, ◌⊎◌, marks_left, Entry, Serving, current_use, uses, uses_opened, World, current_location, is_marked, Location, Packet}
 use Rattle.run_laws.proofs.Tests.{or_second}
 use Rattle.run_laws.proofs.Uses.Fates.{nth_use, Agreed, Falls, Linked, PacketUses, Unleft, UsesTell, WaitsAbove, fate, fate_in, late_marks}
 use Rattle.run_laws.proofs.Uses.FateFacts.{fate_head, fate_rest}

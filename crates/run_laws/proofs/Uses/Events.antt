@@ -1,21 +1,6 @@
 -- What an event does to each packet and its uses; so it keeps what live packets and the trace tell
 -- of each other, what was agreed on for a use, and that a use waits for the one below it.
-use Rattle.std.proofs.Common.{◌≡◌, ℕ, ◌+◌, ◌-◌, inl, inr, List, [], ◌∷◌, ◌++◌, None, Option, Some, Bool, refl, ap, sym, ◌∙◌, subst, arith, slice_get}
-use Rattle.std.specs.Prelude.{nat_lt, slice_set}
-use Rattle.std.proofs.lemmas.Bool.Decides.{eqb_tells}
-use Rattle.model.specs.declared.world.Activation.{Activation}
-use Rattle.model.specs.declared.world.Frame.{Frame}
-use Rattle.model.specs.declared.world.Irql.TheVariants.{Passive}
-use Rattle.model.specs.declared.world.Frame.TheVariants.{Routine, Walk, Cancel as CancelFrame}
-use Rattle.model.specs.declared.world.Packet.{Packet}
-use Rattle.model.specs.declared.world.Thread.{Thread}
-use Rattle.model.specs.Effect.{Outcome, top_of}
-use Rattle.model.specs.Events.{Change, standing, with_stack}
-use Rattle.model.specs.Fault.{first_fault}
-use Rattle.model.specs.Run.{frames_on}
-use Rattle.model.specs.Set.{Set}
-use Rattle.model.specs.Trace.{Actor, Entry, Managing, Serving, recorded, uses}
-use Rattle.model.specs.World.{World, new_packet}
+use Rattle.run_laws.specs.Prelude.{ap, arith, inl, inr, refl, subst, sym, ◌-◌, ◌∙◌, eqb_tells, Bool, List, None, Option, Some, [], nat_lt, slice_get, slice_set, ℕ, ◌++◌, ◌+◌, ◌∷◌, ◌≡◌, Outcome, answered, answered_in, operand_of, top_of, Change, standing, with_stack, first_fault, frames_on, Set, instruction_at, member, sort_of, Actor, Entry, Managing, Serving, recorded, uses, World, new_packet, Stop, Status, Success, Activation, Canceller, Frame, CancelFrame, Routine, Walk, Passive, Packet, Thread}
 use Rattle.run_laws.proofs.Holders.Lent.{hold_sort}
 use Rattle.run_laws.proofs.Holders.Runs.{top_holding}
 use Rattle.run_laws.proofs.Holders.Sums.{Held}
@@ -44,13 +29,7 @@ use Rattle.run_laws.proofs.Uses.WalkSteps.{walk_used}
 use Rattle.run_laws.proofs.Room.Marked.{LentMarked}
 use Rattle.run_laws.proofs.Lists.{Each}
 use Rattle.run_laws.proofs.States.Known.{IsKnown}
-use Rattle.model.specs.declared.world.Canceller.{Canceller}
-use Rattle.model.specs.declared.status.Status.{Status}
-use Rattle.model.specs.declared.status.Status.TheVariants.{Success}
-use Rattle.model.specs.Effect.{answered, answered_in, operand_of}
-use Rattle.model.specs.Set.{instruction_at, member, sort_of}
 use Rattle.run_laws.proofs.States.Entering.{sort_there}
-use Rattle.model.specs.declared.instr.Return.TheVariants.{Stop}
 use Rattle.run_laws.proofs.Uses.TopFrames.{FrameOn, KnownTop, steps_routine, steps_walk}
 use Rattle.run_laws.proofs.Uses.Traced.{same_recorded, same_uses, traced_begun, traced_recorded}
 

@@ -1,12 +1,6 @@
 -- Facts of fates: where all are true, where they stay, and how a location that is marked or written
 -- changes them.
-use Rattle.std.proofs.Common.{◌≡◌, ℕ, ◌<◌, ◌≤◌, inl, inr, List, [], ◌∷◌, length, Option, None, Some, Bool, true, false, get_or, refl, ap, sym, ◌∙◌, subst, arith}
-use Rattle.std.specs.Prelude.{◌||◌, nat_eq, slice_get, slice_set, if◌then◌else◌}
-use Rattle.std.proofs.lemmas.Bool.{eq-eqb}
-use Rattle.std.proofs.lemmas.Bool.Decides.{eqb_tells}
-use Rattle.model.specs.declared.world.Completion.{Completion}
-use Rattle.model.specs.declared.world.Location.{Location}
-use Rattle.model.specs.World.{copied_location, is_marked, unused_location}
+use Rattle.run_laws.specs.Prelude.{ap, arith, get_or, inl, inr, refl, subst, sym, ◌∙◌, eq-eqb, eqb_tells, Bool, List, None, Option, Some, [], false, if◌then◌else◌, length, nat_eq, slice_get, slice_set, true, ℕ, ◌<◌, ◌||◌, ◌∷◌, ◌≡◌, ◌≤◌, copied_location, is_marked, unused_location, Completion, Location}
 use Rattle.run_laws.proofs.Room.Locations.{location_there}
 use Rattle.run_laws.proofs.Uses.Fates.{Falls, fate_in}
 use Rattle.run_laws.proofs.Lists.{set_same}

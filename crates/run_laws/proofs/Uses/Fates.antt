@@ -1,18 +1,6 @@
 -- How the use of a packet's location was left, or will be: marked, where its location is marked, or
 -- one under it whose mark will be carried up to it.
-use Rattle.std.proofs.Common.{◌≡◌, ℕ, ◌+◌, ◌<◌, ◌≤◌, ◌⊎◌, List, [], ◌∷◌, length, Option, None, Some, Bool, true, false}
-use Rattle.std.specs.Prelude.{⊤, ◌||◌, All, nat_eq, nat_lt, slice_get, if◌then◌else◌}
-use Rattle.model.specs.declared.abs.Settled.{Settled}
-use Rattle.model.specs.declared.abs.Settled.TheVariants.{Open, NeedMark, Settled as SettledMark}
-use Rattle.model.specs.declared.world.Frame.{Frame}
-use Rattle.model.specs.declared.world.Frame.TheVariants.{Routine, Walk}
-use Rattle.model.specs.declared.world.Location.{Location}
-use Rattle.model.specs.declared.world.Packet.{Packet}
-use Rattle.model.specs.declared.world.Thread.{Thread}
-use Rattle.model.specs.Fault.{depth, stack_size}
-use Rattle.model.specs.PendingAgreement.{marks_left, was_marked}
-use Rattle.model.specs.Trace.{Entry, Serving, uses, uses_opened}
-use Rattle.model.specs.World.{World, completion_of, is_marked}
+use Rattle.run_laws.specs.Prelude.{All, Bool, List, None, Option, Some, [], false, if◌then◌else◌, length, nat_eq, nat_lt, slice_get, true, ℕ, ⊤, ◌+◌, ◌<◌, ◌||◌, ◌∷◌, ◌≡◌, ◌≤◌, ◌⊎◌, depth, stack_size, marks_left, was_marked, Entry, Serving, uses, uses_opened, World, completion_of, is_marked, Settled, NeedMark, Open, SettledMark, Frame, Routine, Walk, Location, Packet, Thread}
 use Rattle.run_laws.specs.ArrivingStates.{States}
 use Rattle.run_laws.proofs.Past.LivePackets.{find}
 

@@ -1,18 +1,6 @@
 -- A completion routine that is lent a packet has no mark to carry up, and sees no packet on its way
 -- up, in any state that arrives at a position.
-use Rattle.std.proofs.Common.{◌≡◌, ℕ, false, None, Some, refl, ap, sym, ◌∙◌, subst}
-use Rattle.model.specs.declared.abs.Abs.{Abs}
-use Rattle.model.specs.declared.abs.Duty.TheVariants.{Fresh}
-use Rattle.model.specs.declared.abs.Kind.{Kind}
-use Rattle.model.specs.declared.abs.Kind.TheVariants.{New, View}
-use Rattle.model.specs.declared.abs.Settled.TheVariants.{Settled as SettledMark}
-use Rattle.model.specs.declared.instr.Instr.{Instr}
-use Rattle.model.specs.declared.instr.Instr.TheVariants.{Call, IfPending, Mark, Pass}
-use Rattle.model.specs.declared.set.Sort.{Sort}
-use Rattle.model.specs.declared.set.Sort.TheVariants.{Hold}
-use Rattle.model.specs.LocalRule.{entered_with, entry_of_sort, entry_state, given_down, handed, handed_at_label, kind_of, look_fault, marked, refuses}
-use Rattle.model.specs.Paths.{Arrives}
-use Rattle.model.specs.Set.{Member, Set, cancels_for}
+use Rattle.run_laws.specs.Prelude.{ap, refl, subst, sym, ◌∙◌, None, Some, false, ℕ, ◌≡◌, entered_with, entry_of_sort, entry_state, given_down, handed, handed_at_label, kind_of, look_fault, marked, refuses, Arrives, Member, Set, cancels_for, Abs, Fresh, Kind, New, View, SettledMark, Instr, Call, IfPending, Mark, Pass, Sort, Hold}
 use Rattle.run_laws.proofs.States.Along.{arrives_keep}
 
 abbrev IsSettled : Abs → Type 0

@@ -8,23 +8,8 @@ use Rattle.run_laws.specs.ArrivingStates.{States}
 use Rattle.run_laws.proofs.States.Told.{last_under, told_frame, told_is, told_last}
 use Rattle.run_laws.proofs.Tests.{if_none}
 use Rattle.run_laws.proofs.Uses.Fates.{late_in, late_mark, late_marks, late_on}
-use Rattle.std.proofs.Common.{◌≡◌, ℕ, zero, suc, ◌+◌, ◌-◌, ◌≤◌, inl, inr, List, [], ◌∷◌, ◌++◌, Option, None, Some, Bool, true, false, cond, refl, ap, ◌∙◌, subst, arith}
-use Rattle.std.specs.Prelude.{⊤, slice_get, slice_set, if◌then◌else◌}
-use Rattle.std.proofs.lemmas.Bool.{cases_Bool, eq-eqb}
-use Rattle.std.proofs.lemmas.Bool.Decides.{eqb_tells}
-use Rattle.model.specs.declared.abs.Settled.{Settled}
-use Rattle.model.specs.declared.abs.Settled.TheVariants.{Open, NeedMark, Settled as SettledMark}
-use Rattle.model.specs.declared.status.Status.{Status}
-use Rattle.model.specs.declared.world.Activation.{Activation}
-use Rattle.model.specs.declared.world.Frame.{Frame}
-use Rattle.model.specs.declared.world.Frame.TheVariants.{Routine, Walk, Cancel as CancelFrame}
-use Rattle.model.specs.declared.world.Packet.{Packet}
-use Rattle.model.specs.declared.world.Thread.{Thread}
-use Rattle.model.specs.Effect.{answered_in, operand_of, told_to}
-use Rattle.model.specs.LocalRule.{is_hold}
-use Rattle.model.specs.Set.{Set, instruction_at, sort_of}
+use Rattle.run_laws.specs.Prelude.{ap, arith, cond, inl, inr, refl, subst, zero, ◌-◌, ◌∙◌, cases_Bool, eq-eqb, eqb_tells, Bool, List, None, Option, Some, [], false, if◌then◌else◌, slice_get, slice_set, suc, true, ℕ, ⊤, ◌++◌, ◌+◌, ◌∷◌, ◌≡◌, ◌≤◌, answered_in, operand_of, told_to, is_hold, Set, instruction_at, sort_of, World, Settled, NeedMark, Open, SettledMark, Status, Activation, Frame, CancelFrame, Routine, Walk, Packet, Thread}
 use Rattle.run_laws.proofs.Lists.{Each}
-use Rattle.model.specs.World.{World}
 
 -- at most one for each of the packet's frames
 late_one : (returned : Bool) (carried : Settled) → late_mark returned carried ≤ 1

@@ -1,13 +1,6 @@
 -- A use that waits for the one below it goes on to, until that one is left; then what it was left
 -- with is agreed on for the use above.
-use Rattle.std.proofs.Common.{◌≡◌, ℕ, suc, ◌+◌, ◌-◌, ◌<◌, ◌≤◌, ◌⊎◌, inl, inr, List, [], ◌∷◌, length, drop, Option, None, Some, Bool, true, false, refl, ap, sym, ◌∙◌, subst, arith}
-use Rattle.std.specs.Prelude.{◌||◌, All, nat_lt, slice_get, slice_set}
-use Rattle.std.proofs.lemmas.List.Elements.{All-nil}
-use Rattle.model.specs.declared.world.Location.{Location}
-use Rattle.model.specs.declared.world.Packet.{Packet}
-use Rattle.model.specs.PendingAgreement.{marks_left, was_marked}
-use Rattle.model.specs.Trace.{Entry, Serving, uses, uses_opened}
-use Rattle.model.specs.World.{copied_location, current_location, is_marked, mark_current, marked_location, sent_down}
+use Rattle.run_laws.specs.Prelude.{ap, arith, drop, inl, inr, refl, subst, sym, ◌-◌, ◌∙◌, All-nil, All, Bool, List, None, Option, Some, [], false, length, nat_lt, slice_get, slice_set, suc, true, ℕ, ◌+◌, ◌<◌, ◌||◌, ◌∷◌, ◌≡◌, ◌≤◌, ◌⊎◌, marks_left, was_marked, Entry, Serving, uses, uses_opened, copied_location, current_location, is_marked, mark_current, marked_location, sent_down, Location, Packet}
 use Rattle.run_laws.proofs.Uses.AgreedStays.{AgreedIn, agreed_turn, bit_below, stands_of}
 use Rattle.run_laws.proofs.Uses.Fates.{nth_use, Falls, MarksTell, PacketUses, Traced, Unleft, WaitsAbove, fate_in}
 use Rattle.run_laws.proofs.Room.Locations.{marked_other}

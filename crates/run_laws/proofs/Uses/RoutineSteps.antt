@@ -1,39 +1,7 @@
 -- What a step of a routine does to each packet and its uses.
-use Rattle.std.proofs.Common.{◌≡◌, ℕ, ◌+◌, ◌-◌, ◌≤◌, ◌⊎◌, inl, inr, List, [], ◌∷◌, ◌++◌, Option, None, Some, Bool, true, false, refl, ap, sym, ◌∙◌, subst, arith}
-use Rattle.std.specs.Prelude.{⊤, is_some, nat_eq, nat_le, not, slice_get}
-use Rattle.std.specs.List.{list_any}
-use Rattle.std.proofs.lemmas.Bool.{cond_both, eq-eqb, leb-false}
-use Rattle.std.proofs.lemmas.Bool.Decides.{eqb_tells}
-use Rattle.model.specs.declared.abs.Abs.{Abs}
-use Rattle.model.specs.declared.abs.Kind.{Kind}
-use Rattle.model.specs.declared.abs.Kind.TheVariants.{New, View}
-use Rattle.model.specs.declared.abs.Rule.TheVariants.{Completion as CompletionRule}
-use Rattle.model.specs.declared.abs.Settled.{Settled}
-use Rattle.model.specs.declared.abs.Settled.TheVariants.{NeedMark, Open, Settled as SettledMark}
-use Rattle.model.specs.declared.event.Reply.{Reply}
-use Rattle.model.specs.declared.event.Reply.TheVariants.{Stepped, Waited}
-use Rattle.model.specs.declared.event.Bug.{Bug}
-use Rattle.model.specs.declared.event.BugCheck.TheVariants.{IrqlNotLessOrEqual, NoMoreIrpStackLocations}
-use Rattle.model.specs.declared.event.Subject.TheVariants.{Packet as PacketSubject}
-use Rattle.model.specs.declared.instr.Instr.{Instr}
-use Rattle.model.specs.declared.instr.Instr.TheVariants.{Call, Complete, End, Get, IfCancel, IfPending, Loop, Mark, Pass, Put, Ret}
-use Rattle.model.specs.declared.instr.Return.{Return}
-use Rattle.model.specs.declared.instr.Return.TheVariants.{Continue, Stop, Void}
-use Rattle.model.specs.declared.set.Sort.{Sort}
-use Rattle.model.specs.declared.set.Sort.TheVariants.{Hold, Propagate}
-use Rattle.model.specs.declared.world.Activation.{Activation}
-use Rattle.model.specs.declared.world.Frame.{Frame}
-use Rattle.model.specs.declared.world.Frame.TheVariants.{Routine, Walk, Cancel as CancelFrame}
-use Rattle.model.specs.declared.world.OpenLoop.{OpenLoop}
-use Rattle.model.specs.declared.world.Packet.{Packet}
-use Rattle.model.specs.Action.{Action, Acquires, Calls, Completes, Continues, Exchanges, Executes, GoesWrong, Marks, Releases, Touches, TouchesPaged}
-use Rattle.model.specs.Effect.{Outcome, asks, dispatched, goes_on, goes_wrong, leaves, set_by, turned}
-use Rattle.model.specs.Fault.{depth, first_fault, stack_size, bug_if, first_or, topped}
-use Rattle.model.specs.LocalRule.{broken_if, is_completion, is_settled, kind_of, look_fault, mark_fault, marked, refuses, settled_fault}
-use Rattle.model.specs.Kinds.{is_right, is_view}
-use Rattle.model.specs.Set.{Set, flow_of, sort_of}
-use Rattle.model.specs.Trace.{Actor, Entry}
-use Rattle.model.specs.World.{Shared, asked_of, completed, current_location, innermost, mark_current, next, packet_of, sent_down, shared_with, with_armer, with_info, with_locks, with_loops, with_owner, with_packet}
+use Rattle.run_laws.specs.Prelude.{ap, arith, inl, inr, refl, subst, sym, ◌-◌, ◌∙◌, cond_both, eq-eqb, leb-false, eqb_tells, list_any, Bool, List, None, Option, Some, [], false, is_some, nat_eq, nat_le, not, slice_get, true, ℕ, ⊤, ◌++◌, ◌+◌, ◌∷◌, ◌≡◌, ◌≤◌, ◌⊎◌, Acquires, Action, Calls, Completes, Continues, Exchanges, Executes, GoesWrong, Marks, Releases, Touches, TouchesPaged, Outcome, asks, dispatched, goes_on, goes_wrong, leaves, set_by, turned, bug_if, depth, first_fault, first_or, stack_size, topped, is_right, is_view, broken_if, is_completion, kind_of, look_fault, mark_fault, marked, refuses, settled_fault, StartState, Set, flow_of, sort_of, Actor, Entry, Shared, asked_of, completed, current_location, innermost, mark_current, next, packet_of, sent_down, shared_with, with_armer, with_info, with_locks, with_loops, with_owner, with_packet, Abs, Kind, New, View, CompletionRule, Settled, NeedMark, Open, SettledMark, Bug, IrqlNotLessOrEqual, Reply, Stepped, Waited, PacketSubject, Instr, Call, Complete, End, Get, IfCancel, IfPending, Loop, Mark, Pass, Put, Ret, Return, Continue, Stop, Void, Sort, Hold, Propagate, Activation, Armer, Frame, CancelFrame, Routine, Walk, OpenLoop, Packet}
+use Rattle.model.specs.declared.event.BugCheck.TheVariants.{NoMoreIrpStackLocations}
+use Rattle.model.specs.LocalRule.{is_settled}
 use Rattle.run_laws.specs.Holder.{frame_rights}
 use Rattle.run_laws.proofs.Holders.Sums.{held, own_if, unheld}
 use Rattle.run_laws.proofs.Past.LivePackets.{find}
@@ -56,13 +24,11 @@ use Rattle.run_laws.proofs.Past.Stacks.{shared_length}
 use Rattle.run_laws.proofs.Uses.Fates.{late_in, late_mark, late_on}
 use Rattle.run_laws.proofs.Uses.Traced.{is_about}
 use Rattle.run_laws.proofs.Uses.Steps.{UseStep, apart_at, becomes_at, found_other, found_put, late_of, split_step, written_step}
-use Rattle.model.specs.Queues.{StartState}
 use Rattle.run_laws.proofs.Steps.Queues.{queued_work, queued_touches}
 use Rattle.run_laws.proofs.States.Queueing.{queue_moves, MovedOn}
 use Rattle.run_laws.proofs.Steps.Comes.{Waits, works_on_waiting}
 use Rattle.run_laws.proofs.States.Queueing.{waits_move}
 use Rattle.run_laws.proofs.Steps.Queues.{waits_work}
-use Rattle.model.specs.declared.world.Armer.{Armer}
 
 -- a routine that goes on has as much to carry up as before, and what stands on one carries nothing
 pub late_still : (states : States) (returned : Bool) (n : ℕ) (under : Option Frame)

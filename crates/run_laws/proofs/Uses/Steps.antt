@@ -1,17 +1,6 @@
 -- What a step of a frame does to each packet and its uses, and to the marks that have still to be
 -- carried up.
-use Rattle.std.proofs.Common.{◌≡◌, ℕ, ◌+◌, ◌≤◌, inl, inr, List, length, Option, None, Some, Bool, true, false, refl, ap, sym, ◌∙◌, subst, arith}
-use Rattle.std.specs.Prelude.{nat_eq, slice_get, slice_set}
-use Rattle.std.specs.List.{list_any}
-use Rattle.std.proofs.lemmas.Bool.{eq-eqb}
-use Rattle.std.proofs.lemmas.Bool.Decides.{eqb_tells}
-use Rattle.model.specs.declared.world.Frame.{Frame}
-use Rattle.model.specs.declared.world.Frame.TheVariants.{Walk}
-use Rattle.model.specs.declared.world.Packet.{Packet}
-use Rattle.model.specs.Action.{Action}
-use Rattle.model.specs.Effect.{Outcome, leaves}
-use Rattle.model.specs.Trace.{Actor, Entry, recorded}
-use Rattle.model.specs.World.{Shared, completion_of, is_marked, packet_of, place_of, with_packet}
+use Rattle.run_laws.specs.Prelude.{ap, arith, inl, inr, refl, subst, sym, ◌∙◌, eq-eqb, eqb_tells, list_any, Bool, List, None, Option, Some, false, length, nat_eq, slice_get, slice_set, true, ℕ, ◌+◌, ◌≡◌, ◌≤◌, Action, Outcome, leaves, Actor, Entry, recorded, Shared, completion_of, is_marked, packet_of, place_of, with_packet, Frame, Walk, Packet}
 use Rattle.run_laws.proofs.Holders.Sums.{held}
 use Rattle.run_laws.proofs.Past.LivePackets.{find, find_set}
 use Rattle.run_laws.proofs.Past.Packets.{found, numbered}

@@ -1,26 +1,11 @@
 -- What is known of a thread's top frame that steps, over another frame or none: it stands as it
 -- should, its rights are to live packets, and what it sees and stands on is as its sort says.
-use Rattle.std.proofs.Common.{◌≡◌, ℕ, List, Option, None, Some, true, false, refl, ap, sym, ◌∙◌, arith, inl, inr}
-use Rattle.std.specs.Prelude.{⊤}
-use Rattle.model.specs.declared.abs.Abs.{Abs}
-use Rattle.model.specs.declared.instr.Instr.TheVariants.{End}
-use Rattle.model.specs.declared.set.Sort.{Sort}
-use Rattle.model.specs.declared.set.Sort.TheVariants.{Dispatch, Hold}
-use Rattle.model.specs.declared.world.Activation.{Activation}
-use Rattle.model.specs.declared.world.Frame.{Frame}
-use Rattle.model.specs.declared.world.Frame.TheVariants.{Routine, Walk, Cancel as CancelFrame}
-use Rattle.model.specs.LocalRule.{kind_of}
-use Rattle.model.specs.Kinds.{is_new, is_view}
-use Rattle.model.specs.Set.{Set, member, sort_of}
-use Rattle.model.specs.Trace.{Actor, Entry}
-use Rattle.model.specs.World.{Shared, register}
+use Rattle.run_laws.specs.Prelude.{ap, arith, inl, inr, refl, sym, ◌∙◌, List, None, Option, Some, false, true, ℕ, ⊤, ◌≡◌, is_new, is_view, kind_of, Set, member, sort_of, Actor, Entry, Shared, register, Abs, SettledMark, End, Sort, Dispatch, Hold, Activation, Frame, CancelFrame, Routine, Walk, Packet}
 use Rattle.run_laws.proofs.Holders.Counts.{Holding, reads_ref, walk_taken}
 use Rattle.run_laws.proofs.Holders.Rights.{one_right, right_le}
 use Rattle.run_laws.proofs.Past.LivePackets.{find, find_place}
 use Rattle.run_laws.proofs.Room.Marked.{LentMarked}
 use Rattle.run_laws.proofs.Uses.HoldRoutines.{hold_settled}
-use Rattle.model.specs.declared.abs.Settled.TheVariants.{Settled as SettledMark}
-use Rattle.model.specs.declared.world.Packet.{Packet}
 use Rattle.run_laws.proofs.States.Entering.{IsOfSort, sort_there, begins_back, begins_lent}
 use Rattle.run_laws.proofs.States.Frames.{Stays, state_of}
 use Rattle.run_laws.proofs.States.Known.{IsKnown}

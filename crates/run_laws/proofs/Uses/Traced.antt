@@ -1,13 +1,10 @@
 -- What a trace says of uses, action by action: they are opened in order, and what isn't about a
 -- packet leaves its uses as they were.
-use Rattle.std.proofs.Common.{◌≡◌, ℕ, suc, ◌+◌, ◌-◌, ◌<◌, ◌≤◌, inl, inr, List, [], ◌∷◌, length, drop, Option, None, Some, Bool, true, false, refl, ap, ◌∙◌, arith}
-use Rattle.std.specs.Prelude.{◌||◌, nat_eq, slice_get, if◌then◌else◌}
-use Rattle.std.specs.List.{list_any}
-use Rattle.std.proofs.lemmas.Bool.Decides.{eqb_tells}
-use Rattle.model.specs.Action.{Action, OnLocation, Issue, Call, Up, Mark, Leave}
-use Rattle.model.specs.Fault.{depth, depth_after, stack_size}
-use Rattle.model.specs.PendingAgreement.{is_use, leaves_use, marks_left, marks_use, was_marked}
-use Rattle.model.specs.Trace.{Entry, Serving, Actor, current_use, entry, opens, recorded, use_of, uses, uses_after, uses_opened}
+use Rattle.run_laws.specs.Prelude.{ap, arith, drop, inl, inr, refl, ◌-◌, ◌∙◌, eqb_tells, list_any, Bool, List, None, Option, Some, [], false, if◌then◌else◌, length, nat_eq, slice_get, suc, true, ℕ, ◌+◌, ◌<◌, ◌||◌, ◌∷◌, ◌≡◌, ◌≤◌, Action, Leave, OnLocation, Up, depth, stack_size, is_use, marks_left, was_marked, Actor, Entry, Serving, current_use, entry, recorded, uses, uses_opened}
+use Rattle.model.specs.Action.{Issue, Call, Mark}
+use Rattle.model.specs.Fault.{depth_after}
+use Rattle.model.specs.PendingAgreement.{leaves_use, marks_use}
+use Rattle.model.specs.Trace.{opens, use_of, uses_after}
 use Rattle.run_laws.proofs.Uses.Fates.{Falls, Traced}
 use Rattle.run_laws.proofs.Tests.{and_false}
 use Rattle.run_laws.proofs.Tests.{or_left, or_right}

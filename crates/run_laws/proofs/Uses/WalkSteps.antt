@@ -1,25 +1,7 @@
 -- What a step of the I/O manager's frame does to each packet and its uses.
-use Rattle.std.proofs.Common.{◌≡◌, ℕ, suc, ◌+◌, ◌-◌, ◌<◌, ◌≤◌, ◌⊎◌, inl, inr, List, [], ◌∷◌, drop, Option, None, Some, Bool, true, false, refl, ap, sym, ◌∙◌, arith}
-use Rattle.std.specs.Prelude.{nat_eq, nat_lt, slice_get, if◌then◌else◌}
-use Rattle.std.proofs.lemmas.Bool.{cases_lt, cond_both, eq-eqb, ltb-false, ltb-true}
-use Rattle.model.specs.declared.abs.Settled.TheVariants.{Open, Settled as SettledMark}
-use Rattle.model.specs.declared.event.Reply.TheVariants.{Topped}
-use Rattle.model.specs.declared.world.Completion.{Completion}
-use Rattle.model.specs.declared.world.Frame.{Frame}
-use Rattle.model.specs.declared.world.Frame.TheVariants.{Routine, Walk}
-use Rattle.model.specs.declared.world.Packet.{Packet}
-use Rattle.model.specs.Action.{Action, Leaves, Lends, Marks, Touches, TopsOut, Ups}
-use Rattle.model.specs.Effect.{Outcome, completes_with, leaves, sort_of_completion}
-use Rattle.model.specs.declared.set.Sort.TheVariants.{Hold}
-use Rattle.model.specs.declared.world.Location.{Location}
-use Rattle.model.specs.Fault.{stack_size}
-use Rattle.model.specs.LocalRule.{is_hold, marked}
-use Rattle.std.specs.List.{list_any}
+use Rattle.run_laws.specs.Prelude.{ap, arith, drop, inl, inr, refl, sym, ◌-◌, ◌∙◌, cases_lt, cond_both, eq-eqb, ltb-false, ltb-true, list_any, Bool, List, None, Option, Some, [], false, if◌then◌else◌, nat_eq, nat_lt, slice_get, suc, true, ℕ, ◌+◌, ◌<◌, ◌∷◌, ◌≡◌, ◌≤◌, ◌⊎◌, Action, Lends, Marks, TopsOut, Touches, Ups, Outcome, completes_with, leaves, sort_of_completion, stack_size, is_hold, marked, is_use, marks_left, was_marked, Set, Actor, Entry, current_use, recorded, uses, Shared, completion_of, current_location, is_marked, left_location, mark_current, moved_up, packet_of, with_packet, without_packet, Open, SettledMark, Topped, Hold, Completion, Frame, Routine, Walk, Location, Packet}
+use Rattle.model.specs.Action.{Leaves}
 use Rattle.run_laws.proofs.Room.Marked.{LentMarked}
-use Rattle.model.specs.PendingAgreement.{is_use, marks_left, was_marked}
-use Rattle.model.specs.Set.{Set}
-use Rattle.model.specs.Trace.{Actor, Entry, current_use, recorded, uses}
-use Rattle.model.specs.World.{Shared, completion_of, current_location, is_marked, left_location, mark_current, moved_up, packet_of, with_packet, without_packet}
 use Rattle.run_laws.proofs.Past.LivePackets.{Rises, find, find_remove}
 use Rattle.run_laws.proofs.Past.Packets.{found, numbered}
 use Rattle.run_laws.proofs.States.Frames.{state_of}
