@@ -1,3 +1,4 @@
+pub mod Common
 pub mod Lists
 pub mod Tests
 pub mod Devices

@@ -1,8 +1,7 @@
 -- What every run of an accepted set keeps, a field a family; no event has a bug check, goes wrong
 -- or passes a bound; and each event keeps it.
 use Rattle.run_laws.proofs.Claims.Runs.{claimed_begun, claimed_kept}
-use Rattle.run_laws.specs.Prelude.{refl, ◌∙◌, length-replicate, Bool, List, None, [], false, length, slice_get, ℕ, ◌≡◌, Action, Change, first_fault, begun, root_of, Set, Actor, Entry, recorded, World, idle_thread}
-use Rattle.run_laws.specs.Rules.{Faultless}
+use Rattle.run_laws.proofs.Common.{refl, ◌∙◌, length-replicate, Bool, List, None, [], false, length, slice_get, ℕ, ◌≡◌, Action, Change, first_fault, begun, root_of, Set, Actor, Entry, recorded, World, idle_thread, States, Faultless, IsGood, Standing, right_event, standing_kept}
 use Rattle.run_laws.proofs.Accepted.Trace.{NoneWrong, recorded_right}
 use Rattle.run_laws.proofs.Depth.Granted.{same_count}
 use Rattle.run_laws.proofs.Depth.Kept.{AllFall, falls_begun, falls_event, within_bounds}
@@ -21,9 +20,7 @@ use Rattle.run_laws.proofs.Runs.Events.{Happens, StepsFrame, begins, nothing, st
 use Rattle.run_laws.proofs.Runs.Roots.{root_told}
 use Rattle.run_laws.proofs.Runs.Faultless.{recorded_faultless}
 use Rattle.run_laws.proofs.Runs.Kept.{GoesOnBy, with_queued}
-use Rattle.run_laws.proofs.States.Frames.{IsGood}
-use Rattle.run_laws.specs.ArrivingStates.{States}
-use Rattle.run_laws.proofs.States.Standing.{Standing, standing_begun, right_event, standing_kept, standing_queued}
+use Rattle.run_laws.proofs.States.Standing.{standing_begun, standing_queued}
 use Rattle.run_laws.proofs.Steps.Faults.{no_fault}
 use Rattle.run_laws.proofs.Tokens.Runs.{tokens_begun, tokens_kept, tokens_queued}
 use Rattle.run_laws.proofs.Tokens.Sums.{OneTokenEach}

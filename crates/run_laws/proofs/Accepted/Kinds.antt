@@ -1,13 +1,10 @@
 -- Registers from which something may be taken are of their kinds, in the words of the law.
-use Rattle.run_laws.specs.Prelude.{arith, refl, subst, sym, List, None, Option, Some, is_some, slice_get, suc, true, ℕ, ◌+◌, ◌≡◌, is_packet, kind_of, frames_on, Set, member, MayBeTaken, Entry, Shared, World, packet_of, register, Abs, Kind, BlankKind, Lower, NumKind, Activation, Routine, Packet, Value, Ref}
-use Rattle.run_laws.specs.ArrivingStates.{States}
+use Rattle.run_laws.proofs.Common.{arith, refl, subst, sym, List, None, Option, Some, is_some, slice_get, suc, true, ℕ, ◌+◌, ◌≡◌, is_packet, kind_of, frames_on, Set, member, MayBeTaken, Entry, Shared, World, packet_of, register, Abs, Kind, BlankKind, Lower, NumKind, Activation, Routine, Packet, Value, Ref, States, arrives_alone, IsGood, state_of, Suits}
 use Rattle.run_laws.specs.KindsAgree.{IsOfKind, NamesLive}
 use Rattle.run_laws.proofs.Accepted.Keeps.{Keeps}
 use Rattle.run_laws.proofs.Live.Named.{named_lives}
-use Rattle.run_laws.proofs.States.Follows.{arrives_alone}
-use Rattle.run_laws.proofs.States.Frames.{IsGood, state_of}
 use Rattle.run_laws.proofs.States.Inside.{stands_at, suits_under}
-use Rattle.run_laws.proofs.States.Kinds.{IsPacket, Suits}
+use Rattle.run_laws.proofs.States.Kinds.{IsPacket}
 
 -- a kind's value is of it, if each packet that it names is live
 some_there : (o : Option Packet) → (o ≡ None → ⊥) → is_some o ≡ true

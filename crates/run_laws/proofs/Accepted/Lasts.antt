@@ -1,6 +1,6 @@
 -- The one induction over the runs of an accepted set: no event stops one, and all that it keeps
 -- lasts.
-use Rattle.run_laws.specs.Prelude.{ap, refl, subst, sym, ◌∙◌, Bool, List, None, Some, false, if◌then◌else◌, true, ℕ, ◌≡◌, Change, effect, Answered, Run, actor_on, goes, refused, run, step, thread_of, Set, Event}
+use Rattle.run_laws.proofs.Common.{ap, refl, subst, sym, ◌∙◌, Bool, List, None, Some, false, if◌then◌else◌, true, ℕ, ◌≡◌, Change, effect, Answered, Run, actor_on, goes, refused, run, step, thread_of, Set, Event, States, IsGood, right_event}
 use Rattle.run_laws.proofs.Accepted.Keeps.{Keeps, keeps_begun, goes_on_by, keeps_event, known_world, keeps_queued}
 use Rattle.run_laws.proofs.Certificates.Kept.{Tallied, tally_kept, tally_queued}
 use Rattle.run_laws.proofs.Certificates.Steps.{frame_due}
@@ -9,9 +9,6 @@ use Rattle.run_laws.proofs.Pending.Entries.{EntriesSay, entries_event}
 use Rattle.run_laws.proofs.Pending.Events.{Attends, attend_event, attends_begun, attends_queued}
 use Rattle.run_laws.proofs.Runs.Events.{nothing_stops, stops_run, Happens, Sets, sets_nothing, queues, Concerns, a_thread, no_thread, concerns, set_in, answers_none, past_with, Answers, refuses_stopped, refuses_over, goes_on_with, stops_for, stops_wrong, answers}
 use Rattle.run_laws.proofs.Runs.Kept.{GoesOnBy, kept_run}
-use Rattle.run_laws.proofs.States.Frames.{IsGood}
-use Rattle.run_laws.specs.ArrivingStates.{States}
-use Rattle.run_laws.proofs.States.Standing.{right_event}
 
 module _ (set : Set) (states : States) (good : IsGood set states) (threads : ℕ) where
   pub record Lasts (r : Run) : Type 0 where

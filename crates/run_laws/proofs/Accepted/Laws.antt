@@ -1,5 +1,5 @@
 -- The laws of the runs of accepted sets, in their own words.
-use Rattle.run_laws.specs.Prelude.{ap, refl, sym, ◌∙◌, List, None, false, length, slice_get, true, ℕ, ◌<◌, ◌≡◌, ◌≢◌, ◌≤◌, effect, reply_to, Answered, Run, frames_on, run, step, tags_on, Set, member, IsSound, IsTypable, Event, Step, Reply, Refused, CancelFrame, Walk}
+use Rattle.run_laws.proofs.Common.{ap, refl, sym, ◌∙◌, List, None, false, length, slice_get, true, ℕ, ◌<◌, ◌≡◌, ◌≢◌, ◌≤◌, effect, reply_to, Answered, Run, frames_on, run, step, tags_on, Set, member, IsSound, IsTypable, Event, Step, Reply, Refused, CancelFrame, Walk, States, times_topped, IsGood, stands_inside, led}
 use Rattle.run_laws.specs.Holder.{HasOneHolder, PacketsHaveOneHolder}
 use Rattle.run_laws.specs.KindsAgree.{AcceptedRunsKeepKinds, RegistersAreOfTheirKinds}
 use Rattle.run_laws.specs.Lifetime.{KeepCertificates, ActivationsKeepTheirCertificate}
@@ -9,7 +9,7 @@ use Rattle.run_laws.specs.NoWrong.{NeverGoesWrong, AcceptedRunsNeverGoWrong}
 use Rattle.run_laws.specs.OneToken.{BusyDevicesHaveOneToken, HasOneToken}
 use Rattle.run_laws.specs.PendingReturns.{AcceptedRunsAgreeOnPending}
 use Rattle.run_laws.specs.Rules.{AcceptedRunsKeepTheRules}
-use Rattle.run_laws.specs.TopsOnce.{times_topped, PacketsTopOutOnce}
+use Rattle.run_laws.specs.TopsOnce.{PacketsTopOutOnce}
 use Rattle.run_laws.proofs.Accepted.Kinds.{kinds_agree}
 use Rattle.run_laws.proofs.Accepted.Lasts.{Lasts, GoesOn, goes_on_at, right_answer, lasts}
 use Rattle.run_laws.proofs.Accepted.Trace.{all_right}
@@ -22,10 +22,7 @@ use Rattle.run_laws.proofs.Pending.Entries.{all_say, as_many, has_uses, manager_
 use Rattle.run_laws.proofs.Pending.Returned.{pending_agree}
 use Rattle.run_laws.proofs.Runs.Events.{stops_run, happens_step}
 use Rattle.run_laws.proofs.States.Follows.{alone_at}
-use Rattle.run_laws.proofs.States.Frames.{IsGood}
-use Rattle.run_laws.proofs.States.Inside.{stands_inside}
-use Rattle.run_laws.proofs.States.Known.{led}
-use Rattle.run_laws.specs.ArrivingStates.{States, StatesArrive}
+use Rattle.run_laws.specs.ArrivingStates.{StatesArrive}
 
 -- a reply of a run that goes on
 lets_go : (reply : Reply) → stops_run reply ≡ false → LetsGoOn reply

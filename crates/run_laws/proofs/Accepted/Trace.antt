@@ -1,8 +1,6 @@
 -- Nothing in the trace of a run that goes on goes wrong.
-use Rattle.run_laws.specs.Prelude.{ap, arith, sym, zero, ◌∙◌, list_any, All, List, [], false, suc, true, ◌∷◌, ◌≡◌, ◌≢◌, Action, GoesWrong, Actor, Entry, entry, recorded}
-use Rattle.run_laws.proofs.Lists.{Each}
+use Rattle.run_laws.proofs.Common.{ap, arith, sym, zero, ◌∙◌, list_any, All, List, [], false, suc, true, ◌∷◌, ◌≡◌, ◌≢◌, Action, GoesWrong, Actor, Entry, entry, recorded, Each, or_left, or_right}
 use Rattle.run_laws.proofs.States.Fine.{is_wrong}
-use Rattle.run_laws.proofs.Tests.{or_left, or_right}
 
 -- nothing went wrong
 abbrev pub NoneWrong : List Entry → Type 0

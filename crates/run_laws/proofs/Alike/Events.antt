@@ -1,5 +1,5 @@
 -- Every event does the same to worlds of runs of an accepted set that a machine may not tell apart.
-use Rattle.run_laws.specs.Prelude.{ap, arith, inl, inr, refl, subst, sym, ◌∙◌, eqb_tells, Bool, List, None, Option, Some, [], false, if◌then◌else◌, is_some, length, nat_eq, slice_get, suc, true, ℕ, ◌++◌, ◌<◌, ◌∷◌, ◌≡◌, Change, effect, interrupt_on, interrupted, is_idle, unchanged, with_new_packet, with_thread, Set, dpc_of, Entry, Shared, World, is_queued, new_packet, with_dpc, Event, CancelEvent, DpcEvent, Interrupt, Issue, StartIoEvent, Step, Reply, Idle, Refused, Device, Major, Frame, Packet, Thread}
+use Rattle.run_laws.proofs.Common.{ap, arith, inl, inr, refl, subst, sym, ◌∙◌, eqb_tells, Bool, List, None, Option, Some, [], false, if◌then◌else◌, is_some, length, nat_eq, slice_get, suc, true, ℕ, ◌++◌, ◌<◌, ◌∷◌, ◌≡◌, Change, effect, interrupt_on, interrupted, is_idle, unchanged, with_new_packet, with_thread, Set, dpc_of, Entry, Shared, World, is_queued, new_packet, with_dpc, Event, CancelEvent, DpcEvent, Interrupt, Issue, StartIoEvent, Step, Reply, Idle, Refused, Device, Major, Frame, Packet, Thread, States, IsGood}
 use Rattle.run_laws.proofs.Accepted.Keeps.{Keeps}
 use Rattle.run_laws.proofs.Alike.Frames.{AlikeFrames, IsLive}
 use Rattle.run_laws.proofs.Alike.Outcomes.{alike_same}
@@ -8,8 +8,6 @@ use Rattle.run_laws.proofs.Alike.Worlds.{AlikeChange, AlikeWorld, put_alike, ste
 use Rattle.run_laws.proofs.Past.LivePackets.{Rises, find, find_place, find_push}
 use Rattle.run_laws.proofs.Runs.Events.{Both, SameIdle, both_begin, both_nothing, cancelled_both, deferred_both, request_both, started_both}
 use Rattle.run_laws.proofs.Runs.Roots.{Root, Beside, issues, with_root}
-use Rattle.run_laws.proofs.States.Frames.{IsGood}
-use Rattle.run_laws.specs.ArrivingStates.{States}
 
 module _ (set : Set) (states : States) where
   same_lengths : (s : Shared) (above : Option Frame) (xs ys : List Frame)

@@ -1,11 +1,8 @@
 -- Frames that a machine may not tell apart: the same routines at the same positions, with registers
 -- that hold the same wherever something may be taken from them; or the I/O manager's, of the same
 -- packet while it is live.
-use Rattle.run_laws.specs.Prelude.{refl, subst, sym, ◌-◌, ◌∙◌, length-set, Bool, List, None, Option, Some, [], false, is_some, length, slice_set, true, ℕ, ⊤, ◌∷◌, ◌≡◌, answered, answered_in, operand_of, Set, instruction_at, told_register, Shared, packet_of, Kind, BlankKind, Status, Activation, Frame, CancelFrame, Routine, Walk, Value, StatusValue}
+use Rattle.run_laws.proofs.Common.{refl, subst, sym, ◌-◌, ◌∙◌, length-set, Bool, List, None, Option, Some, [], false, is_some, length, slice_set, true, ℕ, ⊤, ◌∷◌, ◌≡◌, answered, answered_in, operand_of, Set, instruction_at, told_register, Shared, packet_of, Kind, BlankKind, Status, Activation, Frame, CancelFrame, Routine, Walk, Value, StatusValue, States, state_of, told_frame}
 use Rattle.run_laws.proofs.Alike.Registers.{SameRegisters, same_turn, same_told}
-use Rattle.run_laws.proofs.States.Frames.{state_of}
-use Rattle.run_laws.specs.ArrivingStates.{States}
-use Rattle.run_laws.proofs.States.Told.{told_frame}
 
 -- the kinds of a frame's registers, of which one waits for a status
 abbrev pub waiting_for : Option ℕ → List Kind → List Kind

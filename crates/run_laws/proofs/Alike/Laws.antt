@@ -1,14 +1,11 @@
 -- Runs of an accepted set that a machine may not tell apart go on alike.
-use Rattle.run_laws.specs.Prelude.{ap, subst, sym, ◌∙◌, Bool, List, if◌then◌else◌, ℕ, ◌≡◌, effect, Answered, Run, refused, run, step, Set, Shared, World, Event}
+use Rattle.run_laws.proofs.Common.{ap, subst, sym, ◌∙◌, Bool, List, if◌then◌else◌, ℕ, ◌≡◌, effect, Answered, Run, refused, run, step, Set, Shared, World, Event, States, IsGood, led}
 use Rattle.run_laws.specs.AlikeRuns.{AlikeRunsGoOnAlike, GoOnAlike}
 use Rattle.run_laws.proofs.Accepted.Lasts.{GoesOn, Lasts, goes_on_at, lasts}
 use Rattle.run_laws.proofs.Alike.Events.{effects_alike}
 use Rattle.run_laws.proofs.Alike.Whole.{world_alike, world_shown}
 use Rattle.run_laws.proofs.Alike.Worlds.{AlikeChange, AlikeWorld}
 use Rattle.run_laws.proofs.Runs.Events.{Concerns, a_thread, answers_none, concerns, no_thread, set_in}
-use Rattle.run_laws.proofs.States.Frames.{IsGood}
-use Rattle.run_laws.proofs.States.Known.{led}
-use Rattle.run_laws.specs.ArrivingStates.{States}
 
 module _ (set : Set) (states : States) (good : IsGood set states) where
   -- an event on a run does what it does to its world

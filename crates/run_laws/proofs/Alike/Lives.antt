@@ -1,6 +1,6 @@
 -- A packet that was issued before an event and is live after it was live before it; and what a step
 -- touches is live.
-use Rattle.run_laws.specs.Prelude.{inl, inr, refl, sym, ◌∙◌, cases_Bool, Bool, List, None, Option, Some, [], false, is_some, nat_eq, slice_get, true, ℕ, ◌<◌, ◌||◌, ◌∷◌, ◌≡◌, Action, Execute, OfRoutine, OnPacket, TopOut, Touch, top_of, Change, bug_if, topped, root_of, Set, Actor, Entry, Managing, entry, recorded, Shared, World, packet_of, IrqlNotLessOrEqual, PacketSubject, Packet}
+use Rattle.run_laws.proofs.Common.{inl, inr, refl, sym, ◌∙◌, cases_Bool, Bool, List, None, Option, Some, [], false, is_some, nat_eq, slice_get, true, ℕ, ◌<◌, ◌||◌, ◌∷◌, ◌≡◌, Action, Execute, OfRoutine, OnPacket, TopOut, Touch, top_of, Change, bug_if, topped, root_of, Set, Actor, Entry, Managing, entry, recorded, Shared, World, packet_of, IrqlNotLessOrEqual, PacketSubject, Packet, States, IsGood, Standing, standing_kept, fault_among, is_touch, none_first, none_later}
 use Rattle.model.specs.Fault.{tops}
 use Rattle.run_laws.proofs.Accepted.Keeps.{Keeps, goes_on_by}
 use Rattle.run_laws.proofs.Alike.Frames.{IsLive}
@@ -10,10 +10,6 @@ use Rattle.run_laws.proofs.Live.Claimed.{claims_live, entries_live}
 use Rattle.run_laws.proofs.Live.Kept.{touches_none}
 use Rattle.run_laws.proofs.Past.Packets.{Tells, found, gone_topped, untopped}
 use Rattle.run_laws.proofs.Runs.Events.{StepsFrame, Happens}
-use Rattle.run_laws.proofs.States.Frames.{IsGood}
-use Rattle.run_laws.specs.ArrivingStates.{States}
-use Rattle.run_laws.proofs.States.Standing.{Standing, standing_kept}
-use Rattle.run_laws.proofs.Steps.Faults.{fault_among, is_touch, none_first, none_later}
 
 -- what has topped out stays so
 tops_later : (action : Action) (n : ℕ) (before : Bool) → before ≡ true → tops action n before ≡ true

@@ -1,14 +1,10 @@
 -- What a step leaves of a routine's frame that a machine may not tell from another one: the same
 -- but for what stands in registers from which nothing may be taken.
-use Rattle.run_laws.specs.Prelude.{ap, refl, subst, sym, ◌∙◌, length-set, Bool, List, None, Option, Some, [], false, length, nat_lt, slice_set, true, ℕ, ◌+◌, ◌∷◌, ◌≡◌, ◌⊎◌, Outcome, goes_wrong, turned, is_blank, handed, Set, flow_of, label_of, Shared, at_label, innermost, next, register, with_register, Kind, NumKind, Instr, End, Activation, Frame, CancelFrame, Routine, Walk, OpenLoop, Value, Num}
+use Rattle.run_laws.proofs.Common.{ap, refl, subst, sym, ◌∙◌, length-set, Bool, List, None, Option, Some, [], false, length, nat_lt, slice_set, true, ℕ, ◌+◌, ◌∷◌, ◌≡◌, ◌⊎◌, Outcome, goes_wrong, turned, is_blank, handed, Set, flow_of, label_of, Shared, at_label, innermost, next, register, with_register, Kind, NumKind, Instr, End, Activation, Frame, CancelFrame, Routine, Walk, OpenLoop, Value, Num, States, Runs, state_of, number_kinds, moved_end, arrives_next, has_next, keeps_registers, number_operand, numbered_by, packet_operand, second_operand}
 use Rattle.run_laws.proofs.Alike.Frames.{AlikeFrame, AlikeFrames, AlikeActivation}
 use Rattle.run_laws.proofs.Alike.Registers.{SameRegisters, same_get, same_set, same_refl, same_handed, same_labelled, operand_some}
-use Rattle.run_laws.proofs.States.Frames.{Runs, state_of}
-use Rattle.run_laws.proofs.States.Kinds.{number_kinds, number_wanted}
-use Rattle.run_laws.proofs.States.LoopEnds.{moved_end}
-use Rattle.run_laws.proofs.States.Moves.{has_next, arrives_next, jump_at}
-use Rattle.run_laws.specs.ArrivingStates.{States}
-use Rattle.run_laws.proofs.Steps.Words.{keeps_registers, packet_operand, number_operand, second_operand, numbered_by}
+use Rattle.run_laws.proofs.States.Kinds.{number_wanted}
+use Rattle.run_laws.proofs.States.Moves.{jump_at}
 
 -- an outcome without its frames and its actions
 abbrev pub unframed : Outcome → Outcome

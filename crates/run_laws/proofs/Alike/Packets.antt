@@ -1,18 +1,13 @@
 -- Whether the I/O manager has a packet need not be shown: it has what nothing else holds. So worlds
 -- of runs of an accepted set that a machine may not tell apart share the same.
-use Rattle.run_laws.specs.Prelude.{ap, arith, inl, inr, map, refl, sym, zero, ◌∙◌, eq-eqb, eqb_tells, Bool, List, None, Option, Some, [], false, if◌then◌else◌, slice_get, slice_index_or, slice_set, suc, true, ℕ, ◌+◌, ◌∷◌, ◌≡◌, answered_in, is_blank, is_right, Set, shown_packet, Shared, World, packet_of, Kind, BlankKind, Lower, NumKind, View, Status, Success, Activation, Frame, CancelFrame, Routine, Walk, Packet, Thread, Value, Ref, StatusValue}
+use Rattle.run_laws.proofs.Common.{ap, arith, inl, inr, map, refl, sym, zero, ◌∙◌, eq-eqb, eqb_tells, Bool, List, None, Option, Some, [], false, if◌then◌else◌, slice_get, slice_index_or, slice_set, suc, true, ℕ, ◌+◌, ◌∷◌, ◌≡◌, answered_in, is_blank, is_right, Set, shown_packet, Shared, World, packet_of, Kind, BlankKind, Lower, NumKind, View, Status, Success, Activation, Frame, CancelFrame, Routine, Walk, Packet, Thread, Value, Ref, StatusValue, States, frame_rights, named_as, rights, stack_sum, thread_sum, times_named, times_waiting, Ready, state_of, waits_under, HasKinds, Suits, Stacked, Stands}
 use Rattle.model.specs.Shown.{ShownPacket}
-use Rattle.run_laws.specs.Holder.{frame_rights, named_as, rights, stack_sum, thread_sum, times_named, times_waiting}
 use Rattle.run_laws.proofs.Alike.Frames.{AlikeFrame, AlikeFrames, waiting_for}
 use Rattle.run_laws.proofs.Alike.Registers.{SameRegisters}
 use Rattle.run_laws.proofs.Alike.Stacks.{AlikeThreads}
 use Rattle.run_laws.proofs.Holders.Sums.{Held, unheld}
 use Rattle.run_laws.proofs.Past.LivePackets.{Rises, find, find_below, find_place}
-use Rattle.run_laws.proofs.States.Frames.{Ready, state_of}
-use Rattle.run_laws.proofs.States.Inside.{Waits, waits_under}
-use Rattle.run_laws.proofs.States.Kinds.{HasKinds, Suits}
-use Rattle.run_laws.specs.ArrivingStates.{States}
-use Rattle.run_laws.proofs.States.Stacks.{Stacked, Stands}
+use Rattle.run_laws.proofs.States.Inside.{Waits}
 
 -- a right is to the same packet
 right_some : (k : Kind) → is_right k ≡ true → is_blank k ≡ false

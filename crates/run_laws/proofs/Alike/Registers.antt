@@ -1,9 +1,6 @@
 -- Registers that hold the same wherever their kind says that something may be taken from them; and
 -- an instruction that breaks no rule leaves such registers such.
-use Rattle.run_laws.specs.Prelude.{refl, subst, sym, zero, List, None, Some, [], false, slice_index_or, slice_set, suc, true, ℕ, ⊤, ◌∷◌, ◌≡◌, all_let_go, is_blank, is_packet, kind_disarmed, kind_inserted, left_behind, let_go, given_down, handed, handed_at_label, kind_of, marked, refuses, Set, cancel_routine_of, Abs, Kind, BlankKind, Lower, New, NumKind, Own, Queued, Armed, Instr, Arm, Begin, Call, Clear, Complete, Const, Dequeue, Disarm, Get, Insert, Load, LoadPaged, Mark, Move, Pass, Release, ReleaseCancel, Remove, Start, Take, Unlink, Guard, CancelLock, DeviceLock, Declared, Sort, Value, Blank}
-use Rattle.run_laws.proofs.Lists.{copied}
-use Rattle.run_laws.proofs.States.Kinds.{packet_wanted}
-use Rattle.run_laws.proofs.Steps.Words.{keeps_registers, packet_operand}
+use Rattle.run_laws.proofs.Common.{refl, subst, sym, zero, List, None, Some, [], false, slice_index_or, slice_set, suc, true, ℕ, ⊤, ◌∷◌, ◌≡◌, all_let_go, is_blank, is_packet, kind_disarmed, kind_inserted, left_behind, let_go, given_down, handed, handed_at_label, kind_of, marked, refuses, Set, cancel_routine_of, Abs, Kind, BlankKind, Lower, New, NumKind, Own, Queued, Armed, Instr, Arm, Begin, Call, Clear, Complete, Const, Dequeue, Disarm, Get, Insert, Load, LoadPaged, Mark, Move, Pass, Release, ReleaseCancel, Remove, Start, Take, Unlink, Guard, CancelLock, DeviceLock, Declared, Sort, Value, Blank, copied, packet_wanted, keeps_registers, packet_operand}
 
 -- registers of the same kinds in two frames
 abbrev pub SameRegisters : List Kind → List Value → List Value → Type 0

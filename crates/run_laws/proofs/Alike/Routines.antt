@@ -1,6 +1,6 @@
 -- A step does the same to routines that a machine may not tell apart, over frames below that it may
 -- not tell apart either.
-use Rattle.run_laws.specs.Prelude.{ap, inl, inr, refl, subst, sym, ◌∙◌, length-set, List, None, Option, Some, [], false, is_some, length, nat_lt, not, slice_get, slice_set, true, ℕ, ⊤, ◌++◌, ◌+◌, ◌<◌, ◌∷◌, ◌≡◌, ◌⊎◌, Action, Execute, OfRoutine, OnPacket, Touch, Outcome, arm_effect, ask_effect, begin_effect, call_effect, complete_effect, dequeue_effect, difference_of, disarm_effect, frame_effect, get_effect, insert_effect, instruction_effect, is_less_at, is_walk, is_zero_at, jump_effect, let_on, look_effect, mark_effect, number_effect, pass_effect, put_effect, return_effect, return_lower, routine_effect, spin_lock, start_effect, store_effect, store_paged_effect, sum_of, unlink_effect, is_blank, is_lower, broken_if, duty_fault, kind_of, Set, cancel_routine_of, instruction_at, lower_of, sort_of, Shared, innermost, number_in, owner_of, packet_in, packet_of, queue_of, register, start_of, status_in, Kind, BlankKind, LowerKind, Rule, SystemCancel, Instr, Acquire, AcquireCancel, Add, Arm, Begin, Call, Clear, Complete, Const, Dequeue, Disarm, End, Get, IfCancel, IfPending, Insert, Jump, JumpIfLess, JumpIfZero, Load, LoadPaged, Loop, Mark, Move, Next, Pass, Put, Release, ReleaseCancel, Remove, Ret, Start, Store, StorePaged, Subtract, Take, Unlink, Return, Continue, Stop, Void, WithStatus, MAX_LOOPS, Sort, Cancel, Dispatch, Dpc, Hold, Propagate, StartIo, Status, Activation, Frame, CancelFrame, Routine, Walk, Packet, Value, Blank}
+use Rattle.run_laws.proofs.Common.{ap, inl, inr, refl, subst, sym, ◌∙◌, length-set, List, None, Option, Some, [], false, is_some, length, nat_lt, not, slice_get, slice_set, true, ℕ, ⊤, ◌++◌, ◌+◌, ◌<◌, ◌∷◌, ◌≡◌, ◌⊎◌, Action, Execute, OfRoutine, OnPacket, Touch, Outcome, arm_effect, ask_effect, begin_effect, call_effect, complete_effect, dequeue_effect, difference_of, disarm_effect, frame_effect, get_effect, insert_effect, instruction_effect, is_less_at, is_walk, is_zero_at, jump_effect, let_on, look_effect, mark_effect, number_effect, pass_effect, put_effect, return_effect, return_lower, routine_effect, spin_lock, start_effect, store_effect, store_paged_effect, sum_of, unlink_effect, is_blank, is_lower, broken_if, duty_fault, kind_of, Set, cancel_routine_of, instruction_at, lower_of, sort_of, Shared, innermost, number_in, owner_of, packet_in, packet_of, queue_of, register, start_of, status_in, Kind, BlankKind, LowerKind, Rule, SystemCancel, Instr, Acquire, AcquireCancel, Add, Arm, Begin, Call, Clear, Complete, Const, Dequeue, Disarm, End, Get, IfCancel, IfPending, Insert, Jump, JumpIfLess, JumpIfZero, Load, LoadPaged, Loop, Mark, Move, Next, Pass, Put, Release, ReleaseCancel, Remove, Ret, Start, Store, StorePaged, Subtract, Take, Unlink, Return, Continue, Stop, Void, WithStatus, MAX_LOOPS, Sort, Cancel, Dispatch, Dpc, Hold, Propagate, StartIo, Status, Activation, Frame, CancelFrame, Routine, Walk, Packet, Value, Blank, States, Runs, state_of, returns_by, OnTop, runs, first_none, Comes, Executing, resumes_gone, touches_gone, number_operand, packet_operand, second_operand}
 use Rattle.model.specs.declared.instr.Return.TheVariants.{Lower}
 use Rattle.run_laws.proofs.Alike.Frames.{AlikeActivation, AlikeFrame, IsLive}
 use Rattle.run_laws.proofs.Alike.Outcomes.{AlikeOutcome, by_same, by_one, wrong, packet_same, number_same, on_next, on_number, on_set, on_label}
@@ -8,13 +8,6 @@ use Rattle.run_laws.proofs.Alike.Registers.{SameRegisters, same_get, same_move}
 use Rattle.run_laws.proofs.Alike.Words.{numbers, jumps, opens, closes, loads, loads_paged, stores, stores_paged, puts, marks, arms, takes, frees, inserts_one, unlinks_one, starts_one, begins_one, starts_next_one, completes, passes, calls, disarms, asks_for, looks, gets, removes, takes_out, dequeues_one}
 use Rattle.run_laws.proofs.Past.Packets.{named}
 use Rattle.run_laws.proofs.Past.Walks.{UnderIssued}
-use Rattle.run_laws.proofs.States.Frames.{Runs, state_of}
-use Rattle.run_laws.proofs.States.Obeyed.{returns_by}
-use Rattle.run_laws.proofs.States.OnTop.{OnTop, runs}
-use Rattle.run_laws.specs.ArrivingStates.{States}
-use Rattle.run_laws.proofs.States.Rules.{first_none}
-use Rattle.run_laws.proofs.Steps.Comes.{Comes, Executing, touches_gone, resumes_gone}
-use Rattle.run_laws.proofs.Steps.Words.{packet_operand, number_operand, second_operand}
 
 lower_some : (k : Kind) (rule : Rule) → broken_if (not (is_lower k)) rule ≡ None
     → is_blank k ≡ false

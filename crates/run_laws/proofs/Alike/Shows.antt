@@ -1,11 +1,8 @@
 -- What shows a world of a run of an accepted set, and shows another one, can't tell them apart; and
 -- the other way round.
-use Rattle.run_laws.specs.Prelude.{ap, map, refl, sym, zero, ◌∙◌, get_or-set_other, Bool, List, None, Option, Some, [], false, length, slice_index_or, slice_set, suc, true, ℕ, ◌∷◌, ◌≡◌, ◌≢◌, answered_in, is_blank, kind_of, Set, MayBeTaken, Reads, blank_register, told_register, whole_register, register, Kind, BlankKind, Status, Success, Activation, Frame, Value, Blank, Num, Ref, StatusValue}
+use Rattle.run_laws.proofs.Common.{ap, map, refl, sym, zero, ◌∙◌, get_or-set_other, Bool, List, None, Option, Some, [], false, length, slice_index_or, slice_set, suc, true, ℕ, ◌∷◌, ◌≡◌, ◌≢◌, answered_in, is_blank, kind_of, Set, MayBeTaken, Reads, blank_register, told_register, whole_register, register, Kind, BlankKind, Status, Success, Activation, Frame, Value, Blank, Num, Ref, StatusValue, States, IsGood, Ready, state_of, Suits, kinds_get}
 use Rattle.run_laws.proofs.Alike.Frames.{waiting_for}
 use Rattle.run_laws.proofs.Alike.Registers.{SameRegisters}
-use Rattle.run_laws.proofs.States.Frames.{IsGood, Ready, state_of}
-use Rattle.run_laws.proofs.States.Kinds.{Suits, kinds_get}
-use Rattle.run_laws.specs.ArrivingStates.{States}
 
 -- a register that is shown whole, and read
 abbrev pub is_value : Value → Bool

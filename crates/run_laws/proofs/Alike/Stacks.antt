@@ -1,11 +1,8 @@
 -- Threads that a machine may not tell apart: their frames from the lowest on, and what stands below
 -- the top ones, which is told what it is to know.
-use Rattle.run_laws.specs.Prelude.{ap, refl, subst, zero, ◌∙◌, List, None, Option, Some, [], slice_get, slice_set, suc, ℕ, ⊤, ◌++◌, ◌<◌, ◌∷◌, ◌≡◌, told_to, told_top, Set, Shared, Status, Frame, CancelFrame, Routine, Walk, Thread}
+use Rattle.run_laws.proofs.Common.{ap, refl, subst, zero, ◌∙◌, List, None, Option, Some, [], slice_get, slice_set, suc, ℕ, ⊤, ◌++◌, ◌<◌, ◌∷◌, ◌≡◌, told_to, told_top, Set, Shared, Status, Frame, CancelFrame, Routine, Walk, Thread, States, Each, before_last, last_of, told_frame}
 use Rattle.run_laws.proofs.Alike.Frames.{AlikeFrame, AlikeFrames, IsLive, above_in}
-use Rattle.run_laws.proofs.Lists.{Each, before_last, last_of}
 use Rattle.run_laws.proofs.Past.Walks.{WalkIssued}
-use Rattle.run_laws.specs.ArrivingStates.{States}
-use Rattle.run_laws.proofs.States.Told.{told_frame}
 
 module _ (set : Set) (states : States) where
   pub record AlikeThread (s : Shared) (x y : Thread) : Type 0 where

@@ -1,17 +1,12 @@
 -- A step does the same to threads that a machine may not tell apart.
-use Rattle.run_laws.specs.Prelude.{ap, append-nil, refl, subst, sym, take, ◌-◌, ◌∙◌, Bool, List, None, Option, Some, [], false, length, true, ℕ, ◌++◌, ◌<◌, ◌∷◌, ◌≡◌, Outcome, cancel_step, frame_effect, kept_below, told_to, top_of, walk_packet, standing, is_completion, Set, sort_of, Shared, packet_of, Sort, Cancel, Dispatch, Dpc, Hold, Propagate, StartIo, Status, Activation, Frame, CancelFrame, Routine, Walk}
+use Rattle.run_laws.proofs.Common.{ap, append-nil, refl, subst, sym, take, ◌-◌, ◌∙◌, Bool, List, None, Option, Some, [], false, length, true, ℕ, ◌++◌, ◌<◌, ◌∷◌, ◌≡◌, Outcome, cancel_step, frame_effect, kept_below, told_to, top_of, walk_packet, standing, is_completion, Set, sort_of, Shared, packet_of, Sort, Cancel, Dispatch, Dpc, Hold, Propagate, StartIo, Status, Activation, Frame, CancelFrame, Routine, Walk, States, Each, before_last, each_after, each_before, last_of, OnTop, told_frame, cancel_takes, Comes, cancels, carries_up, ends_cancel, ends_dpc, ends_startio, errs, lends_to, lets_go, lets_walk, resumes_gone, resumes_none, resumes_walk, returns_status, stops_none, stops_walk, tops_out, walks_gone, walks_to, walks_up}
 use Rattle.run_laws.proofs.Alike.Frames.{AlikeFrame, AlikeFrames, IsLive, above_in, is_routine, alike_told, alike_under, alike_still, alike_unless}
 use Rattle.run_laws.proofs.Alike.Outcomes.{AlikeOutcome, outcome_same}
 use Rattle.run_laws.proofs.Alike.Routines.{AlikeUnder, TouchesLive, live_of, routine_steps}
 use Rattle.run_laws.proofs.Alike.Stacks.{AlikeTops, tops, reend, join, told_above, frames_later}
-use Rattle.run_laws.proofs.Lists.{Each, each_before, each_after, each_push, before_last, last_of}
+use Rattle.run_laws.proofs.Lists.{each_push}
 use Rattle.run_laws.proofs.Live.Sees.{Seen}
 use Rattle.run_laws.proofs.Past.Walks.{UnderIssued, WalkIssued}
-use Rattle.run_laws.proofs.States.OnTop.{OnTop}
-use Rattle.run_laws.specs.ArrivingStates.{States}
-use Rattle.run_laws.proofs.States.Told.{told_frame}
-use Rattle.run_laws.proofs.Steps.Below.{cancel_takes}
-use Rattle.run_laws.proofs.Steps.Comes.{Comes, errs, returns_status, lets_go, lets_walk, resumes_walk, resumes_gone, resumes_none, stops_walk, stops_none, ends_startio, ends_dpc, ends_cancel, walks_gone, walks_to, lends_to, walks_up, carries_up, tops_out, cancels}
 
 module _ (set : Set) (states : States) (s : Shared) (t : ℕ) where
   -- the top frame's outcome

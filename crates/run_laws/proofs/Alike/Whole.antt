@@ -1,20 +1,16 @@
 -- A machine that keeps one world of a run of an accepted set whole shows another exactly where the
 -- two can't be told apart.
-use Rattle.run_laws.specs.Prelude.{ap, map, refl, subst, sym, ◌∙◌, get_or-set_other, length-set, List, None, Option, Some, [], false, length, slice_get, slice_index_or, slice_set, suc, ℕ, ◌∷◌, ◌≡◌, ◌≢◌, answered_in, is_blank, kind_of, Set, MayBeTaken, Reads, ShowsWorld, blank_register, shown_packet, told_register, whole, whole_register, Entry, Shared, World, register, Abs, BlankKind, REGISTERS, Success, Activation, Frame, CancelFrame, Routine, Walk, OpenLoop, Thread, Blank, StatusValue}
+use Rattle.run_laws.proofs.Common.{ap, map, refl, subst, sym, ◌∙◌, get_or-set_other, length-set, List, None, Option, Some, [], false, length, slice_get, slice_index_or, slice_set, suc, ℕ, ◌∷◌, ◌≡◌, ◌≢◌, answered_in, is_blank, kind_of, Set, MayBeTaken, Reads, ShowsWorld, blank_register, shown_packet, told_register, whole, whole_register, Entry, Shared, World, register, Abs, BlankKind, REGISTERS, Success, Activation, Frame, CancelFrame, Routine, Walk, OpenLoop, Thread, Blank, StatusValue, States, arrives_alone, IsGood, Ready, state_of, waits_under, Stacked, Stands}
 use Rattle.model.specs.Shown.{ShownActivation, ShownRegister, ShowsFrame, ShowsFrames, ShowsRoutine, ShowsThreads, whole_frame, whole_thread}
 use Rattle.run_laws.proofs.Accepted.Keeps.{Keeps}
 use Rattle.run_laws.proofs.Alike.Frames.{AlikeActivation, AlikeFrame, AlikeFrames, waiting_for}
 use Rattle.run_laws.proofs.Alike.Packets.{packets_alike}
 use Rattle.run_laws.proofs.Alike.Registers.{SameRegisters, same_get}
 use Rattle.run_laws.proofs.Alike.Shows.{may_be_taken, reads_same, reads_self, same_all, value_there, whole_get}
-use Rattle.run_laws.proofs.States.Follows.{arrives_alone}
 use Rattle.run_laws.proofs.Alike.Stacks.{AlikeThreads}
 use Rattle.run_laws.proofs.Alike.Worlds.{AlikeWorld}
 use Rattle.run_laws.proofs.Runs.Threads.{frames_there}
-use Rattle.run_laws.proofs.States.Frames.{IsGood, Ready, state_of}
-use Rattle.run_laws.proofs.States.Inside.{Waits, kinds_long, waits_under}
-use Rattle.run_laws.specs.ArrivingStates.{States}
-use Rattle.run_laws.proofs.States.Stacks.{Stacked, Stands}
+use Rattle.run_laws.proofs.States.Inside.{Waits, kinds_long}
 
 abbrev shown_routine : Activation → ShownActivation
 shown_routine a =

@@ -1,13 +1,9 @@
 -- An instruction does the same to routines that a machine may not tell apart: it takes nothing from
 -- registers in which they differ.
-use Rattle.run_laws.specs.Prelude.{refl, Bool, List, None, Option, Some, [], false, if◌then◌else◌, is_none, length, nat_eq, not, slice_get, true, ℕ, ◌&&◌, ◌∷◌, ◌≡◌, Acquires, Action, acquire_effect, arm_effect, arm_packet, ask_effect, ask_packet, asks, begin_effect, call_effect, call_packet, complete_effect, complete_packet, dequeue_effect, disarm_effect, disarm_packet, dispatched, end_effect, get_effect, get_packet, goes_on, goes_wrong, insert_effect, jump_effect, load_effect, load_paged_effect, look_effect, look_packet, mark_effect, mark_packet, next_disarmed, next_effect, next_packet, next_waiting, number_effect, pass_effect, pass_packet, put_effect, put_packet, release_effect, remove_effect, remove_from, start_effect, start_packet, start_waiting, store_effect, store_paged_effect, take_effect, take_from, unlink_effect, waits, kind_removed, StartState, has_room_for_next, has_room_to_start, Set, cancel_routine_of, flow_of, has_cancel, label_of, Shared, asked_of, at_label, current_location, innermost, next, packet_of, with_loops, Own, Lock, Field, Instr, End, Get, Load, LoadPaged, Loop, Remove, Take, Declared, DeviceQueue, Status, Activation, Cells, Routine, Walk, OpenLoop, Packet, Value, Ref}
+use Rattle.run_laws.proofs.Common.{refl, Bool, List, None, Option, Some, [], false, if◌then◌else◌, is_none, length, nat_eq, not, slice_get, true, ℕ, ◌&&◌, ◌∷◌, ◌≡◌, Acquires, Action, acquire_effect, arm_effect, arm_packet, ask_effect, ask_packet, asks, begin_effect, call_effect, call_packet, complete_effect, complete_packet, dequeue_effect, disarm_effect, disarm_packet, dispatched, end_effect, get_effect, get_packet, goes_on, goes_wrong, insert_effect, jump_effect, load_effect, load_paged_effect, look_effect, look_packet, mark_effect, mark_packet, next_disarmed, next_effect, next_packet, next_waiting, number_effect, pass_effect, pass_packet, put_effect, put_packet, release_effect, remove_effect, remove_from, start_effect, start_packet, start_waiting, store_effect, store_paged_effect, take_effect, take_from, unlink_effect, waits, kind_removed, StartState, has_room_for_next, has_room_to_start, Set, cancel_routine_of, flow_of, has_cancel, label_of, Shared, asked_of, at_label, current_location, innermost, next, packet_of, with_loops, Own, Lock, Field, Instr, End, Get, Load, LoadPaged, Loop, Remove, Take, Declared, DeviceQueue, Status, Activation, Cells, Routine, Walk, OpenLoop, Packet, Value, Ref, States, Runs, state_of, has_next, keeps_registers, numbered_by}
 use Rattle.run_laws.proofs.Alike.Frames.{AlikeFrames, AlikeActivation, alike_under}
 use Rattle.run_laws.proofs.Alike.Outcomes.{AlikeOutcome, alike_self, stays, wrong, on_next, on_set, on_kept, on_number, on_label, on_turn}
 use Rattle.run_laws.proofs.Alike.Registers.{SameRegisters}
-use Rattle.run_laws.proofs.States.Frames.{Runs, state_of}
-use Rattle.run_laws.proofs.States.Moves.{has_next}
-use Rattle.run_laws.specs.ArrivingStates.{States}
-use Rattle.run_laws.proofs.Steps.Words.{keeps_registers, numbered_by}
 
 module _ (set : Set) (states : States) (s : Shared) (t : ℕ) (a : Activation) (us : List Value)
     (long : length us ≡ length a.registers)

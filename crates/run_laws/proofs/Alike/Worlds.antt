@@ -1,6 +1,6 @@
 -- Worlds of runs of an accepted set that a machine may not tell apart: a step of a thread leaves
 -- such worlds, and is answered alike.
-use Rattle.run_laws.specs.Prelude.{ap, refl, subst, sym, take, ◌-◌, ◌∙◌, List, None, Option, Some, [], length, slice_get, ℕ, ◌++◌, ◌<◌, ◌∷◌, ◌≡◌, Outcome, frame_effect, top_of, Change, finished_or, root_over, settled, standing, step_thread, top_effect, unchanged, with_stack, with_thread, Set, Entry, Shared, World, Reply, Idle, Refused, Frame, Irql, Thread}
+use Rattle.run_laws.proofs.Common.{ap, refl, subst, sym, take, ◌-◌, ◌∙◌, List, None, Option, Some, [], length, slice_get, ℕ, ◌++◌, ◌<◌, ◌∷◌, ◌≡◌, Outcome, frame_effect, top_of, Change, finished_or, root_over, settled, standing, step_thread, top_effect, unchanged, with_stack, with_thread, Set, Entry, Shared, World, Reply, Idle, Refused, Frame, Irql, Thread, States, Each, before_last, each_before, last_of, IsGood, on_top, stands_there, comes}
 use Rattle.run_laws.proofs.Accepted.Keeps.{Keeps}
 use Rattle.run_laws.proofs.Alike.Frames.{AlikeFrames, AlikeFrame, IsLive}
 use Rattle.run_laws.proofs.Alike.Lives.{lives_before, touches_live}
@@ -8,17 +8,12 @@ use Rattle.run_laws.proofs.Alike.Outcomes.{AlikeOutcome}
 use Rattle.run_laws.proofs.Alike.Routines.{AlikeUnder}
 use Rattle.run_laws.proofs.Alike.Stacks.{AlikeThread, AlikeThreads, AlikeAt, AlikeTops, alike_at, alike_put, threads_later, tops}
 use Rattle.run_laws.proofs.Alike.Steps.{frame_steps, stood_over}
-use Rattle.run_laws.proofs.Lists.{Each, before_last, each_before, last_of}
 use Rattle.run_laws.proofs.Live.Kept.{last_is_top}
 use Rattle.run_laws.proofs.Live.Sees.{AllSeen, Seen, seen_top}
 use Rattle.run_laws.proofs.Past.Walks.{WalkIssued, under_issued}
 use Rattle.run_laws.proofs.Runs.Events.{StepsFrame, steps}
 use Rattle.run_laws.proofs.Runs.Threads.{frames_there}
-use Rattle.run_laws.proofs.States.Frames.{IsGood}
-use Rattle.run_laws.specs.ArrivingStates.{States}
 use Rattle.run_laws.proofs.States.Stacks.{walks_stand}
-use Rattle.run_laws.proofs.States.Standing.{on_top, stands_there}
-use Rattle.run_laws.proofs.Steps.Walk.{comes}
 
 module _ (set : Set) (states : States) where
   pub record AlikeWorld (v w : World) : Type 0 where

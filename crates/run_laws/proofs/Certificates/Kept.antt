@@ -1,21 +1,15 @@
 -- Every activation of a run of an accepted set keeps its routine's certificate.
-use Rattle.run_laws.specs.Prelude.{ap, arith, inl, inr, refl, subst, sym, zero, ◌∙◌, append_assoc, set-get_or, get_or_from_slice_get, All, List, None, Some, [], slice_get, slice_set, suc, true, ℕ, ◌++◌, ◌+◌, ◌∷◌, ◌≡◌, ◌≤◌, Outcome, told_to, top_of, Change, settled, standing, unchanged, with_stack, with_thread, Run, activations_after, actor_on, frames_on, goes, tags_after, tags_on, top_tag, Set, Activated, Entry, Managing, Tag, recorded, World, Idle, Activation, Frame, CancelFrame, Routine, Walk, Irql, Thread}
+use Rattle.run_laws.proofs.Common.{ap, arith, inl, inr, refl, subst, sym, zero, ◌∙◌, append_assoc, set-get_or, get_or_from_slice_get, All, List, None, Some, [], slice_get, slice_set, suc, true, ℕ, ◌++◌, ◌∷◌, ◌≡◌, ◌≤◌, Outcome, told_to, top_of, Change, settled, standing, unchanged, with_stack, with_thread, Run, activations_after, actor_on, frames_on, goes, tags_after, tags_on, top_tag, Set, Activated, Entry, Managing, Tag, recorded, World, Idle, Activation, Frame, CancelFrame, Routine, Walk, Irql, Thread, States, AreOneRoutine, KeepsCertificate, last_of, RootFrame, root_cancels, root_enters, IsGood, Standing, on_top, root_there, stood}
 use Rattle.std.proofs.lemmas.List.{append-nil}
-use Rattle.run_laws.specs.Lifetime.{AreOneRoutine, IsOneRoutine, KeepsCertificate, StandsWithin}
+use Rattle.run_laws.specs.Lifetime.{IsOneRoutine, StandsWithin}
 use Rattle.run_laws.proofs.Certificates.Owed.{executed_in, Follows, follows_idle, follows_step, Pays, IsFresh, follows_stop}
 use Rattle.run_laws.proofs.Certificates.Steps.{frame_due, pays, told_alike}
 use Rattle.run_laws.proofs.Certificates.Tags.{Fits, IsKnown, Matched, Named, fits_known, named}
 use Rattle.run_laws.proofs.Certificates.Tally.{AllKnown, Tally, known_kept, one_of_known, turned}
-use Rattle.run_laws.proofs.Lists.{last_of}
 use Rattle.run_laws.proofs.Runs.Events.{StepsFrame, Happens, nothing, steps, past_with, begins}
 use Rattle.run_laws.proofs.Runs.Kept.{with_queued}
 use Rattle.run_laws.proofs.Runs.Roots.{Root, root_told, IdleThread, root_begun, with_root}
 use Rattle.run_laws.proofs.Runs.Threads.{frames_there, frames_put}
-use Rattle.run_laws.proofs.States.Begun.{RootFrame, root_cancels, root_enters}
-use Rattle.run_laws.proofs.States.Frames.{IsGood}
-use Rattle.run_laws.specs.ArrivingStates.{States}
-use Rattle.run_laws.proofs.States.Standing.{Standing, on_top, root_there}
-use Rattle.run_laws.proofs.Steps.Below.{stood}
 
 -- the tags of a thread whose top frame is known
 record TopTag (given : List Tag) (below : List Frame) (f : Frame) (row : List Tag) : Type 0 where

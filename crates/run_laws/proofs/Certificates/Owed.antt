@@ -1,9 +1,8 @@
 -- What the frames that stand still owe under each activation's number, and what it is after a step.
 -- How much a frame owes is any measure of it here.
-use Rattle.run_laws.specs.Prelude.{ap, arith, inl, inr, refl, sym, zero, ◌∙◌, eqb_tells, Bool, List, Option, Some, [], false, if◌then◌else◌, nat_eq, slice_get, slice_set, suc, true, ℕ, ⊤, ◌++◌, ◌+◌, ◌<◌, ◌∷◌, ◌≡◌, ◌≤◌, Action, certificate_of, activations_after, counted_kept, kept_tag, tags_after, Set, Activated, Actor, Entry, Managing, Serving, Tag, entry, recorded, Activation, Canceller, Frame, CancelFrame, Routine, Walk, Thread}
-use Rattle.run_laws.specs.Lifetime.{is_activation, instructions_in, executions}
+use Rattle.run_laws.proofs.Common.{ap, arith, inl, inr, refl, sym, zero, ◌∙◌, eqb_tells, Bool, List, Option, Some, [], false, if◌then◌else◌, nat_eq, slice_get, slice_set, suc, true, ℕ, ⊤, ◌++◌, ◌+◌, ◌<◌, ◌∷◌, ◌≡◌, ◌≤◌, Action, certificate_of, activations_after, counted_kept, kept_tag, tags_after, Set, Activated, Actor, Entry, Managing, Serving, Tag, entry, recorded, Activation, Canceller, Frame, CancelFrame, Routine, Walk, Thread, executions, if_le, if_none}
+use Rattle.run_laws.specs.Lifetime.{is_activation, instructions_in}
 use Rattle.run_laws.proofs.Certificates.Tags.{IsAmong, Fits, Matched, Numbered, fresh_tags, fresh_matched, fresh_numbered, fits_more, matched_more, matched_append, among_right, numbered_from}
-use Rattle.run_laws.proofs.Tests.{if_none, if_le}
 
 -- a number of one tag
 abbrev pub if_own : ℕ → Tag → ℕ → ℕ

@@ -1,24 +1,11 @@
 -- What a step executes is paid for by what its frame had left to execute, and a routine that begins
 -- has its certificate left.
-use Rattle.run_laws.specs.Prelude.{ap, arith, drop, inl, inr, refl, subst, sym, ◌-◌, List, None, Option, Some, [], false, slice_set, true, ℕ, ◌+◌, ◌<◌, ◌∷◌, ◌≡◌, ◌≤◌, Outcome, answered_in, asks, operand_of, told_to, turned, open_at, Set, flow_of, instruction_at, lower_of, routine_of, Shared, asked_of, current_location, next, register, Abs, Lock, Instr, Acquire, AcquireCancel, Call, Complete, End, Loop, Mark, Pass, Put, Release, ReleaseCancel, Ret, Continue, Stop, Void, RoutineOf, Status, Activation, CancelStep, Frame, CancelFrame, Routine, Walk, Packet, Value, StatusValue}
+use Rattle.run_laws.proofs.Common.{ap, arith, drop, inl, inr, refl, subst, sym, ◌-◌, List, None, Option, Some, [], false, slice_set, true, ℕ, ◌+◌, ◌<◌, ◌∷◌, ◌≡◌, ◌≤◌, Outcome, answered_in, asks, operand_of, told_to, turned, open_at, Set, flow_of, instruction_at, lower_of, routine_of, Shared, asked_of, current_location, next, register, Abs, Lock, Instr, Acquire, AcquireCancel, Call, Complete, End, Loop, Mark, Pass, Put, Release, ReleaseCancel, Ret, Continue, Stop, Void, RoutineOf, Status, Activation, CancelStep, Frame, CancelFrame, Routine, Walk, Packet, Value, StatusValue, States, begins_called, begins_back, begins_lent, begins_lower, Moved, Runs, state_of, never_lacks, moved_end, moved_loop, onto, OnTop, runs, MovedOn, queue_moves, waits_move, told_frame, told_is, told_last, Cancels, Comes, Executing, awaits_cancel, awaits_lock, calls_cancel, calls_down, cancels, carries_up, completes_gone, completes_packet, computes, ends_cancel, ends_dpc, ends_startio, errs, exchanges, exchanges_gone, finds_empty, finds_none, flags_gone, frees_lock, lends_to, lets_go, lets_walk, looks_at, marks_packet, opens_loop, pages, passes_down, resumes_gone, resumes_none, resumes_walk, retakes_cancel, retakes_lock, returns_status, sets_flag, stops_none, stops_walk, takes_cancel, takes_lock, tops_out, touches_gone, turns_loop, walks_gone, walks_to, walks_up, works_on_queues, works_on_waiting, writes_info, queued_touches, lock_freed, lock_taken}
 use Rattle.run_laws.proofs.Past.Packets.{named}
 use Rattle.run_laws.proofs.Certificates.Owed.{executed_in, Alike, AllAlike, self_alike, Pays}
-use Rattle.run_laws.proofs.States.Entering.{begins_lower, begins_back, begins_lent}
-use Rattle.run_laws.proofs.States.Frames.{state_of, due, due_of, due_is, Moved, Runs}
-use Rattle.run_laws.proofs.States.Lacking.{never_lacks}
-use Rattle.run_laws.proofs.States.LoopEnds.{moved_loop, moved_end}
-use Rattle.run_laws.proofs.States.Moves.{falls_plain, is_plain, onto, moved, plain_open, plain_left, some_due}
-use Rattle.run_laws.proofs.States.OnTop.{OnTop, runs}
+use Rattle.run_laws.proofs.States.Frames.{due, due_of, due_is}
+use Rattle.run_laws.proofs.States.Moves.{falls_plain, is_plain, moved, plain_open, plain_left, some_due}
 use Rattle.run_laws.proofs.States.Remaining.{rest, summed}
-use Rattle.run_laws.specs.ArrivingStates.{States}
-use Rattle.run_laws.proofs.States.Told.{told_frame, told_last, told_is}
-use Rattle.run_laws.proofs.Steps.Comes.{Executing, Comes, errs, awaits_lock, computes, opens_loop, turns_loop, pages, touches_gone, looks_at, writes_info, marks_packet, takes_lock, retakes_lock, frees_lock, completes_packet, completes_gone, passes_down, calls_down, returns_status, lets_go, lets_walk, walks_gone, walks_to, walks_up, carries_up, tops_out, ends_dpc, works_on_queues, ends_startio, exchanges, resumes_walk, resumes_gone, resumes_none, stops_walk, stops_none, ends_cancel, lends_to, cancels, Cancels, takes_cancel, retakes_cancel, awaits_cancel, flags_gone, sets_flag, exchanges_gone, finds_empty, finds_none, calls_cancel}
-use Rattle.run_laws.proofs.Steps.Words.{lock_taken, lock_freed}
-use Rattle.run_laws.proofs.States.Queueing.{queue_moves, MovedOn}
-use Rattle.run_laws.proofs.Steps.Queues.{queued_touches}
-use Rattle.run_laws.proofs.States.Cancelled.{begins_called}
-use Rattle.run_laws.proofs.Steps.Comes.{works_on_waiting}
-use Rattle.run_laws.proofs.States.Queueing.{waits_move}
 
 -- what a frame has left to execute
 abbrev pub frame_due : Set → Frame → ℕ

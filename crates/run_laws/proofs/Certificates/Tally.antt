@@ -1,9 +1,7 @@
 -- What the activations of a run have executed, and what their frames still owe, are at most their
 -- certificates: kept by every event with which a run goes on. How much a frame owes is any measure
 -- of it here.
-use Rattle.run_laws.specs.Prelude.{ap, arith, inl, inr, refl, subst, sym, zero, ◌∙◌, cases_eq, get_or-set_other, get_or-set_same, length-replicate, length-set, slice_get-get_or, slice_get_within, List, Some, [], length, replicate, slice_get, slice_index_or, slice_set, suc, ℕ, ⊤, ◌++◌, ◌+◌, ◌<◌, ◌∷◌, ◌≡◌, ◌≤◌, Action, activations_after, begun, frames_of, frames_on, tags_after, Set, Activated, Actor, Entry, Managing, Tag, entry, recorded, World, idle_thread, Frame, Thread}
-use Rattle.run_laws.specs.Lifetime.{AreOneRoutine, KeepsCertificate, executions}
-use Rattle.run_laws.proofs.Lists.{set_same, set_other}
+use Rattle.run_laws.proofs.Common.{ap, arith, inl, inr, refl, subst, sym, zero, ◌∙◌, cases_eq, get_or-set_other, get_or-set_same, length-replicate, length-set, slice_get-get_or, slice_get_within, List, Some, [], length, replicate, slice_get, slice_index_or, slice_set, suc, ℕ, ⊤, ◌++◌, ◌+◌, ◌<◌, ◌∷◌, ◌≡◌, ◌≤◌, Action, activations_after, begun, frames_of, frames_on, tags_after, Set, Activated, Actor, Entry, Managing, Tag, entry, recorded, World, idle_thread, Frame, Thread, AreOneRoutine, KeepsCertificate, executions, set_other, set_same}
 use Rattle.run_laws.proofs.Runs.Threads.{idle_frames}
 use Rattle.run_laws.proofs.Certificates.Tags.{IsAmong, IsKnown, known_left, Matched, matched_more, Numbered, numbered_append}
 use Rattle.run_laws.proofs.Certificates.Owed.{allowed, allowed_one, one_routine, allowed_append, executed_in, executions_after, all_owed, all_owed_set, Follows}

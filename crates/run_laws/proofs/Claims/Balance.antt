@@ -1,10 +1,9 @@
 -- What a step does to the numbers of claims: one register's packet becomes of another kind, and
 -- with it the packet's word may change, and whether it stands in a queue of the device. Each kind
 -- of step keeps the balance.
-use Rattle.run_laws.specs.Prelude.{ap, arith, inl, inr, refl, subst, sym, ◌∙◌, eqb_tells, Bool, false, if◌then◌else◌, nat_eq, true, ℕ, ◌+◌, ◌≡◌, ◌≢◌, ◌≤◌, ◌⊎◌, is_at, is_claim, is_name, Set, Kind, BlankKind, Own, Queued, Stage, Armed, Cancelling, Listed, Taken, QueueName, Declared, DeviceQueue, Ref}
+use Rattle.run_laws.proofs.Common.{ap, arith, inl, inr, refl, subst, sym, ◌∙◌, eqb_tells, Bool, false, if◌then◌else◌, nat_eq, true, ℕ, ◌+◌, ◌≡◌, ◌≢◌, ◌≤◌, ◌⊎◌, is_at, is_claim, is_name, Set, Kind, BlankKind, Own, Queued, Stage, Armed, Cancelling, Listed, Taken, QueueName, Declared, DeviceQueue, Ref, named_as}
 use Rattle.std.proofs.Common.{eq-eqb}
 use Rattle.model.specs.Kinds.{stage_number}
-use Rattle.run_laws.specs.Holder.{named_as}
 use Rattle.run_laws.proofs.Claims.Sums.{Balanced, Numbers, is_cancelable, was_taken, is_declared}
 
 -- two names are of one list or not

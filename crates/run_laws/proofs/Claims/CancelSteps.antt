@@ -1,7 +1,6 @@
 -- The steps of IoCancelIrp keep claims, and so does a packet that tops out: the cancel routine that
 -- is called has the right that the word had.
-use Rattle.run_laws.specs.Prelude.{ap, arith, cond, inl, inr, refl, subst, sym, ◌∙◌, eqb_tells, Bool, List, None, Option, Some, [], false, if◌then◌else◌, nat_eq, slice_get, true, ℕ, ◌+◌, ◌<◌, ◌∷◌, ◌≡◌, ◌≤◌, Outcome, routine_of_device, is_at, is_name, Set, cancel_routine_named, cancels_for, Entry, Shared, World, entered, packet_of, with_armer, with_packet, without_packet, Abs, Kind, BlankKind, Queued, Armed, Cancelling, Taken, QueueName, Cancel, Activation, Armer, Canceller, Frame, CancelFrame, Routine, Walk, Packet, Ref}
-use Rattle.run_laws.specs.Holder.{named_as, named_in, stack_sum, thread_sum, times_waiting, frame_rights}
+use Rattle.run_laws.proofs.Common.{ap, arith, cond, inl, inr, refl, subst, sym, ◌∙◌, eqb_tells, Bool, List, None, Option, Some, [], false, if◌then◌else◌, nat_eq, slice_get, true, ℕ, ◌+◌, ◌<◌, ◌∷◌, ◌≡◌, ◌≤◌, Outcome, routine_of_device, is_at, is_name, Set, cancel_routine_named, cancels_for, Entry, Shared, World, entered, packet_of, with_armer, with_packet, without_packet, Abs, Kind, BlankKind, Queued, Armed, Cancelling, Taken, QueueName, Cancel, Activation, Armer, Canceller, Frame, CancelFrame, Routine, Walk, Packet, Ref, States, frame_rights, named_as, named_in, stack_sum, thread_sum, times_waiting, Each, Begins, begins_cancelled, first_state, StepLeaves, ArmerLeads, word_leads, IsGood, Standing}
 use Rattle.run_laws.proofs.Claims.Balance.{KindTurns, at_kind, at_swapped, balanced_calls, once_turned}
 use Rattle.run_laws.proofs.Claims.Held.{word_holds}
 use Rattle.run_laws.proofs.Claims.Names.{OfQueues, at_queues, names, was_queues, queue_packets}
@@ -11,18 +10,12 @@ use Rattle.run_laws.proofs.Claims.Sums.{Claimed, FrameApart, frame_names, number
 use Rattle.run_laws.proofs.Holders.Counts.{Holding, walk_taken}
 use Rattle.run_laws.proofs.Holders.Rights.{handed_names}
 use Rattle.run_laws.proofs.Holders.Sums.{Held, unheld}
-use Rattle.run_laws.proofs.Lists.{Each}
 use Rattle.run_laws.proofs.Past.LivePackets.{find, find_remove}
 use Rattle.run_laws.proofs.Runs.Events.{StepsFrame}
-use Rattle.run_laws.proofs.States.Fine.{StepLeaves}
-use Rattle.run_laws.proofs.States.Frames.{IsGood}
-use Rattle.run_laws.specs.ArrivingStates.{States}
-use Rattle.run_laws.proofs.States.Standing.{Standing}
 use Rattle.run_laws.proofs.Past.Packets.{found}
 use Rattle.run_laws.proofs.Claims.Changed.{changed}
 use Rattle.run_laws.proofs.Claims.WordSteps.{word_emptied}
-use Rattle.run_laws.proofs.States.Entering.{Begins, begins_cancelled, cancelled_name, first_state}
-use Rattle.run_laws.proofs.States.Fits.{ArmerLeads, word_leads}
+use Rattle.run_laws.proofs.States.Entering.{cancelled_name}
 
 one_name : (one other : Bool) → cond {A = ℕ} one (cond {A = ℕ} other 1 0) 0 ≤ 1
 one_name true true = omega arith

@@ -1,19 +1,11 @@
 -- The sums of names over threads after a step: those of the frame that ran go, and those of the
 -- frames in place of it come.
-use Rattle.run_laws.specs.Prelude.{ap, arith, inl, inr, refl, ◌-◌, ◌∙◌, Bool, List, None, Option, Some, [], if◌then◌else◌, slice_set, ℕ, ◌++◌, ◌+◌, ◌∷◌, ◌≡◌, Outcome, answered_in, operand_of, told_to, standing, with_stack, Set, instruction_at, Entry, World, Kind, Status, Activation, Frame, CancelFrame, Routine, Walk, Thread}
-use Rattle.run_laws.specs.Holder.{stack_sum, thread_sum}
+use Rattle.run_laws.proofs.Common.{ap, arith, inl, inr, refl, ◌-◌, ◌∙◌, Bool, List, None, Option, Some, [], if◌then◌else◌, slice_set, ℕ, ◌++◌, ◌+◌, ◌∷◌, ◌≡◌, Outcome, answered_in, operand_of, told_to, standing, with_stack, Set, instruction_at, Entry, World, Kind, Status, Activation, Frame, CancelFrame, Routine, Walk, Thread, States, stack_sum, thread_sum, StepLeaves, IsGood, Ready, state_of, Replaces, Stacked, Stands, Standing, stands_there, last_same, told_frame, told_is, told_last, stood}
 use Rattle.run_laws.proofs.Claims.Names.{OfQueues, queue_packets}
 use Rattle.run_laws.proofs.Claims.Sums.{frame_names}
 use Rattle.run_laws.proofs.Holders.Rights.{named_told}
 use Rattle.run_laws.proofs.Holders.Sums.{stack_append, thread_set}
 use Rattle.run_laws.proofs.Runs.Events.{StepsFrame}
-use Rattle.run_laws.proofs.States.Fine.{StepLeaves}
-use Rattle.run_laws.proofs.States.Frames.{IsGood, Ready, state_of}
-use Rattle.run_laws.specs.ArrivingStates.{States}
-use Rattle.run_laws.proofs.States.Stacks.{Replaces, Stacked, Stands}
-use Rattle.run_laws.proofs.States.Standing.{Standing, stands_there}
-use Rattle.run_laws.proofs.States.Told.{last_same, told_frame, told_is, told_last}
-use Rattle.run_laws.proofs.Steps.Below.{stood}
 
 module _ (set : Set) (states : States) (f : Kind → Bool) (queues : OfQueues f) (on : ℕ → Bool)
     (n : ℕ) where

@@ -1,10 +1,9 @@
 -- A queue, a start list and a device queue have room for a packet that a routine has the right to,
 -- and the start list for the first one of the device queue: the packet and the entries are
 -- different live packets, and there are no more of these than a list takes.
-use Rattle.run_laws.specs.Prelude.{ap, arith, inl, inr, refl, subst, ◌∙◌, cases_Bool, length-append, Bool, List, None, Option, Some, [], false, if◌then◌else◌, length, nat_eq, not, option_map, true, ℕ, ⊤, ◌&&◌, ◌++◌, ◌+◌, ◌∷◌, ◌≡◌, ◌≤◌, Action, Outcome, is_right, handed, kind_of, StartState, inserted, is_full, Set, cancel_routine_of, flow_of, has_cancel, Entry, Shared, World, queue_of, register, start_of, Kind, BlankKind, Own, Instr, Insert, Start, MAX_LIVE_PACKETS, QueueName, Declared, DeviceQueue, Activation, Armer, Frame, CancelFrame, Routine, Walk, Packet, Value, Ref}
+use Rattle.run_laws.proofs.Common.{ap, arith, inl, inr, refl, subst, ◌∙◌, cases_Bool, length-append, Bool, List, None, Option, Some, [], false, if◌then◌else◌, length, nat_eq, not, option_map, true, ℕ, ⊤, ◌&&◌, ◌++◌, ◌+◌, ◌∷◌, ◌≡◌, ◌≤◌, Action, Outcome, is_right, handed, kind_of, StartState, inserted, is_full, Set, cancel_routine_of, flow_of, has_cancel, Entry, Shared, World, queue_of, register, start_of, Kind, BlankKind, Own, Instr, Insert, Start, MAX_LIVE_PACKETS, QueueName, Declared, DeviceQueue, Activation, Armer, Frame, CancelFrame, Routine, Walk, Packet, Value, Ref, States, named_as, named_in, times_at, times_in, times_listed, times_started, times_to_start, times_waiting, waits_cancelable, IsGood, Runs, state_of, has_next, inserts_right, OnTop, runs, first_none, Standing, on_top, Comes, Waits, arms_waiting, dequeues_packet, disarms_next, inserts, puts_in, removes, removes_none, starts_gone, starts_next, starts_packet, takes_none, takes_out, unlinks, waits_armed, works_on_queues, works_on_waiting, not_at_most}
 use Rattle.model.specs.declared.limits.TheConstants.{MAX_ENTRIES}
 use Rattle.model.specs.Queues.{room_for_next}
-use Rattle.run_laws.specs.Holder.{times_at, times_in, times_waiting, named_in, named_as}
 use Rattle.run_laws.proofs.Claims.Held.{is_own, owns_in, rights_cover, word_holds}
 use Rattle.run_laws.proofs.Claims.Sums.{Claimed, frame_names, is_cancelable, times_of}
 use Rattle.run_laws.proofs.Holders.Counts.{Holding, reads_ref}
@@ -16,23 +15,13 @@ use Rattle.run_laws.proofs.Holders.Sums.{own_if, unheld, unheld_one, Held, top_l
 use Rattle.run_laws.proofs.Holders.Waits.{counts_here, gives_right, inserts_blank, kinds_with, rights_given, device_driver}
 use Rattle.run_laws.proofs.Past.LivePackets.{find}
 use Rattle.run_laws.proofs.Runs.Events.{StepsFrame}
-use Rattle.run_laws.proofs.States.Frames.{Runs, state_of, IsGood}
-use Rattle.run_laws.proofs.States.Moves.{has_next}
-use Rattle.run_laws.proofs.States.Obeyed.{inserts_right}
-use Rattle.run_laws.proofs.States.OnTop.{OnTop, runs}
-use Rattle.run_laws.specs.ArrivingStates.{States}
-use Rattle.run_laws.proofs.States.Rules.{first_none}
-use Rattle.run_laws.proofs.States.Standing.{Standing, on_top}
-use Rattle.run_laws.proofs.Steps.Comes.{Comes, Queued, Reads, inserts, puts_in, removes, removes_none, starts_next, starts_packet, takes_none, takes_out, unlinks, works_on_queues}
-use Rattle.run_laws.proofs.Tests.{not_at_most}
+use Rattle.run_laws.proofs.Steps.Comes.{Queued, Reads}
 use Rattle.run_laws.proofs.Claims.WordSteps.{waiting_le}
 use Rattle.run_laws.proofs.Claims.Held.{holder_lives}
 use Rattle.run_laws.proofs.Claims.Sums.{list_of, times_of, takes_in}
 use Rattle.run_laws.proofs.Holders.Waits.{and_both, served_waits}
 use Rattle.run_laws.proofs.Holders.Counts.{right_lives}
 use Rattle.run_laws.proofs.Holders.Started.{waits_in}
-use Rattle.run_laws.proofs.Steps.Comes.{Waits, arms_waiting, disarms_next, starts_gone, dequeues_packet, works_on_waiting, waits_armed}
-use Rattle.run_laws.specs.Holder.{times_at, times_started, times_to_start, times_listed, waits_cancelable}
 
 -- a list has room for a packet, where that and the entries are different live packets
 room_for : (s : Shared) → length s.packets ≤ MAX_LIVE_PACKETS → (entries : List ℕ) (n : ℕ)

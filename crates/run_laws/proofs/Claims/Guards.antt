@@ -1,10 +1,8 @@
 -- A register has a packet of a queue with a cancel routine, that stands in it or was taken off it,
 -- only while its thread holds the guard of the queue. So where a thread holds the guard, no other
 -- frame of the device has such a packet.
-use Rattle.run_laws.specs.Prelude.{ap, arith, eqb-true, inl, inr, refl, subst, sym, zero, ◌-◌, ◌∙◌, cases_Bool, list_any, Bool, List, None, Option, Some, [], false, length, nat_eq, slice_get, slice_index_or, suc, true, ℕ, ◌++◌, ◌+◌, ◌<◌, ◌∷◌, ◌≡◌, ◌≢◌, answered_in, operand_of, holds, is_at, is_name, is_stage, is_guarded, frames_of, frames_on, Set, guard_named, instruction_at, member, routine_of, Entry, Locks, World, Kind, BlankKind, Queued, Stage, Lock, Spin, SystemCancel, Device, Guard, CancelLock, DeviceLock, QueueName, RoutineOf, Status, Success, Activation, Frame, CancelFrame, Routine, Walk, Thread}
+use Rattle.run_laws.proofs.Common.{ap, arith, eqb-true, inl, inr, refl, subst, sym, zero, ◌-◌, ◌∙◌, cases_Bool, list_any, Bool, List, None, Option, Some, [], false, length, nat_eq, slice_get, slice_index_or, suc, true, ℕ, ◌++◌, ◌+◌, ◌<◌, ◌∷◌, ◌≡◌, ◌≢◌, answered_in, operand_of, holds, is_at, is_name, is_stage, is_guarded, frames_of, frames_on, Set, guard_named, instruction_at, member, routine_of, Entry, Locks, World, Kind, BlankKind, Queued, Stage, Lock, Spin, SystemCancel, Device, Guard, CancelLock, DeviceLock, QueueName, RoutineOf, Status, Success, Activation, Frame, CancelFrame, Routine, Walk, Thread, States, stack_sum, thread_sum, IsGood, Ready, Serves, state_of, IsKnown, KindFits, named_same, stage_same, Stacked, Stands, Standing, stands_there, and_left, and_right}
 use Rattle.std.proofs.Common.{eq-eqb}
-use Rattle.run_laws.proofs.Tests.{and_left, and_right}
-use Rattle.run_laws.specs.Holder.{stack_sum, thread_sum}
 use Rattle.run_laws.proofs.Claims.Names.{names}
 use Rattle.run_laws.proofs.Claims.Sums.{frame_names, names_on}
 use Rattle.run_laws.proofs.Holders.Rights.{named_nowhere}
@@ -14,12 +12,7 @@ use Rattle.run_laws.proofs.Locks.Says.{frame_says, free_says, top_says}
 use Rattle.run_laws.proofs.Past.Owners.{Owned, held_owned}
 use Rattle.run_laws.proofs.Runs.Events.{StepsFrame}
 use Rattle.run_laws.proofs.Runs.Threads.{frames_there}
-use Rattle.run_laws.proofs.States.Frames.{IsGood, Ready, Serves, state_of}
-use Rattle.run_laws.proofs.States.Known.{IsKnown}
-use Rattle.run_laws.proofs.States.Listed.{AllFit, Guarded, KindFits, arrives_fits, fits_at, guarded_is, guards_in, named_same, is_under_guard, stage_same}
-use Rattle.run_laws.specs.ArrivingStates.{States}
-use Rattle.run_laws.proofs.States.Stacks.{Stacked, Stands}
-use Rattle.run_laws.proofs.States.Standing.{Standing, stands_there}
+use Rattle.run_laws.proofs.States.Listed.{AllFit, Guarded, arrives_fits, fits_at, guarded_is, guards_in, is_under_guard}
 
 -- kinds that a register has only while the guard of a queue is held
 abbrev pub NeedsGuard : Set → ℕ → (Kind → Bool) → QueueName → Type 0

@@ -1,15 +1,13 @@
 -- What the holders of packets say of claims: a register at the stage Listed or Cancelling, one of
 -- kind Own, and a cancel word that isn't empty hold the packet, and it has one holder.
-use Rattle.run_laws.specs.Prelude.{ap, arith, refl, Bool, List, None, Option, Some, [], false, if◌then◌else◌, is_some, nat_eq, true, ℕ, ◌+◌, ◌∷◌, ◌≡◌, ◌≤◌, is_at, is_right, Set, World, packet_of, Kind, Own, Queued, Armed, Cancelling, Listed, Taken, QueueName, Declared, DeviceQueue, Armer, Frame, CancelFrame, Routine, Walk, Packet, Thread, Value}
+use Rattle.run_laws.proofs.Common.{ap, arith, refl, Bool, List, None, Option, Some, [], false, if◌then◌else◌, is_some, nat_eq, true, ℕ, ◌+◌, ◌∷◌, ◌≡◌, ◌≤◌, is_at, is_right, Set, World, packet_of, Kind, Own, Queued, Armed, Cancelling, Listed, Taken, QueueName, Declared, DeviceQueue, Armer, Frame, CancelFrame, Routine, Walk, Packet, Thread, Value, States, frame_rights, named_as, named_in, stack_sum, thread_sum, times_listed, times_named, times_queued, times_to_start, times_waiting, state_of}
 use Rattle.std.proofs.Common.{eq-eqb}
-use Rattle.run_laws.specs.Holder.{frame_rights, named_as, named_in, names as value_names, stack_sum, thread_sum, times_listed, times_named, times_queued, times_waiting, times_to_start}
+use Rattle.run_laws.specs.Holder.{names as value_names}
 use Rattle.run_laws.proofs.Claims.Names.{names}
 use Rattle.run_laws.proofs.Claims.Queues.{queued_zero, to_start_zero}
 use Rattle.run_laws.proofs.Claims.Sums.{Balanced, frame_names, names_on, numbers, takes_in, times_of, was_taken, word_at, word_for, is_cancelable, list_of}
 use Rattle.run_laws.proofs.Holders.Sums.{Held, unheld, unheld_one}
 use Rattle.run_laws.proofs.Past.LivePackets.{find, find_place}
-use Rattle.run_laws.proofs.States.Frames.{state_of}
-use Rattle.run_laws.specs.ArrivingStates.{States}
 use Rattle.run_laws.proofs.Claims.Balance.{name_same}
 
 -- sums over frames, and over threads

@@ -1,19 +1,10 @@
 -- What an instruction does to the registers with packets of queues with a cancel routine: most do
 -- nothing, and those that do change the kind of one register.
-use Rattle.run_laws.specs.Prelude.{ap, arith, refl, subst, sym, ◌∙◌, Bool, List, None, Some, [], false, if◌then◌else◌, length, slice_index_or, slice_set, true, ℕ, ◌&&◌, ◌+◌, ◌<◌, ◌∷◌, ◌≡◌, ◌≤◌, all_let_go, is_at, is_guard, is_packet, is_stage, let_go, given_down, handed, handed_at_label, kind_of, marked, number_kind, refuses, Set, flow_of, guard_named, label_of, sort_of, OperandFits, Shared, at_label, next, register, with_register, Abs, Kind, BlankKind, LowerKind, New, NumKind, Own, Queued, Stage, Armed, Instr, Add, Arm, Begin, Call, Clear, Complete, Const, Dequeue, Disarm, Get, Insert, Load, LoadPaged, Mark, Move, Pass, Release, ReleaseCancel, Remove, Start, Subtract, Take, Unlink, REGISTERS, Guard, QueueName, Sort, Activation, Value, Blank, Num, Ref}
-use Rattle.run_laws.specs.Holder.{named_as, named_in}
+use Rattle.run_laws.proofs.Common.{ap, arith, refl, subst, sym, ◌∙◌, Bool, List, None, Some, [], false, if◌then◌else◌, length, slice_index_or, slice_set, true, ℕ, ◌&&◌, ◌+◌, ◌<◌, ◌∷◌, ◌≡◌, ◌≤◌, all_let_go, is_at, is_guard, is_packet, is_stage, let_go, given_down, handed, handed_at_label, kind_of, marked, number_kind, refuses, Set, flow_of, guard_named, label_of, sort_of, OperandFits, Shared, at_label, next, register, with_register, Abs, Kind, BlankKind, LowerKind, New, NumKind, Own, Queued, Stage, Armed, Instr, Add, Arm, Begin, Call, Clear, Complete, Const, Dequeue, Disarm, Get, Insert, Load, LoadPaged, Mark, Move, Pass, Release, ReleaseCancel, Remove, Start, Subtract, Take, Unlink, REGISTERS, Guard, QueueName, Sort, Activation, Value, Blank, Num, Ref, States, named_as, named_in, all_at, Runs, state_of, HasKinds, kinds_get, kinds_set, label_kinds, number_kinds, arrives, arrives_next, has_next, first_none, second_none, unbroken, GoesTo, Written, jumping, keeps_all, makes_blank, makes_number, moves_over, onward, is_giving, keeps_registers, numbered_by, work_of}
 use Rattle.run_laws.proofs.Claims.Sums.{was_taken}
 use Rattle.run_laws.proofs.Holders.Rights.{OfPackets, named_both, named_move, named_none, named_turn, named_write}
-use Rattle.run_laws.proofs.Lists.{all_at}
 use Rattle.run_laws.proofs.Locks.Says.{is_locking}
-use Rattle.run_laws.proofs.States.Frames.{Runs, state_of}
-use Rattle.run_laws.proofs.States.Kinds.{HasKinds, kinds_get, kinds_set, label_kinds, number_kinds}
-use Rattle.run_laws.proofs.States.Moves.{arrives, arrives_next, has_next}
 use Rattle.run_laws.proofs.States.NoViews.{is_queued}
-use Rattle.run_laws.specs.ArrivingStates.{States}
-use Rattle.run_laws.proofs.States.Rules.{first_none, second_none, unbroken}
-use Rattle.run_laws.proofs.Steps.Comes.{GoesTo, Written, jumping, keeps_all, makes_blank, makes_number, moves_over, onward}
-use Rattle.run_laws.proofs.Steps.Words.{is_giving, keeps_registers, numbered_by, work_of}
 
 -- kinds of packets of queues with a cancel routine
 abbrev pub OfQueues : (Kind → Bool) → Type 0

@@ -2,14 +2,10 @@
 -- packets there have one: it stands in the queue, so that its word or the cancel routine has it;
 -- and while the routine holds the system cancel spin lock no other one has a packet that was handed
 -- to the cancel routine, nor has this one, which has the token of its device.
-use Rattle.run_laws.specs.Prelude.{ap, arith, refl, subst, sym, ◌∙◌, Bool, List, None, Option, Some, [], false, not, option_map, true, ℕ, ◌&&◌, ◌+◌, ◌∷◌, ◌≡◌, ◌≤◌, is_at, is_stage, kind_disarmed, kind_inserted, kind_removed, broken_if, entered_with, entry_of_sort, free_kind, given_down, guard_fault, handed, handed_at_label, is_guarded, kind_of, marked, refuses, take_fault, Arrives, StartState, head_of, Member, Set, cancel_routine_of, cancels_for, guard_named, has_cancel, member, Entry, World, packet_of, start_of, Abs, Fresh, NoDuty, Kind, BlankKind, New, Own, Queued, View, GuardRule, Token, Open, SettledMark, Stage, Armed, Cancelling, Listed, Taken, Instr, Begin, Call, IfPending, Mark, Next, Pass, Take, QueueName, Declared, DeviceQueue, Sort, Cancel, Dispatch, Dpc, Hold, Propagate, StartIo, Activation, Armer, Frame, CancelFrame, Routine, Walk, Packet}
+use Rattle.run_laws.proofs.Common.{ap, arith, refl, subst, sym, ◌∙◌, Bool, List, None, Option, Some, [], false, not, option_map, true, ℕ, ◌&&◌, ◌+◌, ◌∷◌, ◌≡◌, ◌≤◌, is_at, is_stage, kind_disarmed, kind_inserted, kind_removed, broken_if, entered_with, entry_of_sort, free_kind, given_down, guard_fault, handed, handed_at_label, is_guarded, kind_of, marked, refuses, take_fault, Arrives, StartState, head_of, Member, Set, cancel_routine_of, cancels_for, guard_named, has_cancel, member, Entry, World, packet_of, start_of, Abs, Fresh, NoDuty, Kind, BlankKind, New, Own, Queued, View, GuardRule, Token, Open, SettledMark, Stage, Armed, Cancelling, Listed, Taken, Instr, Begin, Call, IfPending, Mark, Next, Pass, Take, QueueName, Declared, DeviceQueue, Sort, Cancel, Dispatch, Dpc, Hold, Propagate, StartIo, Activation, Armer, Frame, CancelFrame, Routine, Walk, Packet, States, times_in, arrives_keep, IsGood, Runs, state_of, stage_same, HasNone, OnTop, runs, first_none, granted, second_none, Standing, on_top, and_false}
 use Rattle.std.proofs.Common.{eq-eqb}
 use Rattle.model.specs.LocalRule.{waiting_fault}
-use Rattle.run_laws.proofs.States.Listed.{stage_same}
-use Rattle.run_laws.proofs.Tests.{and_false}
 use Rattle.model.specs.declared.abs.Rule.TheVariants.{Sort as SortRule}
-use Rattle.run_laws.specs.ArrivingStates.{States}
-use Rattle.run_laws.specs.Holder.{times_in}
 use Rattle.run_laws.proofs.Claims.Guards.{NeedsGuard, excluded, at_needs}
 use Rattle.run_laws.proofs.Claims.Sums.{Claimed, is_cancelable, is_declared, list_of, names_on, times_of, word_at, word_for}
 use Rattle.run_laws.proofs.Claims.WordSteps.{IsFor, word_is_for}
@@ -21,12 +17,7 @@ use Rattle.run_laws.proofs.Past.LivePackets.{find}
 use Rattle.run_laws.proofs.Past.Owners.{Owned}
 use Rattle.run_laws.proofs.Past.Packets.{found}
 use Rattle.run_laws.proofs.Runs.Events.{StepsFrame}
-use Rattle.run_laws.proofs.States.Frames.{IsGood, Runs, state_of}
-use Rattle.run_laws.proofs.States.OnTop.{OnTop, runs}
-use Rattle.run_laws.proofs.States.Standing.{Standing, on_top}
-use Rattle.run_laws.proofs.States.Along.{arrives_keep}
-use Rattle.run_laws.proofs.States.NoViews.{HasNone, NeverMade, none_arrives}
-use Rattle.run_laws.proofs.States.Rules.{first_none, granted, second_none}
+use Rattle.run_laws.proofs.States.NoViews.{NeverMade, none_arrives}
 
 -- kinds that no instruction makes: of a packet of the device queue in a register, but for one that
 -- is being cancelled; and of one that is being cancelled at all

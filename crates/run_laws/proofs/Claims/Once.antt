@@ -1,15 +1,13 @@
 -- A packet stands at most once in all lists together, and in none where it isn't live: who has it
 -- is a queue without a cancel routine, what a device has for StartIo, its cancel word, or a
 -- register.
-use Rattle.run_laws.specs.Prelude.{ap, arith, refl, None, Option, Some, if◌then◌else◌, ℕ, ◌+◌, ◌≡◌, ◌≤◌, Run, Set, World, packet_of, Packet}
-use Rattle.run_laws.specs.Holder.{alive, frame_rights, is_live, thread_sum, times_listed, times_waiting}
+use Rattle.run_laws.proofs.Common.{ap, arith, refl, None, Option, Some, if◌then◌else◌, ℕ, ◌+◌, ◌≡◌, ◌≤◌, Run, Set, World, packet_of, Packet, States, alive, frame_rights, is_live, thread_sum, times_listed, times_waiting}
 use Rattle.run_laws.proofs.Claims.Held.{none_alone, rights_cover}
 use Rattle.run_laws.proofs.Claims.Sums.{Claimed, takes_in}
 use Rattle.run_laws.proofs.Holders.Runs.{live_listed}
 use Rattle.run_laws.proofs.Holders.Sums.{Held, unheld}
 use Rattle.run_laws.proofs.Past.LivePackets.{find, find_place}
 use Rattle.run_laws.proofs.Past.Packets.{Tells}
-use Rattle.run_laws.specs.ArrivingStates.{States}
 
 module _ (set : Set) (states : States) (w : World) (kept : Held set states w)
     (claimed : Claimed set states w) (n : ℕ) where

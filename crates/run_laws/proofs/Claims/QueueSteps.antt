@@ -1,9 +1,8 @@
 -- An instruction about queues keeps claims: a packet goes into a queue or off it, or to what a
 -- device has for StartIo.
-use Rattle.run_laws.specs.Prelude.{ap, arith, inl, inr, refl, subst, ◌∙◌, list_any, Bool, List, None, Option, Some, [], false, if◌then◌else◌, nat_eq, true, ℕ, ◌+◌, ◌∷◌, ◌≡◌, ◌≤◌, is_at, kind_inserted, kind_removed, guard_fault, is_guarded, kind_of, unlink_kind, inserted, unlinked, Set, cancel_routine_of, guard_named, OperandFits, Entry, World, next, queue_of, register, with_queue, with_register, Kind, BlankKind, Own, Queued, GuardRule, Armed, Cancelling, Listed, Taken, Instr, Insert, Remove, Unlink, QueueName, Declared, DeviceQueue, Activation, Routine, Ref}
+use Rattle.run_laws.proofs.Common.{ap, arith, inl, inr, refl, subst, ◌∙◌, list_any, Bool, List, None, Option, Some, [], false, if◌then◌else◌, nat_eq, true, ℕ, ◌+◌, ◌∷◌, ◌≡◌, ◌≤◌, is_at, kind_inserted, kind_removed, guard_fault, is_guarded, kind_of, unlink_kind, inserted, unlinked, Set, cancel_routine_of, guard_named, OperandFits, Entry, World, next, queue_of, register, with_queue, with_register, Kind, BlankKind, Own, Queued, GuardRule, Armed, Cancelling, Listed, Taken, Instr, Insert, Remove, Unlink, QueueName, Declared, DeviceQueue, Activation, Routine, Ref, States, named_as, named_in, stack_sum, thread_sum, times_in, times_listed, times_waiting, all_at, StepLeaves, IsGood, Runs, state_of, inserts_right, first_none, granted, second_none, unbroken, Standing, or_left, or_right}
 use Rattle.std.proofs.Common.{eq-eqb}
 use Rattle.model.specs.Kinds.{names_list}
-use Rattle.run_laws.specs.Holder.{named_as, named_in, stack_sum, thread_sum, times_in, times_listed, times_waiting}
 use Rattle.run_laws.proofs.Claims.Balance.{KindTurns, balanced_cancels, balanced_inserts, balanced_joins, balanced_leaves, balanced_removes, balanced_unlinks, hit, once_turned}
 use Rattle.run_laws.proofs.Claims.Guards.{NeedsGuard, at_needs, excluded}
 use Rattle.run_laws.proofs.Claims.Held.{is_own, one_holder, own_alone, owns_in}
@@ -18,19 +17,11 @@ use Rattle.run_laws.proofs.Holders.Counts.{reads_ref}
 use Rattle.run_laws.proofs.Holders.Queued.{times_le, times_pushed, times_put}
 use Rattle.run_laws.proofs.Holders.Rights.{named_le, named_nowhere}
 use Rattle.run_laws.proofs.Holders.Sums.{Held, top_le}
-use Rattle.run_laws.proofs.Lists.{all_at}
 use Rattle.run_laws.proofs.Locks.Runs.{LocksAgree}
 use Rattle.run_laws.proofs.Past.LivePackets.{find}
 use Rattle.run_laws.proofs.Past.Owners.{Owned}
 use Rattle.run_laws.proofs.Runs.Events.{StepsFrame}
-use Rattle.run_laws.proofs.States.Fine.{StepLeaves}
-use Rattle.run_laws.proofs.States.Frames.{IsGood, Runs, state_of}
-use Rattle.run_laws.proofs.States.Obeyed.{inserts_right}
-use Rattle.run_laws.specs.ArrivingStates.{States}
-use Rattle.run_laws.proofs.States.Rules.{first_none, granted, second_none, unbroken}
-use Rattle.run_laws.proofs.States.Standing.{Standing}
 use Rattle.run_laws.proofs.Steps.Comes.{Reads}
-use Rattle.run_laws.proofs.Tests.{or_left, or_right}
 use Rattle.run_laws.proofs.Claims.Queues.{Puts, puts_queue, unlinked_times}
 use Rattle.run_laws.proofs.Claims.WordSteps.{list_le}
 use Rattle.run_laws.proofs.Claims.Sums.{list_of, is_cancelable}

@@ -1,13 +1,9 @@
 -- How often packets stand in queues with a cancel routine, after one is put into a queue or taken
 -- off it; and a packet that stands in no list.
-use Rattle.run_laws.specs.Prelude.{ap, arith, eqb-true, inl, inr, refl, subst, sym, zero, ◌∙◌, cases_Bool, eqb_tells, get_or_from_slice_get, Bool, List, Option, Some, [], false, if◌then◌else◌, is_some, nat_eq, option_and_then, option_map, slice_get, slice_index_or, slice_set, suc, true, ℕ, ◌+◌, ◌∷◌, ◌≡◌, ◌≤◌, ◌⊎◌, routine_of_device, is_name, StartState, unlinked, Set, cancel_routine_of, has_cancel, Shared, queue_of, start_of, with_queue, with_start, QueueName, Declared, DeviceQueue}
+use Rattle.run_laws.proofs.Common.{ap, arith, eqb-true, inl, inr, refl, subst, sym, zero, ◌∙◌, cases_Bool, eqb_tells, get_or_from_slice_get, Bool, List, Option, Some, [], false, if◌then◌else◌, is_some, nat_eq, option_and_then, option_map, slice_get, slice_index_or, slice_set, suc, true, ℕ, ◌+◌, ◌∷◌, ◌≡◌, ◌≤◌, ◌⊎◌, routine_of_device, is_name, StartState, unlinked, Set, cancel_routine_of, has_cancel, Shared, queue_of, start_of, with_queue, with_start, QueueName, Declared, DeviceQueue, times_at, times_in, times_on, times_plain, times_plain_on, times_queued, times_started, times_to_start, waits_cancelable, set_other, set_same, queue_row}
 use Rattle.std.proofs.Common.{eq-eqb}
-use Rattle.run_laws.specs.Holder.{times_in, times_on, times_plain, times_plain_on, times_queued, times_started, times_to_start, waits_cancelable, times_at}
 use Rattle.run_laws.proofs.Claims.Balance.{hit, hit_elsewhere, name_same}
 use Rattle.run_laws.proofs.Claims.Sums.{is_cancelable, times_of, list_of}
-use Rattle.run_laws.proofs.Lists.{set_other, set_same}
-use Rattle.run_laws.proofs.States.Fits.{queue_row}
-use Rattle.run_laws.specs.Holder.{waits_cancelable}
 use Rattle.run_laws.proofs.Claims.Sums.{is_cancelable}
 
 -- a list in place of another one: it, or a list that is as it was

@@ -1,29 +1,14 @@
 -- Steps that leave the claims to packets as they are: the frames in place of the one that ran name
 -- the same packets of queues with a cancel routine, and cancel words and queues are as before.
-use Rattle.run_laws.specs.Prelude.{ap, arith, inl, inr, refl, sym, ◌-◌, ◌∙◌, cond_both, eqb_tells, list_any, Bool, List, None, Option, Some, [], false, if◌then◌else◌, nat_eq, replicate, slice_get, true, ℕ, ⊤, ◌++◌, ◌+◌, ◌∷◌, ◌≡◌, Outcome, completes_with, dispatched, set_by, turned, is_at, complete_kind, gives_back, handed, is_dropped, kind_of, Set, cancels_for, flow_of, lower_of, sort_of, Actor, Entry, Shared, asked_of, completed, current_location, left_location, mark_current, moved_up, next, packet_of, register, sent_down, shared_with, with_info, with_loops, with_packet, Abs, Kind, BlankKind, New, Own, Queued, View, Armed, Cancelling, Taken, Lock, Instr, Acquire, AcquireCancel, Call, Complete, End, Loop, Mark, Pass, Put, Ret, Return, Continue, Stop, Void, REGISTERS, QueueName, Sort, Cancel, Dispatch, Dpc, Hold, Propagate, StartIo, Activation, Frame, Routine, Walk, Packet, Value, Blank}
-use Rattle.run_laws.specs.Holder.{named_in, stack_sum}
+use Rattle.run_laws.proofs.Common.{ap, arith, inl, inr, refl, sym, ◌-◌, ◌∙◌, cond_both, eqb_tells, list_any, Bool, List, None, Option, Some, [], false, if◌then◌else◌, nat_eq, replicate, slice_get, true, ℕ, ⊤, ◌++◌, ◌+◌, ◌∷◌, ◌≡◌, Outcome, completes_with, dispatched, set_by, turned, is_at, complete_kind, gives_back, handed, is_dropped, kind_of, Set, cancels_for, flow_of, lower_of, sort_of, Actor, Entry, Shared, asked_of, completed, current_location, left_location, mark_current, moved_up, next, packet_of, register, sent_down, shared_with, with_info, with_loops, with_packet, Abs, Kind, BlankKind, New, Own, Queued, View, Armed, Cancelling, Taken, Lock, Instr, Acquire, AcquireCancel, Call, Complete, End, Loop, Mark, Pass, Put, Ret, Return, Continue, Stop, Void, REGISTERS, QueueName, Sort, Cancel, Dispatch, Dpc, Hold, Propagate, StartIo, Activation, Frame, Routine, Walk, Packet, Value, Blank, States, named_in, stack_sum, Each, Enters, begins_back, begins_lent, begins_lower, first_state, Moved, Runs, state_of, never_lacks, moved_end, moved_loop, has_next, SendsDown, completes_one, returns_by, sends_down, OnTop, runs, first_none, Comes, awaits_lock, calls_down, cancels, carries_up, completes_gone, completes_packet, computes, ends_cancel, ends_dpc, ends_startio, errs, exchanges, frees_lock, lends_to, lets_go, lets_walk, looks_at, marks_packet, opens_loop, pages, passes_down, resumes_gone, resumes_none, resumes_walk, retakes_lock, returns_status, stops_none, stops_walk, takes_lock, tops_out, touches_gone, turns_loop, walks_gone, walks_to, walks_up, works_on_queues, works_on_waiting, writes_info, fault_among, is_touch, topped_faults, goes_device, turned_device, turned_registers, Forwarding, lock_taken, packet_operand, work_of, or_left, or_right}
 use Rattle.run_laws.proofs.Claims.Names.{KeepsNames, OfQueues, at_queues, given_names, goes_names, kinds_names, mark_names, names, next_names, queue_packets, unqueued_turn}
 use Rattle.run_laws.proofs.Claims.Sums.{FrameApart, frame_names, word_at, word_for}
 use Rattle.run_laws.proofs.Holders.Counts.{Holding, right_lives, walk_lives}
 use Rattle.run_laws.proofs.Holders.Rights.{handed_names, named_none, named_nowhere}
-use Rattle.run_laws.proofs.Lists.{Each}
 use Rattle.run_laws.proofs.Past.LivePackets.{find, find_set}
 use Rattle.run_laws.proofs.Past.Packets.{found, gone_topped, named, numbered}
-use Rattle.run_laws.proofs.States.Entering.{Enters, begins_back, begins_lent, begins_lower, first_state}
-use Rattle.run_laws.proofs.States.Frames.{Moved, Runs, state_of}
-use Rattle.run_laws.proofs.States.Lacking.{never_lacks}
-use Rattle.run_laws.proofs.States.LoopEnds.{moved_end, moved_loop}
-use Rattle.run_laws.proofs.States.Moves.{has_next}
 use Rattle.run_laws.proofs.States.NoViews.{is_queued}
-use Rattle.run_laws.proofs.States.Obeyed.{SendsDown, completes_one, returns_by, sends_down}
-use Rattle.run_laws.proofs.States.OnTop.{OnTop, runs}
-use Rattle.run_laws.specs.ArrivingStates.{States}
-use Rattle.run_laws.proofs.States.Rules.{first_none}
-use Rattle.run_laws.proofs.Steps.Comes.{Comes, Reads, awaits_lock, calls_down, cancels, carries_up, completes_gone, completes_packet, computes, ends_cancel, ends_dpc, ends_startio, errs, exchanges, frees_lock, lends_to, lets_go, lets_walk, looks_at, marks_packet, opens_loop, pages, passes_down, resumes_gone, resumes_none, resumes_walk, retakes_lock, returns_status, stops_none, stops_walk, takes_lock, tops_out, touches_gone, turns_loop, walks_gone, walks_to, walks_up, works_on_queues, writes_info, works_on_waiting}
-use Rattle.run_laws.proofs.Steps.Faults.{fault_among, is_touch, topped_faults}
-use Rattle.run_laws.proofs.Steps.Onward.{goes_device, turned_device, turned_registers}
-use Rattle.run_laws.proofs.Steps.Words.{Forwarding, lock_taken, packet_operand, work_of}
-use Rattle.run_laws.proofs.Tests.{or_left, or_right}
+use Rattle.run_laws.proofs.Steps.Comes.{Reads}
 
 pub record Quiet (states : States) (s : Shared) (f : Frame) (o : Outcome) : Type 0 where
   pub names : (g : Kind → Bool) → OfQueues g → (on : ℕ → Bool) (n : ℕ)

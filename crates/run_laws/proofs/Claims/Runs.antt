@@ -1,27 +1,19 @@
 -- In every run of an accepted set claims are kept.
-use Rattle.run_laws.specs.Prelude.{arith, inl, inr, refl, subst, sym, eqb_tells, Bool, List, None, Some, [], if◌then◌else◌, length, nat_eq, replicate, slice_set, suc, true, ℕ, ◌++◌, ◌+◌, ◌∷◌, ◌≡◌, ◌≤◌, top_of, Change, standing, with_stack, with_thread, first_fault, is_at, without_first_to_start, begun, Set, Actor, Entry, World, idle_thread, new_packet, with_start, Kind, Armed, Listed, Taken, QueueName, DeviceQueue, Sort, Cancel, Frame, Irql, Packet, Thread}
+use Rattle.run_laws.proofs.Common.{arith, inl, inr, refl, subst, sym, eqb_tells, Bool, List, None, Some, [], if◌then◌else◌, length, nat_eq, replicate, slice_set, suc, true, ℕ, ◌++◌, ◌+◌, ◌∷◌, ◌≡◌, ◌≤◌, top_of, Change, standing, with_stack, with_thread, first_fault, is_at, without_first_to_start, begun, Set, Actor, Entry, World, idle_thread, new_packet, with_start, Kind, Armed, Listed, Taken, QueueName, DeviceQueue, Sort, Cancel, Frame, Irql, Packet, Thread, States, thread_sum, times_listed, times_to_start, Each, RootFrame, root_cancels, root_enters, StepLeaves, leaves_fine, IsGood, OnTop, Standing, on_top, root_there, is_touch, quiet_among}
 use Rattle.model.specs.Queues.{idle as idle_start}
-use Rattle.run_laws.specs.Holder.{thread_sum, times_listed, times_to_start}
 use Rattle.run_laws.proofs.Claims.Names.{OfQueues}
 use Rattle.run_laws.proofs.Claims.Quiet.{BeginsPlain, apart_none, begins_none, frame_none}
-use Rattle.run_laws.proofs.Claims.Steps.{after, same_balance}
+use Rattle.run_laws.proofs.Claims.Steps.{same_balance}
 use Rattle.run_laws.proofs.Claims.Sums.{Claimed, FrameApart, frame_names, times_of, was_taken, word_at, is_cancelable, list_of}
 use Rattle.run_laws.proofs.Claims.Waiting.{to_start_put, waits_first}
 use Rattle.run_laws.proofs.Holders.Queued.{none_queued}
 use Rattle.run_laws.proofs.Holders.Sums.{Held, first_frame}
-use Rattle.run_laws.proofs.Lists.{Each}
 use Rattle.run_laws.proofs.Locks.Runs.{LocksAgree}
 use Rattle.run_laws.proofs.Past.LivePackets.{find, find_above, find_push}
 use Rattle.run_laws.proofs.Past.Owners.{Owned}
 use Rattle.run_laws.proofs.Runs.Events.{StepsFrame, Happens, begins, nothing, steps}
 use Rattle.run_laws.proofs.Runs.Roots.{Root, Beside, issues, takes_first, IdleThread, root_begun, with_root}
-use Rattle.run_laws.proofs.States.Begun.{IsRoot, RootFrame, root_cancels, root_enters}
-use Rattle.run_laws.proofs.States.Fine.{StepLeaves, leaves_fine}
-use Rattle.run_laws.proofs.States.Frames.{IsGood}
-use Rattle.run_laws.specs.ArrivingStates.{States}
-use Rattle.run_laws.proofs.States.Standing.{Standing, on_top, root_there}
-use Rattle.run_laws.proofs.States.OnTop.{OnTop}
-use Rattle.run_laws.proofs.Steps.Faults.{is_touch, quiet_among}
+use Rattle.run_laws.proofs.States.Begun.{IsRoot}
 use Rattle.run_laws.proofs.Claims.Shapes.{shape_claims}
 use Rattle.run_laws.proofs.Holders.Runs.{idle_sum, top_holding}
 use Rattle.run_laws.proofs.Runs.Threads.{each_frames, idle_frames}

@@ -1,6 +1,5 @@
 -- Every shape of a step keeps claims.
-use Rattle.run_laws.specs.Prelude.{ap, arith, inl, inr, refl, subst, sym, ◌∙◌, Bool, List, None, Option, Some, [], false, is_none, option_map, slice_get, true, ℕ, ◌+◌, ◌<◌, ◌∷◌, ◌≡◌, ◌≤◌, Action, Outcome, armer_of, routine_of_device, is_at, is_right, kind_of, queued_kind, StartState, dequeued, head_of, next_started, started, with_slot, Set, cancel_routine_named, has_cancel, OperandFits, Actor, Entry, World, at_label, cancelled, next, packet_of, register, start_of, with_armer, with_packet, with_register, with_start, Kind, BlankKind, Own, QueuedKind, Armed, Cancelling, Taken, Lock, Instr, Arm, Begin, Dequeue, Disarm, Next, Release, ReleaseCancel, Remove, Start, Take, CancelLock, DeviceLock, Declared, DeviceQueue, Activation, Armer, CancelStep, Frame, CancelFrame, Routine, Walk, Packet, Ref}
-use Rattle.run_laws.specs.Holder.{times_listed, times_queued, times_to_start}
+use Rattle.run_laws.proofs.Common.{ap, arith, inl, inr, refl, subst, sym, ◌∙◌, Bool, List, None, Option, Some, [], false, is_none, option_map, slice_get, true, ℕ, ◌+◌, ◌<◌, ◌∷◌, ◌≡◌, ◌≤◌, Action, Outcome, armer_of, routine_of_device, is_at, is_right, kind_of, queued_kind, StartState, dequeued, head_of, next_started, started, with_slot, Set, cancel_routine_named, has_cancel, OperandFits, Actor, Entry, World, at_label, cancelled, next, packet_of, register, start_of, with_armer, with_packet, with_register, with_start, Kind, BlankKind, Own, QueuedKind, Armed, Cancelling, Taken, Lock, Instr, Arm, Begin, Dequeue, Disarm, Next, Release, ReleaseCancel, Remove, Start, Take, CancelLock, DeviceLock, Declared, DeviceQueue, Activation, Armer, CancelStep, Frame, CancelFrame, Routine, Walk, Packet, Ref, States, times_in, times_listed, times_queued, times_to_start, all_at, StepLeaves, ArmerLeads, word_leads, IsGood, Runs, state_of, never_lacks, inserts_right, OnTop, runs, first_none, second_none, unbroken, Standing, head_low, start_issued, Cancels, Comes, Exchanged, Executing, GoesTo, Waits, arms_for, arms_waiting, awaits_cancel, calls_cancel, cancels, dequeues_packet, disarms, disarms_next, errs, exchanges, exchanges_gone, finds_empty, finds_none, flags_gone, frees_lock, inserts, jumping, keeps_all, makes_number, onward, puts_in, queued_to, removes, removes_none, retakes_cancel, sets_flag, starts_gone, starts_next, starts_packet, takes_cancel, takes_none, takes_out, tops_out, unlinks, waited_to, waits_armed, works_on_queues, works_on_waiting, fault_among, is_touch, topped_faults, is_gone, lock_freed, packet_operand}
 use Rattle.run_laws.proofs.Claims.Names.{KeepsNames, kinds_names, label_names, next_takes, next_turns, turns_nothing}
 use Rattle.run_laws.proofs.Claims.Quiet.{word_kept, Quiet, quiet_step}
 use Rattle.run_laws.proofs.Claims.Steps.{after, quiet_claims}
@@ -9,26 +8,14 @@ use Rattle.run_laws.proofs.Claims.Waiting.{to_start_put}
 use Rattle.run_laws.proofs.Holders.Started.{waits_given, waits_in, waits_next}
 use Rattle.run_laws.proofs.Holders.Counts.{reads_ref, Holding, right_lives}
 use Rattle.run_laws.proofs.Holders.Sums.{Held}
-use Rattle.run_laws.proofs.Lists.{all_at}
 use Rattle.run_laws.proofs.Locks.Runs.{LocksAgree}
 use Rattle.run_laws.proofs.Past.Owners.{Owned}
 use Rattle.run_laws.proofs.Runs.Events.{StepsFrame}
-use Rattle.run_laws.proofs.States.Fine.{StepLeaves}
-use Rattle.run_laws.proofs.States.Frames.{IsGood, Runs, state_of}
-use Rattle.run_laws.proofs.States.Obeyed.{inserts_right}
-use Rattle.run_laws.specs.ArrivingStates.{States}
-use Rattle.run_laws.proofs.States.Rules.{first_none, second_none, unbroken}
-use Rattle.run_laws.proofs.States.Standing.{Standing}
-use Rattle.run_laws.proofs.Steps.Comes.{Queued, Reads, inserts, puts_in, removes, removes_none, starts_next, starts_packet, takes_none, takes_out, unlinks, Cancels, Comes, Exchanged, GoesTo, arms_for, awaits_cancel, calls_cancel, cancels, disarms, errs, exchanges, exchanges_gone, finds_empty, finds_none, flags_gone, frees_lock, jumping, keeps_all, makes_number, onward, queued_to, retakes_cancel, sets_flag, takes_cancel, tops_out, works_on_queues}
+use Rattle.run_laws.proofs.Steps.Comes.{Queued, Reads}
 use Rattle.run_laws.proofs.Claims.WordSteps.{arms_claims, empties_claims, gives_claims, releases_claims}
-use Rattle.run_laws.proofs.States.Fits.{ArmerLeads, word_leads, WordLeads}
+use Rattle.run_laws.proofs.States.Fits.{WordLeads}
 use Rattle.run_laws.proofs.Claims.CancelSteps.{cancel_quiet, calls_claims, tops_quiet}
 use Rattle.run_laws.proofs.Claims.QueueSteps.{inserts_claims, lists_claims, once_put, own_there, removes_claims, unlinks_claims}
-use Rattle.run_laws.proofs.States.Lacking.{never_lacks}
-use Rattle.run_laws.proofs.States.OnTop.{OnTop, runs}
-use Rattle.run_laws.proofs.Steps.Faults.{fault_among, is_touch, topped_faults}
-use Rattle.run_laws.proofs.Steps.Words.{lock_freed, packet_operand}
-use Rattle.run_laws.specs.Holder.{times_in}
 use Rattle.run_laws.proofs.Claims.Sums.{is_cancelable, list_of, names_on, times_of}
 use Rattle.run_laws.proofs.Claims.Guards.{NeedsGuard, at_needs}
 use Rattle.run_laws.proofs.Claims.Next.{is_waiting, next_word, no_waiting, none_waits}
@@ -36,12 +23,7 @@ use Rattle.run_laws.proofs.Claims.Queues.{puts_waiting, unlinked_times, waiting_
 use Rattle.run_laws.proofs.Claims.QueueSteps.{unlinks_cancelled}
 use Rattle.run_laws.proofs.Claims.WaitSteps.{next_loses, starts_claims, waits_claims}
 use Rattle.run_laws.proofs.Holders.Waits.{and_both, first_both, served_waits}
-use Rattle.run_laws.proofs.Steps.Queues.{is_gone}
-use Rattle.run_laws.proofs.Steps.Comes.{Executing, Waits, arms_waiting, dequeues_packet, disarms_next, starts_gone, waited_to, waits_armed, works_on_waiting}
-use Rattle.run_laws.proofs.States.StartsFit.{head_low, start_issued}
 use Rattle.run_laws.proofs.Past.Packets.{gone_topped}
-use Rattle.run_laws.proofs.Steps.Faults.{topped_faults}
-use Rattle.run_laws.proofs.States.StartsFit.{start_issued}
 use Rattle.run_laws.proofs.Holders.Counts.{right_lives}
 
 -- the entries of a device queue

@@ -1,8 +1,7 @@
 -- A step keeps the balance of claims: how the numbers of claims change where one register's packet
 -- becomes of another kind, and what the other frames have.
-use Rattle.run_laws.specs.Prelude.{ap, arith, inl, inr, refl, subst, sym, ◌-◌, ◌∙◌, Bool, List, None, Option, Some, [], false, if◌then◌else◌, nat_eq, true, ℕ, ◌++◌, ◌+◌, ◌∷◌, ◌≡◌, ◌≤◌, Outcome, answered_in, operand_of, standing, with_stack, with_thread, is_at, frames_on, Set, instruction_at, Entry, World, Kind, QueueName, Declared, DeviceQueue, Status, Activation, Frame, CancelFrame, Routine, Walk, Ref}
+use Rattle.run_laws.proofs.Common.{ap, arith, inl, inr, refl, subst, sym, ◌-◌, ◌∙◌, Bool, List, None, Option, Some, [], false, if◌then◌else◌, nat_eq, true, ℕ, ◌++◌, ◌+◌, ◌∷◌, ◌≡◌, ◌≤◌, Outcome, answered_in, operand_of, standing, with_stack, with_thread, is_at, frames_on, Set, instruction_at, Entry, World, Kind, QueueName, Declared, DeviceQueue, Status, Activation, Frame, CancelFrame, Routine, Walk, Ref, States, named_as, stack_sum, thread_sum, times_listed, Each, each_after, each_append, each_before, StepLeaves, IsGood, Ready, state_of, Replaces, Stacked, Stands, Standing, stands_there, last_same, told_frame, told_is, told_last, stood}
 use Rattle.std.proofs.Common.{eq-eqb}
-use Rattle.run_laws.specs.Holder.{named_as, stack_sum, thread_sum, times_listed}
 use Rattle.run_laws.proofs.Claims.Balance.{KindTurns, Same, at_kind, at_swapped, balanced_less}
 use Rattle.run_laws.proofs.Claims.Changed.{changed}
 use Rattle.run_laws.proofs.Claims.Names.{KeepsNames, OfQueues, TurnsNames, at_queues, names, queue_packets, was_queues}
@@ -10,16 +9,8 @@ use Rattle.run_laws.proofs.Claims.Quiet.{Quiet, apart_keeps}
 use Rattle.run_laws.proofs.Claims.Sums.{Balanced, Claimed, FrameApart, frame_names, names_on, numbers, takes_in, was_taken, is_declared, is_cancelable, times_of, list_of}
 use Rattle.run_laws.proofs.Holders.Rights.{named_told}
 use Rattle.run_laws.proofs.Holders.Sums.{top_le}
-use Rattle.run_laws.proofs.Lists.{Each, each_after, each_append, each_before}
 use Rattle.run_laws.proofs.Runs.Events.{StepsFrame}
 use Rattle.run_laws.proofs.Runs.Threads.{of_steps, each_frames}
-use Rattle.run_laws.proofs.States.Fine.{StepLeaves}
-use Rattle.run_laws.proofs.States.Frames.{IsGood, Ready, state_of}
-use Rattle.run_laws.specs.ArrivingStates.{States}
-use Rattle.run_laws.proofs.States.Stacks.{Replaces, Stacked, Stands}
-use Rattle.run_laws.proofs.States.Standing.{Standing, stands_there}
-use Rattle.run_laws.proofs.States.Told.{last_same, told_frame, told_is, told_last}
-use Rattle.run_laws.proofs.Steps.Below.{stood}
 
 if_sums : (b : Bool) (one two three four : ℕ) → one + two ≡ three + four
     → (if b then one else 0) + (if b then two else 0) ≡ (if b then three else 0)

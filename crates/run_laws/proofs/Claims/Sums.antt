@@ -1,12 +1,8 @@
 -- Claims to packets that may be cancelled. A register at the stage Armed or Taken is no right: the
 -- packet's cancel word has it, or the cancel routine that IoCancelIrp called. Counted over all
 -- frames, for a queue of a device and a packet.
-use Rattle.run_laws.specs.Prelude.{Bool, List, None, Option, Some, false, if◌then◌else◌, nat_eq, option_map, slice_get, true, ℕ, ⊤, ◌&&◌, ◌+◌, ◌≡◌, ◌≤◌, routine_of_device, is_at, is_name, frames_on, Set, has_cancel, Shared, World, queue_of, start_of, Kind, Queued, Stage, Armed, Cancelling, Listed, Taken, QueueName, Declared, DeviceQueue, Armer, Frame, CancelFrame, Routine, Walk, Packet, Thread}
-use Rattle.run_laws.specs.Holder.{named_in, thread_sum, times_in, times_listed}
-use Rattle.run_laws.proofs.Lists.{Each}
+use Rattle.run_laws.proofs.Common.{Bool, List, None, Option, Some, false, if◌then◌else◌, nat_eq, option_map, slice_get, true, ℕ, ⊤, ◌&&◌, ◌+◌, ◌≡◌, ◌≤◌, routine_of_device, is_at, is_name, frames_on, Set, has_cancel, Shared, World, queue_of, start_of, Kind, Queued, Stage, Armed, Cancelling, Listed, Taken, QueueName, Declared, DeviceQueue, Armer, Frame, CancelFrame, Routine, Walk, Packet, Thread, States, named_in, thread_sum, times_in, times_listed, Each, state_of}
 use Rattle.run_laws.proofs.Past.LivePackets.{find}
-use Rattle.run_laws.proofs.States.Frames.{state_of}
-use Rattle.run_laws.specs.ArrivingStates.{States}
 
 -- a packet that was taken off a queue, and may be cancelled
 abbrev pub was_taken : Kind → Bool

@@ -1,15 +1,11 @@
 -- A register of a routine's frame, on top of its thread or below, is counted among all registers of
 -- its kind.
-use Rattle.run_laws.specs.Prelude.{ap, arith, refl, ◌∙◌, eq-eqb, Bool, List, Some, false, length, nat_eq, slice_get, true, ℕ, ◌≡◌, ◌≤◌, kind_of, frames_on, Set, World, register, Kind, BlankKind, Activation, Frame, Routine, Ref}
-use Rattle.run_laws.specs.ArrivingStates.{States}
-use Rattle.run_laws.specs.Holder.{named_as, named_in}
+use Rattle.run_laws.proofs.Common.{ap, arith, refl, ◌∙◌, eq-eqb, Bool, List, Some, false, length, nat_eq, slice_get, true, ℕ, ◌≡◌, ◌≤◌, kind_of, frames_on, Set, World, register, Kind, BlankKind, Activation, Frame, Routine, Ref, States, named_as, named_in, get_at_length, state_of}
 use Rattle.run_laws.proofs.Claims.Sums.{frame_names, names_on}
 use Rattle.run_laws.proofs.Holders.Rights.{named_among}
 use Rattle.run_laws.proofs.Holders.Sums.{frame_le}
-use Rattle.run_laws.proofs.Lists.{get_at_length}
 use Rattle.run_laws.proofs.Runs.Events.{StepsFrame}
 use Rattle.run_laws.proofs.Runs.Threads.{frames_there}
-use Rattle.run_laws.proofs.States.Frames.{state_of}
 
 -- the place of the top one
 pub top_there : (set : Set) (w : World) (t : ℕ) (h : StepsFrame set w t) (a : Activation)

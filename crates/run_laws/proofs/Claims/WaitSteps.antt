@@ -1,9 +1,7 @@
 -- An instruction that starts packets keeps claims where packets that wait can be cancelled: one
 -- that has to wait goes into the device queue with its cancel routine set, and the next one that is
 -- started leaves it without one.
-use Rattle.run_laws.specs.Prelude.{ap, arith, refl, subst, Bool, List, None, Option, Some, [], if◌then◌else◌, is_some, nat_eq, true, ℕ, ◌+◌, ◌∷◌, ◌≡◌, ◌≤◌, armer_waiting, is_at, kind_of, StartState, head_of, next_of, next_started, started, Set, Entry, Shared, World, next, packet_of, register, start_of, with_armer, with_packet, with_start, Kind, BlankKind, Own, Armed, Taken, Next, Start, DeviceQueue, Activation, Armer, Routine, Packet}
-use Rattle.run_laws.specs.ArrivingStates.{States}
-use Rattle.run_laws.specs.Holder.{stack_sum, thread_sum, times_in, times_listed, times_named, times_queued, times_to_start}
+use Rattle.run_laws.proofs.Common.{ap, arith, refl, subst, Bool, List, None, Option, Some, [], if◌then◌else◌, is_some, nat_eq, true, ℕ, ◌+◌, ◌∷◌, ◌≡◌, ◌≤◌, armer_waiting, is_at, kind_of, StartState, head_of, next_of, next_started, started, Set, Entry, Shared, World, next, packet_of, register, start_of, with_armer, with_packet, with_start, Kind, BlankKind, Own, Armed, Taken, Next, Start, DeviceQueue, Activation, Armer, Routine, Packet, States, stack_sum, thread_sum, times_in, times_listed, times_named, times_queued, times_to_start, StepLeaves, IsGood, Runs, state_of, inserts_right, first_none, Standing}
 use Rattle.run_laws.proofs.Claims.Balance.{KindTurns, balanced_starts, balanced_waits, once_turned}
 use Rattle.run_laws.proofs.Claims.Held.{one_holder}
 use Rattle.run_laws.proofs.Claims.Names.{KeepsNames, OfQueues, TurnsNames, at_queues, kinds_names, next_turns, was_queues}
@@ -20,11 +18,6 @@ use Rattle.run_laws.proofs.Holders.Queued.{times_pushed}
 use Rattle.run_laws.proofs.Holders.Started.{waits_given, waits_next}
 use Rattle.run_laws.proofs.Holders.Sums.{Held}
 use Rattle.run_laws.proofs.Runs.Events.{StepsFrame}
-use Rattle.run_laws.proofs.States.Fine.{StepLeaves}
-use Rattle.run_laws.proofs.States.Frames.{IsGood, Runs, state_of}
-use Rattle.run_laws.proofs.States.Obeyed.{inserts_right}
-use Rattle.run_laws.proofs.States.Rules.{first_none}
-use Rattle.run_laws.proofs.States.Standing.{Standing}
 use Rattle.run_laws.proofs.Steps.Comes.{Reads}
 
 -- the next one leaves the device queue; where none waits it stays as it is

@@ -1,9 +1,7 @@
 -- How often a packet stands in what devices have for StartIo, but for their current slots; and that
 -- it stands in one list alone after it is put into one.
-use Rattle.run_laws.specs.Prelude.{arith, inl, inr, refl, subst, eqb_tells, List, Some, [], if◌then◌else◌, nat_eq, slice_get, slice_set, ℕ, ◌+◌, ◌∷◌, ◌≡◌, ◌≤◌, StartState, without_first_to_start}
-use Rattle.run_laws.specs.Holder.{times_to_start}
+use Rattle.run_laws.proofs.Common.{arith, inl, inr, refl, subst, eqb_tells, List, Some, [], if◌then◌else◌, nat_eq, slice_get, slice_set, ℕ, ◌+◌, ◌∷◌, ◌≡◌, ◌≤◌, StartState, without_first_to_start, times_to_start, sum_put}
 use Rattle.run_laws.proofs.Holders.Started.{waits_in}
-use Rattle.run_laws.proofs.Lists.{sum_put}
 
 pub to_start_put : (starts : List StartState) (d : ℕ) (before after : StartState) (n : ℕ)
     → slice_get starts d ≡ Some before

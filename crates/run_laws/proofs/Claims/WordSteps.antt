@@ -1,10 +1,8 @@
 -- An exchange of a packet's cancel word keeps claims, and so does the release of a lock: the word
 -- has the right that a register at the stage Listed had, and gives it back, or to the cancel
 -- routine.
-use Rattle.run_laws.specs.Prelude.{ap, arith, eqb-true, inl, inr, refl, subst, sym, ◌∙◌, cases_Bool, eqb_tells, Bool, List, None, Option, Some, [], false, if◌then◌else◌, is_some, nat_eq, option_map, slice_get, slice_set, true, ℕ, ◌&&◌, ◌+◌, ◌∷◌, ◌≡◌, ◌≤◌, ◌⊎◌, armer_of, all_let_go, is_at, is_claim, is_exchanged, is_name, is_stage, kind_disarmed, handed, kind_of, queued_kind, StartState, Set, flow_of, Entry, Shared, World, at_label, next, packet_of, queue_of, register, start_of, with_armer, with_packet, Kind, BlankKind, Own, Queued, Stage, Armed, Cancelling, Listed, Taken, Instr, Arm, Disarm, Guard, QueueName, Declared, DeviceQueue, Activation, Armer, Routine, Packet}
+use Rattle.run_laws.proofs.Common.{ap, arith, eqb-true, inl, inr, refl, subst, sym, ◌∙◌, cases_Bool, eqb_tells, Bool, List, None, Option, Some, [], false, if◌then◌else◌, is_some, nat_eq, option_map, slice_get, slice_set, true, ℕ, ◌&&◌, ◌+◌, ◌∷◌, ◌≡◌, ◌≤◌, ◌⊎◌, armer_of, all_let_go, is_at, is_claim, is_exchanged, is_name, is_stage, kind_disarmed, handed, kind_of, queued_kind, StartState, Set, flow_of, Entry, Shared, World, at_label, next, packet_of, queue_of, register, start_of, with_armer, with_packet, Kind, BlankKind, Own, Queued, Stage, Armed, Cancelling, Listed, Taken, Instr, Arm, Disarm, Guard, QueueName, Declared, DeviceQueue, Activation, Armer, Routine, Packet, States, named_as, named_in, stack_sum, thread_sum, times_listed, times_named, times_queued, times_to_start, times_waiting, sum_le, StepLeaves, IsGood, Runs, state_of, named_same, has_next, first_none, Standing, if_le}
 use Rattle.std.proofs.Common.{eq-eqb}
-use Rattle.run_laws.proofs.States.Moves.{has_next}
-use Rattle.run_laws.specs.Holder.{named_as, named_in, stack_sum, thread_sum, times_listed, times_queued, times_waiting, times_named, times_to_start}
 use Rattle.run_laws.proofs.Claims.Balance.{KindTurns, balanced_gives, balanced_less, hit, balanced_arms, balanced_disarms, balanced_keeps_taken, once_turned, names_tell, name_same}
 use Rattle.run_laws.proofs.Claims.Held.{one_holder, owns_in, word_holds}
 use Rattle.run_laws.proofs.Claims.Names.{OfQueues, TurnsNames, at_queues, names, next_turns, was_queues, gone_names, label_turns, next_names, stay_names}
@@ -18,17 +16,9 @@ use Rattle.run_laws.proofs.Holders.Rights.{named_le}
 use Rattle.run_laws.proofs.Holders.Sums.{Held}
 use Rattle.run_laws.proofs.Past.LivePackets.{find}
 use Rattle.run_laws.proofs.Runs.Events.{StepsFrame}
-use Rattle.run_laws.proofs.States.Fine.{StepLeaves}
-use Rattle.run_laws.proofs.States.Frames.{IsGood, Runs, state_of}
-use Rattle.run_laws.specs.ArrivingStates.{States}
-use Rattle.run_laws.proofs.States.Rules.{first_none}
-use Rattle.run_laws.proofs.States.Standing.{Standing}
 use Rattle.run_laws.proofs.Steps.Comes.{Reads}
 use Rattle.run_laws.proofs.Past.Packets.{found}
-use Rattle.run_laws.proofs.Tests.{if_le}
-use Rattle.run_laws.proofs.States.Listed.{named_same}
 use Rattle.run_laws.proofs.Holders.Started.{waits_in}
-use Rattle.run_laws.proofs.Lists.{sum_le}
 
 -- an exchange wants a packet that stands in a queue, or a claim
 armed_kind : (q : QueueName) (k : Kind) → queued_kind (is_at Listed q k) k ≡ None

@@ -1,13 +1,9 @@
 -- The instructions about queues keep the balance of claims.
-use Rattle.run_laws.specs.Prelude.{ap, arith, inl, inr, refl, subst, ◌∙◌, cases_Bool, eqb_tells, list_any, Bool, List, None, Option, [], false, if◌then◌else◌, is_some, nat_eq, slice_get, true, ℕ, ◌+◌, ◌∷◌, ◌≡◌, ◌≤◌, ◌⊎◌, routine_of_device, is_at, is_name, unlink_kind, Set, cancel_routine_named, World, Kind, Queued, Armed, Cancelling, Listed, Taken, QueueName, Activation, Frame, Routine, Value, Ref}
-use Rattle.run_laws.specs.Holder.{named_as, named_in}
+use Rattle.run_laws.proofs.Common.{ap, arith, inl, inr, refl, subst, ◌∙◌, cases_Bool, eqb_tells, list_any, Bool, List, None, Option, [], false, if◌then◌else◌, is_some, nat_eq, slice_get, true, ℕ, ◌+◌, ◌∷◌, ◌≡◌, ◌≤◌, ◌⊎◌, routine_of_device, is_at, is_name, unlink_kind, Set, cancel_routine_named, World, Kind, Queued, Armed, Cancelling, Listed, Taken, QueueName, Activation, Frame, Routine, Value, Ref, States, named_as, named_in, Serves, state_of, or_left, or_right}
 use Rattle.run_laws.proofs.Claims.Held.{thread_most}
 use Rattle.run_laws.proofs.Claims.Names.{TurnsNames, at_queues, names}
 use Rattle.run_laws.proofs.Claims.Sums.{FrameApart, frame_names, is_cancelable, names_on, takes_in, was_taken}
 use Rattle.run_laws.proofs.Holders.Rights.{named_none}
-use Rattle.run_laws.proofs.States.Frames.{Serves, state_of}
-use Rattle.run_laws.specs.ArrivingStates.{States}
-use Rattle.run_laws.proofs.Tests.{or_left, or_right}
 use Rattle.run_laws.proofs.Claims.Balance.{names_tell}
 
 -- a queue is unlinked from by one that stands there, or that the cancel routine was called for

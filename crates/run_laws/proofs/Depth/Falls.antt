@@ -1,20 +1,8 @@
 -- The frames of a thread: routines for devices that stand lower and lower, and at most an I/O
 -- manager's frame and a completion routine on them; or one of IoCancelIrp alone. Each step keeps
 -- them so.
-use Rattle.run_laws.specs.Prelude.{ap, arith, refl, subst, sym, ◌-◌, ◌∙◌, length-append, slice_get_within, Bool, IfSome, List, None, Option, Some, [], false, length, option_and_then, slice_get, suc, true, ℕ, ⊤, ◌++◌, ◌+◌, ◌<◌, ◌∷◌, ◌≡◌, ◌≤◌, Outcome, answered_in, asks, dispatched, operand_of, routine_of_device, told_to, is_completion, Set, instruction_at, lower_of, sort_of, DeviceFits, Shared, asked_of, current_location, entered, Call, Complete, Pass, Device, Dispatch, Status, Activation, CancelStep, Canceller, Frame, CancelFrame, Routine, Walk, Packet, Ref}
+use Rattle.run_laws.proofs.Common.{ap, arith, refl, subst, sym, ◌-◌, ◌∙◌, length-append, slice_get_within, Bool, IfSome, List, None, Option, Some, [], false, length, option_and_then, slice_get, suc, true, ℕ, ⊤, ◌++◌, ◌+◌, ◌<◌, ◌∷◌, ◌≡◌, ◌≤◌, Outcome, answered_in, asks, dispatched, operand_of, routine_of_device, told_to, is_completion, Set, instruction_at, lower_of, sort_of, DeviceFits, Shared, asked_of, current_location, entered, Call, Complete, Pass, Device, Dispatch, Status, Activation, CancelStep, Canceller, Frame, CancelFrame, Routine, Walk, Packet, Ref, States, begins_called, IsCompleting, IsOfSort, Serves, state_of, down, completes_one, OnTop, runs, queue_moves, Stacked, told_frame, told_is, told_last, Cancels, Comes, calls_cancel, calls_down, cancels, carries_up, completes_packet, computes, ends_cancel, ends_dpc, ends_startio, exchanges, lends_to, lets_go, lets_walk, looks_at, pages, passes_down, resumes_gone, resumes_none, resumes_walk, returns_status, stops_none, stops_walk, tops_out, turns_loop, walks_gone, walks_to, walks_up, works_on_queues, goes_device, turned_device}
 use Rattle.run_laws.proofs.Devices.{device_fits, dispatched_device}
-use Rattle.run_laws.proofs.States.Entering.{IsOfSort, IsCompleting}
-use Rattle.run_laws.proofs.States.Frames.{state_of, Serves}
-use Rattle.run_laws.proofs.States.Lacking.{down}
-use Rattle.run_laws.proofs.States.Obeyed.{completes_one}
-use Rattle.run_laws.proofs.States.OnTop.{OnTop, runs}
-use Rattle.run_laws.specs.ArrivingStates.{States}
-use Rattle.run_laws.proofs.States.Stacks.{Stacked}
-use Rattle.run_laws.proofs.States.Told.{told_frame, told_last, told_is}
-use Rattle.run_laws.proofs.Steps.Comes.{Comes, computes, turns_loop, pages, looks_at, completes_packet, passes_down, calls_down, returns_status, lets_go, lets_walk, ends_dpc, walks_gone, walks_to, walks_up, carries_up, tops_out, works_on_queues, ends_startio, exchanges, resumes_walk, resumes_gone, resumes_none, stops_walk, stops_none, ends_cancel, lends_to, cancels, Cancels, calls_cancel}
-use Rattle.run_laws.proofs.States.Queueing.{queue_moves}
-use Rattle.run_laws.proofs.States.Cancelled.{begins_called}
-use Rattle.run_laws.proofs.Steps.Onward.{goes_device, turned_device}
 
 -- frames of a thread, the lowest first: routines for lower and lower devices, all under a first
 -- one; on an I/O manager's frame at most one stands, and on one of IoCancelIrp none

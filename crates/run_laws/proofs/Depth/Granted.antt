@@ -1,9 +1,7 @@
 -- A step of a thread that is there is refused for want of room alone, and no thread comes to be or
 -- ends.
-use Rattle.run_laws.specs.Prelude.{refl, sym, take, ◌-◌, ◌∙◌, length-set, slice_get-get_or, Bool, List, None, Option, Some, [], false, length, slice_get, true, ℕ, ◌<◌, ◌≡◌, Outcome, frame_effect, top_of, Change, effect, finished_or, standing, step_thread, top_effect, Set, Shared, World, idle_thread, Step, Reply, Refused, Stepped, CancelStep, Frame, Thread}
+use Rattle.run_laws.proofs.Common.{refl, sym, take, ◌-◌, ◌∙◌, length-set, slice_get-get_or, Bool, List, None, Option, Some, [], false, length, slice_get, true, ℕ, ◌<◌, ◌≡◌, Outcome, frame_effect, top_of, Change, effect, finished_or, standing, step_thread, top_effect, Set, Shared, World, idle_thread, Step, Reply, Refused, Stepped, CancelStep, Frame, Thread, Cancels, Comes, cancels, errs, takes_cancel, comes}
 use Rattle.run_laws.proofs.Runs.Events.{Happens, nothing}
-use Rattle.run_laws.proofs.Steps.Comes.{Cancels, takes_cancel, Comes, errs, cancels}
-use Rattle.run_laws.proofs.Steps.Walk.{comes}
 
 abbrev pub is_refused : Reply → Bool
 is_refused Refused = true

@@ -1,20 +1,13 @@
 -- No thread of an accepted set ever has more than 18 frames, so no step of a thread that is there
 -- is refused.
-use Rattle.run_laws.specs.Prelude.{arith, inl, inr, refl, subst, sym, slice_get_within, List, Option, Some, [], false, length, slice_get, true, ℕ, ◌++◌, ◌∷◌, ◌≡◌, ◌≤◌, Outcome, top_of, Change, settled, standing, with_stack, with_thread, begun, frames_on, Set, IsSound, Entry, Shared, World, MAX_FRAMES, CancelStep, Frame, CancelFrame, Routine, Walk, Irql, Thread}
+use Rattle.run_laws.proofs.Common.{arith, inl, inr, refl, subst, sym, slice_get_within, List, Option, Some, [], false, length, slice_get, true, ℕ, ◌++◌, ◌∷◌, ◌≡◌, ◌≤◌, Outcome, top_of, Change, settled, standing, with_stack, with_thread, begun, frames_on, Set, IsSound, Entry, Shared, World, MAX_FRAMES, CancelStep, Frame, CancelFrame, Routine, Walk, Irql, Thread, States, RootFrame, root_cancels, root_enters, IsGood, Serves, OnTop, Standing, on_top, root_there, stands_there, stood, Cancels, Comes, cancels, takes_cancel, walks_gone, works_on_queues, works_on_waiting}
 use Rattle.std.proofs.lemmas.Bool.{le-ltb}
 use Rattle.run_laws.proofs.Depth.Falls.{Falls, falls_length, falls_before, falls_after, short, is_cancelling}
 use Rattle.run_laws.proofs.Runs.Events.{Happens, StepsFrame, nothing, steps, begins}
 use Rattle.run_laws.proofs.Runs.Roots.{with_root}
 use Rattle.run_laws.proofs.Runs.Threads.{of_steps, frames_put, each_frames, idle_frames}
-use Rattle.run_laws.proofs.States.Begun.{RootFrame, root_cancels, root_enters}
-use Rattle.run_laws.proofs.States.Frames.{IsGood, Serves}
-use Rattle.run_laws.specs.ArrivingStates.{States}
-use Rattle.run_laws.proofs.States.Standing.{Standing, stands_there, on_top, root_there}
-use Rattle.run_laws.proofs.Steps.Below.{stood}
-use Rattle.run_laws.proofs.Steps.Comes.{walks_gone, Comes, Cancels, takes_cancel, cancels, works_on_queues, works_on_waiting}
 use Rattle.run_laws.proofs.Holders.Counts.{Holding}
 use Rattle.run_laws.proofs.Holders.Sums.{Held}
-use Rattle.run_laws.proofs.States.OnTop.{OnTop}
 use Rattle.run_laws.proofs.Holders.Runs.{top_holding}
 use Rattle.run_laws.proofs.Claims.Full.{OwnApart, never_full, own_apart}
 use Rattle.run_laws.proofs.Claims.Sums.{Claimed}

@@ -1,6 +1,6 @@
 -- The replies of a run tell which packets have topped out: a packet that was issued is live exactly
 -- while no reply tells that it topped out.
-use Rattle.run_laws.specs.Prelude.{ap, arith, inl, inr, refl, subst, sym, zero, ◌∙◌, cond_both, eqb_tells, Bool, List, None, Option, Some, [], false, if◌then◌else◌, is_none, is_some, nat_lt, slice_get, suc, true, ℕ, ◌&&◌, ◌+◌, ◌<◌, ◌||◌, ◌∷◌, ◌≡◌, ◌≤◌, Outcome, set_by, top_of, Change, can_issue, effect, finished_or, is_idle, issue_on, issued, settled, standing, unchanged, with_new_packet, replies_of, request_started, top_out_of, Answered, Run, begun, refused, run, run_from, step, Set, Shared, World, cancelled, completed, left_location, mark_current, moved_up, new_packet, packet_of, sent_down, shared_with, with_armer, with_info, with_packet, without_packet, Event, Issue, Reply, Idle, Refused, Started, Stepped, Topped, Device, Major, Status, CancelStep, Frame, Packet, Thread}
+use Rattle.run_laws.proofs.Common.{ap, arith, inl, inr, refl, subst, sym, zero, ◌∙◌, cond_both, eqb_tells, Bool, List, None, Option, Some, [], false, if◌then◌else◌, is_none, is_some, nat_lt, slice_get, suc, true, ℕ, ◌&&◌, ◌+◌, ◌<◌, ◌||◌, ◌∷◌, ◌≡◌, ◌≤◌, Outcome, set_by, top_of, Change, can_issue, effect, finished_or, is_idle, issue_on, issued, settled, standing, unchanged, with_new_packet, replies_of, request_started, top_out_of, Answered, Run, begun, refused, run, run_from, step, Set, Shared, World, cancelled, completed, left_location, mark_current, moved_up, new_packet, packet_of, sent_down, shared_with, with_armer, with_info, with_packet, without_packet, Event, Issue, Reply, Idle, Refused, Started, Stepped, Topped, Device, Major, Status, CancelStep, Frame, Packet, Thread, Cancels, Comes, calls_cancel, calls_down, cancels, carries_up, completes_packet, exchanges, finds_empty, finds_none, lends_to, marks_packet, passes_down, resumes_walk, sets_flag, tops_out, walks_to, walks_up, works_on_waiting, writes_info, and_false}
 use Rattle.model.specs.declared.event.Reply.TheVariants.{Finished}
 use Rattle.model.specs.declared.history.Entry.{Entry}
 use Rattle.model.specs.declared.history.TopOut.{TopOut}
@@ -10,8 +10,6 @@ use Rattle.run_laws.proofs.Past.LivePackets.{Rises, find, find_place, find_push,
 use Rattle.run_laws.proofs.Past.Packets.{absent, found, found_lt, lt_false, lt_more, lt_true, numbered}
 use Rattle.run_laws.proofs.Runs.Events.{Answers, Concerns, Happens, Sets, a_thread, begins, concerns, goes_on_with, answers, no_thread, nothing, queues, says_nothing, sets_nothing, set_in, steps, answers_none}
 use Rattle.run_laws.proofs.Runs.Roots.{Root, Beside, issues}
-use Rattle.run_laws.proofs.Steps.Comes.{Cancels, sets_flag, finds_empty, finds_none, calls_cancel, Comes, writes_info, marks_packet, exchanges, completes_packet, passes_down, calls_down, resumes_walk, walks_to, lends_to, walks_up, carries_up, tops_out, cancels, works_on_waiting}
-use Rattle.run_laws.proofs.Tests.{and_false}
 
 -- what becomes of the live packets, of as many as were issued, where some top out: numbers still
 -- rise, none is taken back, and absent are those that were and those that top out

@@ -1,9 +1,8 @@
 -- An event that waits, finds nothing to do or is refused leaves the world as it was.
-use Rattle.run_laws.specs.Prelude.{ap, refl, subst, sym, zero, ◌∙◌, Bool, List, None, Option, Some, [], false, if◌then◌else◌, slice_get, slice_set, suc, true, ℕ, ◌++◌, ◌∷◌, ◌≡◌, Outcome, top_of, Change, effect, finished_or, root_over, settled, standing, with_stack, with_thread, Answered, Run, begun, refused, run, run_from, step, Set, Shared, World, Event, Reply, Stepped, CancelStep, Frame, CancelFrame, Irql, Thread}
+use Rattle.run_laws.proofs.Common.{ap, refl, subst, sym, zero, ◌∙◌, Bool, List, None, Option, Some, [], false, if◌then◌else◌, slice_get, slice_set, suc, true, ℕ, ◌++◌, ◌∷◌, ◌≡◌, Outcome, top_of, Change, effect, finished_or, root_over, settled, standing, with_stack, with_thread, Answered, Run, begun, refused, run, run_from, step, Set, Shared, World, Event, Reply, Stepped, CancelStep, Frame, CancelFrame, Irql, Thread, Cancels, Comes, awaits_cancel, awaits_lock, cancels}
 use Rattle.run_laws.specs.Waits.{WaitingChangesNothing, says_unchanged}
 use Rattle.run_laws.proofs.Runs.Roots.{Root, Beside, issues}
 use Rattle.run_laws.proofs.Runs.Events.{StepsFrame, Happens, nothing, steps, begins, Sets, sets_nothing, Concerns, a_thread, no_thread, concerns, Answers, goes_on_with, answers, set_in, answers_none}
-use Rattle.run_laws.proofs.Steps.Comes.{Cancels, awaits_cancel, Comes, awaits_lock, cancels}
 
 -- a run with one event more
 pub run_more : (set : Set) (r : Run) (events : List Event) (e : Event)

@@ -1,13 +1,10 @@
 -- Other frames: where they have the right to a packet, the frame that steps has none, and doesn't
 -- complete it.
-use Rattle.run_laws.specs.Prelude.{ap, arith, refl, ◌∙◌, Bool, List, None, Option, Some, [], false, if◌then◌else◌, slice_get, true, ℕ, ◌+◌, ◌∷◌, ◌≡◌, ◌≢◌, ◌≤◌, frames_of, frames_on, Set, Entry, Shared, World, Frame, Packet, Thread}
-use Rattle.run_laws.specs.Holder.{times_waiting, frame_rights, frame_walks, stack_sum, thread_sum}
+use Rattle.run_laws.proofs.Common.{ap, arith, refl, ◌∙◌, Bool, List, None, Option, Some, [], false, if◌then◌else◌, slice_get, true, ℕ, ◌+◌, ◌∷◌, ◌≡◌, ◌≢◌, ◌≤◌, frames_of, frames_on, Set, Entry, Shared, World, Frame, Packet, Thread, States, frame_rights, frame_walks, stack_sum, thread_sum, times_waiting, Standing}
 use Rattle.run_laws.proofs.Holders.Runs.{top_holding}
 use Rattle.run_laws.proofs.Holders.Sums.{unheld, held, Held, stack_append, stack_le, two_le}
 use Rattle.run_laws.proofs.Past.LivePackets.{find, find_above}
 use Rattle.run_laws.proofs.Runs.Events.{StepsFrame}
-use Rattle.run_laws.specs.ArrivingStates.{States}
-use Rattle.run_laws.proofs.States.Standing.{Standing}
 
 -- a packet that a register holds, and a frame that has nothing to do with it
 pub record IsApart (states : States) (s : Shared) (f : Frame) (n : ℕ) : Type 0 where

@@ -1,14 +1,10 @@
 -- What a change of one packet does to the counts of packets that a register holds and that the I/O
 -- manager has; and the packet that a register has a right to.
-use Rattle.run_laws.specs.Prelude.{ap, arith, inl, inr, refl, subst, sym, ◌∙◌, cases_Bool, eq-eqb, eqb_tells, Bool, List, None, Option, Some, [], false, if◌then◌else◌, is_some, nat_eq, nat_lt, remove, slice_set, true, ℕ, ◌++◌, ◌+◌, ◌∷◌, ◌≡◌, ◌≤◌, is_right, kind_of, StartState, Set, Entry, Shared, packet_in, packet_of, place_of, register, with_packet, without_packet, Activation, Frame, Routine, Walk, Packet, Value, Ref}
-use Rattle.run_laws.specs.Holder.{times_named, times_plain, times_started, times_waiting, right, rights, frame_rights, frame_walks}
+use Rattle.run_laws.proofs.Common.{ap, arith, inl, inr, refl, subst, sym, ◌∙◌, cases_Bool, eq-eqb, eqb_tells, Bool, List, None, Option, Some, [], false, if◌then◌else◌, is_some, nat_eq, nat_lt, remove, slice_set, true, ℕ, ◌++◌, ◌+◌, ◌∷◌, ◌≡◌, ◌≤◌, is_right, kind_of, StartState, Set, Entry, Shared, packet_in, packet_of, place_of, register, with_packet, without_packet, Activation, Frame, Routine, Walk, Packet, Value, Ref, States, frame_rights, frame_walks, right, rights, times_named, times_plain, times_started, times_waiting, state_of, HasKinds}
 use Rattle.run_laws.proofs.Holders.Rights.{one_right, right_le}
 use Rattle.run_laws.proofs.Holders.Sums.{unheld, unheld_one, held, held_apart, own_if, walked_if}
 use Rattle.run_laws.proofs.Past.LivePackets.{Rises, find, find_place, find_above, find_set, find_remove, find_push}
 use Rattle.run_laws.proofs.Past.Packets.{Tells, found}
-use Rattle.run_laws.proofs.States.Frames.{state_of}
-use Rattle.run_laws.proofs.States.Kinds.{HasKinds}
-use Rattle.run_laws.specs.ArrivingStates.{States}
 use Rattle.run_laws.proofs.Steps.Comes.{Reads}
 
 -- where one packet is found otherwise: it counts as before, or for less, or for more

@@ -1,17 +1,12 @@
 -- What exchanges of a packet's cancel word do to its rights: a routine that sets a cancel routine
 -- gives its right to the word, and one that empties the word gets it. The release of a lock leaves
 -- all rights as they are.
-use Rattle.run_laws.specs.Prelude.{ap, arith, refl, subst, sym, cond_both, Bool, List, None, Option, Some, [], false, if◌then◌else◌, is_none, is_some, nat_eq, true, ℕ, ◌+◌, ◌∷◌, ◌≡◌, all_let_go, is_at, is_claim, is_exchanged, is_guard, is_right, kind_disarmed, let_go, handed, kind_of, queued_kind, Set, guard_named, Entry, Shared, packet_of, with_armer, with_packet, Abs, Kind, BlankKind, Queued, CancelState, Armed, Listed, Taken, Instr, Arm, Begin, Call, Clear, Complete, Const, Dequeue, Disarm, Get, Insert, Load, LoadPaged, Mark, Move, Pass, Release, ReleaseCancel, Remove, Start, Take, Unlink, Guard, CancelLock, DeviceLock, Declared, Activation, Armer, Routine, Packet, Value}
-use Rattle.run_laws.specs.Holder.{frame_rights, names, right, rights, times_waiting}
+use Rattle.run_laws.proofs.Common.{ap, arith, refl, subst, sym, cond_both, Bool, List, None, Option, Some, [], false, if◌then◌else◌, is_none, is_some, nat_eq, true, ℕ, ◌+◌, ◌∷◌, ◌≡◌, all_let_go, is_at, is_claim, is_exchanged, is_guard, is_right, kind_disarmed, let_go, handed, kind_of, queued_kind, Set, guard_named, Entry, Shared, packet_of, with_armer, with_packet, Abs, Kind, BlankKind, Queued, CancelState, Armed, Listed, Taken, Instr, Arm, Begin, Call, Clear, Complete, Const, Dequeue, Disarm, Get, Insert, Load, LoadPaged, Mark, Move, Pass, Release, ReleaseCancel, Remove, Start, Take, Unlink, Guard, CancelLock, DeviceLock, Declared, Activation, Armer, Routine, Packet, Value, States, frame_rights, names, right, rights, times_waiting, Runs, state_of, first_none, granted, Exchanged, GoesTo, arms_for, disarms, jumping, keeps_all, makes_number, onward, is_giving, keeps_registers, packet_operand, work_of}
 use Rattle.run_laws.proofs.Holders.Counts.{Holding, right_unarmed, waits_lost, waits_set, waits_won}
 use Rattle.run_laws.proofs.Holders.Waits.{rights_lost, rights_missed, rights_won}
 use Rattle.run_laws.proofs.Past.LivePackets.{find}
 use Rattle.run_laws.proofs.Past.Packets.{found, numbered}
-use Rattle.run_laws.proofs.States.Frames.{Runs, state_of}
-use Rattle.run_laws.specs.ArrivingStates.{States}
-use Rattle.run_laws.proofs.States.Rules.{first_none, granted}
-use Rattle.run_laws.proofs.Steps.Comes.{Exchanged, GoesTo, Reads, arms_for, disarms, jumping, keeps_all, makes_number, onward}
-use Rattle.run_laws.proofs.Steps.Words.{is_giving, keeps_registers, packet_operand, work_of}
+use Rattle.run_laws.proofs.Steps.Comes.{Reads}
 
 -- the kinds before and after
 armed_before : (q : ℕ) (k : Kind) → queued_kind (is_at Listed (Declared q) k) k ≡ None

@@ -1,21 +1,12 @@
 -- A completion routine that was lent a packet and lets its completion go on: its registers have one
 -- right, to that packet.
-use Rattle.run_laws.specs.Prelude.{ap, arith, inl, inr, refl, subst, sym, ◌∙◌, cases_Bool, eqb_tells, list_any, List, None, Option, Some, [], false, if◌then◌else◌, nat_eq, slice_index_or, suc, true, ℕ, ⊤, ◌∷◌, ◌≡◌, ◌≤◌, is_new, is_right, form_fault, is_completion, is_dropped, is_fresh, is_hold, kind_of, Set, member, sort_of, Entry, Shared, register, Kind, BlankKind, New, Ret, Continue, Stop, Sort, Hold, Activation, Frame, CancelFrame, Routine, Walk, Value, Blank, Num, Ref, StatusValue}
+use Rattle.run_laws.proofs.Common.{ap, arith, inl, inr, refl, subst, sym, ◌∙◌, cases_Bool, eqb_tells, list_any, List, None, Option, Some, [], false, if◌then◌else◌, nat_eq, slice_index_or, suc, true, ℕ, ⊤, ◌∷◌, ◌≡◌, ◌≤◌, is_new, is_right, form_fault, is_completion, is_dropped, is_fresh, is_hold, kind_of, Set, member, sort_of, Entry, Shared, register, Kind, BlankKind, New, Ret, Continue, Stop, Sort, Hold, Activation, Frame, CancelFrame, Routine, Walk, Value, Blank, Num, Ref, StatusValue, States, frame_rights, right, rights, IsOfSort, Runs, state_of, Suits, ReturnsBy, returns_by, value_suits, granted, if_none, or_left, or_right}
 use Rattle.model.specs.declared.abs.Rule.TheVariants.{Completion}
-use Rattle.run_laws.specs.Holder.{frame_rights, right, rights}
 use Rattle.run_laws.proofs.Holders.Counts.{Holding}
 use Rattle.run_laws.proofs.Holders.Rights.{one_right, right_le}
 use Rattle.run_laws.proofs.Holders.Sums.{unheld, unheld_one}
 use Rattle.run_laws.proofs.Past.LivePackets.{find}
-use Rattle.run_laws.proofs.States.Entering.{IsOfSort}
-use Rattle.run_laws.proofs.States.Frames.{Runs, state_of}
-use Rattle.run_laws.proofs.States.Kinds.{Suits}
 use Rattle.run_laws.proofs.States.Lent.{HasNew, lent_new}
-use Rattle.run_laws.proofs.States.Obeyed.{ReturnsBy, returns_by}
-use Rattle.run_laws.proofs.States.OnTop.{value_suits}
-use Rattle.run_laws.specs.ArrivingStates.{States}
-use Rattle.run_laws.proofs.States.Rules.{granted}
-use Rattle.run_laws.proofs.Tests.{or_left, or_right, if_none}
 
 -- a completion routine that may hold its packet stands on the I/O manager's frame of that, and what
 -- it has done nothing with in its registers is that packet

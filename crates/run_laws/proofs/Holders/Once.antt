@@ -1,13 +1,9 @@
 -- No packet tops out twice: one that tops out is live, so it hasn't topped out.
-use Rattle.run_laws.specs.Prelude.{arith, inl, inr, refl, subst, eqb_tells, List, Option, Some, false, if◌then◌else◌, ℕ, ◌≡◌, ◌≤◌, Outcome, Change, topped, Set, Actor, Entry, recorded, Shared, World, CancelStep, Frame}
+use Rattle.run_laws.proofs.Common.{arith, inl, inr, refl, subst, eqb_tells, List, Option, Some, false, if◌then◌else◌, ℕ, ◌≡◌, ◌≤◌, Outcome, Change, topped, Set, Actor, Entry, recorded, Shared, World, CancelStep, Frame, times_topped, Cancels, Comes, cancels, takes_cancel, tops_out, works_on_queues, queued_touches, if_one}
 use Rattle.model.specs.Effect.{top_of as top_frame}
-use Rattle.run_laws.specs.TopsOnce.{times_topped}
 use Rattle.run_laws.proofs.Past.Packets.{Tells, found, untopped}
 use Rattle.run_laws.proofs.Runs.Events.{Happens, nothing, steps, begins}
 use Rattle.run_laws.proofs.Runs.Roots.{root_told}
-use Rattle.run_laws.proofs.Steps.Comes.{Cancels, takes_cancel, Comes, tops_out, works_on_queues, cancels}
-use Rattle.run_laws.proofs.Steps.Queues.{queued_touches}
-use Rattle.run_laws.proofs.Tests.{if_one}
 
 -- a packet that hasn't topped out has done so no time, and one that has, once
 abbrev pub ToppedOnce : List Entry → Type 0

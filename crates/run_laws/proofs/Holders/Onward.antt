@@ -1,19 +1,9 @@
 -- The rights of a routine's frame after an instruction that leaves the packets with who has them,
 -- and after a mark; and those that a packet which is sent down takes along.
-use Rattle.run_laws.specs.Prelude.{ap, arith, refl, sym, ◌∙◌, Bool, List, None, Some, false, length, slice_index_or, slice_set, true, ℕ, ◌+◌, ◌<◌, ◌≡◌, is_right, given_down, handed, kind_of, marked, number_kind, refuses, Set, flow_of, sort_of, OperandFits, Shared, next, register, Abs, Kind, BlankKind, LowerKind, New, NumKind, Own, Instr, Add, Const, Get, Load, LoadPaged, Move, Subtract, REGISTERS, Sort, Activation, Routine, Value, Blank, Num}
-use Rattle.run_laws.specs.Holder.{right, rights, frame_rights}
+use Rattle.run_laws.proofs.Common.{ap, arith, refl, sym, ◌∙◌, Bool, List, None, Some, false, length, slice_index_or, slice_set, true, ℕ, ◌+◌, ◌<◌, ◌≡◌, is_right, given_down, handed, kind_of, marked, number_kind, refuses, Set, flow_of, sort_of, OperandFits, Shared, next, register, Abs, Kind, BlankKind, LowerKind, New, NumKind, Own, Instr, Add, Const, Get, Load, LoadPaged, Move, Subtract, REGISTERS, Sort, Activation, Routine, Value, Blank, Num, States, frame_rights, right, rights, all_at, Runs, state_of, HasKinds, kinds_get, kinds_set, label_kinds, number_kinds, arrives, arrives_next, falls_next, has_next, first_none, second_none, unbroken, GoesTo, Written, jumping, keeps_all, makes_blank, makes_number, moves_over, onward, LockWord, is_giving, keeps_registers, numbered_by, work_of}
 use Rattle.run_laws.proofs.Holders.Exchanges.{rights_still}
 use Rattle.run_laws.proofs.Holders.Rights.{rights_write, rights_turn, rights_move, not_right}
-use Rattle.run_laws.proofs.Lists.{all_at}
-use Rattle.run_laws.proofs.States.Frames.{state_of, Runs}
-use Rattle.run_laws.proofs.States.Kinds.{HasKinds, kinds_get, kinds_set, label_kinds, number_kinds}
-use Rattle.run_laws.proofs.States.Moves.{has_next, falls_next, arrives, arrives_next}
 use Rattle.run_laws.proofs.States.NoViews.{is_queued}
-use Rattle.run_laws.specs.ArrivingStates.{States}
-use Rattle.run_laws.proofs.States.Rules.{first_none, second_none, unbroken}
-use Rattle.run_laws.proofs.Steps.Comes.{Written, keeps_all, makes_number, moves_over, makes_blank, GoesTo, onward, jumping}
-use Rattle.run_laws.proofs.Steps.Locking.{LockWord}
-use Rattle.run_laws.proofs.Steps.Words.{is_giving, work_of, keeps_registers, numbered_by}
 
 number_free : (k : Kind) → number_kind k ≡ None → is_right k ≡ false
 number_free NumKind h = refl

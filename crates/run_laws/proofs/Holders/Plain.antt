@@ -1,8 +1,5 @@
 -- How often packets stand in queues without a cancel routine, after a queue of a device is changed.
-use Rattle.run_laws.specs.Prelude.{arith, refl, zero, get_or_from_slice_get, List, None, Some, [], if◌then◌else◌, is_some, replicate, slice_get, slice_index_or, slice_set, suc, ℕ, ◌+◌, ◌∷◌, ◌≡◌, ◌≤◌, routine_of_device, Set, cancel_routine_of, Shared, queue_of, with_queue, MAX_QUEUES}
-use Rattle.run_laws.specs.Holder.{times_in, times_plain, times_plain_on}
-use Rattle.run_laws.proofs.States.Fits.{queue_row}
-use Rattle.run_laws.proofs.Tests.{if_none}
+use Rattle.run_laws.proofs.Common.{arith, refl, zero, get_or_from_slice_get, List, None, Some, [], if◌then◌else◌, is_some, replicate, slice_get, slice_index_or, slice_set, suc, ℕ, ◌+◌, ◌∷◌, ◌≡◌, ◌≤◌, routine_of_device, Set, cancel_routine_of, Shared, queue_of, with_queue, MAX_QUEUES, times_in, times_plain, times_plain_on, queue_row, if_none}
 
 -- how often a packet stands in a queue, where this has no cancel routine
 abbrev pub plain_in : Set → ℕ → ℕ → List ℕ → ℕ → ℕ

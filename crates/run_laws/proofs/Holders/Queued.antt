@@ -1,9 +1,6 @@
 -- How often packets stand in queues: after a packet is put into one or taken off one, and that no
 -- queue of different live packets is longer than there are live packets.
-use Rattle.run_laws.specs.Prelude.{ap, arith, inl, inr, refl, sym, zero, ◌∙◌, cases_eq, eq-eqb, eqb_tells, get_or_from_slice_get, List, Option, Some, [], if◌then◌else◌, length, nat_eq, option_and_then, replicate, slice_get, slice_index_or, slice_set, suc, true, ℕ, ◌++◌, ◌+◌, ◌∷◌, ◌≡◌, ◌≤◌, ◌⊎◌, Shared, queue_of, with_queue, MAX_QUEUES, Packet}
-use Rattle.run_laws.specs.Holder.{times_in, times_on, times_queued}
-use Rattle.run_laws.proofs.States.Fits.{queue_row}
-use Rattle.run_laws.proofs.Lists.{set_other, set_same, sum_le, sum_put}
+use Rattle.run_laws.proofs.Common.{ap, arith, inl, inr, refl, sym, zero, ◌∙◌, cases_eq, eq-eqb, eqb_tells, get_or_from_slice_get, List, Option, Some, [], if◌then◌else◌, length, nat_eq, option_and_then, replicate, slice_get, slice_index_or, slice_set, suc, true, ℕ, ◌++◌, ◌+◌, ◌∷◌, ◌≡◌, ◌≤◌, ◌⊎◌, Shared, queue_of, with_queue, MAX_QUEUES, Packet, times_in, times_on, times_queued, set_other, set_same, sum_le, sum_put, queue_row}
 use Rattle.run_laws.proofs.Past.LivePackets.{find}
 
 pub times_pushed : (entries : List ℕ) (m n : ℕ)

@@ -1,13 +1,6 @@
 -- The packets that a frame's registers of some kinds name, and those that they have rights to, as
 -- they are written.
-use Rattle.run_laws.specs.Prelude.{ap, arith, refl, zero, ◌-◌, ◌∙◌, eq-eqb, list_any, Bool, List, None, Option, Some, [], false, if◌then◌else◌, is_some, length, nat_eq, replicate, slice_index_or, slice_set, suc, true, ℕ, ◌+◌, ◌<◌, ◌∷◌, ◌≡◌, ◌≤◌, is_packet, is_right, left_behind, is_dropped, Set, cancels_for, Abs, Kind, BlankKind, New, NumKind, Own, Queued, View, Cancelling, REGISTERS, QueueName, Sort, Cancel, Dispatch, Dpc, Hold, Propagate, StartIo, Status, Activation, Routine, Value, Blank, Ref, StatusValue}
-use Rattle.run_laws.specs.Holder.{named_as, named_in, right, rights, frame_rights}
-use Rattle.run_laws.proofs.Lists.{copied}
-use Rattle.run_laws.proofs.States.NoViews.{left_none}
-use Rattle.run_laws.proofs.States.Entering.{first_state, Begins, Enters}
-use Rattle.run_laws.proofs.States.Kinds.{HasKinds, Suits}
-use Rattle.run_laws.specs.ArrivingStates.{States}
-use Rattle.run_laws.proofs.Tests.{or_left, or_right, if_none}
+use Rattle.run_laws.proofs.Common.{ap, arith, refl, zero, ◌-◌, ◌∙◌, eq-eqb, list_any, Bool, List, None, Option, Some, [], false, if◌then◌else◌, is_some, length, nat_eq, replicate, slice_index_or, slice_set, suc, true, ℕ, ◌+◌, ◌<◌, ◌∷◌, ◌≡◌, ◌≤◌, is_packet, is_right, left_behind, is_dropped, Set, cancels_for, Abs, Kind, BlankKind, New, NumKind, Own, Queued, View, Cancelling, REGISTERS, QueueName, Sort, Cancel, Dispatch, Dpc, Hold, Propagate, StartIo, Status, Activation, Routine, Value, Blank, Ref, StatusValue, States, frame_rights, named_as, named_in, right, rights, copied, Begins, Enters, first_state, HasKinds, Suits, left_none, if_none, or_left, or_right}
 
 pub no_right : (k : Kind) (v : Value) (n : ℕ) → is_right k ≡ false → right k v n ≡ 0
 no_right k v n h = rw h refl

@@ -1,7 +1,7 @@
 -- In every run of an accepted set each live packet has one holder, and no packet tops out twice.
-use Rattle.run_laws.specs.Prelude.{ap, append-nil, arith, inl, inr, refl, sym, take, zero, ◌-◌, ◌∙◌, cases_Bool, ltb-false, Bool, List, None, Option, Some, [], false, if◌then◌else◌, is_none, length, nat_eq, nat_lt, not, replicate, slice_get, slice_set, suc, true, ℕ, ◌&&◌, ◌++◌, ◌+◌, ◌∷◌, ◌≡◌, ◌≤◌, Outcome, answered_in, kept_below, operand_of, told_to, top_of, Change, dpc_activation, serves_request, standing, with_stack, first_fault, topped, is_hold, without_first_to_start, Run, begun, Set, instruction_at, sort_of, Actor, Entry, Shared, World, idle_thread, new_packet, packet_of, Ret, Stop, Dispatch, StartIo, Status, Activation, Frame, CancelFrame, Routine, Walk, Packet, Thread}
+use Rattle.run_laws.proofs.Common.{ap, append-nil, arith, inl, inr, refl, sym, take, zero, ◌-◌, ◌∙◌, cases_Bool, ltb-false, Bool, List, None, Option, Some, [], false, if◌then◌else◌, is_none, length, nat_eq, nat_lt, not, replicate, slice_get, slice_set, suc, true, ℕ, ◌&&◌, ◌++◌, ◌+◌, ◌∷◌, ◌≡◌, ◌≤◌, Outcome, answered_in, kept_below, operand_of, told_to, top_of, Change, dpc_activation, serves_request, standing, with_stack, first_fault, topped, is_hold, without_first_to_start, Run, begun, Set, instruction_at, sort_of, Actor, Entry, Shared, World, idle_thread, new_packet, packet_of, Ret, Stop, Dispatch, StartIo, Status, Activation, Frame, CancelFrame, Routine, Walk, Packet, Thread, States, alive, frame_rights, frame_walks, is_live, stack_sum, thread_sum, times_waiting, waits_cancelable, walking, startio_enters, begins_dpc, begins_request, startio_activation, StepLeaves, leaves_fine, IsGood, Ready, Runs, state_of, returns_by, OnTop, runs, Replaces, Stacked, Stands, Standing, on_top, stands_there, last_same, told_frame, told_is, told_last, cancel_takes, stood, Comes, cancels, errs, stops_walk, fault_among, is_touch, quiet_among}
 use Rattle.std.proofs.Common.{append_assoc}
-use Rattle.run_laws.specs.Holder.{times_waiting, frame_rights, frame_walks, stack_sum, thread_sum, holders, alive, is_live, walking, waits_cancelable}
+use Rattle.run_laws.specs.Holder.{holders}
 use Rattle.run_laws.proofs.Holders.Counts.{Holding, new_unheld, new_held, new_waits}
 use Rattle.run_laws.proofs.Holders.Lent.{IsLent, stops_hold}
 use Rattle.run_laws.proofs.Holders.Plain.{none_plain}
@@ -16,19 +16,7 @@ use Rattle.run_laws.proofs.Past.LivePackets.{find, find_place, find_above}
 use Rattle.run_laws.proofs.Past.Packets.{Tells}
 use Rattle.run_laws.proofs.Runs.Events.{StepsFrame, Happens, nothing, steps, begins}
 use Rattle.run_laws.proofs.Runs.Roots.{Root, Beside, IdleThread, issues, root_begun, takes_dpc, takes_first, takes_nothing, with_root}
-use Rattle.run_laws.proofs.States.Begun.{startio_enters}
-use Rattle.run_laws.proofs.States.Entering.{begins_request, begins_dpc, startio_activation}
-use Rattle.run_laws.proofs.States.Fine.{StepLeaves, leaves_fine}
-use Rattle.run_laws.proofs.States.Frames.{IsGood, Ready, state_of, Runs}
-use Rattle.run_laws.proofs.States.Obeyed.{returns_by}
-use Rattle.run_laws.proofs.States.OnTop.{OnTop, runs}
-use Rattle.run_laws.specs.ArrivingStates.{States}
-use Rattle.run_laws.proofs.States.Stacks.{Stands, Stacked, Replaces}
-use Rattle.run_laws.proofs.States.Standing.{Standing, stands_there, on_top}
-use Rattle.run_laws.proofs.States.Told.{told_frame, told_last, last_same, told_is}
-use Rattle.run_laws.proofs.Steps.Below.{cancel_takes, stood}
-use Rattle.run_laws.proofs.Steps.Comes.{stops_walk, Comes, errs, cancels}
-use Rattle.run_laws.proofs.Steps.Faults.{is_completion, is_touch, fault_among, quiet_among}
+use Rattle.run_laws.proofs.Steps.Faults.{is_completion}
 use Rattle.run_laws.proofs.Tokens.Sums.{OneTokenEach, token_slot}
 use Rattle.run_laws.proofs.Holders.Waits.{NextArmed}
 

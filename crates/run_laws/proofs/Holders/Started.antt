@@ -1,9 +1,7 @@
 -- How often packets stand in what devices have for StartIo: in the start lists, the device queues
 -- and the current slots, after one of them is changed.
-use Rattle.run_laws.specs.Prelude.{ap, arith, cond, inl, inr, refl, sym, zero, ◌∙◌, cases_eq, cond_both, Bool, List, None, Option, Some, [], false, if◌then◌else◌, nat_eq, replicate, slice_get, slice_set, suc, true, ℕ, ◌&&◌, ◌+◌, ◌∷◌, ◌≡◌, ◌≤◌, ◌⊎◌, StartState, dequeued, head_of, idle, inserted, next_of, next_started, started, with_slot, without_first_to_start, Set, has_cancel, Shared, start_of, with_start, DeviceQueue}
-use Rattle.run_laws.specs.Holder.{times_at, times_in, times_in_slot, times_started, waits_cancelable}
+use Rattle.run_laws.proofs.Common.{ap, arith, cond, inl, inr, refl, sym, zero, ◌∙◌, cases_eq, cond_both, Bool, List, None, Option, Some, [], false, if◌then◌else◌, nat_eq, replicate, slice_get, slice_set, suc, true, ℕ, ◌&&◌, ◌+◌, ◌∷◌, ◌≡◌, ◌≤◌, ◌⊎◌, StartState, dequeued, head_of, idle, inserted, next_of, next_started, started, with_slot, without_first_to_start, Set, has_cancel, Shared, start_of, with_start, DeviceQueue, times_at, times_in, times_in_slot, times_started, waits_cancelable, set_other, set_same}
 use Rattle.run_laws.proofs.Holders.Queued.{times_pushed}
-use Rattle.run_laws.proofs.Lists.{set_other, set_same}
 
 -- one device's state in place of another, and it is one of all
 module _ (set : Set) (n : ℕ) where

@@ -1,9 +1,8 @@
 -- A step keeps the count of rights: what a register loses another one gets, or the packet's cancel
 -- word, or the I/O manager's frame, or the packet tops out. So no packet is completed that its
 -- routine has no right to, and none whose cancel word isn't empty.
-use Rattle.run_laws.specs.Prelude.{ap, arith, inl, inr, refl, subst, sym, ◌∙◌, list_any, Bool, List, None, Option, Some, [], false, if◌then◌else◌, is_some, nat_eq, slice_get, slice_set, true, ℕ, ◌++◌, ◌+◌, ◌<◌, ◌∷◌, ◌≡◌, ◌≤◌, Action, Outcome, completes_with, dispatched, is_walk, routine_of_device, set_by, turned, armed, completing, topped, is_new, is_right, given_down, gives_back, is_dropped, is_hold, kind_of, marked, StartState, head_of, Set, cancel_routine_named, flow_of, has_cancel, lower_of, sort_of, Actor, Entry, Shared, asked_of, cancelled, completed, current_location, left_location, mark_current, moved_up, next, packet_of, register, sent_down, shared_with, with_armer, with_info, with_loops, with_packet, Abs, Kind, BlankKind, Instr, Call, Complete, End, Loop, Mark, Pass, Put, Ret, Return, Continue, Stop, Void, DeviceQueue, Sort, Cancel, Dispatch, Hold, Propagate, Status, Activation, Armer, CancelStep, Exchange, Frame, CancelFrame, Routine, Walk, Packet, Value, Ref}
+use Rattle.run_laws.proofs.Common.{ap, arith, inl, inr, refl, subst, sym, ◌∙◌, list_any, Bool, List, None, Option, Some, [], false, if◌then◌else◌, is_some, nat_eq, slice_get, slice_set, true, ℕ, ◌++◌, ◌+◌, ◌<◌, ◌∷◌, ◌≡◌, ◌≤◌, Action, Outcome, completes_with, dispatched, is_walk, routine_of_device, set_by, turned, armed, completing, topped, is_new, is_right, given_down, gives_back, is_dropped, is_hold, kind_of, marked, StartState, head_of, Set, cancel_routine_named, flow_of, has_cancel, lower_of, sort_of, Actor, Entry, Shared, asked_of, cancelled, completed, current_location, left_location, mark_current, moved_up, next, packet_of, register, sent_down, shared_with, with_armer, with_info, with_loops, with_packet, Abs, Kind, BlankKind, Instr, Call, Complete, End, Loop, Mark, Pass, Put, Ret, Return, Continue, Stop, Void, DeviceQueue, Sort, Cancel, Dispatch, Hold, Propagate, Status, Activation, Armer, CancelStep, Exchange, Frame, CancelFrame, Routine, Walk, Packet, Value, Ref, States, frame_rights, is_lent, right, rights, stack_sum, times_named, times_waiting, walking, Begins, IsOfSort, begins_back, begins_cancelled, begins_lent, begins_lower, ArmerLeads, word_leads, IsGood, Moved, Runs, state_of, moved_end, has_next, SendsDown, completes_one, returns_by, sends_down, OnTop, runs, head_low, start_issued, Cancels, Comes, Exchanged, Executing, GoesTo, Waits, arms_waiting, awaits_cancel, awaits_lock, calls_cancel, calls_down, cancels, carries_up, completes_gone, completes_packet, computes, disarms_next, ends_cancel, ends_dpc, ends_startio, errs, exchanges, exchanges_gone, finds_empty, finds_none, flags_gone, frees_lock, lends_to, lets_go, lets_walk, looks_at, marks_packet, opens_loop, pages, passes_down, queued_to, resumes_gone, resumes_none, resumes_walk, retakes_cancel, retakes_lock, returns_status, sets_flag, starts_gone, stops_none, stops_walk, takes_cancel, takes_lock, tops_out, touches_gone, turns_loop, waited_to, walks_gone, walks_to, walks_up, works_on_queues, works_on_waiting, writes_info, fault_among, first_only, is_touch, topped_faults, freed_word, taken_word, SameRoutine, goes_same, turned_registers, turned_same, is_gone, queued_same, queued_touches, Forwarding, packet_operand, work_of}
 use Rattle.model.specs.Fault.{completion_fault}
-use Rattle.run_laws.specs.Holder.{times_waiting, right, rights, frame_rights, stack_sum, is_lent, walking, times_named}
 use Rattle.run_laws.proofs.Holders.Counts.{Holding, unheld_set, held_set, unheld_taken, held_taken, unheld_removed, held_removed, reads_ref, right_free, right_lives, walk_taken, walk_lives, waits_set, right_unarmed, unheld_lent, held_lent, waits_lost, walk_unarmed, waits_removed, waits_won}
 use Rattle.run_laws.proofs.Holders.Exchanges.{exchange_rights}
 use Rattle.run_laws.proofs.Holders.Lent.{IsLent, back_rights, back_unheld, hold_sort, stops_hold, walk_same}
@@ -14,25 +13,12 @@ use Rattle.run_laws.proofs.Holders.Waits.{FreesSlot, queued_rights}
 use Rattle.run_laws.proofs.Holders.Walking.{pushed_walks, walking_from, walks_under}
 use Rattle.run_laws.proofs.Past.LivePackets.{find}
 use Rattle.run_laws.proofs.Past.Packets.{found, named, numbered, untopped, gone_topped}
-use Rattle.run_laws.proofs.States.Entering.{begins_lower, begins_back, IsOfSort, Begins, begins_lent, begins_cancelled}
-use Rattle.run_laws.proofs.States.Fits.{ArmerLeads, word_leads, Fits}
-use Rattle.run_laws.proofs.States.Frames.{state_of, Moved, Runs, IsGood}
-use Rattle.run_laws.proofs.States.LoopEnds.{moved_end}
-use Rattle.run_laws.proofs.States.Moves.{has_next}
-use Rattle.run_laws.proofs.States.Obeyed.{SendsDown, sends_down, completes_one, never_back, returns_by}
-use Rattle.run_laws.proofs.States.OnTop.{OnTop, runs}
-use Rattle.run_laws.specs.ArrivingStates.{States}
-use Rattle.run_laws.proofs.Steps.Comes.{Cancels, takes_cancel, retakes_cancel, awaits_cancel, flags_gone, sets_flag, exchanges_gone, finds_empty, finds_none, calls_cancel, Exchanged, queued_to, Queued, GoesTo, Reads, Comes, errs, awaits_lock, computes, opens_loop, turns_loop, pages, touches_gone, looks_at, writes_info, marks_packet, exchanges, takes_lock, retakes_lock, frees_lock, completes_packet, completes_gone, passes_down, calls_down, returns_status, lets_go, lets_walk, resumes_walk, resumes_gone, resumes_none, stops_walk, stops_none, walks_gone, walks_to, lends_to, walks_up, carries_up, tops_out, ends_dpc, ends_cancel, works_on_queues, ends_startio, cancels, Executing}
-use Rattle.run_laws.proofs.Steps.Faults.{is_touch, is_completion, fault_among, first_only, topped_faults}
-use Rattle.run_laws.proofs.Steps.Locking.{taken_word, freed_word}
-use Rattle.run_laws.proofs.Steps.Onward.{SameRoutine, goes_same, turned_same, turned_registers}
-use Rattle.run_laws.proofs.Steps.Queues.{queued_touches, queued_same}
-use Rattle.run_laws.proofs.Steps.Words.{Forwarding, work_of, packet_operand}
+use Rattle.run_laws.proofs.States.Fits.{Fits}
+use Rattle.run_laws.proofs.States.Obeyed.{never_back}
+use Rattle.run_laws.proofs.Steps.Comes.{Queued, Reads}
+use Rattle.run_laws.proofs.Steps.Faults.{is_completion}
 use Rattle.run_laws.proofs.Holders.Waits.{NextArmed}
-use Rattle.run_laws.proofs.Steps.Comes.{Waits, arms_waiting, disarms_next, works_on_waiting, waited_to, starts_gone}
 use Rattle.run_laws.proofs.Holders.Waits.{OwnsLive, waited_rights, first_both}
-use Rattle.run_laws.proofs.Steps.Queues.{is_gone}
-use Rattle.run_laws.proofs.States.StartsFit.{head_low, start_issued}
 
 -- the rights before and after a step, those of the packets that are gone or came included; and the
 -- I/O manager's frames that aren't lent, where the frame below stays

@@ -1,11 +1,7 @@
 -- Sums of rights and of the I/O manager's frames over threads, and what they are by the packet:
 -- each live packet has one right, or one frame of the I/O manager.
-use Rattle.run_laws.specs.Prelude.{ap, arith, cond, refl, zero, ◌∙◌, Bool, List, None, Option, Some, [], false, if◌then◌else◌, slice_get, slice_set, suc, true, ℕ, ◌++◌, ◌+◌, ◌∷◌, ◌≡◌, ◌≢◌, ◌≤◌, frames_of, frames_on, Set, World, Status, Frame, Packet, Thread}
-use Rattle.run_laws.specs.Holder.{all_walking, times_waiting, frame_rights, stack_sum, thread_sum}
-use Rattle.run_laws.proofs.Lists.{sum_le}
+use Rattle.run_laws.proofs.Common.{ap, arith, cond, refl, zero, ◌∙◌, Bool, List, None, Option, Some, [], false, if◌then◌else◌, slice_get, slice_set, suc, true, ℕ, ◌++◌, ◌+◌, ◌∷◌, ◌≡◌, ◌≢◌, ◌≤◌, frames_of, frames_on, Set, World, Status, Frame, Packet, Thread, States, all_walking, frame_rights, stack_sum, thread_sum, times_waiting, sum_le, told_frame, told_last}
 use Rattle.run_laws.proofs.Past.LivePackets.{find}
-use Rattle.run_laws.specs.ArrivingStates.{States}
-use Rattle.run_laws.proofs.States.Told.{told_frame, told_last}
 
 -- a live packet that isn't completing, and one that is
 abbrev pub unheld : Option Packet → ℕ

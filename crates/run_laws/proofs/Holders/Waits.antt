@@ -1,26 +1,15 @@
 -- What the instructions about queues do to the rights of a routine's frame: a packet goes from a
 -- register to a list or to the current slot, or from one of these to a register.
-use Rattle.run_laws.specs.Prelude.{ap, arith, inl, inr, refl, subst, sym, ◌∙◌, Bool, List, None, Option, Some, false, if◌then◌else◌, is_some, length, nat_eq, slice_get, slice_set, true, ℕ, ⊤, ◌&&◌, ◌+◌, ◌<◌, ◌||◌, ◌∷◌, ◌≡◌, Action, next_disarmed, routine_of_device, is_at, is_name, is_packet, is_right, kind_inserted, kind_removed, an_owned_one, demanded, free_kind, handed, handed_at_label, kind_of, least_of, queued_kind, unless, unlink_kind, StartState, dequeued, head_of, inserted, next_started, started, unlinked, with_slot, Set, cancel_routine_of, flow_of, has_cancel, label_of, OperandFits, Shared, at_label, next, packet_of, queue_of, register, start_of, with_queue, with_register, Abs, Kind, BlankKind, Own, QueuedKind, Rule, CancelState, Dropped, Token, Cancelling, Listed, Taken, Instr, Begin, Dequeue, Insert, Next, Remove, Start, Take, Unlink, REGISTERS, QueueName, Declared, DeviceQueue, Activation, Armer, Frame, CancelFrame, Routine, Walk, Packet, Ref}
-use Rattle.run_laws.specs.Holder.{frame_rights, right, rights, times_in, times_in_slot, times_waiting, names, waits_cancelable, times_started, times_at}
+use Rattle.run_laws.proofs.Common.{ap, arith, inl, inr, refl, subst, sym, ◌∙◌, Bool, List, None, Option, Some, false, if◌then◌else◌, is_some, length, nat_eq, slice_get, slice_set, true, ℕ, ⊤, ◌&&◌, ◌+◌, ◌<◌, ◌||◌, ◌∷◌, ◌≡◌, Action, next_disarmed, routine_of_device, is_at, is_name, is_packet, is_right, kind_inserted, kind_removed, an_owned_one, demanded, free_kind, handed, handed_at_label, kind_of, least_of, queued_kind, unless, unlink_kind, StartState, dequeued, head_of, inserted, next_started, started, unlinked, with_slot, Set, cancel_routine_of, flow_of, has_cancel, label_of, OperandFits, Shared, at_label, next, packet_of, queue_of, register, start_of, with_queue, with_register, Abs, Kind, BlankKind, Own, QueuedKind, Rule, CancelState, Dropped, Token, Cancelling, Listed, Taken, Instr, Begin, Dequeue, Insert, Next, Remove, Start, Take, Unlink, REGISTERS, QueueName, Declared, DeviceQueue, Activation, Armer, Frame, CancelFrame, Routine, Walk, Packet, Ref, States, frame_rights, names, right, rights, times_at, times_in, times_in_slot, times_named, times_plain, times_started, times_waiting, waits_cancelable, all_at, Runs, Serves, state_of, KindFits, named_same, arrives, arrives_next, has_next, inserts_right, first_none, granted, second_none, unbroken, Executing, Waits, arms_waiting, dequeues_packet, disarms_next, inserts, jumping, puts_in, removes, removes_none, starts_gone, starts_next, starts_packet, takes_none, takes_out, unlinks, is_gone}
 use Rattle.run_laws.proofs.Holders.Counts.{reads_ref}
 use Rattle.run_laws.proofs.Holders.Plain.{plain_in, plain_counts, plain_put, plain_skips}
 use Rattle.run_laws.proofs.Holders.Queued.{times_pushed}
 use Rattle.run_laws.proofs.Holders.Rights.{no_right, not_right, rights_both, rights_turn}
 use Rattle.run_laws.proofs.Holders.Started.{started_put, times_given, times_next, times_slot}
-use Rattle.run_laws.proofs.Lists.{all_at}
-use Rattle.run_laws.proofs.States.Frames.{Runs, state_of, Serves}
-use Rattle.run_laws.proofs.States.Listed.{KindFits, HasCancel, named_same}
-use Rattle.run_laws.proofs.States.Moves.{arrives, arrives_next, has_next}
-use Rattle.run_laws.proofs.States.Obeyed.{inserts_right}
+use Rattle.run_laws.proofs.States.Listed.{HasCancel}
 use Rattle.run_laws.proofs.States.OnTop.{listed_fits}
-use Rattle.run_laws.specs.ArrivingStates.{States}
-use Rattle.run_laws.proofs.States.Rules.{first_none, granted, second_none, unbroken}
-use Rattle.run_laws.proofs.Steps.Comes.{Queued, Reads, inserts, jumping, puts_in, removes, removes_none, starts_next, starts_packet, takes_none, takes_out, unlinks, starts_gone, Waits, dequeues_packet}
-use Rattle.run_laws.proofs.Steps.Queues.{is_gone}
-use Rattle.run_laws.proofs.Steps.Comes.{Waits, arms_waiting, disarms_next}
-use Rattle.run_laws.specs.Holder.{times_at, times_named, times_started, times_plain}
+use Rattle.run_laws.proofs.Steps.Comes.{Queued, Reads}
 use Rattle.run_laws.proofs.Holders.Started.{times_waited, times_disarmed, started_put}
-use Rattle.run_laws.proofs.Steps.Comes.{Executing}
 
 -- a routine's frame that has the token of its device finds the current slot empty
 abbrev pub FreesSlot : States → Shared → Frame → Type 0

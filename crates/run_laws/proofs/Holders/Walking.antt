@@ -1,10 +1,6 @@
 -- Sums of the I/O manager's frames that aren't lent to the completion routine on them: over the
 -- frames of a thread, and over all threads. Only the last of the frames below looks at those above.
-use Rattle.run_laws.specs.Prelude.{ap, arith, refl, sym, zero, ◌-◌, ◌∙◌, eq-eqb, Bool, List, None, Option, Some, [], false, if◌then◌else◌, length, replicate, slice_get, slice_set, suc, ℕ, ◌++◌, ◌+◌, ◌∷◌, ◌≡◌, ◌≤◌, answered_in, operand_of, top_of, is_hold, frames_of, frames_on, Set, instruction_at, sort_of, World, idle_thread, Status, Activation, Frame, CancelFrame, Routine, Walk, Thread}
-use Rattle.run_laws.specs.Holder.{all_walking, frame_walks, is_lent, walking}
-use Rattle.run_laws.proofs.Lists.{get_at_length}
-use Rattle.run_laws.proofs.States.Told.{last_under, told_frame, told_last}
-use Rattle.run_laws.proofs.Tests.{if_none}
+use Rattle.run_laws.proofs.Common.{ap, arith, refl, sym, zero, ◌-◌, ◌∙◌, eq-eqb, Bool, List, None, Option, Some, [], false, if◌then◌else◌, length, replicate, slice_get, slice_set, suc, ℕ, ◌++◌, ◌+◌, ◌∷◌, ◌≡◌, ◌≤◌, answered_in, operand_of, top_of, is_hold, frames_of, frames_on, Set, instruction_at, sort_of, World, idle_thread, Status, Activation, Frame, CancelFrame, Routine, Walk, Thread, all_walking, frame_walks, is_lent, walking, get_at_length, last_under, told_frame, told_last, if_none}
 
 -- the I/O manager's frame that stands under another one, if any
 abbrev pub walks_under : Option Frame → ℕ → ℕ

@@ -2,20 +2,15 @@
 -- routine holds it; and so is what stands in a queue.
 use Rattle.run_laws.proofs.Holders.Plain.{plain_in, driver_at, plain_le, plain_counts}
 use Rattle.run_laws.proofs.Claims.Balance.{at_same, claim_le}
-use Rattle.run_laws.specs.Prelude.{ap, arith, refl, Bool, List, None, Option, Some, false, is_some, length, option_map, slice_get, true, ℕ, ◌+◌, ◌≡◌, ◌≤◌, is_at, is_exchanged, kind_of, StartState, frames_on, Set, Entry, World, register, start_of, Kind, Queued, Armed, Cancelling, Listed, Taken, QueueName, Declared, DeviceQueue, Activation, Frame, Routine, Ref}
+use Rattle.run_laws.proofs.Common.{ap, arith, refl, Bool, List, None, Option, Some, false, is_some, length, option_map, slice_get, true, ℕ, ◌+◌, ◌≡◌, ◌≤◌, is_at, is_exchanged, kind_of, StartState, frames_on, Set, Entry, World, register, start_of, Kind, Queued, Armed, Cancelling, Listed, Taken, QueueName, Declared, DeviceQueue, Activation, Frame, Routine, Ref, States, times_at, times_in, waits_cancelable, IsGood, state_of, Standing}
 use Rattle.run_laws.proofs.Claims.Tops.{named_some, top_there}
 use Rattle.run_laws.proofs.Claims.Held.{holder_lives}
 use Rattle.run_laws.proofs.Live.Steps.{ClaimsLive, EntriesLive}
-use Rattle.run_laws.specs.Holder.{times_in}
 use Rattle.run_laws.proofs.Claims.Sums.{Claimed, names_on, word_at, is_cancelable, times_of}
 use Rattle.run_laws.proofs.Holders.Sums.{Held, unheld}
 use Rattle.run_laws.proofs.Past.LivePackets.{find}
 use Rattle.run_laws.proofs.Runs.Events.{StepsFrame}
-use Rattle.run_laws.proofs.States.Frames.{IsGood, state_of}
-use Rattle.run_laws.specs.ArrivingStates.{States}
-use Rattle.run_laws.proofs.States.Standing.{Standing}
 use Rattle.run_laws.proofs.Claims.Sums.{list_of}
-use Rattle.run_laws.specs.Holder.{times_at, waits_cancelable}
 use Rattle.run_laws.proofs.Holders.Started.{started_le}
 
 start_found : (o : Option StartState) (entries : List ℕ)

@@ -1,10 +1,8 @@
 -- In every run of an accepted set frames see what they should, and no packet is touched after it
 -- has topped out.
-use Rattle.run_laws.proofs.States.NoViews.{is_deferred}
+use Rattle.run_laws.proofs.Common.{ap, arith, inl, inr, refl, subst, sym, ◌-◌, ◌∙◌, List, None, Option, Some, [], false, length, slice_get, suc, true, ℕ, ◌++◌, ◌∷◌, ◌≡◌, ◌≤◌, ◌⊎◌, Outcome, told_to, top_of, Change, standing, with_stack, with_thread, begun, frames_on, Set, Actor, Entry, Shared, World, Dispatch, Dpc, Hold, StartIo, Status, CancelStep, Frame, CancelFrame, Routine, Walk, Irql, Packet, Thread, States, all_walking, RootFrame, root_cancels, root_enters, IsGood, is_deferred, Standing, on_top, root_there, last_under, stood, Cancels, Comes, cancels, returns_status, takes_cancel, fault_among, is_touch}
 use Rattle.run_laws.proofs.Holders.Walking.{walking_under}
 use Rattle.run_laws.proofs.Holders.Lent.{IsLent}
-use Rattle.run_laws.specs.Prelude.{ap, arith, inl, inr, refl, subst, sym, ◌-◌, ◌∙◌, List, None, Option, Some, [], false, length, slice_get, suc, true, ℕ, ◌++◌, ◌+◌, ◌∷◌, ◌≡◌, ◌≤◌, ◌⊎◌, Outcome, told_to, top_of, Change, standing, with_stack, with_thread, begun, frames_on, Set, Actor, Entry, Shared, World, Dispatch, Dpc, Hold, StartIo, Status, CancelStep, Frame, CancelFrame, Routine, Walk, Irql, Packet, Thread}
-use Rattle.run_laws.specs.Holder.{all_walking}
 use Rattle.run_laws.proofs.Holders.Counts.{Holding}
 use Rattle.run_laws.proofs.Holders.Sums.{Held, held, walked_if}
 use Rattle.run_laws.proofs.Live.Sees.{deferred_sort, Seen, AllSeen, seen_append, seen_below, seen_top, told_seen, lent_refers}
@@ -14,14 +12,6 @@ use Rattle.run_laws.proofs.Past.Packets.{found}
 use Rattle.run_laws.proofs.Runs.Events.{StepsFrame, Happens, nothing, steps, begins}
 use Rattle.run_laws.proofs.Runs.Roots.{with_root}
 use Rattle.run_laws.proofs.Runs.Threads.{of_steps, each_frames, idle_frames}
-use Rattle.run_laws.proofs.States.Begun.{RootFrame, root_cancels, root_enters}
-use Rattle.run_laws.proofs.States.Frames.{IsGood}
-use Rattle.run_laws.specs.ArrivingStates.{States}
-use Rattle.run_laws.proofs.States.Standing.{Standing, on_top, root_there}
-use Rattle.run_laws.proofs.States.Told.{last_under}
-use Rattle.run_laws.proofs.Steps.Comes.{Cancels, takes_cancel, Comes, returns_status, cancels}
-use Rattle.run_laws.proofs.Steps.Below.{stood}
-use Rattle.run_laws.proofs.Steps.Faults.{fault_among, is_touch}
 
 -- the frames of every thread see what they should
 abbrev pub Sees : Set → States → World → Type 0

@@ -1,9 +1,8 @@
 -- Every register of a packet's kind, in any frame of any thread, names a live packet: who has the
 -- right to it holds it; who has a claim is backed by its cancel word or its cancel routine; and one
 -- on its way up is the I/O manager's.
-use Rattle.run_laws.specs.Prelude.{arith, inl, inr, refl, sym, ◌∙◌, cases_Bool, List, None, Option, Some, false, slice_get, true, ℕ, ◌≡◌, ◌≤◌, is_packet, is_right, is_view, is_hold, kind_of, frames_on, Set, sort_of, Entry, World, packet_of, register, Activation, Frame, CancelFrame, Routine, Walk, Packet, Ref}
-use Rattle.run_laws.specs.ArrivingStates.{States}
-use Rattle.run_laws.specs.Holder.{StandsInside, all_walking, frame_rights}
+use Rattle.run_laws.proofs.Common.{arith, inl, inr, refl, sym, ◌∙◌, cases_Bool, List, None, Option, Some, false, slice_get, true, ℕ, ◌≡◌, ◌≤◌, is_packet, is_right, is_view, is_hold, kind_of, frames_on, Set, sort_of, Entry, World, packet_of, register, Activation, Frame, CancelFrame, Routine, Walk, Packet, Ref, States, all_walking, frame_rights, IsGood, state_of, stands_inside, Standing}
+use Rattle.run_laws.specs.Holder.{StandsInside}
 use Rattle.run_laws.proofs.Claims.Sums.{Claimed}
 use Rattle.run_laws.proofs.Claims.Tops.{named_once}
 use Rattle.run_laws.proofs.Holders.Sums.{Held, frame_le, held, unheld, walked_if}
@@ -14,9 +13,6 @@ use Rattle.run_laws.proofs.Live.Sees.{seen_at}
 use Rattle.run_laws.proofs.Live.Steps.{UnderLives, only_view, unheld_lives, view_lives}
 use Rattle.run_laws.proofs.Past.LivePackets.{find}
 use Rattle.run_laws.proofs.Past.Packets.{found}
-use Rattle.run_laws.proofs.States.Frames.{IsGood, state_of}
-use Rattle.run_laws.proofs.States.Inside.{stands_inside}
-use Rattle.run_laws.proofs.States.Standing.{Standing}
 
 module _ (set : Set) (states : States) (w : World) (past : List Entry) (good : IsGood set states)
     (stands : Standing set states w past) (kept : Held set states w)

@@ -1,16 +1,10 @@
 -- Which packets the frames of a thread see: a completion routine's registers refer to the packet of
 -- the I/O manager's frame below it, where they refer to one on its way up, and every other routine
 -- is a dispatch routine, or a deferred one: a DPC, a StartIo or a cancel routine.
-use Rattle.run_laws.specs.Prelude.{ap, inl, inr, refl, subst, sym, zero, ◌-◌, ◌∙◌, cases_Bool, List, None, Option, Some, [], nat_lt, replicate, slice_get, suc, true, ℕ, ⊤, ◌++◌, ◌∷◌, ◌≡◌, ◌⊎◌, answered_in, operand_of, told_to, is_new, is_view, kind_of, Set, instruction_at, sort_of, Shared, packet_in, register, BlankKind, Sort, Dispatch, Hold, Propagate, Status, Activation, Frame, CancelFrame, Routine, Walk, Value, Blank, Ref, StatusValue}
+use Rattle.run_laws.proofs.Common.{ap, inl, inr, refl, subst, sym, zero, ◌-◌, ◌∙◌, cases_Bool, List, None, Option, Some, [], nat_lt, replicate, slice_get, suc, true, ℕ, ⊤, ◌++◌, ◌∷◌, ◌≡◌, ◌⊎◌, answered_in, operand_of, told_to, is_new, is_view, kind_of, Set, instruction_at, sort_of, Shared, packet_in, register, BlankKind, Sort, Dispatch, Hold, Propagate, Status, Activation, Frame, CancelFrame, Routine, Walk, Value, Blank, Ref, StatusValue, States, Begins, IsOfSort, state_of, HoldOf, hold_get, hold_none, hold_told, handed_news, handed_views, is_deferred, last_under, told_frame, told_is, told_last}
 use Rattle.run_laws.proofs.Holders.Walking.{under_at}
-use Rattle.run_laws.proofs.States.Entering.{Begins, IsOfSort}
 use Rattle.run_laws.proofs.States.Stacks.{answered_in_sort}
-use Rattle.run_laws.proofs.States.Told.{last_under, told_frame, told_last, told_is}
 use Rattle.run_laws.proofs.Steps.Comes.{Reads}
-use Rattle.run_laws.specs.ArrivingStates.{States}
-use Rattle.run_laws.proofs.States.HandedOver.{hold_get, hold_none, hold_told, HoldOf}
-use Rattle.run_laws.proofs.States.Frames.{state_of}
-use Rattle.run_laws.proofs.States.NoViews.{handed_views, is_deferred, handed_news}
 
 abbrev pub RefersTo : ℕ → Value → Type 0
 RefersTo m (Ref n) = n ≡ m

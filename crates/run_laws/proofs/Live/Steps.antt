@@ -1,38 +1,21 @@
 -- Each step keeps what frames see, and touches live packets alone: a register that has a packet has
 -- the right to it, or refers to the packet of the I/O manager's frame below, and that frame holds
 -- its packet.
-use Rattle.run_laws.proofs.Tests.{not_false}
-use Rattle.run_laws.specs.Prelude.{ap, arith, inl, inr, refl, subst, sym, ◌∙◌, cases_Bool, eq-eqb, Bool, List, None, Option, Some, false, slice_get, true, ℕ, ⊤, ◌+◌, ◌<◌, ◌∷◌, ◌≡◌, ◌≤◌, ◌⊎◌, Action, Executes, Touches, Outcome, asks, completes_with, routine_of_device, turned, bug_if, fault_of, is_claim, is_exchanged, is_new, is_packet, is_right, is_view, is_hold, kind_of, Arrives, StartState, head_of, Set, flow_of, has_cancel, lower_of, member, routine_of, sort_of, Actor, Entry, Shared, asked_of, current_location, entered, next, packet_in, packet_of, register, Kind, QueuedKind, View, IrqlNotLessOrEqual, PacketSubject, Instr, Begin, Call, Complete, Dequeue, End, Insert, Loop, Mark, Next, Pass, Put, Ret, Start, Unlink, Continue, QueueName, Declared, DeviceQueue, RoutineOf, Sort, Cancel, Dispatch, Hold, Activation, Armer, CancelStep, Frame, CancelFrame, Routine, Walk, Packet, Value, Ref}
+use Rattle.run_laws.proofs.Common.{ap, arith, inl, inr, refl, subst, sym, ◌∙◌, cases_Bool, eq-eqb, Bool, List, None, Option, Some, false, slice_get, true, ℕ, ⊤, ◌+◌, ◌<◌, ◌∷◌, ◌≡◌, ◌≤◌, ◌⊎◌, Action, Executes, Touches, Outcome, asks, completes_with, routine_of_device, turned, bug_if, fault_of, is_claim, is_exchanged, is_new, is_packet, is_right, is_view, is_hold, kind_of, Arrives, StartState, head_of, Set, flow_of, has_cancel, lower_of, member, routine_of, sort_of, Actor, Entry, Shared, asked_of, current_location, entered, next, packet_in, packet_of, register, Kind, QueuedKind, View, IrqlNotLessOrEqual, PacketSubject, Instr, Begin, Call, Complete, Dequeue, End, Insert, Loop, Mark, Next, Pass, Put, Ret, Start, Unlink, Continue, QueueName, Declared, DeviceQueue, RoutineOf, Sort, Cancel, Dispatch, Hold, Activation, Armer, CancelStep, Frame, CancelFrame, Routine, Walk, Packet, Value, Ref, States, times_in, begins_called, IsOfSort, begins_back, begins_lent, begins_lower, sort_there, Runs, state_of, goes_hold, keeps_copies, next_hold, queued_hold, packet_wanted, never_lacks, moved_end, moved_loop, falls_next, has_next, deferred_no_view, dispatch_no_view, handed_news, handed_views, hold_no_view, no_view_at, OnTop, runs, value_suits, MovedOn, queue_moves, Cancels, Comes, Executing, GoesTo, Waits, arms_waiting, awaits_cancel, awaits_lock, calls_cancel, calls_down, cancels, carries_up, completes_gone, completes_packet, computes, dequeues_packet, disarms_next, ends_cancel, ends_dpc, ends_startio, errs, exchanges, frees_lock, inserts, lends_to, lets_go, lets_walk, looks_at, marks_packet, opens_loop, pages, passes_down, puts_in, removes, removes_none, resumes_gone, resumes_none, resumes_walk, retakes_cancel, retakes_lock, returns_status, sets_flag, starts_gone, starts_next, starts_packet, stops_none, stops_walk, takes_cancel, takes_lock, takes_none, takes_out, tops_out, touches_gone, turns_loop, unlinks, walks_gone, walks_to, walks_up, works_on_queues, works_on_waiting, writes_info, fault_among, first_only, is_touch, LockWord, freed_word, taken_word, SameRoutine, goes_same, turned_registers, turned_same, packet_operand, not_false}
 use Rattle.run_laws.proofs.Claims.Next.{head_counts}
-use Rattle.run_laws.proofs.States.Cancelled.{begins_called}
 use Rattle.run_laws.proofs.Holders.Lent.{back_unheld, hold_sort}
 use Rattle.std.proofs.Common.{Continue}
 use Rattle.run_laws.proofs.Holders.Counts.{Holding, right_lives, walk_lives}
 use Rattle.run_laws.proofs.Live.Sees.{view_refers, Views, RefersTo, Seen, AllSeen, IsDeferred, News, propagate_sees, hold_sees, lent_refers, deferred_sort}
-use Rattle.run_laws.proofs.States.NoViews.{deferred_no_view, handed_views, HasNoView, no_view_at, dispatch_no_view, handed_news, hold_no_view}
+use Rattle.run_laws.proofs.States.NoViews.{HasNoView}
 use Rattle.run_laws.proofs.Past.Packets.{Tells, found, named, untopped}
-use Rattle.run_laws.proofs.States.Entering.{begins_back, IsOfSort, begins_lower, sort_there, begins_lent}
-use Rattle.run_laws.proofs.States.Frames.{Runs, state_of}
-use Rattle.run_laws.proofs.States.Kinds.{packet_ref, packet_wanted}
-use Rattle.run_laws.proofs.States.Lacking.{never_lacks}
-use Rattle.run_laws.proofs.States.OnTop.{OnTop, runs, value_suits}
-use Rattle.run_laws.specs.ArrivingStates.{States}
-use Rattle.run_laws.proofs.Steps.Comes.{removes_none, removes, inserts, starts_packet, takes_out, takes_none, puts_in, starts_next, unlinks, Queued, GoesTo, Executing, Reads, Comes, errs, awaits_lock, computes, opens_loop, turns_loop, pages, touches_gone, looks_at, writes_info, marks_packet, exchanges, takes_lock, retakes_lock, frees_lock, completes_packet, completes_gone, passes_down, calls_down, returns_status, lets_go, lets_walk, resumes_walk, resumes_gone, resumes_none, stops_walk, stops_none, walks_gone, walks_to, lends_to, walks_up, carries_up, tops_out, ends_dpc, ends_cancel, works_on_queues, ends_startio, cancels, Cancels, takes_cancel, retakes_cancel, awaits_cancel, sets_flag, calls_cancel}
-use Rattle.run_laws.proofs.Steps.Faults.{fault_among, is_touch, first_only}
-use Rattle.run_laws.proofs.Steps.Onward.{SameRoutine, goes_same, turned_same, turned_registers}
-use Rattle.run_laws.proofs.Steps.Words.{packet_operand}
-use Rattle.run_laws.proofs.States.Moves.{falls_next, has_next}
-use Rattle.run_laws.proofs.States.HandedOver.{queued_hold, touching_copies, next_hold, keeps_copies, copies, goes_hold}
-use Rattle.run_laws.proofs.Steps.Locking.{freed_word, taken_word, LockWord}
-use Rattle.run_laws.proofs.States.LoopEnds.{moved_end, moved_loop}
+use Rattle.run_laws.proofs.States.Kinds.{packet_ref}
+use Rattle.run_laws.proofs.Steps.Comes.{Queued, Reads}
+use Rattle.run_laws.proofs.States.HandedOver.{touching_copies, copies}
 use Rattle.run_laws.proofs.Holders.Sums.{own_if, unheld}
 use Rattle.run_laws.proofs.Past.LivePackets.{find}
-use Rattle.run_laws.specs.Holder.{times_in}
-use Rattle.run_laws.proofs.States.Queueing.{queue_moves, MovedOn}
 use Rattle.run_laws.proofs.Claims.Sums.{list_of}
 use Rattle.run_laws.proofs.Holders.Waits.{first_both}
-use Rattle.run_laws.proofs.Steps.Comes.{Waits, starts_gone, dequeues_packet, works_on_waiting}
-use Rattle.run_laws.proofs.Steps.Comes.{Waits, arms_waiting, disarms_next}
 
 -- a routine that goes on sees what it saw
 goes_seen : (set : Set) (states : States) (under : Option Frame) (a b : Activation)

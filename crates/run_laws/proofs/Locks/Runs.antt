@@ -1,6 +1,6 @@
 -- Locks and levels are kept in every run of an accepted set: every thread holds the locks that the
 -- state of its top frame says.
-use Rattle.run_laws.specs.Prelude.{ap, inl, inr, refl, subst, sym, ◌-◌, ◌∙◌, ne_eqb, append_assoc, Bool, List, None, Option, Some, [], false, slice_get, ℕ, ◌++◌, ◌+◌, ◌∷◌, ◌≡◌, ◌≢◌, Action, OnLock, Outcome, answered_in, operand_of, top_of, Change, standing, with_stack, with_thread, holds, holds_after, begun, frames_on, root_of, Set, instruction_at, Actor, Entry, entry, recorded, Shared, World, Lock, Status, Activation, Frame, CancelFrame, Routine, Walk, Irql, Thread}
+use Rattle.run_laws.proofs.Common.{ap, inl, inr, refl, subst, sym, ◌-◌, ◌∙◌, ne_eqb, append_assoc, Bool, List, None, Option, Some, [], false, slice_get, ℕ, ◌++◌, ◌∷◌, ◌≡◌, ◌≢◌, Action, OnLock, Outcome, answered_in, operand_of, top_of, Change, standing, with_stack, with_thread, holds, holds_after, begun, frames_on, root_of, Set, instruction_at, Actor, Entry, entry, recorded, Shared, World, Lock, Status, Activation, Frame, CancelFrame, Routine, Walk, Irql, Thread, States, RootFrame, root_cancels, root_enters, IsGood, state_of, Low, Stacked, Stands, Standing, on_top, root_there, stands_there, told_frame, told_is, told_last, stood, fault_among, is_of_locks}
 use Rattle.std.proofs.lemmas.List.{append-nil}
 use Rattle.model.specs.Action.{Acquire, Release}
 use Rattle.run_laws.proofs.Locks.Says.{frame_says, top_says, free_says}
@@ -8,15 +8,8 @@ use Rattle.run_laws.proofs.Locks.Steps.{begun_says, own, lock_faults}
 use Rattle.run_laws.proofs.Runs.Events.{StepsFrame, Happens, nothing, steps, begins}
 use Rattle.run_laws.proofs.Runs.Roots.{root_told, with_root}
 use Rattle.run_laws.proofs.Runs.Threads.{frames_there, each_frames, idle_frames}
-use Rattle.run_laws.proofs.States.Begun.{RootFrame, root_cancels, root_enters, root_free}
-use Rattle.run_laws.proofs.States.Frames.{state_of, IsGood}
-use Rattle.run_laws.proofs.States.Roots.{Low}
-use Rattle.run_laws.specs.ArrivingStates.{States}
-use Rattle.run_laws.proofs.States.Stacks.{Stands, Stacked}
-use Rattle.run_laws.proofs.States.Standing.{Standing, stands_there, on_top, low_there, root_there}
-use Rattle.run_laws.proofs.States.Told.{told_frame, told_last, told_is}
-use Rattle.run_laws.proofs.Steps.Below.{stood}
-use Rattle.run_laws.proofs.Steps.Faults.{is_of_locks, fault_among}
+use Rattle.run_laws.proofs.States.Begun.{root_free}
+use Rattle.run_laws.proofs.States.Standing.{low_there}
 
 -- every thread holds the locks that the state of its top frame says
 abbrev pub LocksAgree : States → World → List Entry → Type 0

@@ -1,10 +1,6 @@
 -- What the state of a frame says of locks, and what an instruction changes of it.
-use Rattle.run_laws.specs.Prelude.{inl, inr, refl, sym, zero, eq-eqb, eqb_tells, get_or-set_other, get_or-set_same, list_any, Bool, List, None, Some, [], false, if◌then◌else◌, length, nat_eq, slice_index_or, slice_set, suc, true, ℕ, ◌&&◌, ◌<◌, ◌∷◌, ◌≡◌, spin_lock, is_lock, given_down, handed, handed_at_label, holds_lock, holds_spin_lock, kind_of, marked, refuses, Set, OperandFits, Abs, Kind, New, Lock, Spin, SystemCancel, Instr, Acquire, AcquireCancel, Call, IfPending, Mark, Pass, Release, ReleaseCancel, SPIN_LOCKS, CancelLock, DeviceLock, Sort, Activation, CancelStep, AcquireStep, Exchange, SetFlag, Frame, CancelFrame, Routine, Walk}
+use Rattle.run_laws.proofs.Common.{inl, inr, refl, sym, zero, eq-eqb, eqb_tells, get_or-set_other, get_or-set_same, list_any, Bool, List, None, Some, [], false, if◌then◌else◌, length, nat_eq, slice_index_or, slice_set, suc, true, ℕ, ◌&&◌, ◌<◌, ◌∷◌, ◌≡◌, spin_lock, is_lock, given_down, handed, handed_at_label, holds_lock, holds_spin_lock, kind_of, marked, refuses, Set, OperandFits, Abs, Kind, New, Lock, Spin, SystemCancel, Instr, Acquire, AcquireCancel, Call, IfPending, Mark, Pass, Release, ReleaseCancel, SPIN_LOCKS, CancelLock, DeviceLock, Sort, Activation, CancelStep, AcquireStep, Exchange, SetFlag, Frame, CancelFrame, Routine, Walk, States, first_none, unbroken, Locking, Work, lock_freed, lock_taken, work_of, and_false, not_false, or_left, or_right}
 use Rattle.model.specs.LocalRule.{is_held, with_lock, with_cancel, released}
-use Rattle.run_laws.specs.ArrivingStates.{States}
-use Rattle.run_laws.proofs.States.Rules.{first_none, unbroken}
-use Rattle.run_laws.proofs.Steps.Words.{Work, Locking, work_of, lock_taken, lock_freed}
-use Rattle.run_laws.proofs.Tests.{or_left, or_right, and_false, not_false}
 
 -- the locks that a state says, for a device
 abbrev pub state_says : Abs → ℕ → Lock → Bool

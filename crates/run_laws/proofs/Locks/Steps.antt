@@ -1,30 +1,12 @@
 -- A thread holds the locks that the state of its top frame says, and every step of that frame keeps
 -- that; so no step has a bug check about locks or paged cells.
-use Rattle.run_laws.specs.Prelude.{ap, inl, inr, refl, sym, ◌∙◌, eq-eqb, list_any, Bool, List, None, Option, Some, [], false, if◌then◌else◌, is_some, nat_eq, not, slice_get, true, ℕ, ◌&&◌, ◌∷◌, ◌≡◌, Action, Outcome, completes_with, dispatched, turned, acquired, bug_if, first_or, holds, is_lock, handed, holds_lock, holds_spin_lock, level_fault, refuses, StartState, Set, cancels_for, flow_of, lower_of, sort_of, OperandFits, Actor, Entry, recorded, Shared, asked_of, current_location, next, register, Abs, BugCheck, IrqlNotLessOrEqual, SpinLockAlreadyOwned, SpinLockNotOwned, Lock, SystemCancel, Subject, LockSubject, Instr, Call, Complete, End, LoadPaged, Loop, Mark, Pass, Put, Ret, StorePaged, Return, Continue, Stop, Void, QueueName, Sort, Cancel, Dispatch, Dpc, Hold, Propagate, StartIo, Activation, CancelStep, Frame, CancelFrame, Routine, Packet, Value, Ref}
+use Rattle.run_laws.proofs.Common.{ap, inl, inr, refl, sym, ◌∙◌, eq-eqb, list_any, Bool, List, None, Option, Some, [], false, if◌then◌else◌, is_some, nat_eq, not, slice_get, true, ℕ, ◌&&◌, ◌∷◌, ◌≡◌, Action, Outcome, completes_with, dispatched, turned, acquired, bug_if, first_or, holds, is_lock, handed, holds_lock, holds_spin_lock, level_fault, refuses, StartState, Set, cancels_for, flow_of, lower_of, sort_of, OperandFits, Actor, Entry, recorded, Shared, asked_of, current_location, next, register, Abs, BugCheck, IrqlNotLessOrEqual, SpinLockAlreadyOwned, SpinLockNotOwned, Lock, SystemCancel, Subject, LockSubject, Instr, Call, Complete, End, LoadPaged, Loop, Mark, Pass, Put, Ret, StorePaged, Return, Continue, Stop, Void, QueueName, Sort, Cancel, Dispatch, Dpc, Hold, Propagate, StartIo, Activation, CancelStep, Frame, CancelFrame, Routine, Packet, Value, Ref, States, all_at, begins_called, Enters, begins_back, begins_lent, begins_lower, first_state, Moved, Runs, state_of, moved_end, arrives, arrives_next, falls_next, has_next, onto, completes_one, returns_by, sends_down, OnTop, runs, MovedOn, queue_moves, waits_move, Low, first_none, second_none, unbroken, Cancels, Comes, GoesTo, awaits_cancel, calls_cancel, calls_down, cancels, completes_gone, completes_packet, computes, ends_cancel, ends_dpc, ends_startio, exchanges, exchanges_gone, finds_empty, finds_none, flags_gone, frees_lock, jumping, lends_to, lets_go, lets_walk, looks_at, marks_packet, onward, opens_loop, pages, passes_down, resumes_gone, resumes_none, resumes_walk, retakes_cancel, retakes_lock, returns_status, sets_flag, stops_none, stops_walk, takes_cancel, takes_lock, touches_gone, turns_loop, walks_to, works_on_queues, works_on_waiting, writes_info, fault_among, is_of_locks, freed_word, taken_word, queued_touches, queued_work, waits_work, Forwarding, Locking, Work, is_touching, lock_freed, lock_taken, packet_operand, work_of}
 use Rattle.model.specs.declared.event.Subject.TheVariants.{Cell}
 use Rattle.model.specs.Fault.{is_dispatch_level, at_dispatch}
-use Rattle.run_laws.proofs.Lists.{all_at}
 use Rattle.run_laws.proofs.Locks.Says.{state_says, frame_says, top_says, free_says, is_locking, handed_says, label_says, Locks, taken, freed, says_none, says_cancel}
 use Rattle.run_laws.proofs.Past.Packets.{named}
-use Rattle.run_laws.proofs.States.Entering.{first_state, Enters, begins_lower, begins_back, begins_lent}
-use Rattle.run_laws.proofs.States.Frames.{state_of, Moved, Runs}
-use Rattle.run_laws.proofs.States.LoopEnds.{moved_end}
-use Rattle.run_laws.proofs.States.Moves.{onto, has_next, falls_next, arrives, arrives_next}
-use Rattle.run_laws.proofs.States.Obeyed.{sends_down, completes_one, returns_by}
-use Rattle.run_laws.proofs.States.OnTop.{OnTop, runs}
-use Rattle.run_laws.proofs.States.Roots.{Low}
-use Rattle.run_laws.specs.ArrivingStates.{States}
-use Rattle.run_laws.proofs.States.Rules.{first_none, second_none, unbroken}
-use Rattle.run_laws.proofs.Steps.Comes.{Queued, Reads, GoesTo, onward, jumping, Comes, computes, opens_loop, turns_loop, pages, touches_gone, looks_at, writes_info, marks_packet, takes_lock, retakes_lock, frees_lock, completes_packet, completes_gone, passes_down, calls_down, returns_status, lets_go, lets_walk, ends_dpc, walks_to, works_on_queues, ends_startio, exchanges, resumes_walk, resumes_gone, resumes_none, stops_walk, stops_none, ends_cancel, lends_to, cancels, Cancels, takes_cancel, retakes_cancel, awaits_cancel, flags_gone, sets_flag, exchanges_gone, finds_empty, finds_none, calls_cancel}
-use Rattle.run_laws.proofs.Steps.Faults.{is_of_locks, fault_among}
-use Rattle.run_laws.proofs.Steps.Locking.{taken_word, freed_word}
-use Rattle.run_laws.proofs.Steps.Words.{Work, Locking, Paging, Forwarding, work_of, is_touching, packet_operand, lock_taken, lock_freed}
-use Rattle.run_laws.proofs.States.Queueing.{queue_moves, MovedOn}
-use Rattle.run_laws.proofs.Steps.Queues.{queued_work, queued_touches}
-use Rattle.run_laws.proofs.States.Cancelled.{begins_called}
-use Rattle.run_laws.proofs.Steps.Comes.{works_on_waiting}
-use Rattle.run_laws.proofs.States.Queueing.{waits_move}
-use Rattle.run_laws.proofs.Steps.Queues.{waits_work}
+use Rattle.run_laws.proofs.Steps.Comes.{Queued, Reads}
+use Rattle.run_laws.proofs.Steps.Words.{Paging}
 
 -- where an activation goes on after an instruction that is about no lock, the same locks are said
 module _ (set : Set) (states : States) (s : Shared) (a : Activation) (i : Instr)

@@ -1,22 +1,14 @@
 -- What the steps of completion routines and of the I/O manager's frames tell: of the packet that is
 -- on its way up or lent alone, and no status. Those of deferred routines and of IoCancelIrp tell
 -- nothing.
-use Rattle.run_laws.specs.Prelude.{ap, inl, inr, refl, subst, sym, ◌∙◌, eq-eqb, list_any, Bool, List, None, Option, Some, [], false, slice_get, true, ℕ, ⊤, ◌∷◌, ◌≡◌, ◌⊎◌, Action, Executes, Outcome, routine_of_device, is_new, is_view, completion_sort_fault, forward_fault, forward_sort_fault, is_completion, kind_of, refuses, StartState, Set, sort_of, Shared, entered, Abs, New, View, Instr, Call, Complete, Mark, Pass, Sort, Cancel, Dispatch, Hold, Propagate, Status, Activation, CancelStep, Canceller, Frame, CancelFrame, Routine, Walk, Ref}
+use Rattle.run_laws.proofs.Common.{ap, inl, inr, refl, subst, sym, ◌∙◌, eq-eqb, list_any, Bool, List, None, Option, Some, [], false, slice_get, true, ℕ, ⊤, ◌∷◌, ◌≡◌, ◌⊎◌, Action, Executes, Outcome, routine_of_device, is_new, is_view, completion_sort_fault, forward_fault, forward_sort_fault, is_completion, kind_of, refuses, StartState, Set, sort_of, Shared, entered, Abs, New, View, Instr, Call, Complete, Mark, Pass, Sort, Cancel, Dispatch, Hold, Propagate, Status, Activation, CancelStep, Canceller, Frame, CancelFrame, Routine, Walk, Ref, States, Begins, IsCompleting, begins_cancelled, ArmerLeads, word_leads, state_of, HasNone, handed_news, is_deferred, OnTop, first_none, second_none, Cancels, Comes, Executing, calls_cancel, calls_down, cancels, completes_packet, computes, ends_cancel, ends_dpc, ends_startio, exchanges, lets_go, lets_walk, looks_at, marks_packet, pages, passes_down, resumes_gone, resumes_none, resumes_walk, returns_status, stops_none, stops_walk, turns_loop, walks_gone, works_on_queues, goes_same, turned_same, queued_same, queued_touches}
 use Rattle.std.proofs.Common.{set}
-use Rattle.run_laws.proofs.States.OnTop.{OnTop}
-use Rattle.run_laws.proofs.States.Fits.{ArmerLeads, word_leads}
 use Rattle.model.specs.LocalRule.{completion_fault}
 use Rattle.run_laws.proofs.Pending.Returned.{is_telling, tells_beyond}
 use Rattle.run_laws.proofs.Live.Sees.{IsDeferred, deferred_sort}
-use Rattle.run_laws.proofs.States.Entering.{Begins, IsCompleting, begins_cancelled}
-use Rattle.run_laws.proofs.States.Frames.{state_of}
-use Rattle.run_laws.specs.ArrivingStates.{States}
-use Rattle.run_laws.proofs.States.Rules.{first_none, second_none}
-use Rattle.run_laws.proofs.Steps.Comes.{Cancels, calls_cancel, cancels, Queued, Comes, Executing, Reads, calls_down, completes_packet, computes, ends_cancel, exchanges, lets_go, lets_walk, looks_at, marks_packet, pages, passes_down, resumes_gone, resumes_none, resumes_walk, returns_status, stops_none, stops_walk, turns_loop, walks_gone, ends_dpc, works_on_queues, ends_startio}
-use Rattle.run_laws.proofs.States.NoViews.{is_deferred, handed_news, none_at, HasNone}
-use Rattle.run_laws.proofs.Steps.Onward.{goes_same, turned_same}
+use Rattle.run_laws.proofs.Steps.Comes.{Queued, Reads}
+use Rattle.run_laws.proofs.States.NoViews.{none_at}
 use Rattle.run_laws.proofs.Uses.RoutineSteps.{marked_kind}
-use Rattle.run_laws.proofs.Steps.Queues.{queued_same, queued_touches}
 
 -- no frame is left, or that of the routine alone
 abbrev pub IsAlone : Activation → List Frame → Type 0

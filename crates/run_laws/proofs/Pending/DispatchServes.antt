@@ -1,18 +1,14 @@
 -- What a step of a dispatch routine does with the packet that it serves: nothing, or it marks it,
 -- completes it, passes it on, sends it down in a location of its own, or returns a status. What it
 -- leaves serves on.
-use Rattle.run_laws.specs.Prelude.{ap, arith, inl, inr, refl, subst, sym, ◌∙◌, eqb_tells, list_any, Bool, List, None, Option, Some, [], false, nat_eq, true, ℕ, ⊤, ◌∷◌, ◌≡◌, ◌≤◌, ◌⊎◌, Action, Calls, Completes, Executes, Marks, Touches, Outcome, goes_on, leaves, returned, is_new, is_pending, new_tag, tags_after, Set, Activated, Actor, Entry, Serving, Tag, recorded, uses_opened, Shared, World, next, Duty, Finished, Fresh, GivenDown, NoDuty, Pending, Kind, Reply, Status, Activation, Frame, CancelFrame, Routine, Walk, Packet, Value}
-use Rattle.run_laws.specs.Holder.{frame_rights}
+use Rattle.run_laws.proofs.Common.{ap, arith, inl, inr, refl, subst, sym, ◌∙◌, eqb_tells, list_any, Bool, List, None, Option, Some, [], false, nat_eq, true, ℕ, ⊤, ◌∷◌, ◌≡◌, ◌≤◌, ◌⊎◌, Action, Calls, Completes, Executes, Marks, Touches, Outcome, goes_on, leaves, returned, is_new, is_pending, new_tag, tags_after, Set, Activated, Actor, Entry, Serving, Tag, recorded, uses_opened, Shared, World, next, Duty, Finished, Fresh, GivenDown, NoDuty, Pending, Kind, Reply, Status, Activation, Frame, CancelFrame, Routine, Walk, Packet, Value, States, frame_rights, state_of, HoldOf}
 use Rattle.run_laws.proofs.Past.LivePackets.{find}
 use Rattle.run_laws.proofs.Pending.LowerStatuses.{Lowers}
 use Rattle.run_laws.proofs.Pending.Returned.{AllAgree, agree_kept, agree_returned, is_telling, silent_about, silent_returns}
 use Rattle.run_laws.proofs.Pending.Serving.{AllServe, Current, FrameServes, Says, ServesUse, TagNames, UnderServes, first_served, served}
 use Rattle.run_laws.proofs.Pending.UsesServed.{own_serves, IsHandedOver, owned_current, GivesOwn, called_serves, GoesOnAs, BeginsServing, Called, Completed, GivesDown, Settles, begun_serves, called_current, done_serves, mark_serves, new_serving, passed_serves, plain_serves}
-use Rattle.run_laws.proofs.States.Frames.{state_of}
-use Rattle.run_laws.specs.ArrivingStates.{States}
 use Rattle.run_laws.proofs.Uses.Fates.{Agreed, late_marks}
 use Rattle.run_laws.proofs.Uses.Traced.{SameUses, is_about, same_recorded}
-use Rattle.run_laws.proofs.States.HandedOver.{HoldOf}
 use Rattle.run_laws.proofs.Live.Sees.{RefersTo}
 
 -- it returns a status as its duty says

@@ -1,39 +1,26 @@
 -- Every step of a dispatch routine, by what it does with the packet that it serves.
-use Rattle.run_laws.specs.Prelude.{ap, arith, inl, inr, refl, subst, sym, ◌∙◌, eqb_tells, list_any, Bool, List, None, Option, Some, [], false, if◌then◌else◌, is_some, nat_eq, slice_get, slice_index_or, slice_set, true, ℕ, ◌++◌, ◌+◌, ◌<◌, ◌∷◌, ◌≡◌, ◌≤◌, ◌⊎◌, Acquires, Action, Exchanges, Executes, Releases, Touches, TouchesPaged, Outcome, answered, dispatched, operand_of, set_by, turned, first_fault, duty_completed, is_exchanged, is_kept, is_lower, is_new, is_right, is_view, kind_disarmed, kind_inserted, kind_removed, complete_kind, demanded, given_down, handed, handed_at_label, is_completion, is_hold, is_pending, kind_of, mark_fault, marked, one_handed_or_owned, queued_kind, with_kind, StartState, Set, cancel_routine_of, flow_of, label_of, lower_of, sort_of, Actor, Entry, Shared, asked_of, at_label, completed, current_location, mark_current, next, packet_of, register, sent_down, shared_with, status_in, with_armer, with_info, with_locks, with_loops, with_owner, with_packet, with_register, Abs, Duty, Finished, Fresh, GivenDown, NoDuty, Pending, Kind, BlankKind, LowerKind, New, NumKind, Own, QueuedKind, Settled, Armed, Stepped, Waited, Instr, Arm, Begin, Call, Complete, Dequeue, Disarm, Insert, Loop, Mark, Next, Pass, Put, Remove, Ret, Start, Take, Unlink, Return, WithStatus, Declared, Cancel, Dispatch, Dpc, StartIo, Status, Activation, Armer, Frame, Routine, Packet, Value, Blank, Num, Ref, StatusValue}
+use Rattle.run_laws.proofs.Common.{ap, arith, inl, inr, refl, subst, sym, ◌∙◌, eqb_tells, list_any, Bool, List, None, Option, Some, [], false, if◌then◌else◌, is_some, nat_eq, slice_get, slice_index_or, slice_set, true, ℕ, ◌++◌, ◌+◌, ◌<◌, ◌∷◌, ◌≡◌, ◌≤◌, ◌⊎◌, Acquires, Action, Exchanges, Executes, Releases, Touches, TouchesPaged, Outcome, answered, dispatched, operand_of, set_by, turned, first_fault, duty_completed, is_exchanged, is_kept, is_lower, is_new, is_right, is_view, kind_disarmed, kind_inserted, kind_removed, complete_kind, demanded, given_down, handed, handed_at_label, is_completion, is_hold, is_pending, kind_of, mark_fault, marked, one_handed_or_owned, queued_kind, with_kind, StartState, Set, cancel_routine_of, flow_of, label_of, lower_of, sort_of, Actor, Entry, Shared, asked_of, at_label, completed, current_location, mark_current, next, packet_of, register, sent_down, shared_with, status_in, with_armer, with_info, with_locks, with_loops, with_owner, with_packet, with_register, Abs, Duty, Finished, Fresh, GivenDown, NoDuty, Pending, Kind, BlankKind, LowerKind, New, NumKind, Own, QueuedKind, Settled, Armed, Stepped, Waited, Instr, Arm, Begin, Call, Complete, Dequeue, Disarm, Insert, Loop, Mark, Next, Pass, Put, Remove, Ret, Start, Take, Unlink, Return, WithStatus, Declared, Cancel, Dispatch, Dpc, StartIo, Status, Activation, Armer, Frame, Routine, Packet, Value, Blank, Num, Ref, StatusValue, States, frame_rights, right, rights, not_gone, touch_top, Runs, state_of, HoldOf, goes_hold, hold_get, keeps_copies, next_hold, queued_hold, label_kinds, number_kinds, down, arrives, arrives_next, falls_next, has_next, onto, handed_news, ReturnsBy, completes_one, returns_by, first_none, second_none, unbroken, Comes, Exchanged, Executing, GoesTo, Waits, Written, arms_for, arms_waiting, awaits_lock, calls_down, completes_gone, completes_packet, computes, dequeues_packet, disarms, disarms_next, ends_cancel, ends_dpc, ends_startio, errs, exchanges, frees_lock, inserts, jumping, keeps_all, lets_go, lets_walk, looks_at, makes_blank, makes_number, marks_packet, moves_over, onward, opens_loop, pages, passes_down, puts_in, removes, removes_none, resumes_gone, resumes_none, resumes_walk, retakes_lock, returns_status, starts_gone, starts_next, starts_packet, stops_none, stops_walk, takes_lock, takes_none, takes_out, touches_gone, turns_loop, unlinks, works_on_queues, works_on_waiting, writes_info, LockWord, freed_word, taken_word, goes_same, turned_registers, turned_same, queued_touches, goes_next, is_giving, keeps_registers, work_of, not_false, or_left, or_right}
 use Rattle.model.specs.declared.instr.Return.TheVariants.{Lower as LowerStatus}
 use Rattle.model.specs.LocalRule.{is_given_down, status_fault}
 use Rattle.run_laws.proofs.Holders.Steps.{named_right}
-use Rattle.run_laws.specs.Holder.{frame_rights, right, rights}
 use Rattle.run_laws.proofs.Past.LivePackets.{find}
 use Rattle.run_laws.proofs.Past.Packets.{found, named, numbered}
 use Rattle.run_laws.proofs.Pending.DispatchServes.{AsDuty, Does, calls_own, completes_own, marks_own, passes_own, returns_own, stays_quiet}
 use Rattle.run_laws.proofs.Pending.Duties.{owned_up, fresh_rights, Arrived, Dutied, Dutiful, counted, kinds_that, new_fresh, passes_new}
 use Rattle.run_laws.proofs.Pending.LowerStatuses.{lower_ref, lowers_turn, LowerIs, Lowers, lowers_get, lowers_kept, lowers_move, lowers_none, lowers_set}
 use Rattle.run_laws.proofs.Pending.UsesServed.{IsHandedOver, GoesOnAs, BeginsServing, Called, Completed, GivesDown}
-use Rattle.run_laws.proofs.States.Fine.{completion_top, not_gone, touch_top}
-use Rattle.run_laws.proofs.States.Frames.{Runs, state_of}
-use Rattle.run_laws.proofs.States.Kinds.{kinds_turn, label_kinds, number_kinds}
-use Rattle.run_laws.proofs.States.Lacking.{down}
-use Rattle.run_laws.proofs.States.Moves.{arrives, arrives_next, falls_next, has_next, onto}
-use Rattle.run_laws.proofs.States.Obeyed.{ReturnsBy, completes_one, nothing_kept, returns_by}
-use Rattle.run_laws.proofs.Steps.Locking.{LockWord, freed_word, taken_word}
-use Rattle.run_laws.specs.ArrivingStates.{States}
-use Rattle.run_laws.proofs.States.Rules.{first_none, second_none, unbroken}
-use Rattle.run_laws.proofs.Steps.Comes.{Exchanged, arms_for, disarms, exchanges, resumes_walk, resumes_gone, resumes_none, stops_walk, stops_none, ends_cancel, unlinks, removes_none, removes, inserts, puts_in, starts_next, starts_packet, takes_none, takes_out, Queued, Reads, Comes, Executing, GoesTo, Lacks, Written, awaits_lock, calls_down, completes_gone, completes_packet, computes, errs, frees_lock, jumping, lets_go, lets_walk, looks_at, keeps_all, makes_blank, makes_number, marks_packet, moves_over, onward, opens_loop, pages, passes_down, retakes_lock, returns_status, takes_lock, touches_gone, turns_loop, writes_info, ends_dpc, works_on_queues, ends_startio}
-use Rattle.run_laws.proofs.Steps.Onward.{goes_same, turned_same, turned_registers}
-use Rattle.run_laws.proofs.Steps.Words.{goes_next, is_giving, keeps_registers, status_returned, work_of}
-use Rattle.run_laws.proofs.Tests.{not_false, or_left, or_right}
+use Rattle.run_laws.proofs.States.Fine.{completion_top}
+use Rattle.run_laws.proofs.States.Kinds.{kinds_turn}
+use Rattle.run_laws.proofs.States.Obeyed.{nothing_kept}
+use Rattle.run_laws.proofs.Steps.Comes.{Queued, Reads, Lacks}
+use Rattle.run_laws.proofs.Steps.Words.{status_returned}
 use Rattle.run_laws.proofs.Uses.Steps.{found_put}
 use Rattle.run_laws.proofs.Uses.RoutineSteps.{StepsRoutine}
-use Rattle.run_laws.proofs.States.NoViews.{handed_news}
-use Rattle.run_laws.proofs.States.HandedOver.{hold_turn, queued_hold, hold_get, keeps_copies, handed_hold, HoldOf, goes_hold}
-use Rattle.run_laws.proofs.Steps.Queues.{queued_touches}
+use Rattle.run_laws.proofs.States.HandedOver.{hold_turn, handed_hold}
 use Rattle.run_laws.proofs.Live.Sees.{reads_to, RefersTo}
 use Rattle.run_laws.proofs.Holders.Rights.{rights_turn}
 use Rattle.run_laws.proofs.Holders.Counts.{reads_ref}
 use Rattle.run_laws.proofs.Holders.Sums.{unheld_one, unheld}
-use Rattle.run_laws.proofs.Steps.Comes.{Waits, arms_waiting, disarms_next, works_on_waiting, starts_gone, dequeues_packet}
-use Rattle.run_laws.proofs.States.HandedOver.{next_hold}
 
 -- what leaves the packets with who has them leaves the duty
 onto_duty : (set : Set) (driver : ℕ) (s : Abs) (i : Instr) (jumped : Bool)

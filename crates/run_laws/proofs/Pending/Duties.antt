@@ -2,19 +2,10 @@
 -- positions: a packet that it was handed goes with no duty done yet, and a lower driver's status
 -- with a packet that was given down. A packet that it owns, which it marked or removed from a
 -- queue, goes with any duty.
-use Rattle.run_laws.specs.Prelude.{ap, arith, refl, subst, sym, zero, ◌∙◌, cond_both, eq-eqb, length-set, All, Bool, List, None, Option, Some, [], false, if◌then◌else◌, length, slice_index_or, slice_set, suc, true, ℕ, ◌+◌, ◌<◌, ◌∷◌, ◌≡◌, ◌≤◌, all_let_go, duty_completed, is_guard, is_lower, is_new, is_packet, kind_disarmed, kind_inserted, kind_removed, left_behind, let_go, a_new_one, complete_kind, demanded, entered_with, entry_of_sort, given_down, handed, handed_at_label, kind_of, mark_fault, marked, one_handed_or_owned, queued_kind, refuses, with_kind, Arrives, Member, Set, cancel_routine_of, cancels_for, guard_named, OperandFits, Abs, Duty, Finished, Fresh, GivenDown, NoDuty, Pending, Kind, Lower, New, Own, Queued, View, SettledMark, Armed, Instr, Arm, Begin, Call, Clear, Complete, Const, Dequeue, Disarm, Get, IfPending, Insert, Load, LoadPaged, Mark, Move, Pass, Release, ReleaseCancel, Remove, Start, Take, Unlink, Guard, CancelLock, DeviceLock, QueueName, Declared, Sort, Dispatch, Value}
+use Rattle.run_laws.proofs.Common.{ap, arith, refl, subst, sym, zero, ◌∙◌, cond_both, eq-eqb, length-set, All, Bool, List, None, Option, Some, [], false, if◌then◌else◌, length, slice_index_or, slice_set, suc, true, ℕ, ◌+◌, ◌<◌, ◌∷◌, ◌≡◌, ◌≤◌, all_let_go, duty_completed, is_guard, is_lower, is_new, is_packet, kind_disarmed, kind_inserted, kind_removed, left_behind, let_go, a_new_one, complete_kind, demanded, entered_with, entry_of_sort, given_down, handed, handed_at_label, kind_of, mark_fault, marked, one_handed_or_owned, queued_kind, refuses, with_kind, Arrives, Member, Set, cancel_routine_of, cancels_for, guard_named, OperandFits, Abs, Duty, Finished, Fresh, GivenDown, NoDuty, Pending, Kind, Lower, New, Own, Queued, View, SettledMark, Armed, Instr, Arm, Begin, Call, Clear, Complete, Const, Dequeue, Disarm, Get, IfPending, Insert, Load, LoadPaged, Mark, Move, Pass, Release, ReleaseCancel, Remove, Start, Take, Unlink, Guard, CancelLock, DeviceLock, QueueName, Declared, Sort, Dispatch, Value, right, rights, all_at, copied, arrives_keep, HoldOf, HasKinds, Suits, handed_long, left_none, inserts_right, first_none, second_none, unbroken}
 use Rattle.model.specs.declared.abs.Kind.TheVariants.{Blank, Num}
-use Rattle.run_laws.specs.Holder.{right, rights}
-use Rattle.run_laws.proofs.Lists.{all_at, copied}
 use Rattle.run_laws.proofs.Live.Sees.{RefersTo}
-use Rattle.run_laws.proofs.States.HandedOver.{HoldOf}
-use Rattle.run_laws.proofs.States.Kinds.{HasKinds, Suits}
 use Rattle.run_laws.proofs.States.Lent.{queued_not_new}
-use Rattle.run_laws.proofs.States.Obeyed.{inserts_right}
-use Rattle.run_laws.proofs.States.Along.{arrives_keep}
-use Rattle.run_laws.proofs.States.Kinds.{handed_long}
-use Rattle.run_laws.proofs.States.NoViews.{left_none}
-use Rattle.run_laws.proofs.States.Rules.{first_none, second_none, unbroken}
 
 -- how many registers are so
 abbrev pub counted : (Kind → Bool) → Kind → ℕ

@@ -1,8 +1,7 @@
 -- Each entry of the trace says who acts, or which use its action is about; and each frame's tag
 -- says whose it is.
-use Rattle.run_laws.specs.Prelude.{ap, arith, drop, inl, inr, refl, subst, sym, zero, ◌∙◌, eq-eqb, ltb-true, All, List, None, Option, Some, [], false, if◌then◌else◌, length, nat_eq, nat_lt, slice_get, slice_index_or, suc, true, ℕ, ◌<◌, ◌∷◌, ◌≡◌, ◌≤◌, Outcome, top_of, Change, is_completion, top_tag, Set, sort_of, Activated, Actor, Entry, Managing, Serving, Tag, current_use, recorded, uses, World, packet_of, Dispatch, Activation, CancelStep, Frame, CancelFrame, Routine, Walk, Packet}
+use Rattle.run_laws.proofs.Common.{ap, arith, drop, inl, inr, refl, subst, sym, zero, ◌∙◌, eq-eqb, ltb-true, All, List, None, Option, Some, [], false, if◌then◌else◌, length, nat_eq, nat_lt, slice_get, slice_index_or, suc, true, ℕ, ◌<◌, ◌∷◌, ◌≡◌, ◌≤◌, Outcome, top_of, Change, is_completion, top_tag, Set, sort_of, Activated, Actor, Entry, Managing, Serving, Tag, current_use, recorded, uses, World, packet_of, Dispatch, Activation, CancelStep, Frame, CancelFrame, Routine, Walk, Packet, States, Each, IsCompleting, is_deferred, Stacked, Stands, last_under, Cancels, Comes, awaits_cancel, awaits_lock, calls_down, cancels, carries_up, computes, ends_cancel, ends_dpc, ends_startio, errs, exchanges, finds_empty, finds_none, lends_to, lets_go, marks_packet, opens_loop, resumes_gone, resumes_none, resumes_walk, returns_status, sets_flag, stops_none, stops_walk, tops_out, turns_loop, walks_gone, walks_to, walks_up, works_on_queues, works_on_waiting, queued_touches}
 use Rattle.run_laws.specs.NothingSkipped.{HasLocation, HasUses, IsActivation, RoutineTag, SaysWho, ServesUse}
-use Rattle.run_laws.proofs.Lists.{Each}
 use Rattle.run_laws.proofs.Past.Packets.{found}
 use Rattle.run_laws.proofs.Pending.Events.{Attends}
 use Rattle.run_laws.proofs.Pending.Serving.{AllServe, FrameServes, MustServe, TagNames, UnderServes, first_served, served}
@@ -10,13 +9,6 @@ use Rattle.run_laws.proofs.Pending.Threads.{TagOf, Tagged, TopServes, tagged_all
 use Rattle.run_laws.proofs.Runs.Events.{Happens, nothing, steps, begins}
 use Rattle.run_laws.proofs.Runs.Roots.{root_told}
 use Rattle.run_laws.proofs.Runs.Threads.{of_steps}
-use Rattle.run_laws.proofs.States.Entering.{IsCompleting}
-use Rattle.run_laws.proofs.States.NoViews.{is_deferred}
-use Rattle.run_laws.specs.ArrivingStates.{States}
-use Rattle.run_laws.proofs.States.Stacks.{Stacked, Stands}
-use Rattle.run_laws.proofs.States.Told.{last_under}
-use Rattle.run_laws.proofs.Steps.Comes.{Cancels, awaits_cancel, finds_empty, finds_none, sets_flag, cancels, Comes, awaits_lock, calls_down, carries_up, computes, ends_cancel, errs, exchanges, lends_to, lets_go, marks_packet, opens_loop, resumes_gone, resumes_none, resumes_walk, returns_status, stops_none, stops_walk, tops_out, turns_loop, walks_gone, walks_to, walks_up, ends_dpc, works_on_queues, ends_startio, works_on_waiting}
-use Rattle.run_laws.proofs.Steps.Queues.{queued_touches}
 use Rattle.run_laws.proofs.Uses.Events.{KnownWorld, known_top}
 use Rattle.run_laws.proofs.Uses.Fates.{PacketUses, UsesTell}
 use Rattle.run_laws.proofs.Uses.RoutineSteps.{OnWalk}

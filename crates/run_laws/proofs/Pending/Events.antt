@@ -1,8 +1,7 @@
 -- Every event keeps that the dispatch routines serve their uses, and that what they return is as
 -- agreed on.
-use Rattle.run_laws.specs.Prelude.{ap, arith, inl, inr, refl, subst, sym, ◌-◌, ◌∙◌, cases_eq, eq-eqb, ne_eqb, append_assoc, get_or-set_other, get_or-set_same, length-replicate, length-set, set-get_or, slice_get_within, list_any, Bool, List, None, Option, Some, [], false, length, nat_eq, slice_get, slice_index_or, slice_set, suc, ℕ, ◌++◌, ◌+◌, ◌<◌, ◌∷◌, ◌≡◌, ◌≢◌, ◌≤◌, Issues, Outcome, told_to, top_of, Change, dpc_activation, serves_request, standing, unchanged, with_stack, with_thread, first_fault, is_hold, was_marked, begun, frames_on, new_tag, tags_after, top_tag, Set, Activated, Actor, Entry, Managing, Serving, Tag, current_use, recorded, uses, uses_opened, Shared, World, current_location, idle_thread, is_marked, Idle, Dpc, StartIo, Status, Activation, Frame, Routine, Walk, Packet, Thread}
+use Rattle.run_laws.proofs.Common.{ap, arith, inl, inr, refl, subst, sym, ◌-◌, ◌∙◌, cases_eq, eq-eqb, ne_eqb, append_assoc, get_or-set_other, get_or-set_same, length-replicate, length-set, set-get_or, slice_get_within, list_any, Bool, List, None, Option, Some, [], false, length, nat_eq, slice_get, slice_index_or, slice_set, suc, ℕ, ◌++◌, ◌+◌, ◌<◌, ◌∷◌, ◌≡◌, ◌≢◌, ◌≤◌, Issues, Outcome, told_to, top_of, Change, dpc_activation, serves_request, standing, unchanged, with_stack, with_thread, first_fault, is_hold, was_marked, begun, frames_on, new_tag, tags_after, top_tag, Set, Activated, Actor, Entry, Managing, Serving, Tag, current_use, recorded, uses, uses_opened, Shared, World, current_location, idle_thread, is_marked, Idle, Dpc, StartIo, Status, Activation, Frame, Routine, Walk, Packet, Thread, States, all_walking, frame_rights, stack_sum, startio_enters, begins_dpc, begins_request, startio_activation, StepLeaves, leaves_fine, Replaces, Stacked, Stands, on_top, stands_there, last_same, last_under, told_is, told_last, StopsBelow, stood}
 use Rattle.std.proofs.lemmas.List.{append-nil}
-use Rattle.run_laws.specs.Holder.{all_walking, frame_rights, stack_sum}
 use Rattle.run_laws.proofs.Certificates.Kept.{top_is}
 use Rattle.run_laws.proofs.Certificates.Tally.{no_row, no_tags}
 use Rattle.run_laws.proofs.Holders.Apart.{IsApart, apart_below, apart_other, not_yet}
@@ -19,16 +18,8 @@ use Rattle.run_laws.proofs.Pending.TopDispatch.{begins_serving}
 use Rattle.run_laws.proofs.Pending.UsesServed.{BeginsServing, Settles, begun_serves, new_serving}
 use Rattle.run_laws.proofs.Runs.Events.{Happens, StepsFrame, nothing, steps, begins}
 use Rattle.run_laws.proofs.Runs.Roots.{Root, root_told, Beside, IdleThread, issues, root_begun, takes_dpc, takes_first, takes_nothing, with_root}
-use Rattle.run_laws.proofs.States.Begun.{startio_enters}
 use Rattle.run_laws.proofs.Runs.Kept.{with_queued}
 use Rattle.run_laws.proofs.Runs.Threads.{frames_put, frames_there, idle_frames, others_put, thread_put}
-use Rattle.run_laws.proofs.States.Entering.{begins_request, begins_dpc, startio_activation}
-use Rattle.run_laws.proofs.States.Fine.{StepLeaves, leaves_fine}
-use Rattle.run_laws.specs.ArrivingStates.{States}
-use Rattle.run_laws.proofs.States.Stacks.{Replaces, Stacked, Stands}
-use Rattle.run_laws.proofs.States.Standing.{on_top, stands_there}
-use Rattle.run_laws.proofs.States.Told.{last_same, last_under, told_is, told_last}
-use Rattle.run_laws.proofs.Steps.Below.{StopsBelow, stood}
 use Rattle.run_laws.proofs.Uses.CurrentUses.{Others, agreed_finished, agreed_marked, current_others, linked_agrees, linked_waits}
 use Rattle.run_laws.proofs.Uses.Events.{KnownWorld, agreed_by, all_carried, event_turns, known_top, linked_by}
 use Rattle.run_laws.proofs.Uses.Fates.{MarksTell, PacketUses, UsesTell}

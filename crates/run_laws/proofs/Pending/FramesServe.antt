@@ -1,7 +1,6 @@
 -- The step of a thread's top frame, whatever it is: what it leaves serves on, and what it tells is
 -- of a packet that no other frame has.
-use Rattle.run_laws.specs.Prelude.{ap, arith, inl, inr, refl, subst, sym, ◌∙◌, eqb_tells, list_any, Bool, List, None, Option, Some, [], false, true, ℕ, ◌∷◌, ◌≡◌, ◌≤◌, ◌⊎◌, Outcome, first_fault, is_new, is_right, is_view, kind_of, tags_after, Set, sort_of, Actor, Entry, Managing, Serving, Tag, recorded, World, register, New, View, Hold, Propagate, Status, Activation, Canceller, Frame, CancelFrame, Routine, Walk}
-use Rattle.run_laws.specs.Holder.{frame_rights}
+use Rattle.run_laws.proofs.Common.{ap, arith, inl, inr, refl, subst, sym, ◌∙◌, eqb_tells, list_any, Bool, List, None, Option, Some, [], false, true, ℕ, ◌∷◌, ◌≡◌, ◌≤◌, ◌⊎◌, Outcome, first_fault, is_new, is_right, is_view, kind_of, tags_after, Set, sort_of, Actor, Entry, Managing, Serving, Tag, recorded, World, register, New, View, Hold, Propagate, Status, Activation, Canceller, Frame, CancelFrame, Routine, Walk, States, frame_rights, IsOfSort, state_of, hold_get, handed_news, is_deferred, runs, Comes}
 use Rattle.run_laws.proofs.Holders.Sums.{held, held_apart, unheld}
 use Rattle.run_laws.proofs.Past.LivePackets.{find}
 use Rattle.run_laws.proofs.Pending.CompletionSteps.{deferred_works, Cancelled, IsCancelling, Works, IsOver, Looks, Manages, completion_looks, frame_cancels, IsAlone, is_managing, walk_manages}
@@ -12,20 +11,13 @@ use Rattle.run_laws.proofs.Pending.Serving.{Agreeing, AllServe, FrameServes, Mus
 use Rattle.run_laws.proofs.Pending.Threads.{SameOver}
 use Rattle.run_laws.proofs.Pending.TopDispatch.{steps_dispatch}
 use Rattle.run_laws.proofs.Pending.UsesServed.{Settles}
-use Rattle.run_laws.proofs.States.OnTop.{runs}
-use Rattle.run_laws.specs.ArrivingStates.{States}
-use Rattle.run_laws.proofs.Steps.Comes.{Comes}
 use Rattle.run_laws.proofs.Live.Sees.{IsDeferred, RefersTo, reads_to, reads_view, Seen}
-use Rattle.run_laws.proofs.States.NoViews.{handed_news, is_deferred}
-use Rattle.run_laws.proofs.States.HandedOver.{hold_get}
-use Rattle.run_laws.proofs.States.Entering.{IsOfSort}
 use Rattle.run_laws.proofs.Steps.Comes.{Reads}
 use Rattle.run_laws.proofs.Uses.Fates.{late_marks}
 use Rattle.run_laws.proofs.Uses.RoutineSteps.{OnWalk, completion_sort}
 use Rattle.run_laws.proofs.Uses.TopFrames.{lent_views, stays, steps_routine, deferred_views, deferred_news, KnownTop}
 use Rattle.run_laws.proofs.Uses.Traced.{SameUses, same_recorded}
 use Rattle.run_laws.proofs.Pending.Duties.{fresh_rights, Dutiful}
-use Rattle.run_laws.proofs.States.Frames.{state_of}
 
 pub same_over : (under : Option Frame) (x y : Option Serving) → x ≡ y → SameOver under x y
 same_over None x y h = tt

@@ -1,6 +1,5 @@
 -- The statuses of lower drivers in a routine's registers: all STATUS_PENDING, or none.
-use Rattle.run_laws.specs.Prelude.{arith, zero, cond_both, Bool, List, [], false, slice_index_or, slice_set, suc, true, ℕ, ⊤, ◌∷◌, ◌≡◌, all_let_go, is_guard, is_lower, left_behind, let_go, handed, is_pending, Set, guard_named, Abs, Kind, BlankKind, Lower, NumKind, Queued, Armed, Instr, Arm, Begin, Call, Clear, Complete, Const, Dequeue, Disarm, Get, Insert, Load, LoadPaged, Mark, Move, Pass, Release, ReleaseCancel, Remove, Start, Take, Unlink, Guard, CancelLock, DeviceLock, Value, Blank, Ref, StatusValue}
-use Rattle.run_laws.proofs.Steps.Words.{is_giving, keeps_registers, work_of}
+use Rattle.run_laws.proofs.Common.{arith, zero, cond_both, Bool, List, [], false, slice_index_or, slice_set, suc, true, ℕ, ⊤, ◌∷◌, ◌≡◌, all_let_go, is_guard, is_lower, left_behind, let_go, handed, is_pending, Set, guard_named, Abs, Kind, BlankKind, Lower, NumKind, Queued, Armed, Instr, Arm, Begin, Call, Clear, Complete, Const, Dequeue, Disarm, Get, Insert, Load, LoadPaged, Mark, Move, Pass, Release, ReleaseCancel, Remove, Start, Take, Unlink, Guard, CancelLock, DeviceLock, Value, Blank, Ref, StatusValue, is_giving, keeps_registers, work_of}
 use Rattle.run_laws.proofs.Pending.Duties.{counted, kinds_that}
 
 -- a status is STATUS_PENDING, or it isn't

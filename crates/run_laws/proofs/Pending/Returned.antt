@@ -1,12 +1,10 @@
 -- The statuses that were returned from uses are as agreed on: so pending agreement holds of the
 -- trace. And which actions tell something of uses.
-use Rattle.run_laws.specs.Prelude.{ap, arith, cond, inl, inr, refl, subst, sym, zero, ◌∙◌, eqb_tells, list_any, All, Bool, List, Some, [], false, nat_eq, not, slice_index_or, suc, true, ℕ, ◌∷◌, ◌≡◌, Action, Executes, OfRoutine, OnLocation, is_pending, PendingAgree, statuses_returned, Activated, Actor, Entry, Serving, Tag, entry, recorded, World, Status}
+use Rattle.run_laws.proofs.Common.{ap, arith, cond, inl, inr, refl, subst, sym, zero, ◌∙◌, eqb_tells, list_any, All, Bool, List, Some, [], false, nat_eq, not, slice_index_or, suc, true, ℕ, ◌∷◌, ◌≡◌, Action, Executes, OfRoutine, OnLocation, is_pending, PendingAgree, statuses_returned, Activated, Actor, Entry, Serving, Tag, entry, recorded, World, Status, States, and_left, and_right, or_left, or_right}
 use Rattle.std.proofs.lemmas.Bool.{eqb-true}
 use Rattle.model.specs.Action.{Issue, Call, Return, Returns}
 use Rattle.model.specs.PendingAgreement.{serves}
 use Rattle.run_laws.proofs.Pending.Serving.{KeepsAgreed, served}
-use Rattle.run_laws.specs.ArrivingStates.{States}
-use Rattle.run_laws.proofs.Tests.{and_left, and_right, or_left, or_right}
 use Rattle.run_laws.proofs.Uses.Fates.{Agreed}
 use Rattle.run_laws.proofs.Uses.Traced.{SameUses, is_about, same_recorded}
 

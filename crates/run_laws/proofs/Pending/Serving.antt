@@ -1,15 +1,9 @@
 -- Dispatch routines that serve uses: the packet is the use's while the routine has it, and what the
 -- routine will return is what is agreed on for the use.
-use Rattle.run_laws.specs.Prelude.{ap, arith, inl, inr, refl, subst, sym, ◌-◌, ◌∙◌, Bool, List, None, Option, Some, [], false, slice_get, true, ℕ, ⊤, ◌∷◌, ◌≡◌, ◌≤◌, ◌⊎◌, answered, answered_in, operand_of, is_new, is_pending, was_marked, Set, instruction_at, Activated, Entry, Managing, Serving, Tag, current_use, World, Abs, Duty, Finished, Fresh, GivenDown, NoDuty, Pending, Status, Activation, Frame, CancelFrame, Routine, Walk, StatusValue}
-use Rattle.run_laws.specs.Holder.{frame_rights, stack_sum}
+use Rattle.run_laws.proofs.Common.{ap, arith, inl, inr, refl, subst, sym, ◌-◌, ◌∙◌, Bool, List, None, Option, Some, [], false, slice_get, true, ℕ, ⊤, ◌∷◌, ◌≡◌, ◌≤◌, ◌⊎◌, answered, answered_in, operand_of, is_new, is_pending, was_marked, Set, instruction_at, Activated, Entry, Managing, Serving, Tag, current_use, World, Abs, Duty, Finished, Fresh, GivenDown, NoDuty, Pending, Status, Activation, Frame, CancelFrame, Routine, Walk, StatusValue, States, frame_rights, stack_sum, state_of, HoldOf, hold_told, handed_news, told_frame}
 use Rattle.run_laws.proofs.Pending.LowerStatuses.{Lowers}
-use Rattle.run_laws.proofs.States.Frames.{state_of}
-use Rattle.run_laws.specs.ArrivingStates.{States}
-use Rattle.run_laws.proofs.States.Told.{told_frame}
 use Rattle.run_laws.proofs.Uses.Fates.{Agreed, Linked}
 use Rattle.run_laws.proofs.Uses.Traced.{SameUses}
-use Rattle.run_laws.proofs.States.HandedOver.{hold_told, HoldOf}
-use Rattle.run_laws.proofs.States.NoViews.{handed_news}
 use Rattle.run_laws.proofs.Live.Sees.{IsDeferred, RefersTo, answered_in_deferred}
 
 -- a use is its packet's current one, and was marked or not

@@ -1,10 +1,7 @@
 -- The frames of a thread serve on when its top frame takes a step: those below it, and what it
 -- leaves.
-use Rattle.run_laws.specs.Prelude.{ap, arith, refl, subst, sym, List, None, Option, Some, [], ℕ, ⊤, ◌++◌, ◌∷◌, ◌≡◌, ◌≤◌, counted_kept, kept_tag, tags_after, Set, Entry, Managing, Serving, Tag, World, Status, Frame, CancelFrame, Routine, Walk}
-use Rattle.run_laws.specs.Holder.{frame_rights, stack_sum}
+use Rattle.run_laws.proofs.Common.{ap, arith, refl, subst, sym, List, None, Option, Some, [], ℕ, ⊤, ◌++◌, ◌∷◌, ◌≡◌, ◌≤◌, counted_kept, kept_tag, tags_after, Set, Entry, Managing, Serving, Tag, World, Status, Frame, CancelFrame, Routine, Walk, States, frame_rights, stack_sum, last_under, told_frame, told_last}
 use Rattle.run_laws.proofs.Pending.Serving.{Agreeing, AllServe, FrameServes, IsFollowed, KeepsAgreed, first_served, frame_kept, frame_told, served}
-use Rattle.run_laws.specs.ArrivingStates.{States}
-use Rattle.run_laws.proofs.States.Told.{last_under, told_frame, told_last}
 use Rattle.run_laws.proofs.Uses.Traced.{SameUses}
 
 -- frames, each with a tag: that of the I/O manager's has no number

@@ -1,20 +1,12 @@
 -- What is known of a dispatch routine's frame on top of its thread.
-use Rattle.run_laws.specs.Prelude.{ap, refl, List, Option, Some, replicate, slice_get, slice_index_or, ℕ, ◌≡◌, dispatched, operand_of, is_new, Set, member, Entry, Shared, asked_of, current_location, Abs, BlankKind, Instr, Call, Pass, Dispatch, Activation, Frame, Routine, Value, Blank}
+use Rattle.run_laws.proofs.Common.{ap, refl, List, Option, Some, replicate, slice_get, slice_index_or, ℕ, ◌≡◌, dispatched, operand_of, is_new, Set, member, Entry, Shared, asked_of, current_location, Abs, BlankKind, Instr, Call, Pass, Dispatch, Activation, Frame, Routine, Value, Blank, States, Begins, IsOfSort, begins_lower, state_of, hold_none, never_lacks, handed_news, runs, Forwarding, packet_operand, work_of}
 use Rattle.run_laws.proofs.Holders.Rights.{begun_rights}
 use Rattle.run_laws.proofs.Pending.DispatchSteps.{StepsDispatch}
 use Rattle.run_laws.proofs.Pending.Duties.{dispatch_arrived}
 use Rattle.run_laws.proofs.Pending.UsesServed.{BeginsServing}
-use Rattle.run_laws.proofs.States.Entering.{Begins, IsOfSort, begins_lower}
 use Rattle.run_laws.proofs.States.Fine.{answered_is}
-use Rattle.run_laws.proofs.States.Frames.{state_of}
-use Rattle.run_laws.proofs.States.Lacking.{never_lacks}
-use Rattle.run_laws.proofs.States.OnTop.{runs}
-use Rattle.run_laws.specs.ArrivingStates.{States}
-use Rattle.run_laws.proofs.Steps.Words.{Forwarding, packet_operand, work_of}
 use Rattle.run_laws.proofs.Pending.DispatchSteps.{StepsDispatch}
 use Rattle.run_laws.proofs.Uses.TopFrames.{KnownTop, known, sort_is, stays, steps_routine, unseen}
-use Rattle.run_laws.proofs.States.HandedOver.{hold_none}
-use Rattle.run_laws.proofs.States.NoViews.{handed_news}
 use Rattle.run_laws.proofs.Live.Sees.{RefersTo}
 
 -- a routine that begins serves what it is handed

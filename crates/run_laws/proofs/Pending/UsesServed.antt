@@ -1,16 +1,12 @@
 -- What the frames that a step of a dispatch routine leaves serve: the routine its use still, and
 -- the one that it asks the use that it was handed.
-use Rattle.run_laws.specs.Prelude.{ap, arith, drop, inl, inr, refl, subst, sym, ◌∙◌, eq-eqb, Bool, List, None, Option, Some, [], false, if◌then◌else◌, nat_eq, slice_get, true, ℕ, ◌+◌, ◌<◌, ◌||◌, ◌∷◌, ◌≡◌, ◌≤◌, ◌⊎◌, Calls, Executes, Marks, Touches, answered, is_new, is_pending, is_use, was_marked, new_tag, Set, sort_of, Activated, Actor, Entry, Serving, current_use, recorded, uses, uses_opened, World, register, Duty, Finished, Fresh, GivenDown, NoDuty, Pending, Sort, Dispatch, Status, Activation, Routine, Packet, Value, Ref}
+use Rattle.run_laws.proofs.Common.{ap, arith, drop, inl, inr, refl, subst, sym, ◌∙◌, eq-eqb, Bool, List, None, Option, Some, [], false, if◌then◌else◌, nat_eq, slice_get, true, ℕ, ◌+◌, ◌<◌, ◌||◌, ◌∷◌, ◌≡◌, ◌≤◌, ◌⊎◌, Calls, Executes, Marks, Touches, answered, is_new, is_pending, is_use, was_marked, new_tag, Set, sort_of, Activated, Actor, Entry, Serving, current_use, recorded, uses, uses_opened, World, register, Duty, Finished, Fresh, GivenDown, NoDuty, Pending, Sort, Dispatch, Status, Activation, Routine, Packet, Value, Ref, States, frame_rights, state_of, HoldOf}
 use Rattle.model.specs.Run.{serving_by, serving_in, serving_with}
-use Rattle.run_laws.specs.Holder.{frame_rights}
 use Rattle.run_laws.proofs.Past.LivePackets.{find}
 use Rattle.run_laws.proofs.Pending.LowerStatuses.{Lowers}
 use Rattle.run_laws.proofs.Pending.Serving.{Handed, Current, IsFollowed, KeepsAgreed, Says, ServesUse, current_same}
-use Rattle.run_laws.proofs.States.Frames.{state_of}
-use Rattle.run_laws.specs.ArrivingStates.{States}
 use Rattle.run_laws.proofs.Uses.Fates.{Agreed, Linked, late_marks}
 use Rattle.run_laws.proofs.Uses.Traced.{SameUses}
-use Rattle.run_laws.proofs.States.HandedOver.{HoldOf}
 use Rattle.run_laws.proofs.Live.Sees.{RefersTo}
 
 -- what an event does to uses: what was agreed on stays, the marks of current locations say what

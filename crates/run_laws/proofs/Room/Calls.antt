@@ -1,16 +1,14 @@
 -- A packet that is sent down has room for the lower device, in a location of its own too: so no
 -- packet is sent past its last location. A completion routine that may hold the packet is stored
 -- under a location that is marked, since who sets it owns the packet.
-use Rattle.run_laws.specs.Prelude.{ap, arith, inl, inr, refl, subst, sym, ◌∙◌, length-set, Bool, List, None, Option, Some, [], false, length, nat_le, slice_get, true, ℕ, ◌&&◌, ◌+◌, ◌<◌, ◌∷◌, ◌≡◌, ◌≤◌, Calls, Executes, Touches, Outcome, asks, dispatched, leaves, routine_of_device, set_by, sort_of_completion, depth, stack_size, is_new, is_right, demanded, given_down, is_hold, kind_of, one_handed_or_owned, Set, lower_of, sort_of, Entry, Shared, asked_of, current_location, is_marked, next, packet_of, register, sent_down, with_packet, Abs, Kind, New, Own, CompletionRule, Instr, Call, Hold, Activation, Completion, Frame, Routine, Packet, Ref}
+use Rattle.run_laws.proofs.Common.{ap, arith, inl, inr, refl, subst, sym, ◌∙◌, length-set, Bool, List, None, Option, Some, [], false, length, nat_le, slice_get, true, ℕ, ◌&&◌, ◌+◌, ◌<◌, ◌∷◌, ◌≡◌, ◌≤◌, Calls, Executes, Touches, Outcome, asks, dispatched, leaves, routine_of_device, set_by, sort_of_completion, depth, stack_size, is_new, is_right, demanded, given_down, is_hold, kind_of, one_handed_or_owned, Set, lower_of, sort_of, Entry, Shared, asked_of, current_location, is_marked, next, packet_of, register, sent_down, with_packet, Abs, Kind, New, Own, CompletionRule, Instr, Call, Hold, Activation, Completion, Frame, Routine, Packet, Ref, States, frame_rights, frame_walks, right, rights, Each, begins_lower, IsGood, Runs, state_of, down, arrives_next, SendsDown, first_none, second_none, unbroken, Forwarding, packet_operand, work_of, not_at_most}
 use Rattle.model.specs.LocalRule.{hold_fault}
-use Rattle.run_laws.specs.Holder.{frame_rights, frame_walks, right, rights}
 use Rattle.run_laws.proofs.Devices.{dispatched_device}
 use Rattle.run_laws.proofs.Holders.Counts.{Holding, reads_ref}
 use Rattle.run_laws.proofs.Holders.Onward.{given_rights}
 use Rattle.run_laws.proofs.Holders.Rights.{one_right, right_le}
 use Rattle.run_laws.proofs.Holders.Sums.{unheld, unheld_one}
 use Rattle.run_laws.proofs.Holders.Waits.{device_driver}
-use Rattle.run_laws.proofs.Lists.{Each}
 use Rattle.run_laws.proofs.Past.LivePackets.{find}
 use Rattle.run_laws.proofs.Past.Packets.{found, named}
 use Rattle.run_laws.proofs.Past.Stacks.{Measured}
@@ -20,16 +18,10 @@ use Rattle.run_laws.proofs.Room.Registers.{claim_get, claims_owned, claims_right
 use Rattle.run_laws.proofs.Room.Sizes.{smaller, some_stack, stack_at}
 use Rattle.run_laws.proofs.Room.Waiting.{FrameRoom, HasRoom, Keeps, MarkedIn, RoomAt, RoomFor, WaitingRoom, waiting_kept}
 use Rattle.run_laws.proofs.Room.Ways.{WayUp, sent_way}
-use Rattle.run_laws.proofs.States.Entering.{LowerThere, begins_lower}
-use Rattle.run_laws.proofs.States.Frames.{IsGood, Runs, state_of}
-use Rattle.run_laws.proofs.States.Lacking.{down, lower_device}
-use Rattle.run_laws.proofs.States.Moves.{arrives_next}
-use Rattle.run_laws.proofs.States.Obeyed.{SendsDown, locations_wanted}
-use Rattle.run_laws.specs.ArrivingStates.{States}
-use Rattle.run_laws.proofs.States.Rules.{first_none, second_none, unbroken}
+use Rattle.run_laws.proofs.States.Entering.{LowerThere}
+use Rattle.run_laws.proofs.States.Lacking.{lower_device}
+use Rattle.run_laws.proofs.States.Obeyed.{locations_wanted}
 use Rattle.run_laws.proofs.Steps.Comes.{Reads}
-use Rattle.run_laws.proofs.Steps.Words.{Forwarding, packet_operand, work_of}
-use Rattle.run_laws.proofs.Tests.{not_at_most}
 
 -- what a step leaves: room, and the packets as they were that the frame neither holds nor completes
 pub record LeavesRoom (set : Set) (states : States) (s : Shared) (f : Frame) (o : Outcome) : Type 0

@@ -1,14 +1,12 @@
 -- What a change of one packet, or the end of one, leaves of the others: each is as it was, with its
 -- way up and its cancel word.
-use Rattle.run_laws.specs.Prelude.{arith, inl, inr, refl, subst, sym, ◌∙◌, cases_lt, eqb_tells, List, None, Some, if◌then◌else◌, nat_eq, ℕ, ◌+◌, ◌≡◌, ◌≢◌, ◌≤◌, ◌⊎◌, Set, Entry, Shared, packet_of, with_packet, without_packet, Armer, Frame, Packet}
-use Rattle.run_laws.specs.Holder.{frame_rights, frame_walks, times_waiting}
+use Rattle.run_laws.proofs.Common.{arith, inl, inr, refl, subst, sym, ◌∙◌, cases_lt, eqb_tells, List, None, Some, if◌then◌else◌, nat_eq, ℕ, ◌+◌, ◌≡◌, ◌≢◌, ◌≤◌, ◌⊎◌, Set, Entry, Shared, packet_of, with_packet, without_packet, Armer, Frame, Packet, States, frame_rights, frame_walks, times_waiting}
 use Rattle.run_laws.proofs.Holders.Counts.{Holding}
 use Rattle.run_laws.proofs.Holders.Sums.{held, held_apart, unheld, unheld_one}
 use Rattle.run_laws.proofs.Past.LivePackets.{Rises, find, find_remove, find_set}
 use Rattle.run_laws.proofs.Past.Packets.{found, numbered}
 use Rattle.run_laws.proofs.Room.Waiting.{Keeps, SameWaiting}
 use Rattle.run_laws.proofs.Room.Ways.{Stays, WayUp, stays_same}
-use Rattle.run_laws.specs.ArrivingStates.{States}
 
 abbrev pub AllKeep : Shared → Shared → Type 0
 AllKeep s after = (n : ℕ) → Keeps s after n

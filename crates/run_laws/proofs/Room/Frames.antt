@@ -1,19 +1,10 @@
 -- The room of a routine's frame: where the packets stay that it has the right to, where it goes on,
 -- and where it begins.
-use Rattle.run_laws.specs.Prelude.{ap, refl, sym, ◌-◌, ◌∙◌, Bool, None, Option, Some, false, is_some, replicate, true, ℕ, ◌∷◌, ◌≡◌, ◌≤◌, answered_in, operand_of, is_right, kind_of, Set, cancels_for, flow_of, instruction_at, Shared, next, register, Abs, Kind, BlankKind, New, Own, Queued, View, Cancelling, Instr, REGISTERS, QueueName, Cancel, Dispatch, Dpc, Hold, Propagate, StartIo, Status, Activation, Frame, CancelFrame, Routine, Walk, Packet, Value, Blank, Ref}
-use Rattle.run_laws.specs.Holder.{frame_rights}
+use Rattle.run_laws.proofs.Common.{ap, refl, sym, ◌-◌, ◌∙◌, Bool, None, Option, Some, false, is_some, replicate, true, ℕ, ◌∷◌, ◌≡◌, ◌≤◌, answered_in, operand_of, is_right, kind_of, Set, cancels_for, flow_of, instruction_at, Shared, next, register, Abs, Kind, BlankKind, New, Own, Queued, View, Cancelling, Instr, REGISTERS, QueueName, Cancel, Dispatch, Dpc, Hold, Propagate, StartIo, Status, Activation, Frame, CancelFrame, Routine, Walk, Packet, Value, Blank, Ref, States, frame_rights, Begins, Enters, first_state, Runs, state_of, HoldOf, has_next, told_frame, GoesTo, goes_device}
 use Rattle.run_laws.proofs.Past.LivePackets.{find}
 use Rattle.run_laws.proofs.Room.Registers.{IsClaim, Refers, claim_first, claim_told, claimed_on, claims_owned, claims_right, brings, gained_by, goes_claims, is_gained, is_owned, next_claims}
 use Rattle.run_laws.proofs.Room.Waiting.{FrameRoom, HasPlace, HasRoom, Keeps, MarkedIn, RoomFor, room_kept}
 use Rattle.run_laws.proofs.Room.Ways.{Stays}
-use Rattle.run_laws.proofs.States.Entering.{Begins, Enters, first_state}
-use Rattle.run_laws.proofs.States.Frames.{Runs, state_of}
-use Rattle.run_laws.proofs.States.HandedOver.{HoldOf}
-use Rattle.run_laws.proofs.States.Moves.{has_next}
-use Rattle.run_laws.specs.ArrivingStates.{States}
-use Rattle.run_laws.proofs.States.Told.{told_frame}
-use Rattle.run_laws.proofs.Steps.Comes.{GoesTo}
-use Rattle.run_laws.proofs.Steps.Onward.{goes_device}
 
 module _ (set : Set) (states : States) where
   -- the packets that it has the right to are as they were

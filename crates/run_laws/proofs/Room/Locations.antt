@@ -1,7 +1,6 @@
 -- Locations of a packet that are marked, or shared with a lower device: what that leaves of the
 -- marks and completion routines of all.
-use Rattle.run_laws.specs.Prelude.{ap, get_or, inl, inr, refl, subst, sym, ◌∙◌, eqb_tells, slice_get-get_or, List, None, Option, Some, length, slice_get, slice_set, true, ℕ, ◌<◌, ◌≡◌, ◌≢◌, completion_of, is_marked, marked_location, shared_location, unused_location, Location}
-use Rattle.run_laws.proofs.Lists.{set_other, set_same}
+use Rattle.run_laws.proofs.Common.{ap, get_or, inl, inr, refl, subst, sym, ◌∙◌, eqb_tells, slice_get-get_or, List, None, Option, Some, length, slice_get, slice_set, true, ℕ, ◌<◌, ◌≡◌, ◌≢◌, completion_of, is_marked, marked_location, shared_location, unused_location, Location, set_other, set_same}
 
 -- a location is there
 pub location_there : (locations : List Location) (place : ℕ) → place < length locations

@@ -1,18 +1,8 @@
 -- What holds of the packets in registers of kinds that are a right to them: where an instruction
 -- gives a register such a kind, or writes a value into it, it has to hold of the packet there; else
 -- it stays.
-use Rattle.run_laws.specs.Prelude.{ap, arith, refl, subst, sym, zero, ◌∙◌, cond_both, Bool, List, None, Option, Some, [], false, not, replicate, slice_index_or, slice_set, suc, true, ℕ, ◌&&◌, ◌∷◌, ◌≡◌, ◌≤◌, all_let_go, is_at, is_claim, is_guard, is_right, is_stage, kind_disarmed, kind_inserted, left_behind, let_go, given_down, handed, handed_at_label, kind_of, mark_fault, marked, queued_kind, refuses, unlink_kind, Set, cancel_routine_of, flow_of, guard_named, sort_of, Shared, next, Abs, Kind, BlankKind, Lower, New, NumKind, Own, Queued, View, Settled, Stage, Armed, Cancelling, Listed, Taken, Instr, Arm, Begin, Call, Clear, Complete, Const, Dequeue, Disarm, Get, Insert, Load, LoadPaged, Mark, Move, Pass, Release, ReleaseCancel, Remove, Start, Take, Unlink, Guard, CancelLock, DeviceLock, QueueName, Declared, DeviceQueue, Sort, Status, Activation, Value, Blank, Num, Ref, StatusValue}
-use Rattle.run_laws.specs.Holder.{right, rights}
+use Rattle.run_laws.proofs.Common.{ap, arith, refl, subst, sym, zero, ◌∙◌, cond_both, Bool, List, None, Option, Some, [], false, not, replicate, slice_index_or, slice_set, suc, true, ℕ, ◌&&◌, ◌∷◌, ◌≡◌, ◌≤◌, all_let_go, is_at, is_claim, is_guard, is_right, is_stage, kind_disarmed, kind_inserted, left_behind, let_go, given_down, handed, handed_at_label, kind_of, mark_fault, marked, queued_kind, refuses, unlink_kind, Set, cancel_routine_of, flow_of, guard_named, sort_of, Shared, next, Abs, Kind, BlankKind, Lower, New, NumKind, Own, Queued, View, Settled, Stage, Armed, Cancelling, Listed, Taken, Instr, Arm, Begin, Call, Clear, Complete, Const, Dequeue, Disarm, Get, Insert, Load, LoadPaged, Mark, Move, Pass, Release, ReleaseCancel, Remove, Start, Take, Unlink, Guard, CancelLock, DeviceLock, QueueName, Declared, DeviceQueue, Sort, Status, Activation, Value, Blank, Num, Ref, StatusValue, States, right, rights, Runs, state_of, HoldOf, number_kinds, arrives, arrives_next, has_next, inserts_right, first_none, GoesTo, Written, jumping, keeps_all, makes_blank, makes_number, moves_over, onward, is_giving, is_touching, keeps_registers, packet_operand, work_of}
 use Rattle.run_laws.proofs.Holders.Rights.{one_right}
-use Rattle.run_laws.proofs.States.Frames.{Runs, state_of}
-use Rattle.run_laws.proofs.States.HandedOver.{HoldOf}
-use Rattle.run_laws.proofs.States.Kinds.{number_kinds}
-use Rattle.run_laws.proofs.States.Moves.{arrives, arrives_next, has_next}
-use Rattle.run_laws.proofs.States.Obeyed.{inserts_right}
-use Rattle.run_laws.specs.ArrivingStates.{States}
-use Rattle.run_laws.proofs.States.Rules.{first_none}
-use Rattle.run_laws.proofs.Steps.Comes.{GoesTo, Written, jumping, keeps_all, makes_blank, makes_number, moves_over, onward}
-use Rattle.run_laws.proofs.Steps.Words.{is_giving, is_touching, keeps_registers, packet_operand, work_of}
 
 -- a packet in a register whose current location is marked: the routine marked it, or was given it
 -- by who had

@@ -1,8 +1,7 @@
 -- Each step of a routine keeps what who has the right to a packet finds: room for its device, and
 -- where it owns the packet the mark of the current location.
-use Rattle.run_laws.specs.Prelude.{ap, arith, inl, inr, refl, subst, sym, ◌-◌, ◌∙◌, Bool, List, None, Option, Some, [], false, is_none, slice_get, true, ℕ, ⊤, ◌+◌, ◌∷◌, ◌≡◌, ◌≤◌, Outcome, armer_of, armer_waiting, dispatched, turned, is_at, is_claim, is_exchanged, is_right, kind_of, queued_kind, StartState, Set, flow_of, lower_of, Actor, Entry, Shared, asked_of, completed, current_location, is_marked, mark_current, next, packet_of, register, shared_with, with_armer, with_info, with_packet, Kind, New, Queued, CancelState, Listed, Instr, Arm, Call, Complete, End, Loop, Mark, Pass, Put, QueueName, Declared, DeviceQueue, Activation, Armer, Frame, CancelFrame, Routine, Walk, Packet}
+use Rattle.run_laws.proofs.Common.{ap, arith, inl, inr, refl, subst, sym, ◌-◌, ◌∙◌, Bool, List, None, Option, Some, [], false, is_none, slice_get, true, ℕ, ⊤, ◌+◌, ◌∷◌, ◌≡◌, ◌≤◌, Outcome, armer_of, armer_waiting, dispatched, turned, is_at, is_claim, is_exchanged, is_right, kind_of, queued_kind, StartState, Set, flow_of, lower_of, Actor, Entry, Shared, asked_of, completed, current_location, is_marked, mark_current, next, packet_of, register, shared_with, with_armer, with_info, with_packet, Kind, New, Queued, CancelState, Listed, Instr, Arm, Call, Complete, End, Loop, Mark, Pass, Put, QueueName, Declared, DeviceQueue, Activation, Armer, Frame, CancelFrame, Routine, Walk, Packet, States, Each, Runs, state_of, down, moved_end, moved_loop, falls_next, inserts_right, OnTop, runs, first_none, granted, Comes, Exchanged, Executing, GoesTo, Waits, arms_for, arms_waiting, awaits_lock, calls_down, completes_gone, completes_packet, computes, disarms, disarms_next, errs, exchanges, frees_lock, looks_at, marks_packet, opens_loop, pages, passes_down, resumes_walk, retakes_lock, takes_lock, touches_gone, turns_loop, waited_to, works_on_queues, works_on_waiting, writes_info, LockWord, freed_word, taken_word, turned_device, turned_registers, goes_next, is_giving, is_touching, packet_operand, work_of}
 use Rattle.run_laws.proofs.Holders.Counts.{Holding}
-use Rattle.run_laws.proofs.Lists.{Each}
 use Rattle.run_laws.proofs.Past.LivePackets.{find}
 use Rattle.run_laws.proofs.Past.Packets.{found, named}
 use Rattle.run_laws.proofs.Room.Calls.{LeavesRoom, asked_room, call_room, lower_smaller, own_stack, read_same, right_room}
@@ -13,21 +12,9 @@ use Rattle.run_laws.proofs.Room.Registers.{gained_operand, is_owned, keeps_bring
 use Rattle.run_laws.proofs.Room.Sizes.{stack_at}
 use Rattle.run_laws.proofs.Room.Waiting.{FrameRoom, HasRoom, Place, RoomAt, SameWaiting, WaitingRoom, own_place, place_kept, queued_room, room_kept, waiting_kept, waiting_queued}
 use Rattle.run_laws.proofs.Room.Ways.{Stays, stays_marked, stays_same, stays_shared}
-use Rattle.run_laws.proofs.States.Frames.{Runs, state_of}
-use Rattle.run_laws.proofs.States.Lacking.{down}
-use Rattle.run_laws.proofs.States.LoopEnds.{moved_end, moved_loop}
-use Rattle.run_laws.proofs.States.Moves.{falls_next}
-use Rattle.run_laws.proofs.States.OnTop.{OnTop, runs}
-use Rattle.run_laws.specs.ArrivingStates.{States}
-use Rattle.run_laws.proofs.States.Rules.{first_none, granted}
-use Rattle.run_laws.proofs.Steps.Comes.{Comes, Exchanged, Executing, Reads, arms_for, awaits_lock, calls_down, completes_gone, completes_packet, computes, disarms, errs, exchanges, frees_lock, looks_at, marks_packet, opens_loop, pages, passes_down, resumes_walk, retakes_lock, takes_lock, touches_gone, turns_loop, works_on_queues, writes_info, GoesTo}
-use Rattle.run_laws.proofs.Steps.Locking.{LockWord, freed_word, taken_word}
-use Rattle.run_laws.proofs.Steps.Onward.{turned_device, turned_registers}
-use Rattle.run_laws.proofs.Steps.Words.{is_giving, packet_operand, work_of, is_touching, goes_next}
+use Rattle.run_laws.proofs.Steps.Comes.{Reads}
 use Rattle.run_laws.proofs.Holders.Waits.{NextArmed}
 use Rattle.run_laws.proofs.Room.Waiting.{waits_claims, waiting_waits, RoomFor, MarkedIn}
-use Rattle.run_laws.proofs.Steps.Comes.{Waits, arms_waiting, disarms_next, works_on_waiting, waited_to}
-use Rattle.run_laws.proofs.States.Obeyed.{inserts_right}
 
 -- a cancel word that a routine finds set while it has a packet that may be cancelled names its
 -- device

@@ -1,14 +1,12 @@
 -- In every run of an accepted set who has the right to a packet has room for its device, who owns
 -- it finds its current location marked, and no packet is sent down past its last location.
-use Rattle.run_laws.specs.Prelude.{ap, arith, inl, inr, refl, subst, sym, ◌-◌, ◌∙◌, eq-eqb, eqb_tells, length-replicate, Bool, List, None, Option, Some, [], if◌then◌else◌, length, nat_eq, replicate, slice_get, ℕ, ◌++◌, ◌+◌, ◌∷◌, ◌≡◌, ◌≢◌, ◌≤◌, ◌⊎◌, Outcome, told_to, top_of, Change, dpc_activation, serves_request, standing, with_new_packet, with_stack, with_thread, idle, without_first_to_start, begun, frames_on, Set, Actor, Entry, Shared, World, new_packet, unused_location, with_dpc, with_start, MAX_QUEUES, Major, Status, Frame, Walk, Packet, Thread}
-use Rattle.run_laws.specs.Holder.{times_at, times_in, times_queued, times_started, frame_rights, stack_sum}
+use Rattle.run_laws.proofs.Common.{ap, arith, inl, inr, refl, subst, sym, ◌-◌, ◌∙◌, eq-eqb, eqb_tells, length-replicate, Bool, List, None, Option, Some, [], if◌then◌else◌, length, nat_eq, replicate, slice_get, ℕ, ◌++◌, ◌+◌, ◌∷◌, ◌≡◌, ◌≢◌, ◌≤◌, ◌⊎◌, Outcome, told_to, top_of, Change, dpc_activation, serves_request, standing, with_new_packet, with_stack, with_thread, idle, without_first_to_start, begun, frames_on, Set, Actor, Entry, Shared, World, new_packet, unused_location, with_dpc, with_start, MAX_QUEUES, Major, Status, Frame, Walk, Packet, Thread, States, frame_rights, stack_sum, times_at, times_in, times_queued, times_started, waits_cancelable, Each, each_after, each_append, each_before, startio_enters, begins_dpc, begins_request, startio_activation, IsGood, Standing, on_top, told_is, told_last, stood, fault_among, is_call}
 use Rattle.run_laws.proofs.Claims.Sums.{Claimed}
 use Rattle.run_laws.proofs.Holders.Apart.{waiting_not_yet, IsApart, apart_below, apart_other, not_yet}
 use Rattle.run_laws.proofs.Holders.Queued.{none_queued, times_le}
 use Rattle.run_laws.proofs.Holders.Runs.{top_holding}
 use Rattle.run_laws.proofs.Holders.Started.{none_started, started_le, times_first}
 use Rattle.run_laws.proofs.Holders.Sums.{Held}
-use Rattle.run_laws.proofs.Lists.{Each, each_append, each_before, each_after}
 use Rattle.run_laws.proofs.Past.LivePackets.{find, find_above, find_push}
 use Rattle.run_laws.proofs.Room.Calls.{LeavesRoom}
 use Rattle.run_laws.proofs.Room.Changes.{AllWays, all_keep}
@@ -23,16 +21,7 @@ use Rattle.run_laws.proofs.Room.Words.{names_device}
 use Rattle.run_laws.proofs.Runs.Events.{StepsFrame, Happens, nothing, steps, begins}
 use Rattle.run_laws.proofs.Runs.Kept.{with_queued}
 use Rattle.run_laws.proofs.Runs.Roots.{Root, Beside, IssuesPacket, TakesFirst, issues, takes_dpc, takes_first, takes_nothing, with_root}
-use Rattle.run_laws.proofs.States.Begun.{startio_enters}
 use Rattle.run_laws.proofs.Runs.Threads.{of_steps, each_frames, idle_frames}
-use Rattle.run_laws.proofs.States.Entering.{begins_request, begins_dpc, startio_activation}
-use Rattle.run_laws.proofs.States.Frames.{IsGood}
-use Rattle.run_laws.specs.ArrivingStates.{States}
-use Rattle.run_laws.proofs.States.Standing.{Standing, on_top}
-use Rattle.run_laws.proofs.States.Told.{told_last, told_is}
-use Rattle.run_laws.proofs.Steps.Below.{stood}
-use Rattle.run_laws.proofs.Steps.Faults.{is_call, fault_among}
-use Rattle.run_laws.specs.Holder.{waits_cancelable}
 use Rattle.run_laws.proofs.Holders.Waits.{NextArmed}
 
 -- every frame that has the right to a live packet has room for its device, and so has each packet

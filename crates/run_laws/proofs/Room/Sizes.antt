@@ -1,9 +1,8 @@
 -- The stack sizes of devices: a device under another one has a smaller one.
-use Rattle.run_laws.specs.Prelude.{ap, arith, inl, inr, sym, ◌∙◌, eq-eqb, leb_tells, None, Option, Some, false, length, nat_eq, nat_lt, option_and_then, slice_get, suc, true, ℕ, ◌&&◌, ◌+◌, ◌<◌, ◌≡◌, ◌≤◌, is_too_small, Set, lower_of, DeviceFits, IsSound, Device}
+use Rattle.run_laws.proofs.Common.{ap, arith, inl, inr, sym, ◌∙◌, eq-eqb, leb_tells, None, Option, Some, false, length, nat_eq, nat_lt, option_and_then, slice_get, suc, true, ℕ, ◌&&◌, ◌+◌, ◌<◌, ◌≡◌, ◌≤◌, is_too_small, Set, lower_of, DeviceFits, IsSound, Device, Serves}
 use Rattle.model.specs.Forwarding.{device_under, is_under}
 use Rattle.run_laws.proofs.Devices.{device_fits}
 use Rattle.run_laws.proofs.States.Entering.{any_false}
-use Rattle.run_laws.proofs.States.Frames.{Serves}
 use Rattle.run_laws.proofs.Tests.{not_and}
 
 -- the stack size of a device

@@ -1,9 +1,7 @@
 -- Every step keeps the room of frames and of packets that wait, and sends no packet past its last
 -- location.
-use Rattle.run_laws.specs.Prelude.{arith, inl, inr, refl, subst, sym, ◌-◌, eq-eqb, ltb-true, List, None, Option, Some, [], false, length, ℕ, ◌+◌, ◌≡◌, ◌≢◌, ◌≤◌, Outcome, completes_with, Set, Actor, Entry, Shared, cancelled, left_location, mark_current, moved_up, packet_of, with_armer, with_packet, without_packet, Call, Armer, CancelStep, Frame, CancelFrame, Routine, Walk, Packet}
-use Rattle.run_laws.specs.Holder.{frame_rights, frame_walks}
+use Rattle.run_laws.proofs.Common.{arith, inl, inr, refl, subst, sym, ◌-◌, eq-eqb, ltb-true, List, None, Option, Some, [], false, length, ℕ, ◌+◌, ◌≡◌, ◌≢◌, ◌≤◌, Outcome, completes_with, Set, Actor, Entry, Shared, cancelled, left_location, mark_current, moved_up, packet_of, with_armer, with_packet, without_packet, Call, Armer, CancelStep, Frame, CancelFrame, Routine, Walk, Packet, States, frame_rights, frame_walks, Each, begins_cancelled, begins_lent, ArmerLeads, word_leads, OnTop, runs, Cancels, Comes, awaits_cancel, calls_cancel, calls_down, cancels, carries_up, exchanges_gone, finds_empty, finds_none, flags_gone, lends_to, retakes_cancel, sets_flag, takes_cancel, tops_out, walks_gone, walks_to, walks_up, works_on_queues, fault_among, is_call, queued_touches}
 use Rattle.run_laws.proofs.Holders.Counts.{Holding}
-use Rattle.run_laws.proofs.Lists.{Each}
 use Rattle.run_laws.proofs.Past.Packets.{found}
 use Rattle.run_laws.proofs.Room.Calls.{LeavesRoom, call_fits}
 use Rattle.run_laws.proofs.Room.Changes.{AllKeep, AllWays, changed, found_before, keeps_other, keeps_set, waits_apart, ways_kept, ways_set, words_set}
@@ -12,13 +10,7 @@ use Rattle.run_laws.proofs.Room.Routines.{NamesDevice, routine_room}
 use Rattle.run_laws.proofs.Room.Sizes.{stack_at}
 use Rattle.run_laws.proofs.Room.Waiting.{HasRoom, Keeps, Place, RoomAt, SameWaiting, WaitingRoom, waiting_kept}
 use Rattle.run_laws.proofs.Room.Ways.{Stays, WayUp, back_room, stays_marked, stays_same, up_way}
-use Rattle.run_laws.proofs.States.Entering.{begins_back as back_begins, begins_cancelled, begins_lent}
-use Rattle.run_laws.proofs.States.Fits.{word_leads, ArmerLeads}
-use Rattle.run_laws.proofs.States.OnTop.{OnTop, runs}
-use Rattle.run_laws.specs.ArrivingStates.{States}
-use Rattle.run_laws.proofs.Steps.Comes.{Cancels, Comes, awaits_cancel, calls_cancel, calls_down, cancels, carries_up, exchanges_gone, finds_empty, finds_none, flags_gone, lends_to, retakes_cancel, sets_flag, takes_cancel, tops_out, walks_gone, walks_to, walks_up, works_on_queues}
-use Rattle.run_laws.proofs.Steps.Faults.{fault_among, is_call}
-use Rattle.run_laws.proofs.Steps.Queues.{queued_touches}
+use Rattle.run_laws.proofs.States.Entering.{begins_back as back_begins}
 use Rattle.run_laws.proofs.Holders.Waits.{NextArmed}
 
 apart_of : (n m : ℕ) → frame_walks (Walk n) m ≡ 0 → n ≢ m

@@ -1,8 +1,7 @@
 -- Who has the right to a packet has room for its device, and who owns it finds its current location
 -- marked: a register of a frame, a place in a queue without a cancel routine, in a start list or a
 -- device queue, a current slot, and a cancel word. What the instructions about queues do to that.
-use Rattle.run_laws.specs.Prelude.{ap, arith, inl, inr, refl, subst, sym, ◌∙◌, cond_both, eq-eqb, eqb_tells, Bool, List, None, Option, Some, [], false, if◌then◌else◌, is_some, length, nat_eq, option_and_then, slice_get, slice_set, true, ℕ, ⊤, ◌+◌, ◌∷◌, ◌≡◌, ◌≤◌, Action, is_right, kind_removed, kind_of, StartState, dequeued, head_of, inserted, next_started, started, unlinked, with_slot, Set, cancel_routine_of, has_cancel, Shared, current_location, is_marked, next, packet_of, queue_of, register, start_of, with_queue, with_register, with_start, Abs, Kind, Own, Taken, Instr, Begin, Dequeue, Insert, Next, Remove, Start, Take, Unlink, Declared, DeviceQueue, Activation, Armer, Frame, CancelFrame, Routine, Walk, Packet, Ref}
-use Rattle.run_laws.specs.Holder.{times_at, times_in, times_in_slot, times_named, times_plain, times_waiting}
+use Rattle.run_laws.proofs.Common.{ap, arith, inl, inr, refl, subst, sym, ◌∙◌, cond_both, eq-eqb, eqb_tells, Bool, List, None, Option, Some, [], false, if◌then◌else◌, is_some, length, nat_eq, option_and_then, slice_get, slice_set, true, ℕ, ⊤, ◌+◌, ◌∷◌, ◌≡◌, ◌≤◌, Action, is_right, kind_removed, kind_of, StartState, dequeued, head_of, inserted, next_started, started, unlinked, with_slot, Set, cancel_routine_of, has_cancel, Shared, current_location, is_marked, next, packet_of, queue_of, register, start_of, with_queue, with_register, with_start, Abs, Kind, Own, Taken, Instr, Begin, Dequeue, Insert, Next, Remove, Start, Take, Unlink, Declared, DeviceQueue, Activation, Armer, Frame, CancelFrame, Routine, Walk, Packet, Ref, States, times_at, times_in, times_in_slot, times_named, times_plain, times_waiting, waits_cancelable, Runs, Serves, state_of, HoldOf, arrives_next, inserts_right, queue_moves, first_none, Waits, arms_waiting, dequeues_packet, disarms_next, inserts, jumping, puts_in, removes, removes_none, starts_gone, starts_next, starts_packet, takes_none, takes_out, unlinks}
 use Rattle.run_laws.proofs.Claims.Sums.{is_cancelable}
 use Rattle.run_laws.proofs.Holders.Counts.{reads_ref}
 use Rattle.run_laws.proofs.Holders.Plain.{plain_le}
@@ -13,18 +12,9 @@ use Rattle.run_laws.proofs.Past.LivePackets.{find, find_place}
 use Rattle.run_laws.proofs.Room.Registers.{IsClaim, Refers, claim_get, claim_set, claims_owned, claims_right, goes_claims, is_owned, next_claims}
 use Rattle.run_laws.proofs.Room.Sizes.{stack_at}
 use Rattle.run_laws.proofs.Room.Ways.{Stays}
-use Rattle.run_laws.proofs.States.Frames.{Runs, Serves, state_of}
-use Rattle.run_laws.proofs.States.HandedOver.{HoldOf}
-use Rattle.run_laws.proofs.States.Moves.{arrives_next}
-use Rattle.run_laws.proofs.States.Obeyed.{inserts_right}
-use Rattle.run_laws.proofs.States.Queueing.{queue_moves}
-use Rattle.run_laws.specs.ArrivingStates.{States}
-use Rattle.run_laws.proofs.States.Rules.{first_none}
-use Rattle.run_laws.proofs.Steps.Comes.{Queued, Reads, inserts, jumping, puts_in, removes, removes_none, starts_next, starts_packet, takes_none, takes_out, unlinks}
-use Rattle.run_laws.specs.Holder.{waits_cancelable}
+use Rattle.run_laws.proofs.Steps.Comes.{Queued, Reads}
 use Rattle.run_laws.proofs.Holders.Waits.{served_waits, first_both}
 use Rattle.run_laws.proofs.Holders.Started.{times_disarmed}
-use Rattle.run_laws.proofs.Steps.Comes.{Waits, arms_waiting, disarms_next, starts_gone, dequeues_packet}
 use Rattle.run_laws.proofs.Holders.Waits.{and_both}
 use Rattle.run_laws.proofs.Holders.Started.{times_waited}
 

@@ -2,8 +2,7 @@
 -- devices that have room there, and above one that may hold the packet the location is marked. What
 -- changes of a packet leave of that, and of its size, its place and the mark of its current
 -- location.
-use Rattle.run_laws.specs.Prelude.{ap, arith, inl, inr, refl, subst, sym, zero, ◌-◌, ◌∙◌, cases_lt, eqb_tells, length-set, List, None, Option, Some, length, slice_get, slice_set, suc, true, ℕ, ◌+◌, ◌<◌, ◌≡◌, ◌≢◌, ◌≤◌, sort_of_completion, Set, completion_of, copied_location, current_location, is_marked, left_location, mark_current, moved_up, new_packet, sent_down, shared_with, Hold, Major, Completion, Location, Packet}
-use Rattle.run_laws.proofs.Lists.{set_other, set_same}
+use Rattle.run_laws.proofs.Common.{ap, arith, inl, inr, refl, subst, sym, zero, ◌-◌, ◌∙◌, cases_lt, eqb_tells, length-set, List, None, Option, Some, length, slice_get, slice_set, suc, true, ℕ, ◌+◌, ◌<◌, ◌≡◌, ◌≢◌, ◌≤◌, sort_of_completion, Set, completion_of, copied_location, current_location, is_marked, left_location, mark_current, moved_up, new_packet, sent_down, shared_with, Hold, Major, Completion, Location, Packet, set_other, set_same}
 use Rattle.run_laws.proofs.Past.Stacks.{marked_length, shared_length}
 use Rattle.run_laws.proofs.Room.Locations.{location_there, marked_completion, marks_stay, shared_completion, shared_marks}
 use Rattle.run_laws.proofs.Room.Marked.{LentMarked}

@@ -2,7 +2,7 @@
 -- Armed or Taken for the packet, which the word backs, or a cancel routine that was called; and
 -- there is none of these where the word is set, since a packet has one holder.
 use Rattle.run_laws.proofs.Claims.Tops.{named_some, top_there}
-use Rattle.run_laws.specs.Prelude.{arith, refl, ◌∙◌, List, Some, length, true, ℕ, ◌+◌, ◌≡◌, ◌≤◌, is_at, is_exchanged, kind_of, Set, Entry, World, register, Kind, Queued, Armed, Taken, QueueName, Activation, Armer, Frame, Routine, Packet}
+use Rattle.run_laws.proofs.Common.{arith, refl, ◌∙◌, List, Some, length, true, ℕ, ◌+◌, ◌≡◌, ◌≤◌, is_at, is_exchanged, kind_of, Set, Entry, World, register, Kind, Queued, Armed, Taken, QueueName, Activation, Armer, Frame, Routine, Packet, States, IsGood, state_of, Standing}
 use Rattle.run_laws.proofs.Claims.Balance.{at_same, claim_le}
 use Rattle.run_laws.proofs.Claims.Sums.{Claimed, names_on}
 use Rattle.run_laws.proofs.Claims.WordSteps.{word_names}
@@ -11,9 +11,6 @@ use Rattle.run_laws.proofs.Holders.Sums.{Held}
 use Rattle.run_laws.proofs.Past.LivePackets.{find, find_place}
 use Rattle.run_laws.proofs.Room.Routines.{NamesDevice}
 use Rattle.run_laws.proofs.Runs.Events.{StepsFrame}
-use Rattle.run_laws.proofs.States.Frames.{IsGood, state_of}
-use Rattle.run_laws.specs.ArrivingStates.{States}
-use Rattle.run_laws.proofs.States.Standing.{Standing}
 use Rattle.run_laws.proofs.Steps.Comes.{Reads}
 
 module _ (set : Set) (states : States) (w : World) (past : List Entry) (good : IsGood set states)

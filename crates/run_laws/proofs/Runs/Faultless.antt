@@ -1,7 +1,5 @@
 -- The trace of a run whose events have no bug check has no fault.
-use Rattle.run_laws.specs.Prelude.{List, None, [], ◌∷◌, ◌≡◌, Action, fault_of, first_fault, Actor, Entry, entry, recorded}
-use Rattle.run_laws.specs.Rules.{Faultless}
-use Rattle.run_laws.proofs.Steps.Faults.{none_first, none_later}
+use Rattle.run_laws.proofs.Common.{List, None, [], ◌∷◌, ◌≡◌, Action, fault_of, first_fault, Actor, Entry, entry, recorded, Faultless, none_first, none_later}
 
 pub recorded_faultless : (past : List Entry) (actor : Actor) (actions : List Action)
     → Faultless past

@@ -1,13 +1,9 @@
 -- A completion routine that was lent a packet, and owes nothing for it yet, has it in a register:
 -- it was handed it there, and until it marks it no instruction that it may execute takes it away.
-use Rattle.run_laws.specs.Prelude.{ap, arith, inl, inr, refl, subst, sym, zero, ◌∙◌, cases_eq, get_or-set_other, get_or-set_same, Bool, List, None, Some, [], false, length, slice_index_or, slice_set, suc, true, ℕ, ◌<◌, ◌||◌, ◌∷◌, ◌≡◌, ◌≢◌, all_let_go, is_at, is_exchanged, is_new, kind_disarmed, kind_inserted, kind_removed, left_behind, let_go, an_owned_one, demanded, entered_with, entry_of_sort, free_kind, handed, handed_at_label, is_fresh, kind_of, level_fault, marked, queued_kind, refuses, take_fault, Arrives, Member, Set, cancel_routine_of, cancels_for, OperandFits, Abs, Fresh, Kind, New, Own, Queued, SettledMark, Armed, Cancelling, Listed, Instr, Arm, Begin, Call, Clear, Complete, Const, Dequeue, Disarm, Get, Insert, Load, LoadPaged, Mark, Move, Pass, Release, ReleaseCancel, Remove, Start, Take, Unlink, REGISTERS, Guard, CancelLock, DeviceLock, Declared, DeviceQueue, Sort, Dispatch, Hold}
+use Rattle.run_laws.proofs.Common.{ap, arith, inl, inr, refl, subst, sym, zero, ◌∙◌, cases_eq, get_or-set_other, get_or-set_same, Bool, List, None, Some, [], false, length, slice_index_or, slice_set, suc, true, ℕ, ◌<◌, ◌||◌, ◌∷◌, ◌≡◌, ◌≢◌, all_let_go, is_at, is_exchanged, is_new, kind_disarmed, kind_inserted, kind_removed, left_behind, let_go, an_owned_one, demanded, entered_with, entry_of_sort, free_kind, handed, handed_at_label, is_fresh, kind_of, level_fault, marked, queued_kind, refuses, take_fault, Arrives, Member, Set, cancel_routine_of, cancels_for, OperandFits, Abs, Fresh, Kind, New, Own, Queued, SettledMark, Armed, Cancelling, Listed, Instr, Arm, Begin, Call, Clear, Complete, Const, Dequeue, Disarm, Get, Insert, Load, LoadPaged, Mark, Move, Pass, Release, ReleaseCancel, Remove, Start, Take, Unlink, REGISTERS, Guard, CancelLock, DeviceLock, Declared, DeviceQueue, Sort, Dispatch, Hold, all_at, arrives_keep, handed_long, completes_one, sends_down, first_none, second_none}
 use Rattle.model.specs.declared.abs.Kind.TheVariants.{Blank, Num}
-use Rattle.run_laws.proofs.Lists.{all_at}
-use Rattle.run_laws.proofs.States.Along.{arrives_keep}
-use Rattle.run_laws.proofs.States.Kinds.{handed_long, label_long}
+use Rattle.run_laws.proofs.States.Kinds.{label_long}
 use Rattle.run_laws.proofs.States.Known.{RoutineOperandsFit}
-use Rattle.run_laws.proofs.States.Obeyed.{completes_one, sends_down}
-use Rattle.run_laws.proofs.States.Rules.{first_none, second_none}
 
 -- a register has a packet that the routine has done nothing with
 abbrev pub HasNew : List Kind → Type 0

@@ -1,23 +1,14 @@
 -- In every run of an accepted set a busy device has one token, and an idle one none.
-use Rattle.run_laws.specs.Prelude.{ap, arith, inl, inr, refl, sym, ◌∙◌, cases_eq, Bool, List, Some, [], false, if◌then◌else◌, length, replicate, slice_get, slice_set, true, ℕ, ◌++◌, ◌+◌, ◌∷◌, ◌≡◌, ◌≢◌, Outcome, top_of, Change, settled, standing, with_stack, StartState, head_of, idle, without_first_to_start, without_head, begun, Set, Actor, Entry, World, start_of, StartIo, Activation, Frame, Routine, Walk, DispatchLevel, Thread}
+use Rattle.run_laws.proofs.Common.{ap, arith, inl, inr, refl, sym, ◌∙◌, cases_eq, Bool, List, Some, [], false, if◌then◌else◌, length, replicate, slice_get, slice_set, true, ℕ, ◌++◌, ◌+◌, ◌∷◌, ◌≡◌, ◌≢◌, Outcome, top_of, Change, settled, standing, with_stack, StartState, head_of, idle, without_first_to_start, without_head, begun, Set, Actor, Entry, World, start_of, StartIo, Activation, Frame, Routine, Walk, DispatchLevel, Thread, States, stack_sum, thread_sum, frame_tokens, start_tokens, tokens, set_other, set_same, startio_enters, Begins, begins_dpc, begins_request, startio_activation, IsGood, state_of, Standing, on_top, told_is, told_last, stood}
 use Rattle.model.specs.Events.{rooted}
-use Rattle.run_laws.specs.Holder.{stack_sum, thread_sum}
-use Rattle.run_laws.specs.OneToken.{frame_tokens, start_tokens, tokens}
 use Rattle.run_laws.proofs.Holders.Runs.{idle_sum, top_changed}
 use Rattle.run_laws.proofs.Holders.Sums.{first_frame, last_sum, stack_append}
-use Rattle.run_laws.proofs.Lists.{each_at, each_same, set_other, set_same}
+use Rattle.run_laws.proofs.Lists.{each_at, each_same}
 use Rattle.run_laws.proofs.Runs.Events.{Happens, StepsFrame, begins, nothing, steps}
 use Rattle.run_laws.proofs.Runs.Roots.{Root, Beside, TakesFirst, IdleThread, issues, root_begun, startio_root, takes_dpc, takes_first, takes_nothing, with_root}
-use Rattle.run_laws.proofs.States.Begun.{startio_enters}
 use Rattle.run_laws.proofs.Runs.Kept.{with_queued}
-use Rattle.run_laws.proofs.States.Entering.{Begins, begins_dpc, begins_request, startio_activation}
-use Rattle.run_laws.proofs.States.Frames.{IsGood, state_of}
-use Rattle.run_laws.specs.ArrivingStates.{States}
-use Rattle.run_laws.proofs.States.Standing.{Standing, on_top}
-use Rattle.run_laws.proofs.States.Told.{told_last, told_is}
 use Rattle.run_laws.proofs.Tokens.Steps.{EvenFor, TokenStep, begun_tokens, frame_told_tokens, other_tokens, own_tokens, token_step}
 use Rattle.run_laws.proofs.Tokens.Sums.{OneTokenEach, few_tokens}
-use Rattle.run_laws.proofs.Steps.Below.{stood}
 use Rattle.std.proofs.lemmas.List.{append-nil}
 
 -- StartIo begins for the first packet of a start list

@@ -1,27 +1,11 @@
 -- A step keeps the tokens of devices: one goes from what a device has for StartIo to the routine
 -- that takes its packet, and back where the routine begins another, or starts the next one.
-use Rattle.run_laws.specs.Prelude.{ap, arith, inl, inr, refl, sym, ◌-◌, ◌∙◌, cases_eq, cond_both, eq-eqb, ne_eqb, length-append, Bool, List, None, Option, Some, [], false, if◌then◌else◌, slice_get, slice_set, true, ℕ, ◌+◌, ◌∷◌, ◌≡◌, ◌≢◌, ◌≤◌, Action, Outcome, answered_in, completes_with, dispatched, operand_of, routine_of_device, turned, broken_if, form_fault, given_down, gives_back, handed, handed_at_label, holds_spin_lock, kept_fault, kind_of, least_of, marked, refuses, settled_fault, StartState, dequeued, next_of, next_started, started, with_slot, Set, cancels_for, flow_of, instruction_at, lower_of, sort_of, Shared, asked_of, current_location, entered, next, register, start_of, with_start, Abs, Kind, New, CancelSpinLock, SpinLock, Token, Instr, Begin, Call, Complete, Dequeue, End, Insert, Loop, Mark, Next, Pass, Put, Remove, Ret, Start, Take, Unlink, Return, Continue, Stop, Void, QueueName, Sort, Cancel, Status, Activation, Armer, CancelStep, Frame, CancelFrame, Routine, Walk, Packet, Value, Ref}
+use Rattle.run_laws.proofs.Common.{ap, arith, inl, inr, refl, sym, ◌-◌, ◌∙◌, cases_eq, cond_both, eq-eqb, ne_eqb, length-append, Bool, List, None, Option, Some, [], false, if◌then◌else◌, slice_get, slice_set, true, ℕ, ◌+◌, ◌∷◌, ◌≡◌, ◌≢◌, ◌≤◌, Action, Outcome, answered_in, completes_with, dispatched, operand_of, routine_of_device, turned, broken_if, form_fault, given_down, gives_back, handed, handed_at_label, holds_spin_lock, kept_fault, kind_of, least_of, marked, refuses, settled_fault, StartState, dequeued, next_of, next_started, started, with_slot, Set, cancels_for, flow_of, instruction_at, lower_of, sort_of, Shared, asked_of, current_location, entered, next, register, start_of, with_start, Abs, Kind, New, CancelSpinLock, SpinLock, Token, Instr, Begin, Call, Complete, Dequeue, End, Insert, Loop, Mark, Next, Pass, Put, Remove, Ret, Start, Take, Unlink, Return, Continue, Stop, Void, QueueName, Sort, Cancel, Status, Activation, Armer, CancelStep, Frame, CancelFrame, Routine, Walk, Packet, Value, Ref, States, stack_sum, frame_tokens, slot_tokens, start_tokens, set_other, set_same, begins_called, Enters, begins_back, begins_lent, begins_lower, first_state, Moved, Runs, state_of, moved_end, arrives, arrives_next, falls_next, has_next, onto, OnTop, runs, first_none, granted, second_none, unbroken, told_frame, Cancels, Comes, GoesTo, Waits, arms_waiting, awaits_lock, calls_cancel, calls_down, cancels, carries_up, completes_gone, completes_packet, computes, dequeues_packet, disarms_next, ends_cancel, ends_dpc, ends_startio, errs, exchanges, frees_lock, inserts, jumping, lends_to, lets_go, lets_walk, looks_at, marks_packet, opens_loop, pages, passes_down, puts_in, removes, removes_none, resumes_gone, resumes_none, resumes_walk, retakes_lock, returns_status, starts_gone, starts_next, starts_packet, stops_none, stops_walk, takes_lock, takes_none, takes_out, tops_out, touches_gone, turns_loop, unlinks, walks_gone, walks_to, walks_up, works_on_queues, works_on_waiting, writes_info, LockWord, freed_word, taken_word, goes_device, Work, is_touching, work_of, and_false, if_one}
 use Rattle.model.specs.LocalRule.{left_packet}
-use Rattle.run_laws.specs.Holder.{stack_sum}
-use Rattle.run_laws.specs.OneToken.{frame_tokens, slot_tokens, start_tokens}
-use Rattle.run_laws.proofs.Lists.{set_other, set_same}
 use Rattle.run_laws.proofs.Past.Packets.{named}
-use Rattle.run_laws.proofs.States.Entering.{Enters, begins_back, begins_lower, first_state, begins_lent}
-use Rattle.run_laws.proofs.States.Frames.{Moved, Runs, state_of}
-use Rattle.run_laws.proofs.States.LoopEnds.{moved_end}
-use Rattle.run_laws.proofs.States.Moves.{arrives, arrives_next, falls_next, has_next, onto}
-use Rattle.run_laws.proofs.States.OnTop.{OnTop, runs}
-use Rattle.run_laws.specs.ArrivingStates.{States}
-use Rattle.run_laws.proofs.States.Rules.{first_none, granted, second_none, unbroken}
-use Rattle.run_laws.proofs.States.Told.{told_frame}
-use Rattle.run_laws.proofs.Steps.Comes.{Comes, GoesTo, Queued, Reads, awaits_lock, calls_down, carries_up, completes_gone, completes_packet, computes, cancels, ends_cancel, ends_dpc, ends_startio, errs, exchanges, frees_lock, inserts, jumping, lends_to, lets_go, lets_walk, looks_at, marks_packet, opens_loop, pages, passes_down, puts_in, removes, removes_none, resumes_gone, resumes_none, resumes_walk, retakes_lock, returns_status, starts_next, starts_packet, stops_none, stops_walk, takes_lock, takes_none, takes_out, tops_out, touches_gone, turns_loop, unlinks, walks_gone, walks_to, walks_up, works_on_queues, writes_info, Cancels, calls_cancel}
-use Rattle.run_laws.proofs.Steps.Locking.{LockWord, freed_word, taken_word}
-use Rattle.run_laws.proofs.Steps.Onward.{goes_device}
-use Rattle.run_laws.proofs.Steps.Words.{Queueing, Work, is_touching, work_of}
-use Rattle.run_laws.proofs.Tests.{and_false, if_one}
+use Rattle.run_laws.proofs.Steps.Comes.{Queued, Reads}
+use Rattle.run_laws.proofs.Steps.Words.{Queueing}
 use Rattle.run_laws.proofs.Tokens.Sums.{FewTokens, own_token}
-use Rattle.run_laws.proofs.States.Cancelled.{begins_called}
-use Rattle.run_laws.proofs.Steps.Comes.{Waits, arms_waiting, disarms_next, starts_gone, dequeues_packet, works_on_waiting}
 
 -- the tokens of a device with a frame and in what it has for StartIo, before and after a step, and
 -- whether it is busy

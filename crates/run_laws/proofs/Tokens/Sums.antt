@@ -1,12 +1,8 @@
 -- What a run keeps of the tokens of devices: a busy one has one, an idle one none and nothing that
 -- waits.
-use Rattle.run_laws.specs.Prelude.{arith, refl, eq-eqb, List, None, Option, Some, [], false, if◌then◌else◌, length, true, ℕ, ◌+◌, ◌∷◌, ◌≡◌, ◌≤◌, StartState, Set, Shared, World, start_of, Activation, Frame, Routine}
-use Rattle.run_laws.specs.OneToken.{frame_tokens, slot_tokens, start_tokens, tokens}
+use Rattle.run_laws.proofs.Common.{arith, refl, eq-eqb, List, None, Option, Some, [], false, if◌then◌else◌, length, true, ℕ, ◌+◌, ◌∷◌, ◌≡◌, ◌≤◌, StartState, Set, Shared, World, start_of, Activation, Frame, Routine, States, frame_tokens, slot_tokens, start_tokens, tokens, state_of, if_one}
 use Rattle.run_laws.proofs.Holders.Sums.{top_le}
 use Rattle.run_laws.proofs.Runs.Events.{StepsFrame}
-use Rattle.run_laws.proofs.States.Frames.{state_of}
-use Rattle.run_laws.specs.ArrivingStates.{States}
-use Rattle.run_laws.proofs.Tests.{if_one}
 
 pub record OneTokenEach (states : States) (w : World) : Type 0 where
   pub one : (d : ℕ) (start : StartState) → start_of w.shared d ≡ Some start

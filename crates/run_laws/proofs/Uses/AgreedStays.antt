@@ -1,10 +1,9 @@
 -- What was agreed on for a use isn't broken by what becomes of its packet, and what waits for the
 -- use below goes on to, until that is left.
-use Rattle.run_laws.specs.Prelude.{ap, arith, drop, inl, inr, refl, subst, sym, zero, ◌-◌, ◌∙◌, lt-ltb, eqb_tells, All, Bool, List, None, Option, Some, [], false, if◌then◌else◌, length, nat_eq, nat_lt, slice_get, slice_set, suc, true, ℕ, ◌<◌, ◌||◌, ◌∷◌, ◌≡◌, ◌≤◌, ◌⊎◌, is_use, marks_left, was_marked, Entry, Serving, uses, uses_opened, copied_location, current_location, is_marked, mark_current, marked_location, new_packet, sent_down, Location, Packet}
+use Rattle.run_laws.proofs.Common.{ap, arith, drop, inl, inr, refl, subst, sym, zero, ◌-◌, ◌∙◌, lt-ltb, eqb_tells, All, Bool, List, None, Option, Some, [], false, if◌then◌else◌, length, nat_eq, nat_lt, slice_get, slice_set, suc, true, ℕ, ◌<◌, ◌||◌, ◌∷◌, ◌≡◌, ◌≤◌, ◌⊎◌, is_use, marks_left, was_marked, Entry, Serving, uses, uses_opened, copied_location, current_location, is_marked, mark_current, marked_location, new_packet, sent_down, Location, Packet, set_other}
 use Rattle.run_laws.proofs.Uses.Fates.{nth_use, Falls, MarksTell, PacketUses, Traced, fate_in}
 use Rattle.run_laws.proofs.Room.Locations.{marked_here}
 use Rattle.run_laws.proofs.Uses.FateFacts.{copied_unmarked, fate_absent, fate_head, fate_marked, fate_rest, fate_same, fate_there, fate_true, written_unmarked}
-use Rattle.run_laws.proofs.Lists.{set_other}
 use Rattle.run_laws.proofs.Uses.Becomes.{Becomes, comes_in, gets_marked, goes_down, goes_out, goes_up, keeps_marks, never_live, IsCalled, IsIssued, IsKept, IsLeft, IsMarked, IsTopped, LeavesCurrent, Turn, Turns, UsesIn, not_use, uses_turn}
 
 -- what is agreed on for a use of a packet, by the packet and the marks that have still to be

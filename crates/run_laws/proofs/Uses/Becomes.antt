@@ -1,10 +1,9 @@
 -- What an event does to a packet and its uses: what becomes of it, case by case; and what a live
 -- packet and the trace tell of each other is kept.
-use Rattle.run_laws.specs.Prelude.{ap, arith, drop, inl, inr, refl, subst, sym, ◌-◌, ◌∙◌, eq-eqb, eqb_tells, length-replicate, length-set, Bool, List, None, Option, Some, [], false, if◌then◌else◌, length, replicate, slice_get, slice_set, true, ℕ, ◌<◌, ◌||◌, ◌∷◌, ◌≡◌, ◌≢◌, ◌≤◌, ◌⊎◌, depth, stack_size, is_use, marks_left, was_marked, Entry, Serving, current_use, uses, uses_opened, completion_of, copied_location, current_location, is_marked, mark_current, marked_location, new_packet, sent_down, unused_location, Major, Completion, Location, Packet}
+use Rattle.run_laws.proofs.Common.{ap, arith, drop, inl, inr, refl, subst, sym, ◌-◌, ◌∙◌, eq-eqb, eqb_tells, length-replicate, length-set, Bool, List, None, Option, Some, [], false, if◌then◌else◌, length, replicate, slice_get, slice_set, true, ℕ, ◌<◌, ◌||◌, ◌∷◌, ◌≡◌, ◌≢◌, ◌≤◌, ◌⊎◌, depth, stack_size, is_use, marks_left, was_marked, Entry, Serving, current_use, uses, uses_opened, completion_of, copied_location, current_location, is_marked, mark_current, marked_location, new_packet, sent_down, unused_location, Major, Completion, Location, Packet, set_other}
 use Rattle.run_laws.proofs.Uses.Fates.{nth_use, Falls, MarksTell, PacketUses, Traced, Unleft}
 use Rattle.run_laws.proofs.Room.Locations.{marked_completion, marked_here, marked_other}
 use Rattle.run_laws.proofs.Uses.FateFacts.{copied_unmarked, written_unmarked}
-use Rattle.run_laws.proofs.Lists.{set_other}
 use Rattle.run_laws.proofs.Past.Stacks.{marked_length}
 use Rattle.run_laws.proofs.Uses.Traced.{SameUses}
 

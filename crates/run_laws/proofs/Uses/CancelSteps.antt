@@ -1,9 +1,7 @@
 -- What a step of IoCancelIrp does to each packet and its uses: nothing, since it writes a packet's
 -- cancel flag and cancel word alone.
-use Rattle.run_laws.specs.Prelude.{ap, refl, list_any, Bool, List, None, Some, [], false, slice_get, ℕ, ◌∷◌, ◌≡◌, Action, Exchanges, Releases, Outcome, goes_on_cancelling, leaves, routine_of_device, Set, Actor, Entry, Shared, cancelled, entered, packet_of, with_armer, with_packet, SystemCancel, CancelStep, Exchange, Frame, CancelFrame, Routine, Packet, Ref}
+use Rattle.run_laws.proofs.Common.{ap, refl, list_any, Bool, List, None, Some, [], false, slice_get, ℕ, ◌∷◌, ◌≡◌, Action, Exchanges, Releases, Outcome, goes_on_cancelling, leaves, routine_of_device, Set, Actor, Entry, Shared, cancelled, entered, packet_of, with_armer, with_packet, SystemCancel, CancelStep, Exchange, Frame, CancelFrame, Routine, Packet, Ref, States, Cancels, awaits_cancel, calls_cancel, exchanges_gone, finds_empty, finds_none, flags_gone, retakes_cancel, sets_flag, takes_cancel}
 use Rattle.run_laws.proofs.Past.LivePackets.{find}
-use Rattle.run_laws.specs.ArrivingStates.{States}
-use Rattle.run_laws.proofs.Steps.Comes.{Cancels, awaits_cancel, calls_cancel, exchanges_gone, finds_empty, finds_none, flags_gone, retakes_cancel, sets_flag, takes_cancel}
 use Rattle.run_laws.proofs.Uses.Fates.{late_in}
 use Rattle.run_laws.proofs.Uses.Steps.{UseStep, apart_at, written_step}
 use Rattle.run_laws.proofs.Uses.Traced.{is_about}

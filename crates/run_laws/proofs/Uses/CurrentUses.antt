@@ -1,12 +1,10 @@
 -- Where something is agreed on for a use: its location is the current one and marked, or its packet
 -- is on its way up and it isn't; and what is agreed on for the use below is agreed on for one that
 -- is linked to it.
-use Rattle.run_laws.specs.Prelude.{ap, arith, inl, inr, refl, subst, sym, ◌-◌, ◌∙◌, eqb_tells, All-nil, All, Bool, List, Some, [], false, length, nat_eq, nat_lt, slice_get, suc, true, ℕ, ◌<◌, ◌||◌, ◌∷◌, ◌≡◌, ◌⊎◌, marks_left, Entry, Serving, current_use, uses, uses_opened, World, current_location, is_marked, Location, Packet}
+use Rattle.run_laws.proofs.Common.{ap, arith, inl, inr, refl, subst, sym, ◌-◌, ◌∙◌, eqb_tells, All-nil, All, Bool, List, Some, [], false, length, nat_eq, nat_lt, slice_get, suc, true, ℕ, ◌<◌, ◌||◌, ◌∷◌, ◌≡◌, ◌⊎◌, marks_left, Entry, Serving, current_use, uses, uses_opened, World, current_location, is_marked, Location, Packet, States, all_at}
 use Rattle.run_laws.proofs.Tests.{or_second}
 use Rattle.run_laws.proofs.Uses.Fates.{nth_use, Agreed, Falls, Linked, PacketUses, Unleft, UsesTell, WaitsAbove, fate, fate_in, late_marks}
 use Rattle.run_laws.proofs.Uses.FateFacts.{fate_head, fate_rest}
-use Rattle.run_laws.specs.ArrivingStates.{States}
-use Rattle.run_laws.proofs.Lists.{all_at}
 use Rattle.run_laws.proofs.Past.LivePackets.{find}
 
 -- the current use, and the others

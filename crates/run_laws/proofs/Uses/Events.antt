@@ -1,6 +1,6 @@
 -- What an event does to each packet and its uses; so it keeps what live packets and the trace tell
 -- of each other, what was agreed on for a use, and that a use waits for the one below it.
-use Rattle.run_laws.specs.Prelude.{ap, arith, inl, inr, refl, subst, sym, ◌-◌, ◌∙◌, eqb_tells, Bool, List, None, Option, Some, [], nat_lt, slice_get, slice_set, ℕ, ◌++◌, ◌+◌, ◌∷◌, ◌≡◌, Outcome, answered, answered_in, operand_of, top_of, Change, standing, with_stack, first_fault, frames_on, Set, instruction_at, member, sort_of, Actor, Entry, Managing, Serving, recorded, uses, World, new_packet, Stop, Status, Success, Activation, Canceller, Frame, CancelFrame, Routine, Walk, Passive, Packet, Thread}
+use Rattle.run_laws.proofs.Common.{ap, arith, inl, inr, refl, subst, sym, ◌-◌, ◌∙◌, eqb_tells, Bool, List, None, Option, Some, [], nat_lt, slice_get, slice_set, ℕ, ◌++◌, ◌+◌, ◌∷◌, ◌≡◌, Outcome, answered, answered_in, operand_of, top_of, Change, standing, with_stack, first_fault, frames_on, Set, instruction_at, member, sort_of, Actor, Entry, Managing, Serving, recorded, uses, World, new_packet, Stop, Status, Success, Activation, Canceller, Frame, CancelFrame, Routine, Walk, Passive, Packet, Thread, States, Each, sort_there, IsGood, Ready, state_of, IsKnown, Stacked, Stands, Standing, on_top, stands_there, last_under, StopsBelow, stood, Comes, cancels}
 use Rattle.run_laws.proofs.Holders.Lent.{hold_sort}
 use Rattle.run_laws.proofs.Holders.Runs.{top_holding}
 use Rattle.run_laws.proofs.Holders.Sums.{Held}
@@ -8,13 +8,6 @@ use Rattle.run_laws.proofs.Past.LivePackets.{find, find_above, find_push}
 use Rattle.run_laws.proofs.Runs.Events.{Happens, StepsFrame, nothing, steps, begins}
 use Rattle.run_laws.proofs.Runs.Roots.{Root, Beside, IdleThread, issues, root_begun, with_root}
 use Rattle.run_laws.proofs.Runs.Threads.{of_steps, frames_there}
-use Rattle.run_laws.proofs.States.Frames.{IsGood, Ready, state_of}
-use Rattle.run_laws.specs.ArrivingStates.{States}
-use Rattle.run_laws.proofs.States.Stacks.{Stacked, Stands}
-use Rattle.run_laws.proofs.States.Standing.{Standing, on_top, stands_there}
-use Rattle.run_laws.proofs.States.Told.{last_under}
-use Rattle.run_laws.proofs.Steps.Below.{StopsBelow, stood}
-use Rattle.run_laws.proofs.Steps.Comes.{Comes, cancels}
 use Rattle.run_laws.proofs.Live.Sees.{AllSeen, seen_top}
 use Rattle.run_laws.proofs.Uses.AgreedStays.{AgreedIn, agreed_turns}
 use Rattle.run_laws.proofs.Uses.Becomes.{Turns, comes_in, uses_turns}
@@ -27,9 +20,6 @@ use Rattle.run_laws.proofs.Uses.CancelSteps.{cancel_used}
 use Rattle.run_laws.proofs.Uses.HoldRoutines.{hold_settled}
 use Rattle.run_laws.proofs.Uses.WalkSteps.{walk_used}
 use Rattle.run_laws.proofs.Room.Marked.{LentMarked}
-use Rattle.run_laws.proofs.Lists.{Each}
-use Rattle.run_laws.proofs.States.Known.{IsKnown}
-use Rattle.run_laws.proofs.States.Entering.{sort_there}
 use Rattle.run_laws.proofs.Uses.TopFrames.{FrameOn, KnownTop, steps_routine, steps_walk}
 use Rattle.run_laws.proofs.Uses.Traced.{same_recorded, same_uses, traced_begun, traced_recorded}
 

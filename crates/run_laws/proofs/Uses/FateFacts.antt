@@ -1,9 +1,8 @@
 -- Facts of fates: where all are true, where they stay, and how a location that is marked or written
 -- changes them.
-use Rattle.run_laws.specs.Prelude.{ap, arith, get_or, inl, inr, refl, subst, sym, ◌∙◌, eq-eqb, eqb_tells, Bool, List, None, Option, Some, [], false, if◌then◌else◌, length, nat_eq, slice_get, slice_set, true, ℕ, ◌<◌, ◌||◌, ◌∷◌, ◌≡◌, ◌≤◌, copied_location, is_marked, unused_location, Completion, Location}
+use Rattle.run_laws.proofs.Common.{ap, arith, get_or, inl, inr, refl, subst, sym, ◌∙◌, eq-eqb, eqb_tells, Bool, List, None, Option, Some, [], false, if◌then◌else◌, length, nat_eq, slice_get, slice_set, true, ℕ, ◌<◌, ◌||◌, ◌∷◌, ◌≡◌, ◌≤◌, copied_location, is_marked, unused_location, Completion, Location, set_same}
 use Rattle.run_laws.proofs.Room.Locations.{location_there}
 use Rattle.run_laws.proofs.Uses.Fates.{Falls, fate_in}
-use Rattle.run_laws.proofs.Lists.{set_same}
 
 -- below a mark all are marked
 pub fate_true : (used : List ℕ) (locations : List Location) (u : ℕ) (marked : Bool)

@@ -1,7 +1,6 @@
 -- How the use of a packet's location was left, or will be: marked, where its location is marked, or
 -- one under it whose mark will be carried up to it.
-use Rattle.run_laws.specs.Prelude.{All, Bool, List, None, Option, Some, [], false, if◌then◌else◌, length, nat_eq, nat_lt, slice_get, true, ℕ, ⊤, ◌+◌, ◌<◌, ◌||◌, ◌∷◌, ◌≡◌, ◌≤◌, ◌⊎◌, depth, stack_size, marks_left, was_marked, Entry, Serving, uses, uses_opened, World, completion_of, is_marked, Settled, NeedMark, Open, SettledMark, Frame, Routine, Walk, Location, Packet, Thread}
-use Rattle.run_laws.specs.ArrivingStates.{States}
+use Rattle.run_laws.proofs.Common.{All, Bool, List, None, Option, Some, [], false, if◌then◌else◌, length, nat_eq, nat_lt, slice_get, true, ℕ, ⊤, ◌+◌, ◌<◌, ◌||◌, ◌∷◌, ◌≡◌, ◌≤◌, ◌⊎◌, depth, stack_size, marks_left, was_marked, Entry, Serving, uses, uses_opened, World, completion_of, is_marked, Settled, NeedMark, Open, SettledMark, Frame, Routine, Walk, Location, Packet, Thread, States}
 use Rattle.run_laws.proofs.Past.LivePackets.{find}
 
 -- the mark that a use of one of these locations will have: its location's, or one from below; the

@@ -1,7 +1,6 @@
 -- A completion routine that is lent a packet has no mark to carry up, and sees no packet on its way
 -- up, in any state that arrives at a position.
-use Rattle.run_laws.specs.Prelude.{ap, refl, subst, sym, ◌∙◌, None, Some, false, ℕ, ◌≡◌, entered_with, entry_of_sort, entry_state, given_down, handed, handed_at_label, kind_of, look_fault, marked, refuses, Arrives, Member, Set, cancels_for, Abs, Fresh, Kind, New, View, SettledMark, Instr, Call, IfPending, Mark, Pass, Sort, Hold}
-use Rattle.run_laws.proofs.States.Along.{arrives_keep}
+use Rattle.run_laws.proofs.Common.{ap, refl, subst, sym, ◌∙◌, None, Some, false, ℕ, ◌≡◌, entered_with, entry_of_sort, entry_state, given_down, handed, handed_at_label, kind_of, look_fault, marked, refuses, Arrives, Member, Set, cancels_for, Abs, Fresh, Kind, New, View, SettledMark, Instr, Call, IfPending, Mark, Pass, Sort, Hold, arrives_keep}
 
 abbrev IsSettled : Abs → Type 0
 IsSettled s = s.settled ≡ SettledMark

@@ -1,15 +1,10 @@
 -- How many marks a packet's completion routines have still to carry up: at most one for each of the
 -- I/O manager's frames of the packet that isn't the top one and isn't lent, and what a step changes
 -- of it.
-use Rattle.run_laws.specs.Holder.{all_walking, frame_walks, is_lent, walking}
+use Rattle.run_laws.proofs.Common.{ap, arith, cond, inl, inr, refl, subst, zero, ◌-◌, ◌∙◌, cases_Bool, eq-eqb, eqb_tells, Bool, List, None, Option, Some, [], false, if◌then◌else◌, slice_get, slice_set, suc, true, ℕ, ⊤, ◌++◌, ◌+◌, ◌∷◌, ◌≡◌, ◌≤◌, answered_in, operand_of, told_to, is_hold, Set, instruction_at, sort_of, World, Settled, NeedMark, Open, SettledMark, Status, Activation, Frame, CancelFrame, Routine, Walk, Packet, Thread, States, all_walking, frame_walks, is_lent, walking, Each, last_under, told_frame, told_is, told_last, if_none}
 use Rattle.run_laws.proofs.Holders.Sums.{Held, held}
 use Rattle.run_laws.proofs.Past.LivePackets.{find}
-use Rattle.run_laws.specs.ArrivingStates.{States}
-use Rattle.run_laws.proofs.States.Told.{last_under, told_frame, told_is, told_last}
-use Rattle.run_laws.proofs.Tests.{if_none}
 use Rattle.run_laws.proofs.Uses.Fates.{late_in, late_mark, late_marks, late_on}
-use Rattle.run_laws.specs.Prelude.{ap, arith, cond, inl, inr, refl, subst, zero, ◌-◌, ◌∙◌, cases_Bool, eq-eqb, eqb_tells, Bool, List, None, Option, Some, [], false, if◌then◌else◌, slice_get, slice_set, suc, true, ℕ, ⊤, ◌++◌, ◌+◌, ◌∷◌, ◌≡◌, ◌≤◌, answered_in, operand_of, told_to, is_hold, Set, instruction_at, sort_of, World, Settled, NeedMark, Open, SettledMark, Status, Activation, Frame, CancelFrame, Routine, Walk, Packet, Thread}
-use Rattle.run_laws.proofs.Lists.{Each}
 
 -- at most one for each of the packet's frames
 late_one : (returned : Bool) (carried : Settled) → late_mark returned carried ≤ 1

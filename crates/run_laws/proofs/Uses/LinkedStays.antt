@@ -1,11 +1,10 @@
 -- A use that waits for the one below it goes on to, until that one is left; then what it was left
 -- with is agreed on for the use above.
-use Rattle.run_laws.specs.Prelude.{ap, arith, drop, inl, inr, refl, subst, sym, ◌-◌, ◌∙◌, All-nil, All, Bool, List, None, Option, Some, [], false, length, nat_lt, slice_get, slice_set, suc, true, ℕ, ◌+◌, ◌<◌, ◌||◌, ◌∷◌, ◌≡◌, ◌≤◌, ◌⊎◌, marks_left, was_marked, Entry, Serving, uses, uses_opened, copied_location, current_location, is_marked, mark_current, marked_location, sent_down, Location, Packet}
+use Rattle.run_laws.proofs.Common.{ap, arith, drop, inl, inr, refl, subst, sym, ◌-◌, ◌∙◌, All-nil, All, Bool, List, None, Option, Some, [], false, length, nat_lt, slice_get, slice_set, suc, true, ℕ, ◌+◌, ◌<◌, ◌||◌, ◌∷◌, ◌≡◌, ◌≤◌, ◌⊎◌, marks_left, was_marked, Entry, Serving, uses, uses_opened, copied_location, current_location, is_marked, mark_current, marked_location, sent_down, Location, Packet, set_other}
 use Rattle.run_laws.proofs.Uses.AgreedStays.{AgreedIn, agreed_turn, bit_below, stands_of}
 use Rattle.run_laws.proofs.Uses.Fates.{nth_use, Falls, MarksTell, PacketUses, Traced, Unleft, WaitsAbove, fate_in}
 use Rattle.run_laws.proofs.Room.Locations.{marked_other}
 use Rattle.run_laws.proofs.Uses.FateFacts.{fate_head}
-use Rattle.run_laws.proofs.Lists.{set_other}
 use Rattle.run_laws.proofs.Uses.Becomes.{Becomes, comes_in, gets_marked, goes_down, goes_out, goes_up, keeps_marks, never_live, IsCalled, IsKept, IsLeft, IsMarked, Turn, Turns, UsesIn, not_use, own_use, uses_turn}
 
 -- a use waits for the mark of the one below it

@@ -1,34 +1,20 @@
 -- What a step of a routine does to each packet and its uses.
-use Rattle.run_laws.specs.Prelude.{ap, arith, inl, inr, refl, subst, sym, ◌-◌, ◌∙◌, cond_both, eq-eqb, leb-false, eqb_tells, list_any, Bool, List, None, Option, Some, [], false, is_some, nat_eq, nat_le, not, slice_get, true, ℕ, ⊤, ◌++◌, ◌+◌, ◌∷◌, ◌≡◌, ◌≤◌, ◌⊎◌, Acquires, Action, Calls, Completes, Continues, Exchanges, Executes, GoesWrong, Marks, Releases, Touches, TouchesPaged, Outcome, asks, dispatched, goes_on, goes_wrong, leaves, set_by, turned, bug_if, depth, first_fault, first_or, stack_size, topped, is_right, is_view, broken_if, is_completion, kind_of, look_fault, mark_fault, marked, refuses, settled_fault, StartState, Set, flow_of, sort_of, Actor, Entry, Shared, asked_of, completed, current_location, innermost, mark_current, next, packet_of, sent_down, shared_with, with_armer, with_info, with_locks, with_loops, with_owner, with_packet, Abs, Kind, New, View, CompletionRule, Settled, NeedMark, Open, SettledMark, Bug, IrqlNotLessOrEqual, Reply, Stepped, Waited, PacketSubject, Instr, Call, Complete, End, Get, IfCancel, IfPending, Loop, Mark, Pass, Put, Ret, Return, Continue, Stop, Void, Sort, Hold, Propagate, Activation, Armer, Frame, CancelFrame, Routine, Walk, OpenLoop, Packet}
+use Rattle.run_laws.proofs.Common.{ap, arith, inl, inr, refl, subst, sym, ◌-◌, ◌∙◌, cond_both, eq-eqb, leb-false, eqb_tells, list_any, Bool, List, None, Option, Some, [], false, is_some, nat_eq, nat_le, not, slice_get, true, ℕ, ⊤, ◌++◌, ◌+◌, ◌∷◌, ◌≡◌, ◌≤◌, ◌⊎◌, Acquires, Action, Calls, Completes, Continues, Exchanges, Executes, GoesWrong, Marks, Releases, Touches, TouchesPaged, Outcome, asks, dispatched, goes_on, goes_wrong, leaves, set_by, turned, bug_if, depth, first_fault, first_or, stack_size, topped, is_right, is_view, broken_if, is_completion, kind_of, look_fault, mark_fault, marked, refuses, settled_fault, StartState, Set, flow_of, sort_of, Actor, Entry, Shared, asked_of, completed, current_location, innermost, mark_current, next, packet_of, sent_down, shared_with, with_armer, with_info, with_locks, with_loops, with_owner, with_packet, Abs, Kind, New, View, CompletionRule, Settled, NeedMark, Open, SettledMark, Bug, IrqlNotLessOrEqual, Reply, Stepped, Waited, PacketSubject, Instr, Call, Complete, End, Get, IfCancel, IfPending, Loop, Mark, Pass, Put, Ret, Return, Continue, Stop, Void, Sort, Hold, Propagate, Activation, Armer, Frame, CancelFrame, Routine, Walk, OpenLoop, Packet, States, frame_rights, IsCompleting, IsOfSort, not_gone, touch_top, Runs, state_of, down, arrives, arrives_next, falls_next, has_next, onto, returns_by, MovedOn, queue_moves, waits_move, Comes, Executing, GoesTo, Waits, awaits_lock, calls_down, completes_gone, completes_packet, computes, ends_cancel, ends_dpc, ends_startio, errs, exchanges, frees_lock, lets_go, lets_walk, looks_at, marks_packet, opens_loop, pages, passes_down, resumes_gone, resumes_none, resumes_walk, retakes_lock, returns_status, stops_none, stops_walk, takes_lock, touches_gone, turns_loop, works_on_queues, works_on_waiting, writes_info, none_first, none_later, LockWord, freed_word, taken_word, queued_touches, queued_work, waits_work, Work, packet_operand, work_of}
 use Rattle.model.specs.declared.event.BugCheck.TheVariants.{NoMoreIrpStackLocations}
 use Rattle.model.specs.LocalRule.{is_settled}
-use Rattle.run_laws.specs.Holder.{frame_rights}
 use Rattle.run_laws.proofs.Holders.Sums.{held, own_if, unheld}
 use Rattle.run_laws.proofs.Past.LivePackets.{find}
 use Rattle.run_laws.proofs.Past.Packets.{Tells, found, named, numbered}
-use Rattle.run_laws.proofs.States.Fine.{bug_none, not_gone, touch_top}
-use Rattle.run_laws.proofs.States.Frames.{Runs, state_of}
-use Rattle.run_laws.proofs.States.Moves.{arrives, arrives_next, falls_next, has_next, onto}
-use Rattle.run_laws.proofs.States.Lacking.{down}
-use Rattle.run_laws.proofs.States.Obeyed.{returns_by}
-use Rattle.run_laws.proofs.Steps.Locking.{LockWord, freed_word, taken_word}
-use Rattle.run_laws.proofs.States.Entering.{IsCompleting, IsOfSort}
-use Rattle.run_laws.specs.ArrivingStates.{States}
+use Rattle.run_laws.proofs.States.Fine.{bug_none}
 use Rattle.run_laws.proofs.Uses.HoldRoutines.{given_settled}
-use Rattle.run_laws.proofs.Steps.Comes.{Queued, Comes, Executing, GoesTo, Reads, awaits_lock, calls_down, completes_gone, completes_packet, computes, ends_cancel, errs, exchanges, frees_lock, lets_go, lets_walk, looks_at, marks_packet, opens_loop, pages, passes_down, resumes_gone, resumes_none, resumes_walk, retakes_lock, returns_status, stops_none, stops_walk, takes_lock, touches_gone, turns_loop, writes_info, ends_dpc, works_on_queues, ends_startio}
-use Rattle.run_laws.proofs.Steps.Faults.{none_first, none_later}
-use Rattle.run_laws.proofs.Steps.Words.{Looking, Marking, Work, jumps_on, packet_operand, work_of}
+use Rattle.run_laws.proofs.Steps.Comes.{Queued, Reads}
+use Rattle.run_laws.proofs.Steps.Words.{Looking, Marking, jumps_on}
 use Rattle.run_laws.proofs.Uses.Becomes.{gets_marked, goes_down}
 use Rattle.run_laws.proofs.Room.Locations.{shared_completion, shared_marks}
 use Rattle.run_laws.proofs.Past.Stacks.{shared_length}
 use Rattle.run_laws.proofs.Uses.Fates.{late_in, late_mark, late_on}
 use Rattle.run_laws.proofs.Uses.Traced.{is_about}
 use Rattle.run_laws.proofs.Uses.Steps.{UseStep, apart_at, becomes_at, found_other, found_put, late_of, split_step, written_step}
-use Rattle.run_laws.proofs.Steps.Queues.{queued_work, queued_touches}
-use Rattle.run_laws.proofs.States.Queueing.{queue_moves, MovedOn}
-use Rattle.run_laws.proofs.Steps.Comes.{Waits, works_on_waiting}
-use Rattle.run_laws.proofs.States.Queueing.{waits_move}
-use Rattle.run_laws.proofs.Steps.Queues.{waits_work}
 
 -- a routine that goes on has as much to carry up as before, and what stands on one carries nothing
 pub late_still : (states : States) (returned : Bool) (n : ℕ) (under : Option Frame)

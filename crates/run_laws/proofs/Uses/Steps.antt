@@ -1,10 +1,9 @@
 -- What a step of a frame does to each packet and its uses, and to the marks that have still to be
 -- carried up.
-use Rattle.run_laws.specs.Prelude.{ap, arith, inl, inr, refl, subst, sym, ◌∙◌, eq-eqb, eqb_tells, list_any, Bool, List, None, Option, Some, false, length, nat_eq, slice_get, slice_set, true, ℕ, ◌+◌, ◌≡◌, ◌≤◌, Action, Outcome, leaves, Actor, Entry, recorded, Shared, completion_of, is_marked, packet_of, place_of, with_packet, Frame, Walk, Packet}
+use Rattle.run_laws.proofs.Common.{ap, arith, inl, inr, refl, subst, sym, ◌∙◌, eq-eqb, eqb_tells, list_any, Bool, List, None, Option, Some, false, length, nat_eq, slice_get, slice_set, true, ℕ, ◌+◌, ◌≡◌, ◌≤◌, Action, Outcome, leaves, Actor, Entry, recorded, Shared, completion_of, is_marked, packet_of, place_of, with_packet, Frame, Walk, Packet, States}
 use Rattle.run_laws.proofs.Holders.Sums.{held}
 use Rattle.run_laws.proofs.Past.LivePackets.{find, find_set}
 use Rattle.run_laws.proofs.Past.Packets.{found, numbered}
-use Rattle.run_laws.specs.ArrivingStates.{States}
 use Rattle.run_laws.proofs.Uses.Becomes.{Becomes, Turns, keeps_marks, never_live}
 use Rattle.run_laws.proofs.Uses.Fates.{late_in, late_on}
 use Rattle.run_laws.proofs.Uses.Traced.{SameUses, is_about, noted_recorded, opened_recorded, same_recorded}

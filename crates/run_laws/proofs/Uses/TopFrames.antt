@@ -1,18 +1,13 @@
 -- What is known of a thread's top frame that steps, over another frame or none: it stands as it
 -- should, its rights are to live packets, and what it sees and stands on is as its sort says.
-use Rattle.run_laws.specs.Prelude.{ap, arith, inl, inr, refl, sym, ◌∙◌, List, None, Option, Some, false, true, ℕ, ⊤, ◌≡◌, is_new, is_view, kind_of, Set, member, sort_of, Actor, Entry, Shared, register, Abs, SettledMark, End, Sort, Dispatch, Hold, Activation, Frame, CancelFrame, Routine, Walk, Packet}
+use Rattle.run_laws.proofs.Common.{ap, arith, inl, inr, refl, sym, ◌∙◌, List, None, Option, Some, false, true, ℕ, ⊤, ◌≡◌, is_new, is_view, kind_of, Set, member, sort_of, Actor, Entry, Shared, register, Abs, SettledMark, End, Sort, Dispatch, Hold, Activation, Frame, CancelFrame, Routine, Walk, Packet, States, IsOfSort, begins_back, begins_lent, sort_there, state_of, IsKnown, moved_end, HasNone, deferred_no_view, dispatch_no_view, hold_no_view, no_view_at, OnTop, runs}
 use Rattle.run_laws.proofs.Holders.Counts.{Holding, reads_ref, walk_taken}
 use Rattle.run_laws.proofs.Holders.Rights.{one_right, right_le}
 use Rattle.run_laws.proofs.Past.LivePackets.{find, find_place}
 use Rattle.run_laws.proofs.Room.Marked.{LentMarked}
 use Rattle.run_laws.proofs.Uses.HoldRoutines.{hold_settled}
-use Rattle.run_laws.proofs.States.Entering.{IsOfSort, sort_there, begins_back, begins_lent}
-use Rattle.run_laws.proofs.States.Frames.{Stays, state_of}
-use Rattle.run_laws.proofs.States.Known.{IsKnown}
-use Rattle.run_laws.proofs.States.LoopEnds.{moved_end}
-use Rattle.run_laws.proofs.States.NoViews.{deferred_no_new, HasNone, deferred_no_view, dispatch_no_view, no_view_at, hold_no_view}
-use Rattle.run_laws.proofs.States.OnTop.{OnTop, runs}
-use Rattle.run_laws.specs.ArrivingStates.{States}
+use Rattle.run_laws.proofs.States.Frames.{Stays}
+use Rattle.run_laws.proofs.States.NoViews.{deferred_no_new}
 use Rattle.run_laws.proofs.Steps.Comes.{Reads}
 use Rattle.run_laws.proofs.Live.Sees.{IsDeferred, reads_view, Seen}
 use Rattle.run_laws.proofs.Uses.RoutineSteps.{OnWalk, StepsRoutine}

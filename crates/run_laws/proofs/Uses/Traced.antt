@@ -1,13 +1,11 @@
 -- What a trace says of uses, action by action: they are opened in order, and what isn't about a
 -- packet leaves its uses as they were.
-use Rattle.run_laws.specs.Prelude.{ap, arith, drop, inl, inr, refl, ◌-◌, ◌∙◌, eqb_tells, list_any, Bool, List, None, Option, Some, [], false, if◌then◌else◌, length, nat_eq, slice_get, suc, true, ℕ, ◌+◌, ◌<◌, ◌||◌, ◌∷◌, ◌≡◌, ◌≤◌, Action, Leave, OnLocation, Up, depth, stack_size, is_use, marks_left, was_marked, Actor, Entry, Serving, current_use, entry, recorded, uses, uses_opened}
+use Rattle.run_laws.proofs.Common.{ap, arith, drop, inl, inr, refl, ◌-◌, ◌∙◌, eqb_tells, list_any, Bool, List, None, Option, Some, [], false, if◌then◌else◌, length, nat_eq, slice_get, suc, true, ℕ, ◌+◌, ◌<◌, ◌||◌, ◌∷◌, ◌≡◌, ◌≤◌, Action, Leave, OnLocation, Up, depth, stack_size, is_use, marks_left, was_marked, Actor, Entry, Serving, current_use, entry, recorded, uses, uses_opened, and_false, or_left, or_right}
 use Rattle.model.specs.Action.{Issue, Call, Mark}
 use Rattle.model.specs.Fault.{depth_after}
 use Rattle.model.specs.PendingAgreement.{leaves_use, marks_use}
 use Rattle.model.specs.Trace.{opens, use_of, uses_after}
 use Rattle.run_laws.proofs.Uses.Fates.{Falls, Traced}
-use Rattle.run_laws.proofs.Tests.{and_false}
-use Rattle.run_laws.proofs.Tests.{or_left, or_right}
 
 pub falls_more : (bound more : ℕ) (used : List ℕ) → bound ≤ more → Falls bound used
     → Falls more used

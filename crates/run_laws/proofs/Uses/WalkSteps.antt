@@ -1,12 +1,9 @@
 -- What a step of the I/O manager's frame does to each packet and its uses.
-use Rattle.run_laws.specs.Prelude.{ap, arith, drop, inl, inr, refl, sym, ◌-◌, ◌∙◌, cases_lt, cond_both, eq-eqb, ltb-false, ltb-true, list_any, Bool, List, None, Option, Some, [], false, if◌then◌else◌, nat_eq, nat_lt, slice_get, suc, true, ℕ, ◌+◌, ◌<◌, ◌∷◌, ◌≡◌, ◌≤◌, ◌⊎◌, Action, Lends, Marks, TopsOut, Touches, Ups, Outcome, completes_with, leaves, sort_of_completion, stack_size, is_hold, marked, is_use, marks_left, was_marked, Set, Actor, Entry, current_use, recorded, uses, Shared, completion_of, current_location, is_marked, left_location, mark_current, moved_up, packet_of, with_packet, without_packet, Open, SettledMark, Topped, Hold, Completion, Frame, Routine, Walk, Location, Packet}
+use Rattle.run_laws.proofs.Common.{ap, arith, drop, inl, inr, refl, sym, ◌-◌, ◌∙◌, cases_lt, cond_both, eq-eqb, ltb-false, ltb-true, list_any, Bool, List, None, Option, Some, [], false, if◌then◌else◌, nat_eq, nat_lt, slice_get, suc, true, ℕ, ◌+◌, ◌<◌, ◌∷◌, ◌≡◌, ◌≤◌, ◌⊎◌, Action, Lends, Marks, TopsOut, Touches, Ups, Outcome, completes_with, leaves, sort_of_completion, stack_size, is_hold, marked, is_use, marks_left, was_marked, Set, Actor, Entry, current_use, recorded, uses, Shared, completion_of, current_location, is_marked, left_location, mark_current, moved_up, packet_of, with_packet, without_packet, Open, SettledMark, Topped, Hold, Completion, Frame, Routine, Walk, Location, Packet, States, state_of, Comes, carries_up, lends_to, tops_out, walks_gone, walks_to, walks_up}
 use Rattle.model.specs.Action.{Leaves}
 use Rattle.run_laws.proofs.Room.Marked.{LentMarked}
 use Rattle.run_laws.proofs.Past.LivePackets.{Rises, find, find_remove}
 use Rattle.run_laws.proofs.Past.Packets.{found, numbered}
-use Rattle.run_laws.proofs.States.Frames.{state_of}
-use Rattle.run_laws.specs.ArrivingStates.{States}
-use Rattle.run_laws.proofs.Steps.Comes.{Comes, carries_up, lends_to, tops_out, walks_gone, walks_to, walks_up}
 use Rattle.run_laws.proofs.Uses.Becomes.{gets_marked, goes_out, goes_up}
 use Rattle.run_laws.proofs.Uses.Fates.{late_in, late_on}
 use Rattle.run_laws.proofs.Uses.LateMarks.{late_walk}
