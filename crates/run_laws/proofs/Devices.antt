@@ -1,5 +1,5 @@
 -- The devices of a sound set: each fits at its place, and is the one that its routines are for.
-use Rattle.run_laws.specs.Prelude.{arith, refl, subst, zero, List, None, Option, Some, [], length, slice_get, suc, ℕ, ◌+◌, ◌∷◌, ◌≡◌, dispatched, Set, DeviceFits, IsSound, Device, Major}
+use Rattle.run_laws.proofs.Prelude.{arith, refl, subst, zero, List, None, Option, Some, [], length, slice_get, suc, ℕ, ◌+◌, ◌∷◌, ◌≡◌, dispatched, Set, DeviceFits, IsSound, Device, Major}
 use Rattle.model.specs.Sound.{DevicesFit}
 
 fits_from : (drivers first : ℕ) (devices : List Device) (i : ℕ) (d : Device)

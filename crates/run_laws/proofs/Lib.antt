@@ -1,3 +1,4 @@
+pub mod Prelude
 pub mod Common
 pub mod Lists
 pub mod Tests

@@ -1,5 +1,5 @@
 -- Small facts on lists: from a place on, and at the end.
-use Rattle.run_laws.specs.Prelude.{ap, arith, drop, get_or, refl, subst, sym, take, zero, ◌-◌, ◌∙◌, length-append, get_or_from_slice_get, slice_get_within, All, List, Some, [], length, remove, replicate, slice_get, slice_index_or, slice_set, suc, ℕ, ⊤, ◌++◌, ◌+◌, ◌<◌, ◌∷◌, ◌≡◌, ◌≢◌, ◌≤◌}
+use Rattle.run_laws.proofs.Prelude.{ap, arith, drop, get_or, refl, subst, sym, take, zero, ◌-◌, ◌∙◌, length-append, get_or_from_slice_get, slice_get_within, All, List, Some, [], length, remove, replicate, slice_get, slice_index_or, slice_set, suc, ℕ, ⊤, ◌++◌, ◌+◌, ◌<◌, ◌∷◌, ◌≡◌, ◌≢◌, ◌≤◌}
 use Rattle.std.proofs.lemmas.List.{take_all, take_more, take_at}
 
 -- what stands at a place is the first from there on

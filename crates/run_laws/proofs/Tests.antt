@@ -1,5 +1,5 @@
 -- Parts of tests that succeed or fail, and numbers that go by one.
-use Rattle.run_laws.specs.Prelude.{arith, cond, inl, inr, refl, sym, ◌∙◌, leb_tells, Bool, false, if◌then◌else◌, nat_le, nat_lt, not, suc, true, ℕ, ◌&&◌, ◌<◌, ◌||◌, ◌≡◌, ◌≤◌}
+use Rattle.run_laws.proofs.Prelude.{arith, cond, inl, inr, refl, sym, ◌∙◌, leb_tells, Bool, false, if◌then◌else◌, nat_le, nat_lt, not, suc, true, ℕ, ◌&&◌, ◌<◌, ◌||◌, ◌≡◌, ◌≤◌}
 
 pub or_left : (a b : Bool) → (a || b) ≡ false → a ≡ false
 or_left true b h = cc

@@ -1,5 +1,13 @@
 -- Runs of an accepted set that a machine may not tell apart go on alike.
-use Rattle.run_laws.specs.Prelude.{List, ℕ, ◌≡◌, reply_to, run, step, Set, ShowsWorld, whole, IsSound, IsTypable, World, Event}
+use Rattle.std.specs.Prelude.{ℕ, ◌≡◌, List}
+use Rattle.model.specs.declared.event.Event.{Event}
+use Rattle.model.specs.Machine.{reply_to}
+use Rattle.model.specs.Run.{run, step}
+use Rattle.model.specs.Set.{Set}
+use Rattle.model.specs.Shown.{ShowsWorld, whole}
+use Rattle.model.specs.Sound.{IsSound}
+use Rattle.model.specs.Typable.{IsTypable}
+use Rattle.model.specs.World.{World}
 
 -- the world of a run after one event more
 abbrev pub world_after : Set → ℕ → List Event → Event → World

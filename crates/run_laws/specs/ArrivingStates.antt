@@ -1,6 +1,10 @@
 -- The state that arrives at each position of a routine: what the registers of a frame hold, and
 -- whether the frame has a token, is read off it.
-use Rattle.run_laws.specs.Prelude.{Some, length, ℕ, ◌<◌, ◌≡◌, Set, member, routine_of, ArrivesAlone, Abs, RoutineOf}
+use Rattle.std.specs.Prelude.{ℕ, ◌≡◌, ◌<◌, length, Some}
+use Rattle.model.specs.declared.abs.Abs.{Abs}
+use Rattle.model.specs.declared.set.Routine.{Routine as RoutineOf}
+use Rattle.model.specs.Set.{Set, member, routine_of}
+use Rattle.model.specs.Typable.{ArrivesAlone}
 
 -- a state for every position of every routine: by the driver's number, the routine's, and the
 -- position

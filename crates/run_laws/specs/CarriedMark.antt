@@ -1,9 +1,20 @@
 -- A worked run, as a check of what the definitions on pending marks say: an upper driver calls the
 -- lower one, which marks the packet, completes it and returns STATUS_PENDING; the I/O manager
 -- carries the mark up, and the upper driver returns what the lower one returned.
-use Rattle.run_laws.specs.Prelude.{List, None, Some, [], true, ℕ, ◌∷◌, ◌≡◌, marks_left, statuses_returned, run, Set, Entry, Serving, Event, Issue, Step, Instr, Call, Complete, Mark, Ret, WithStatus, Driver, Dispatch, Read, Success}
-use Rattle.model.specs.declared.instr.Return.TheVariants.{Lower}
-use Rattle.model.specs.declared.status.Status.TheVariants.{Pending}
+use Rattle.std.specs.Prelude.{ℕ, ◌≡◌, true, List, [], ◌∷◌, Some, None}
+use Rattle.model.specs.declared.event.Event.{Event}
+use Rattle.model.specs.declared.event.Event.TheVariants.{Issue, Step}
+use Rattle.model.specs.declared.instr.Instr.{Instr}
+use Rattle.model.specs.declared.instr.Instr.TheVariants.{Mark, Call, Complete, Ret}
+use Rattle.model.specs.declared.instr.Return.TheVariants.{WithStatus, Lower}
+use Rattle.model.specs.declared.set.Driver.{Driver}
+use Rattle.model.specs.declared.set.Sort.TheVariants.{Dispatch}
+use Rattle.model.specs.declared.status.Major.TheVariants.{Read}
+use Rattle.model.specs.declared.status.Status.TheVariants.{Pending, Success}
+use Rattle.model.specs.PendingAgreement.{marks_left, statuses_returned}
+use Rattle.model.specs.Run.{run}
+use Rattle.model.specs.Set.{Set}
+use Rattle.model.specs.Trace.{Entry, Serving}
 
 abbrev pub driver_of : List Instr → Driver
 driver_of code =

@@ -2,8 +2,23 @@
 -- takes the current packet, starts the next one, and then makes the packet that it took the current
 -- one again. The device then has a current packet while StartIo has to begin for another one. The
 -- local rule refuses `begin` after `next`, and would accept the set if `next` kept the token.
-use Rattle.run_laws.specs.Prelude.{List, None, Option, Some, [], option_map, true, ◌++◌, ◌∷◌, ◌≡◌, entry_of_sort, handed, refuses, StartState, run, Set, start_of, Abs, Rule, Token, Event, DpcEvent, Interrupt, Issue, StartIoEvent, Step, Begin, Mark, Next, Ret, Start, Take, Void, WithStatus, Driver, Dispatch, Dpc, StartIo, Read}
+use Rattle.std.specs.Prelude.{◌≡◌, true, List, [], ◌∷◌, ◌++◌, Option, Some, None, option_map}
+use Rattle.model.specs.declared.abs.Abs.{Abs}
+use Rattle.model.specs.declared.abs.Rule.{Rule}
+use Rattle.model.specs.declared.abs.Rule.TheVariants.{Token}
+use Rattle.model.specs.declared.event.Event.{Event}
+use Rattle.model.specs.declared.event.Event.TheVariants.{Issue, Interrupt, Dpc as DpcEvent, StartIo as StartIoEvent, Step}
+use Rattle.model.specs.declared.instr.Instr.TheVariants.{Mark, Start, Take, Begin, Next, Ret}
+use Rattle.model.specs.declared.instr.Return.TheVariants.{WithStatus, Void}
+use Rattle.model.specs.declared.set.Driver.{Driver}
+use Rattle.model.specs.declared.set.Sort.TheVariants.{Dispatch, StartIo, Dpc}
+use Rattle.model.specs.declared.status.Major.TheVariants.{Read}
 use Rattle.model.specs.declared.status.Status.TheVariants.{Pending}
+use Rattle.model.specs.LocalRule.{entry_of_sort, handed, refuses}
+use Rattle.model.specs.Queues.{StartState}
+use Rattle.model.specs.Run.{run}
+use Rattle.model.specs.Set.{Set}
+use Rattle.model.specs.World.{start_of}
 
 -- the DPC routine gives the token away twice, by `next` and by `begin`
 abbrev pub doubling_driver : Driver

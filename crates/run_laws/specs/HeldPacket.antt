@@ -4,8 +4,18 @@
 -- while it is held, so that it tops out, and nothing stops the run. Where a packet that is lent
 -- still counted as completing, the DPC routine's `complete` would be
 -- MULTIPLE_IRP_COMPLETE_REQUESTS.
-use Rattle.run_laws.specs.Prelude.{List, None, Some, [], false, true, ◌++◌, ◌∷◌, ◌≡◌, completing, topped, Run, run, Set, Event, DpcEvent, Interrupt, Issue, Step, Acquire, Call, Complete, Insert, Mark, Release, Remove, Ret, Stop, Void, WithStatus, Driver, Dispatch, Dpc, Hold, Read, Success}
-use Rattle.model.specs.declared.status.Status.TheVariants.{Pending}
+use Rattle.std.specs.Prelude.{◌≡◌, true, false, List, [], ◌∷◌, ◌++◌, Some, None}
+use Rattle.model.specs.declared.event.Event.{Event}
+use Rattle.model.specs.declared.event.Event.TheVariants.{Issue, Interrupt, Dpc as DpcEvent, Step}
+use Rattle.model.specs.declared.instr.Instr.TheVariants.{Mark, Acquire, Release, Insert, Remove, Call, Complete, Ret}
+use Rattle.model.specs.declared.instr.Return.TheVariants.{WithStatus, Stop, Void}
+use Rattle.model.specs.declared.set.Driver.{Driver}
+use Rattle.model.specs.declared.set.Sort.TheVariants.{Dispatch, Hold, Dpc}
+use Rattle.model.specs.declared.status.Major.TheVariants.{Read}
+use Rattle.model.specs.declared.status.Status.TheVariants.{Pending, Success}
+use Rattle.model.specs.Fault.{completing, topped}
+use Rattle.model.specs.Run.{Run, run}
+use Rattle.model.specs.Set.{Set}
 
 abbrev pub completing_driver : Driver
 completing_driver =

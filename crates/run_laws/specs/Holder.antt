@@ -1,6 +1,28 @@
 -- Who holds a packet: a register that has the right to it, the I/O manager's frame that completes
 -- it, a queue, what a device has for StartIo, or its cancel word.
-use Rattle.run_laws.specs.Prelude.{Bool, List, None, Option, Some, [], false, if◌then◌else◌, is_some, length, nat_eq, nat_lt, not, slice_get, ℕ, ◌&&◌, ◌+◌, ◌<◌, ◌∷◌, ◌≡◌, ◌≤◌, routine_of_device, topped, is_right, is_hold, StartState, Run, frames_on, run, Set, cancel_routine_of, has_cancel, routine_of, sort_of, IsSound, IsTypable, Shared, packet_of, Kind, Event, REGISTERS, DeviceQueue, RoutineOf, Activation, Frame, CancelFrame, Routine, Walk, Packet, Thread, Value, Blank, Num, Ref, StatusValue}
+use Rattle.std.specs.Prelude.{ℕ, ◌≡◌, ◌<◌, ◌≤◌, ◌+◌, ◌&&◌, not, Bool, List, [], ◌∷◌, length, Option, None, Some, is_some, nat_eq, nat_lt, slice_get, if◌then◌else◌, false}
+use Rattle.model.specs.declared.abs.Kind.{Kind}
+use Rattle.model.specs.declared.event.Event.{Event}
+use Rattle.model.specs.declared.limits.TheConstants.{REGISTERS}
+use Rattle.model.specs.declared.set.Routine.{Routine as RoutineOf}
+use Rattle.model.specs.declared.world.Activation.{Activation}
+use Rattle.model.specs.declared.world.Frame.{Frame}
+use Rattle.model.specs.declared.world.Frame.TheVariants.{Routine, Walk, Cancel as CancelFrame}
+use Rattle.model.specs.declared.world.Packet.{Packet}
+use Rattle.model.specs.declared.world.Thread.{Thread}
+use Rattle.model.specs.declared.world.Value.{Value}
+use Rattle.model.specs.declared.world.Value.TheVariants.{Blank, Num, Ref, Status as StatusValue}
+use Rattle.model.specs.Effect.{routine_of_device}
+use Rattle.model.specs.Fault.{topped}
+use Rattle.model.specs.Kinds.{is_right}
+use Rattle.model.specs.LocalRule.{is_hold}
+use Rattle.model.specs.Queues.{StartState}
+use Rattle.model.specs.Run.{Run, frames_on, run}
+use Rattle.model.specs.declared.set.QueueName.TheVariants.{DeviceQueue}
+use Rattle.model.specs.Set.{has_cancel, Set, cancel_routine_of, routine_of, sort_of}
+use Rattle.model.specs.Sound.{IsSound}
+use Rattle.model.specs.Typable.{IsTypable}
+use Rattle.model.specs.World.{Shared, packet_of}
 use Rattle.run_laws.specs.ArrivingStates.{States, StatesArrive}
 
 -- 1 where a value refers to a packet, else 0

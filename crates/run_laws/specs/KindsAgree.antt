@@ -1,9 +1,22 @@
 -- Registers are of the kinds that the verifier gives them, in every run of an accepted set. So a
 -- machine whose words don't say of what kind they are needs no more than where a frame stands to
 -- know what a register holds from which something may be taken.
-use Rattle.run_laws.specs.Prelude.{List, Some, is_some, slice_get, true, ℕ, ⊤, ◌+◌, ◌<◌, ◌≡◌, kind_of, frames_on, run, Set, MayBeTaken, IsSound, IsTypable, Shared, packet_of, register, Kind, Lower, New, Own, Queued, View, Event, Status, Activation, Routine, Value, Ref, StatusValue}
-use Rattle.model.specs.declared.abs.Kind.TheVariants.{Blank, Num}
-use Rattle.model.specs.declared.world.Value.TheVariants.{Num as NumValue}
+use Rattle.std.specs.Prelude.{ℕ, ⊤, ◌≡◌, ◌<◌, ◌+◌, true, List, Some, is_some, slice_get}
+use Rattle.model.specs.declared.abs.Kind.{Kind}
+use Rattle.model.specs.declared.abs.Kind.TheVariants.{Blank, Num, Lower, New, Own, Queued, View}
+use Rattle.model.specs.declared.event.Event.{Event}
+use Rattle.model.specs.declared.status.Status.{Status}
+use Rattle.model.specs.declared.world.Activation.{Activation}
+use Rattle.model.specs.declared.world.Frame.TheVariants.{Routine}
+use Rattle.model.specs.declared.world.Value.{Value}
+use Rattle.model.specs.declared.world.Value.TheVariants.{Num as NumValue, Ref, Status as StatusValue}
+use Rattle.model.specs.LocalRule.{kind_of}
+use Rattle.model.specs.Run.{frames_on, run}
+use Rattle.model.specs.Set.{Set}
+use Rattle.model.specs.Shown.{MayBeTaken}
+use Rattle.model.specs.Sound.{IsSound}
+use Rattle.model.specs.Typable.{IsTypable}
+use Rattle.model.specs.World.{Shared, packet_of, register}
 
 -- a value refers to a packet that is live
 abbrev pub NamesLive : Shared → Value → Type 0

@@ -1,4 +1,3 @@
-pub mod Prelude
 pub mod NoWrong
 pub mod ArrivingStates
 pub mod Holder

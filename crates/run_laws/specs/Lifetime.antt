@@ -1,6 +1,15 @@
 -- How many instructions an activation executes, and of which routine it is.
-use Rattle.run_laws.specs.Prelude.{All, Bool, List, Option, Some, [], false, if◌then◌else◌, nat_eq, slice_get, ℕ, ⊤, ◌+◌, ◌∷◌, ◌≡◌, ◌≤◌, Action, Execute, GoWrong, OfRoutine, OnLocation, OnLock, OnPacket, TouchPaged, certificate_of, Run, frames_on, run, tags_on, Set, IsSound, Activated, Entry, Managing, Serving, Tag, IsTypable, Event, Activation, Routine}
-use Rattle.model.specs.Action.{Return}
+use Rattle.std.specs.Prelude.{ℕ, ⊤, ◌≡◌, ◌≤◌, ◌+◌, Bool, false, List, [], ◌∷◌, Option, Some, All, nat_eq, slice_get, if◌then◌else◌}
+use Rattle.model.specs.declared.event.Event.{Event}
+use Rattle.model.specs.declared.world.Activation.{Activation}
+use Rattle.model.specs.declared.world.Frame.TheVariants.{Routine}
+use Rattle.model.specs.Action.{Action, OnLock, OnPacket, OnLocation, OfRoutine, Execute, TouchPaged, Return, GoWrong}
+use Rattle.model.specs.Certificate.{certificate_of}
+use Rattle.model.specs.Run.{Run, frames_on, tags_on, run}
+use Rattle.model.specs.Set.{Set}
+use Rattle.model.specs.Sound.{IsSound}
+use Rattle.model.specs.Trace.{Entry, Serving, Tag, Managing, Activated}
+use Rattle.model.specs.Typable.{IsTypable}
 
 -- what a frame did that is the activation of a number
 abbrev pub is_activation : ℕ → Tag → Bool

@@ -1,5 +1,16 @@
 -- No run of an accepted set stops.
-use Rattle.run_laws.specs.Prelude.{List, false, ℕ, ◌<◌, ◌≡◌, ◌≢◌, reply_to, run, Set, IsSound, IsTypable, Bug, Event, Step, Place, Reply, BugCheckReply, Refused, Wrong}
+use Rattle.std.specs.Prelude.{ℕ, ◌≡◌, ◌≢◌, ◌<◌, false, List}
+use Rattle.model.specs.declared.event.Bug.{Bug}
+use Rattle.model.specs.declared.event.Event.{Event}
+use Rattle.model.specs.declared.event.Event.TheVariants.{Step}
+use Rattle.model.specs.declared.event.Place.{Place}
+use Rattle.model.specs.declared.event.Reply.{Reply}
+use Rattle.model.specs.declared.event.Reply.TheVariants.{Refused, Bug as BugCheckReply, Wrong}
+use Rattle.model.specs.Machine.{reply_to}
+use Rattle.model.specs.Run.{run}
+use Rattle.model.specs.Set.{Set}
+use Rattle.model.specs.Sound.{IsSound}
+use Rattle.model.specs.Typable.{IsTypable}
 
 -- a reply is neither a bug check nor that something went wrong
 pub record LetsGoOn (reply : Reply) : Type 0 where

@@ -1,5 +1,15 @@
 -- No run of an accepted set goes wrong.
-use Rattle.run_laws.specs.Prelude.{All, List, ℕ, ◌≢◌, GoesWrong, reply_to, run, Set, IsSound, Entry, IsTypable, Event, Place, Wrong}
+use Rattle.std.specs.Prelude.{ℕ, ◌≢◌, List, All}
+use Rattle.model.specs.declared.event.Event.{Event}
+use Rattle.model.specs.declared.event.Place.{Place}
+use Rattle.model.specs.declared.event.Reply.TheVariants.{Wrong}
+use Rattle.model.specs.Action.{GoesWrong}
+use Rattle.model.specs.Machine.{reply_to}
+use Rattle.model.specs.Run.{run}
+use Rattle.model.specs.Set.{Set}
+use Rattle.model.specs.Sound.{IsSound}
+use Rattle.model.specs.Trace.{Entry}
+use Rattle.model.specs.Typable.{IsTypable}
 
 -- nothing that went wrong is in the trace of a run, and no reply is that something went wrong: no
 -- operand is of a wrong kind, no position is outside its routine, no `loop` or `end` is without its

@@ -1,8 +1,20 @@
 -- Nothing that counts of instructions and pending agreement go by is missing in a run, so that
 -- neither passes something over: each frame has its tag, each use its number, and each action that
 -- is about a use names it.
-use Rattle.run_laws.specs.Prelude.{All, List, None, Option, Some, length, slice_get, ℕ, ⊤, ◌≡◌, ◌≤◌, Action, Execute, GoWrong, Leave, OfRoutine, OnLocation, OnLock, OnPacket, TouchPaged, Up, frames_on, run, tags_on, Set, sort_of, IsSound, Activated, Entry, Managing, Serving, Tag, uses, IsTypable, packet_of, Event, Dispatch, Activation, Canceller, CancelFrame, Routine, Walk, Packet}
-use Rattle.model.specs.Action.{Issue, Call, Mark, Return}
+use Rattle.std.specs.Prelude.{ℕ, ⊤, ◌≡◌, ◌≤◌, List, length, Option, None, Some, All, slice_get}
+use Rattle.model.specs.declared.event.Event.{Event}
+use Rattle.model.specs.declared.set.Sort.TheVariants.{Dispatch}
+use Rattle.model.specs.declared.world.Activation.{Activation}
+use Rattle.model.specs.declared.world.Canceller.{Canceller}
+use Rattle.model.specs.declared.world.Frame.TheVariants.{Routine, Walk, Cancel as CancelFrame}
+use Rattle.model.specs.declared.world.Packet.{Packet}
+use Rattle.model.specs.Action.{Action, OnLock, OnPacket, OnLocation, OfRoutine, Issue, Call, Up, Mark, Leave, Execute, TouchPaged, Return, GoWrong}
+use Rattle.model.specs.Run.{frames_on, run, tags_on}
+use Rattle.model.specs.Set.{Set, sort_of}
+use Rattle.model.specs.Sound.{IsSound}
+use Rattle.model.specs.Trace.{Entry, Serving, Tag, Managing, Activated, uses}
+use Rattle.model.specs.Typable.{IsTypable}
+use Rattle.model.specs.World.{packet_of}
 
 -- a tag is an activation's, and one that serves a use
 abbrev pub IsActivation : Tag → Type 0

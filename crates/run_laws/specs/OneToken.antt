@@ -1,5 +1,15 @@
 -- The token of a busy device: who has it has to see that the device goes on to its next packet.
-use Rattle.run_laws.specs.Prelude.{List, None, Option, Some, [], false, if◌then◌else◌, length, nat_eq, ℕ, ◌&&◌, ◌+◌, ◌≡◌, StartState, run, Set, IsSound, IsTypable, start_of, Event, Frame, CancelFrame, Routine, Walk, Thread}
+use Rattle.std.specs.Prelude.{ℕ, ◌≡◌, ◌+◌, ◌&&◌, false, List, [], length, Option, None, Some, nat_eq, if◌then◌else◌}
+use Rattle.model.specs.declared.event.Event.{Event}
+use Rattle.model.specs.declared.world.Frame.{Frame}
+use Rattle.model.specs.declared.world.Frame.TheVariants.{Routine, Walk, Cancel as CancelFrame}
+use Rattle.model.specs.declared.world.Thread.{Thread}
+use Rattle.model.specs.Queues.{StartState}
+use Rattle.model.specs.Run.{run}
+use Rattle.model.specs.Set.{Set}
+use Rattle.model.specs.Sound.{IsSound}
+use Rattle.model.specs.Typable.{IsTypable}
+use Rattle.model.specs.World.{start_of}
 use Rattle.run_laws.specs.ArrivingStates.{States, StatesArrive}
 use Rattle.run_laws.specs.Holder.{thread_sum}
 

@@ -1,6 +1,16 @@
 -- What the past of a run tells of its world: of the packets, of the locks, and of the threads'
 -- stacks of frames.
-use Rattle.run_laws.specs.Prelude.{List, Some, false, is_none, is_some, length, nat_lt, true, ℕ, ◌&&◌, ◌≡◌, ◌≤◌, armed, completing, depth, holds, holds_any, stack_size, topped, Run, frames_on, run, Set, IsSound, Entry, owner_of, packet_of, Event, Lock, MAX_FRAMES, Packet}
+use Rattle.std.specs.Prelude.{ℕ, ◌≡◌, ◌≤◌, ◌&&◌, false, true, List, length, Some, is_none, is_some, nat_lt}
+use Rattle.model.specs.declared.event.Event.{Event}
+use Rattle.model.specs.declared.event.Lock.{Lock}
+use Rattle.model.specs.declared.limits.TheConstants.{MAX_FRAMES}
+use Rattle.model.specs.declared.world.Packet.{Packet}
+use Rattle.model.specs.Fault.{topped, completing, armed, stack_size, depth, holds, holds_any}
+use Rattle.model.specs.Run.{Run, frames_on, run}
+use Rattle.model.specs.Set.{Set}
+use Rattle.model.specs.Sound.{IsSound}
+use Rattle.model.specs.Trace.{Entry}
+use Rattle.model.specs.World.{owner_of, packet_of}
 
 -- of a live packet: whether the I/O manager has it, whether it has a cancel routine, how many
 -- locations it has, and how far down it was sent

@@ -1,5 +1,13 @@
 -- The rules that every run of an accepted set keeps, all in one.
-use Rattle.run_laws.specs.Prelude.{List, None, [], ℕ, ⊤, ◌∷◌, ◌≡◌, ◌≤◌, fault_of, PendingAgree, run, Set, IsSound, Entry, IsTypable, Event}
+use Rattle.std.specs.Prelude.{ℕ, ⊤, ◌≡◌, ◌≤◌, List, [], ◌∷◌, None}
+use Rattle.model.specs.declared.event.Event.{Event}
+use Rattle.model.specs.Fault.{fault_of}
+use Rattle.model.specs.PendingAgreement.{PendingAgree}
+use Rattle.model.specs.Run.{run}
+use Rattle.model.specs.Set.{Set}
+use Rattle.model.specs.Sound.{IsSound}
+use Rattle.model.specs.Trace.{Entry}
+use Rattle.model.specs.Typable.{IsTypable}
 use Rattle.run_laws.specs.ArrivingStates.{States, StatesArrive}
 use Rattle.run_laws.specs.Holder.{HasOneHolder}
 use Rattle.run_laws.specs.KindsAgree.{RegistersAreOfTheirKinds}

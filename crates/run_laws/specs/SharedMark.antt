@@ -2,9 +2,17 @@
 -- packet to the lower one, in its own stack location; the lower one marks it there, completes it
 -- and returns STATUS_PENDING; the packet tops out, and the upper driver returns what the lower one
 -- returned.
-use Rattle.run_laws.specs.Prelude.{List, None, Some, [], true, ◌∷◌, ◌≡◌, marks_left, statuses_returned, run, Set, Entry, uses_opened, Event, Issue, Step, Complete, Mark, Pass, Ret, WithStatus, Read, Success}
-use Rattle.model.specs.declared.instr.Return.TheVariants.{Lower}
-use Rattle.model.specs.declared.status.Status.TheVariants.{Pending}
+use Rattle.std.specs.Prelude.{◌≡◌, true, List, [], ◌∷◌, Some, None}
+use Rattle.model.specs.declared.event.Event.{Event}
+use Rattle.model.specs.declared.event.Event.TheVariants.{Issue, Step}
+use Rattle.model.specs.declared.instr.Instr.TheVariants.{Mark, Pass, Complete, Ret}
+use Rattle.model.specs.declared.instr.Return.TheVariants.{WithStatus, Lower}
+use Rattle.model.specs.declared.status.Major.TheVariants.{Read}
+use Rattle.model.specs.declared.status.Status.TheVariants.{Pending, Success}
+use Rattle.model.specs.PendingAgreement.{marks_left, statuses_returned}
+use Rattle.model.specs.Run.{run}
+use Rattle.model.specs.Set.{Set}
+use Rattle.model.specs.Trace.{Entry, uses_opened}
 use Rattle.run_laws.specs.CarriedMark.{driver_of, use_of_packet}
 
 -- device 0 is the lower one, device 1 stands over it with as many stack locations

@@ -1,7 +1,9 @@
 -- What a history tells of the packets of its requests.
-use Rattle.run_laws.specs.Prelude.{List, Some, is_none, is_some, slice_get, ℕ, ◌≡◌, replies_of, request_started, top_out_of, Set, packet_of}
+use Rattle.std.specs.Prelude.{ℕ, ◌≡◌, List, Some, is_none, is_some, slice_get}
 use Rattle.model.specs.declared.history.Entry.{Entry}
-use Rattle.model.specs.History.{IsLegal, world_after_all}
+use Rattle.model.specs.History.{IsLegal, replies_of, request_started, top_out_of, world_after_all}
+use Rattle.model.specs.Set.{Set}
+use Rattle.model.specs.World.{packet_of}
 
 -- the packet that a request started is live exactly while no reply tells that it topped out
 abbrev pub TopOutsAreTold : Type 0

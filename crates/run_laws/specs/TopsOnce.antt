@@ -1,6 +1,12 @@
 -- No packet tops out twice.
-use Rattle.run_laws.specs.Prelude.{List, [], if◌then◌else◌, nat_eq, ℕ, ◌+◌, ◌∷◌, ◌≤◌, Action, OfRoutine, OnLocation, OnLock, OnPacket, TopOut, Touch, run, Set, IsSound, Entry, IsTypable, Event}
-use Rattle.model.specs.Action.{Complete, Continue, Lend, Exchange}
+use Rattle.std.specs.Prelude.{ℕ, ◌≤◌, ◌+◌, List, [], ◌∷◌, nat_eq, if◌then◌else◌}
+use Rattle.model.specs.declared.event.Event.{Event}
+use Rattle.model.specs.Action.{Action, OnLock, OnPacket, OnLocation, OfRoutine, Touch, Complete, Continue, Lend, Exchange, TopOut}
+use Rattle.model.specs.Run.{run}
+use Rattle.model.specs.Set.{Set}
+use Rattle.model.specs.Sound.{IsSound}
+use Rattle.model.specs.Trace.{Entry}
+use Rattle.model.specs.Typable.{IsTypable}
 
 -- 1 where an action is that a packet tops out, else 0
 abbrev pub top_of : Action → ℕ → ℕ

@@ -1,6 +1,11 @@
 -- An event that waits, finds nothing to do or is refused leaves the world as it was.
-use Rattle.run_laws.specs.Prelude.{Bool, List, [], false, true, ℕ, ◌++◌, ◌∷◌, ◌≡◌, reply_to, run, Set, Event, Reply, Idle, Refused, Started, Stepped, Topped, Waited, Wrong}
-use Rattle.model.specs.declared.event.Reply.TheVariants.{Finished, Bug}
+use Rattle.std.specs.Prelude.{ℕ, ◌≡◌, ◌++◌, Bool, true, false, List, [], ◌∷◌}
+use Rattle.model.specs.declared.event.Event.{Event}
+use Rattle.model.specs.declared.event.Reply.{Reply}
+use Rattle.model.specs.declared.event.Reply.TheVariants.{Started, Stepped, Finished, Topped, Waited, Idle, Refused, Bug, Wrong}
+use Rattle.model.specs.Machine.{reply_to}
+use Rattle.model.specs.Run.{run}
+use Rattle.model.specs.Set.{Set}
 
 -- a reply that says that nothing has changed
 abbrev pub says_unchanged : Reply → Bool

@@ -1,6 +1,6 @@
 -- The tags of the frames that stand: that of a routine's frame names its own routine, under a
 -- number that no other activation has.
-use Rattle.run_laws.specs.Prelude.{arith, inl, inr, refl, subst, sym, zero, List, Option, Some, [], slice_get, suc, ℕ, ⊤, ◌++◌, ◌+◌, ◌∷◌, ◌≡◌, ◌≤◌, ◌⊎◌, activations_after, tags_after, Set, Activated, Entry, Managing, Serving, Tag, Activation, Frame, CancelFrame, Routine, Walk}
+use Rattle.run_laws.proofs.Prelude.{arith, inl, inr, refl, subst, sym, zero, List, Option, Some, [], slice_get, suc, ℕ, ⊤, ◌++◌, ◌+◌, ◌∷◌, ◌≡◌, ◌≤◌, ◌⊎◌, activations_after, tags_after, Set, Activated, Entry, Managing, Serving, Tag, Activation, Frame, CancelFrame, Routine, Walk}
 
 -- a tag is among these
 abbrev pub IsAmong : Tag → List Tag → Type 0

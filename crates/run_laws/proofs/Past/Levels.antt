@@ -1,5 +1,5 @@
 -- A thread that holds a lock by the past holds one of those that were acquired.
-use Rattle.run_laws.specs.Prelude.{cond, inl, inr, refl, sym, ◌∙◌, cases_Bool, list_any, Bool, List, [], false, nat_eq, true, ℕ, ◌&&◌, ◌||◌, ◌∷◌, ◌≡◌, Action, OnLock, acquired, holds, holds_after, holds_any, is_lock, Entry, Lock}
+use Rattle.run_laws.proofs.Prelude.{cond, inl, inr, refl, sym, ◌∙◌, cases_Bool, list_any, Bool, List, [], false, nat_eq, true, ℕ, ◌&&◌, ◌||◌, ◌∷◌, ◌≡◌, Action, OnLock, acquired, holds, holds_after, holds_any, is_lock, Entry, Lock}
 use Rattle.model.specs.Action.{Acquire, Release}
 use Rattle.model.specs.Fault.{with_acquired}
 use Rattle.run_laws.proofs.Past.Owners.{lock_tells}

@@ -1,5 +1,5 @@
 -- The live packets by number: numbers rise along the list, and what a look-up finds after a change.
-use Rattle.run_laws.specs.Prelude.{arith, cond, inl, inr, refl, sym, ◌∙◌, eqb_tells, List, None, Option, Some, [], false, if◌then◌else◌, nat_eq, remove, slice_get, slice_set, suc, true, ℕ, ◌++◌, ◌+◌, ◌<◌, ◌∷◌, ◌≡◌, ◌≢◌, ◌≤◌, place_of, Packet}
+use Rattle.run_laws.proofs.Prelude.{arith, cond, inl, inr, refl, sym, ◌∙◌, eqb_tells, List, None, Option, Some, [], false, if◌then◌else◌, nat_eq, remove, slice_get, slice_set, suc, true, ℕ, ◌++◌, ◌+◌, ◌<◌, ◌∷◌, ◌≡◌, ◌≢◌, ◌≤◌, place_of, Packet}
 
 -- the live packet of a number
 abbrev pub find : List Packet → ℕ → Option Packet

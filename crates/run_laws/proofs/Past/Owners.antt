@@ -1,5 +1,5 @@
 -- The owners of the locks tell what the past tells: which thread holds each lock.
-use Rattle.run_laws.specs.Prelude.{ap, cond, inl, inr, refl, sym, zero, ◌∙◌, eq-eqb, eqb_tells, get_or_from_slice_get, Bool, List, None, Option, Some, [], false, nat_eq, option_and_then, replicate, slice_get, slice_index_or, slice_set, suc, true, ℕ, ◌&&◌, ◌≡◌, ◌⊎◌, holds, is_lock, Entry, Locks, owner_of, with_owner, Lock, Spin, SystemCancel, OfDevice, SPIN_LOCKS}
+use Rattle.run_laws.proofs.Prelude.{ap, cond, inl, inr, refl, sym, zero, ◌∙◌, eq-eqb, eqb_tells, get_or_from_slice_get, Bool, List, None, Option, Some, [], false, nat_eq, option_and_then, replicate, slice_get, slice_index_or, slice_set, suc, true, ℕ, ◌&&◌, ◌≡◌, ◌⊎◌, holds, is_lock, Entry, Locks, owner_of, with_owner, Lock, Spin, SystemCancel, OfDevice, SPIN_LOCKS}
 use Rattle.model.specs.World.{free_locks}
 use Rattle.run_laws.proofs.Lists.{set_same, set_other}
 

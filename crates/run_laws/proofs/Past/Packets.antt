@@ -1,7 +1,7 @@
 -- The live packets tell what the past tells: which packets have topped out, and of each live one
 -- whether the I/O manager has it, whether it has a cancel routine, how many locations it has and
 -- how far down it was sent.
-use Rattle.run_laws.specs.Prelude.{ap, arith, inl, inr, refl, subst, sym, ◌∙◌, cases_lt, eq-eqb, eqb_tells, leb_tells, Bool, List, None, Option, Some, [], false, if◌then◌else◌, is_none, is_some, nat_eq, nat_lt, suc, true, ℕ, ◌&&◌, ◌++◌, ◌+◌, ◌<◌, ◌||◌, ◌∷◌, ◌≡◌, ◌≢◌, ◌≤◌, armed, completing, depth, stack_size, topped, Entry, Shared, new_packet, packet_in, packet_of, with_packet, without_packet, Major, Packet, Value, Ref}
+use Rattle.run_laws.proofs.Prelude.{ap, arith, inl, inr, refl, subst, sym, ◌∙◌, cases_lt, eq-eqb, eqb_tells, leb_tells, Bool, List, None, Option, Some, [], false, if◌then◌else◌, is_none, is_some, nat_eq, nat_lt, suc, true, ℕ, ◌&&◌, ◌++◌, ◌+◌, ◌<◌, ◌||◌, ◌∷◌, ◌≡◌, ◌≢◌, ◌≤◌, armed, completing, depth, stack_size, topped, Entry, Shared, new_packet, packet_in, packet_of, with_packet, without_packet, Major, Packet, Value, Ref}
 use Rattle.run_laws.proofs.Past.LivePackets.{find, Rises, find_place, find_number, find_above, find_set, rises_set, find_remove, rises_remove, find_push, rises_push}
 use Rattle.run_laws.proofs.Past.Stacks.{Measured, Changed, measured_new}
 use Rattle.run_laws.proofs.Tests.{and_false}

@@ -1,5 +1,5 @@
 -- In every run of a sound set, until it stops, the past tells what the world has.
-use Rattle.run_laws.specs.Prelude.{arith, inl, inr, sym, ◌∙◌, cases_lt, Bool, List, None, Option, Some, [], false, length, nat_lt, slice_get, true, ℕ, ◌++◌, ◌||◌, ◌∷◌, ◌≡◌, ◌≤◌, top_of, Change, settled, standing, with_stack, with_thread, armed, completing, depth, first_fault, holds, stack_size, Run, begun, frames_on, run, Set, IsSound, Actor, Entry, recorded, Shared, World, packet_of, Lock, MAX_FRAMES, Frame, Packet, Thread}
+use Rattle.run_laws.proofs.Prelude.{arith, inl, inr, sym, ◌∙◌, cases_lt, Bool, List, None, Option, Some, [], false, length, nat_lt, slice_get, true, ℕ, ◌++◌, ◌||◌, ◌∷◌, ◌≡◌, ◌≤◌, top_of, Change, settled, standing, with_stack, with_thread, armed, completing, depth, first_fault, holds, stack_size, Run, begun, frames_on, run, Set, IsSound, Actor, Entry, recorded, Shared, World, packet_of, Lock, MAX_FRAMES, Frame, Packet, Thread}
 use Rattle.run_laws.specs.PastTells.{PastTells, TellsOfPacket, PastTellsOfTheWorld}
 use Rattle.run_laws.proofs.Devices.{device_fits}
 use Rattle.run_laws.proofs.Lists.{Each, each_after, each_before}

@@ -1,5 +1,5 @@
 -- What the past tells of a live packet, and the changes of a packet that a step makes.
-use Rattle.run_laws.specs.Prelude.{arith, refl, ◌-◌, length-replicate, length-set, Bool, List, None, Option, Some, false, is_some, length, replicate, true, ℕ, ◌+◌, ◌≡◌, ◌≤◌, cancelled, completed, copied_location, current_location, left_location, mark_current, marked_location, moved_up, new_packet, sent_down, shared_location, shared_with, unused_location, with_armer, with_info, Major, Status, Armer, Completion, Location, Packet}
+use Rattle.run_laws.proofs.Prelude.{arith, refl, ◌-◌, length-replicate, length-set, Bool, List, None, Option, Some, false, is_some, length, replicate, true, ℕ, ◌+◌, ◌≡◌, ◌≤◌, cancelled, completed, copied_location, current_location, left_location, mark_current, marked_location, moved_up, new_packet, sent_down, shared_location, shared_with, unused_location, with_armer, with_info, Major, Status, Armer, Completion, Location, Packet}
 
 -- whether the I/O manager has a packet, whether that has a cancel routine, how many locations it
 -- has, and how deep the current one is

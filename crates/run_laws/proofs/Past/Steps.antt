@@ -1,6 +1,6 @@
 -- After every step what the threads share tells what the past tells: of the packets, and, where
 -- there was no bug check, of the owners of the locks.
-use Rattle.run_laws.specs.Prelude.{ap, cond, inl, inr, refl, sym, ◌-◌, ◌∙◌, eq-eqb, Bool, List, None, Option, Some, [], false, is_some, nat_eq, not, true, ℕ, ◌&&◌, ◌+◌, ◌∷◌, ◌≡◌, Acquires, Action, Exchanges, Executes, Releases, Outcome, set_by, bug_if, first_fault, holds, is_lock, Set, Actor, Entry, recorded, Shared, cancelled, completed, left_location, mark_current, moved_up, owner_of, register, sent_down, shared_with, with_armer, with_info, with_owner, Bug, SpinLockAlreadyOwned, SpinLockNotOwned, Lock, SystemCancel, LockSubject, CancelStep, Frame}
+use Rattle.run_laws.proofs.Prelude.{ap, cond, inl, inr, refl, sym, ◌-◌, ◌∙◌, eq-eqb, Bool, List, None, Option, Some, [], false, is_some, nat_eq, not, true, ℕ, ◌&&◌, ◌+◌, ◌∷◌, ◌≡◌, Acquires, Action, Exchanges, Executes, Releases, Outcome, set_by, bug_if, first_fault, holds, is_lock, Set, Actor, Entry, recorded, Shared, cancelled, completed, left_location, mark_current, moved_up, owner_of, register, sent_down, shared_with, with_armer, with_info, with_owner, Bug, SpinLockAlreadyOwned, SpinLockNotOwned, Lock, SystemCancel, LockSubject, CancelStep, Frame}
 use Rattle.run_laws.proofs.Past.Owners.{Owned, owns, owned_acquire, owned_release, owner_its}
 use Rattle.run_laws.proofs.Past.Packets.{Tells, named, tells_moved, tells_kept, tells_taken, tells_lent, tells_exchanged, tells_late, tells_top}
 use Rattle.run_laws.proofs.Past.Stacks.{changed_info, changed_mark, changed_completed, changed_share, changed_down, changed_up, changed_marked_up, changed_flag, changed_word, changed_back, changed_lent}

@@ -1,5 +1,5 @@
 -- The I/O manager completes packets that were issued: those of its frames, on every thread.
-use Rattle.run_laws.specs.Prelude.{arith, refl, take, ◌-◌, Bool, List, None, Option, Some, [], false, length, true, ℕ, ⊤, ◌<◌, ◌∷◌, ◌≡◌, ◌≤◌, Outcome, answered, kept_below, told_to, told_top, top_of, standing, frames_on, Set, Shared, World, register, Status, CancelStep, Frame, CancelFrame, Routine, Walk}
+use Rattle.run_laws.proofs.Prelude.{arith, refl, take, ◌-◌, Bool, List, None, Option, Some, [], false, length, true, ℕ, ⊤, ◌<◌, ◌∷◌, ◌≡◌, ◌≤◌, Outcome, answered, kept_below, told_to, told_top, top_of, standing, frames_on, Set, Shared, World, register, Status, CancelStep, Frame, CancelFrame, Routine, Walk}
 use Rattle.run_laws.proofs.Lists.{Each, each_append, each_at, each_map, each_take}
 use Rattle.run_laws.proofs.Past.Packets.{named}
 use Rattle.run_laws.proofs.Steps.Comes.{Cancels, flags_gone, exchanges_gone, finds_empty, finds_none, Comes, completes_packet, passes_down, calls_down, returns_status, lets_go, lets_walk, resumes_walk, resumes_gone, resumes_none, stops_walk, stops_none, ends_startio, ends_dpc, ends_cancel, walks_gone, walks_to, lends_to, walks_up, carries_up, tops_out, cancels}

@@ -1,6 +1,6 @@
 -- Who owns a packet owns one whose current location is marked; so a location is marked under which
 -- a completion routine is stored that may hold the packet.
-use Rattle.run_laws.specs.Prelude.{Some, slice_get, suc, true, ℕ, ◌<◌, ◌≡◌, sort_of_completion, Set, completion_of, is_marked, Hold, Completion, Packet}
+use Rattle.run_laws.proofs.Prelude.{Some, slice_get, suc, true, ℕ, ◌<◌, ◌≡◌, sort_of_completion, Set, completion_of, is_marked, Hold, Completion, Packet}
 
 -- each location of a packet that is above one with such a routine, down to the current one
 abbrev pub LentMarked : Set → Packet → Type 0

@@ -1,6 +1,6 @@
 -- What an event can be: nothing happens, the top frame of a thread steps, a root begins on an idle
 -- one, or a DPC is queued; and what a run answers to it.
-use Rattle.run_laws.specs.Prelude.{refl, take, ◌-◌, Bool, List, None, Option, Some, [], false, if◌then◌else◌, length, nat_eq, nat_lt, not, slice_get, true, ℕ, ⊤, ◌&&◌, ◌++◌, ◌∷◌, ◌≡◌, Outcome, frame_effect, top_of, Change, can_issue, effect, interrupt_on, interrupted, is_idle, issue_on, issued, settled, step_thread, top_effect, unchanged, first_fault, StartState, head_of, Answered, Run, actor_on, goes, refused, step, thread_of, Set, dpc_of, startio_of, Entry, recorded, World, is_queued, packet_of, start_of, Bug, Event, CancelEvent, Interrupt, Issue, StartIoEvent, Step, Place, Reply, BugCheckReply, Idle, Refused, Wrong, Device, Major, Frame, Irql, Packet, Thread}
+use Rattle.run_laws.proofs.Prelude.{refl, take, ◌-◌, Bool, List, None, Option, Some, [], false, if◌then◌else◌, length, nat_eq, nat_lt, not, slice_get, true, ℕ, ⊤, ◌&&◌, ◌++◌, ◌∷◌, ◌≡◌, Outcome, frame_effect, top_of, Change, can_issue, effect, interrupt_on, interrupted, is_idle, issue_on, issued, settled, step_thread, top_effect, unchanged, first_fault, StartState, head_of, Answered, Run, actor_on, goes, refused, step, thread_of, Set, dpc_of, startio_of, Entry, recorded, World, is_queued, packet_of, start_of, Bug, Event, CancelEvent, Interrupt, Issue, StartIoEvent, Step, Place, Reply, BugCheckReply, Idle, Refused, Wrong, Device, Major, Frame, Irql, Packet, Thread}
 use Rattle.std.proofs.lemmas.Bool.{eqb-true}
 use Rattle.model.specs.declared.event.Event.TheVariants.{Dpc}
 use Rattle.model.specs.declared.event.Reply.TheVariants.{Finished}

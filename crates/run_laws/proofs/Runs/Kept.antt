@@ -1,7 +1,7 @@
 -- The induction over runs: what holds before the first event, and of the run after any event on a
 -- run of which it holds, holds of every run. What is said of a world and its past is kept by the
 -- events with which a run goes on.
-use Rattle.run_laws.specs.Prelude.{refl, subst, sym, Bool, List, None, [], false, if◌then◌else◌, slice_get, true, ℕ, ◌∷◌, ◌≡◌, Change, effect, first_fault, Answered, Run, actor_on, begun, refused, root_of, run, run_from, step, Set, Actor, Entry, recorded, World, with_dpc, Event}
+use Rattle.run_laws.proofs.Prelude.{refl, subst, sym, Bool, List, None, [], false, if◌then◌else◌, slice_get, true, ℕ, ◌∷◌, ◌≡◌, Change, effect, first_fault, Answered, Run, actor_on, begun, refused, root_of, run, run_from, step, Set, Actor, Entry, recorded, World, with_dpc, Event}
 use Rattle.run_laws.proofs.Runs.Events.{Happens, Sets, sets_nothing, queues, Concerns, a_thread, no_thread, concerns, Answers, refuses_stopped, refuses_over, goes_on_with, answers, set_in, answers_none}
 
 module _ (P : Run → Type 0) (set : Set) (kept : (r : Run) (e : Event) → P r → P (step set r e).run)

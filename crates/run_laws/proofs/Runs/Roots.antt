@@ -1,6 +1,6 @@
 -- What begins on an idle thread: the root of a request, a DPC, a StartIo routine or IoCancelIrp,
 -- with what changes beside it.
-use Rattle.run_laws.specs.Prelude.{arith, List, Some, [], false, slice_get, true, ℕ, ◌∷◌, ◌≡◌, ◌≤◌, Action, Issues, routine_of_device, Change, can_issue, dpc_activation, serves_request, with_new_packet, with_thread, StartState, head_of, without_first_to_start, Set, dpc_of, startio_of, Shared, World, entered, packet_of, start_of, with_dpc, with_start, Reply, Started, Stepped, Device, Major, AcquireStep, Frame, CancelFrame, Routine, Irql, DispatchLevel, Passive, Packet, Thread, Ref}
+use Rattle.run_laws.proofs.Prelude.{arith, List, Some, [], false, slice_get, true, ℕ, ◌∷◌, ◌≡◌, ◌≤◌, Action, Issues, routine_of_device, Change, can_issue, dpc_activation, serves_request, with_new_packet, with_thread, StartState, head_of, without_first_to_start, Set, dpc_of, startio_of, Shared, World, entered, packet_of, start_of, with_dpc, with_start, Reply, Started, Stepped, Device, Major, AcquireStep, Frame, CancelFrame, Routine, Irql, DispatchLevel, Passive, Packet, Thread, Ref}
 
 -- a frame that begins at a level, what threads share then, the actions and the reply
 pub record Root : Type 0 where

@@ -1,5 +1,5 @@
 -- The threads of a world, where another stands in place of one.
-use Rattle.run_laws.specs.Prelude.{ap, inl, inr, refl, subst, sym, zero, ◌∙◌, cases_eq, List, Option, Some, [], replicate, slice_get, suc, ℕ, ◌++◌, ◌∷◌, ◌≡◌, ◌≢◌, with_thread, frames_of, frames_on, Set, Shared, World, idle_thread, Frame, Thread}
+use Rattle.run_laws.proofs.Prelude.{ap, inl, inr, refl, subst, sym, zero, ◌∙◌, cases_eq, List, Option, Some, [], replicate, slice_get, suc, ℕ, ◌++◌, ◌∷◌, ◌≡◌, ◌≢◌, with_thread, frames_of, frames_on, Set, Shared, World, idle_thread, Frame, Thread}
 use Rattle.run_laws.proofs.Lists.{set_same, set_other}
 use Rattle.run_laws.proofs.Runs.Events.{StepsFrame}
 

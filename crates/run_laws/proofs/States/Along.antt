@@ -1,6 +1,6 @@
 -- What holds in the state of entry, and is kept by each instruction that breaks no rule, holds in
 -- every state that arrives at a position.
-use Rattle.run_laws.specs.Prelude.{inl, inr, refl, subst, List, None, Option, Some, [], slice_get, ℕ, ◌∷◌, ◌≡◌, ◌⊎◌, entry_state, handed, handed_at_label, outs, outs_by, refuses, rule_or, Along, Arrives, HandsOn, LeadsFrom, Branches, Closes, Flow, Jumps, Leaves, Member, Onward, Opens, flow_of, label_of, Abs, Rule, Instr}
+use Rattle.run_laws.proofs.Prelude.{inl, inr, refl, subst, List, None, Option, Some, [], slice_get, ℕ, ◌∷◌, ◌≡◌, ◌⊎◌, entry_state, handed, handed_at_label, outs, outs_by, refuses, rule_or, Along, Arrives, HandsOn, LeadsFrom, Branches, Closes, Flow, Jumps, Leaves, Member, Onward, Opens, flow_of, label_of, Abs, Rule, Instr}
 
 module _ (P : Abs → Type 0) (m : Member) (begins : (s : Abs) → entry_state m ≡ Some s → P s)
     (next : (s : Abs) (i : Instr) (q : ℕ) → slice_get m.routine.code q ≡ Some i

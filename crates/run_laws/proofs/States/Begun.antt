@@ -1,6 +1,6 @@
 -- What the frame of a root is: that of a dispatch routine at PASSIVE_LEVEL, of a DPC or a StartIo
 -- routine, or of IoCancelIrp; so it stands.
-use Rattle.run_laws.specs.Prelude.{arith, refl, sym, ◌∙◌, List, Option, Some, [], false, ℕ, ⊤, ◌+◌, ◌<◌, ◌∷◌, ◌≡◌, Set, Entry, Shared, QueueName, Sort, Dispatch, Dpc, StartIo, Activation, Frame, Routine, Irql, Passive, Value, Blank, Ref}
+use Rattle.run_laws.proofs.Prelude.{arith, refl, sym, ◌∙◌, List, Option, Some, [], false, ℕ, ⊤, ◌+◌, ◌<◌, ◌∷◌, ◌≡◌, Set, Entry, Shared, QueueName, Sort, Dispatch, Dpc, StartIo, Activation, Frame, Routine, Irql, Passive, Value, Blank, Ref}
 use Rattle.run_laws.specs.ArrivingStates.{States}
 use Rattle.run_laws.proofs.Lists.{Each}
 use Rattle.run_laws.proofs.Past.Packets.{Tells, found, found_lt}

@@ -1,5 +1,5 @@
 -- The cancel routine that IoCancelIrp calls begins as one that a packet's cancel word names.
-use Rattle.run_laws.specs.Prelude.{subst, Option, Some, slice_get, ℕ, ◌<◌, ◌≡◌, routine_of_device, Set, cancel_routine_named, Shared, entered, packet_of, Cancel, Armer, Packet, Ref}
+use Rattle.run_laws.proofs.Prelude.{subst, Option, Some, slice_get, ℕ, ◌<◌, ◌≡◌, routine_of_device, Set, cancel_routine_named, Shared, entered, packet_of, Cancel, Armer, Packet, Ref}
 use Rattle.run_laws.proofs.States.Entering.{Begins, begins_cancelled}
 use Rattle.run_laws.proofs.States.Fits.{ArmerLeads, Fits, word_leads}
 use Rattle.run_laws.proofs.States.Frames.{IsGood}

@@ -1,7 +1,7 @@
 -- Routines that begin: those that serve a request of a device, its DPC and StartIo routines, and
 -- those that completion calls.
 use Rattle.run_laws.proofs.States.Listed.{named_only}
-use Rattle.run_laws.specs.Prelude.{ap, arith, refl, subst, sym, zero, ◌-◌, ◌∙◌, eq-eqb, slice_get-get_or, slice_get_within, list_any, Bool, IfSome, List, None, Option, Some, [], false, is_none, is_some, length, nat_eq, option_and_then, replicate, slice_get, slice_index_or, suc, true, ℕ, ◌&&◌, ◌+◌, ◌<◌, ◌∷◌, ◌≡◌, ◌≤◌, certificate, certificate_of, completes_with, dispatched, routine_of_device, sort_of_completion, dpc_activation, serves_request, lacks_lower, entered_with, entry_of_sort, is_completion, is_hold, Set, cancel_routine_named, cancels_for, default_number, default_routine, dpc_of, lower_of, member, routine_of, sort_in, sort_of, startio_of, DeviceFits, DriverFits, HasSort, IsSound, Shared, completion_of, current_location, entered, packet_of, Abs, Fresh, NoDuty, BlankKind, New, Own, Queued, View, Open, SettledMark, Cancelling, MAX_ROUTINES, REGISTERS, SPIN_LOCKS, Device, Driver, Queue, QueueName, Declared, DeviceQueue, RoutineOf, Sort, Cancel, Dispatch, Dpc, Hold, Propagate, StartIo, Major, Read, Activation, Armer, Completion, Packet, Value, Blank, Ref}
+use Rattle.run_laws.proofs.Prelude.{ap, arith, refl, subst, sym, zero, ◌-◌, ◌∙◌, eq-eqb, slice_get-get_or, slice_get_within, list_any, Bool, IfSome, List, None, Option, Some, [], false, is_none, is_some, length, nat_eq, option_and_then, replicate, slice_get, slice_index_or, suc, true, ℕ, ◌&&◌, ◌+◌, ◌<◌, ◌∷◌, ◌≡◌, ◌≤◌, certificate, certificate_of, completes_with, dispatched, routine_of_device, sort_of_completion, dpc_activation, serves_request, lacks_lower, entered_with, entry_of_sort, is_completion, is_hold, Set, cancel_routine_named, cancels_for, default_number, default_routine, dpc_of, lower_of, member, routine_of, sort_in, sort_of, startio_of, DeviceFits, DriverFits, HasSort, IsSound, Shared, completion_of, current_location, entered, packet_of, Abs, Fresh, NoDuty, BlankKind, New, Own, Queued, View, Open, SettledMark, Cancelling, MAX_ROUTINES, REGISTERS, SPIN_LOCKS, Device, Driver, Queue, QueueName, Declared, DeviceQueue, RoutineOf, Sort, Cancel, Dispatch, Dpc, Hold, Propagate, StartIo, Major, Read, Activation, Armer, Completion, Packet, Value, Blank, Ref}
 use Rattle.model.specs.Sound.{WaitingFits}
 use Rattle.std.specs.Prelude.{unwrap_or}
 use Rattle.model.specs.declared.status.Major.TheVariants.{Write, Control}

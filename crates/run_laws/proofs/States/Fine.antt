@@ -1,6 +1,6 @@
 -- A step of a frame that stands as it should, and touches no packet that has topped out: it isn't
 -- wrong, and what it leaves stands as it should.
-use Rattle.run_laws.specs.Prelude.{ap, arith, inl, inr, refl, subst, sym, ◌-◌, ◌∙◌, list_any, Bool, List, None, Option, Some, [], false, is_some, length, nat_lt, slice_get, slice_set, true, ℕ, ◌&&◌, ◌+◌, ◌<◌, ◌||◌, ◌∷◌, ◌≡◌, ◌≤◌, Acquires, Action, Completes, Exchanges, Executes, GoWrong, Marks, OfRoutine, Releases, Touches, TouchesPaged, Outcome, answered, answered_in, asks, completes_with, dispatched, goes_on, goes_on_cancelling, leaves, operand_of, routine_of_device, set_by, bug_if, completing, first_fault, topped, given_down, handed, holds_lock, is_completion, kind_of, StartState, Set, cancel_routine_named, cancel_routine_of, flow_of, has_cancel, instruction_at, lower_of, sort_of, Actor, Entry, Shared, asked_of, cancelled, completed, current_location, entered, left_location, mark_current, moved_up, next, packet_of, place_of, register, sent_down, shared_with, with_armer, with_info, with_locks, with_owner, with_packet, Abs, Kind, New, BugCheck, IrqlNotLessOrEqual, SystemCancel, Subject, PacketSubject, Instr, Call, Complete, End, Loop, Mark, Pass, Put, MAX_LIVE_PACKETS, DeviceQueue, Sort, Cancel, Dispatch, Dpc, Hold, Propagate, StartIo, Status, Activation, Armer, CancelStep, Exchange, SetFlag, Canceller, Frame, CancelFrame, Routine, Walk, Packet, Ref, StatusValue}
+use Rattle.run_laws.proofs.Prelude.{ap, arith, inl, inr, refl, subst, sym, ◌-◌, ◌∙◌, list_any, Bool, List, None, Option, Some, [], false, is_some, length, nat_lt, slice_get, slice_set, true, ℕ, ◌&&◌, ◌+◌, ◌<◌, ◌||◌, ◌∷◌, ◌≡◌, ◌≤◌, Acquires, Action, Completes, Exchanges, Executes, GoWrong, Marks, OfRoutine, Releases, Touches, TouchesPaged, Outcome, answered, answered_in, asks, completes_with, dispatched, goes_on, goes_on_cancelling, leaves, operand_of, routine_of_device, set_by, bug_if, completing, first_fault, topped, given_down, handed, holds_lock, is_completion, kind_of, StartState, Set, cancel_routine_named, cancel_routine_of, flow_of, has_cancel, instruction_at, lower_of, sort_of, Actor, Entry, Shared, asked_of, cancelled, completed, current_location, entered, left_location, mark_current, moved_up, next, packet_of, place_of, register, sent_down, shared_with, with_armer, with_info, with_locks, with_owner, with_packet, Abs, Kind, New, BugCheck, IrqlNotLessOrEqual, SystemCancel, Subject, PacketSubject, Instr, Call, Complete, End, Loop, Mark, Pass, Put, MAX_LIVE_PACKETS, DeviceQueue, Sort, Cancel, Dispatch, Dpc, Hold, Propagate, StartIo, Status, Activation, Armer, CancelStep, Exchange, SetFlag, Canceller, Frame, CancelFrame, Routine, Walk, Packet, Ref, StatusValue}
 use Rattle.run_laws.proofs.States.NoViews.{is_deferred}
 use Rattle.model.specs.declared.event.BugCheck.TheVariants.{MultipleIrpCompleteRequests}
 use Rattle.model.specs.Effect.{told_in}

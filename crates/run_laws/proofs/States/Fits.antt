@@ -1,6 +1,6 @@
 -- What the threads share fits its set: it has cells and locks for each device, and each completion
 -- routine that is set in a location of a packet is one of its device's driver.
-use Rattle.run_laws.specs.Prelude.{ap, arith, inl, inr, refl, subst, sym, zero, ◌-◌, ◌∙◌, cases_eq, length-replicate, length-set, get_or_from_slice_get, slice_get-get_or, List, None, Option, Some, [], length, option_and_then, replicate, slice_get, slice_index_or, slice_set, suc, true, ℕ, ⊤, ◌<◌, ◌≡◌, ◌≤◌, ◌⊎◌, StartState, Set, cancel_routine_named, Shared, blank_cells, completion_of, copied_location, current_location, mark_current, marked_location, new_packet, owner_of, packet_of, place_of, queue_of, sent_down, shared_location, shared_with, unused_location, with_locks, with_owner, with_packet, with_queue, Lock, Spin, SystemCancel, MAX_LIVE_PACKETS, MAX_QUEUES, SPIN_LOCKS, Device, Major, Armer, Cells, Completion, Location, Packet}
+use Rattle.run_laws.proofs.Prelude.{ap, arith, inl, inr, refl, subst, sym, zero, ◌-◌, ◌∙◌, cases_eq, length-replicate, length-set, get_or_from_slice_get, slice_get-get_or, List, None, Option, Some, [], length, option_and_then, replicate, slice_get, slice_index_or, slice_set, suc, true, ℕ, ⊤, ◌<◌, ◌≡◌, ◌≤◌, ◌⊎◌, StartState, Set, cancel_routine_named, Shared, blank_cells, completion_of, copied_location, current_location, mark_current, marked_location, new_packet, owner_of, packet_of, place_of, queue_of, sent_down, shared_location, shared_with, unused_location, with_locks, with_owner, with_packet, with_queue, Lock, Spin, SystemCancel, MAX_LIVE_PACKETS, MAX_QUEUES, SPIN_LOCKS, Device, Major, Armer, Cells, Completion, Location, Packet}
 use Rattle.model.specs.World.{unused}
 use Rattle.run_laws.proofs.Lists.{each_map, Each, each_at, each_set, each_same, set_same, set_other}
 use Rattle.run_laws.proofs.States.Known.{Continues}

@@ -1,6 +1,6 @@
 -- From all paths through a routine to one state at each position: the states through which the
 -- local rule leads.
-use Rattle.run_laws.specs.Prelude.{ap, arith, inl, inr, refl, subst, sym, zero, ◌∙◌, cases_lt, slice_get_within, Bool, List, None, Option, Some, [], false, length, nat_eq, slice_get, suc, true, ℕ, ◌&&◌, ◌+◌, ◌<◌, ◌∷◌, ◌≡◌, ◌≢◌, ◌≤◌, ◌⊎◌, entered_with, entry_state, outs, outs_by, refuses, rule_or, with_kind, open_at, Along, Arrives, HandsOn, LeadsFrom, goes_forward, is_malformed, is_misplaced, is_misplaced_by, Branches, Flow, Jumps, Leaves, Member, Set, default_code, default_number, default_routine, flow_of, label_in, label_of, member, ArrivesAlone, IsTypableRoutine, fault_in, Abs, Finished, Fresh, NoDuty, New, Rule, Open, SettledMark, Instr, End}
+use Rattle.run_laws.proofs.Prelude.{ap, arith, inl, inr, refl, subst, sym, zero, ◌∙◌, cases_lt, slice_get_within, Bool, List, None, Option, Some, [], false, length, nat_eq, slice_get, suc, true, ℕ, ◌&&◌, ◌+◌, ◌<◌, ◌∷◌, ◌≡◌, ◌≢◌, ◌≤◌, ◌⊎◌, entered_with, entry_state, outs, outs_by, refuses, rule_or, with_kind, open_at, Along, Arrives, HandsOn, LeadsFrom, goes_forward, is_malformed, is_misplaced, is_misplaced_by, Branches, Flow, Jumps, Leaves, Member, Set, default_code, default_number, default_routine, flow_of, label_in, label_of, member, ArrivesAlone, IsTypableRoutine, fault_in, Abs, Finished, Fresh, NoDuty, New, Rule, Open, SettledMark, Instr, End}
 use Rattle.std.proofs.Common.{Ok, eq-eqb}
 use Rattle.model.specs.declared.abs.Kind.TheVariants.{Blank}
 use Rattle.model.specs.declared.abs.Outs.{Outs}

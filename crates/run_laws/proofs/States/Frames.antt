@@ -1,6 +1,6 @@
 -- Frames of accepted routines: a routine's frame stands as the state at its position says, for a
 -- device of its driver, with the loops open that are open there; and what it has left to execute.
-use Rattle.run_laws.specs.Prelude.{ap, arith, drop, refl, ◌*◌, ◌-◌, ◌∙◌, length-append, List, None, Option, Some, [], length, slice_get, ℕ, ◌++◌, ◌+◌, ◌<◌, ◌∷◌, ◌≡◌, ◌≤◌, refuses, open_at, Set, member, routine_of, sort_of, IsSound, Shared, Abs, Instr, REGISTERS, SPIN_LOCKS, Device, Activation, OpenLoop}
+use Rattle.run_laws.proofs.Prelude.{ap, arith, drop, refl, ◌*◌, ◌-◌, ◌∙◌, length-append, List, None, Option, Some, [], length, slice_get, ℕ, ◌++◌, ◌+◌, ◌<◌, ◌∷◌, ◌≡◌, ◌≤◌, refuses, open_at, Set, member, routine_of, sort_of, IsSound, Shared, Abs, Instr, REGISTERS, SPIN_LOCKS, Device, Activation, OpenLoop}
 use Rattle.model.specs.declared.set.Routine.{Routine}
 use Rattle.run_laws.proofs.States.Fits.{Fits}
 use Rattle.run_laws.proofs.States.Kinds.{HasKinds}

@@ -1,6 +1,6 @@
 -- What holds of the values in registers of kinds that no instruction makes: packets that a routine
 -- was handed, and packets on their way up.
-use Rattle.run_laws.specs.Prelude.{refl, subst, sym, zero, ◌∙◌, cond_both, list_any, Bool, List, Option, [], false, slice_index_or, slice_set, suc, true, ℕ, ⊤, ◌&&◌, ◌∷◌, ◌≡◌, Action, all_let_go, is_guard, is_stage, kind_disarmed, kind_inserted, kind_removed, left_behind, let_go, given_down, handed, handed_at_label, kind_of, marked, StartState, Set, cancel_routine_of, flow_of, guard_named, sort_of, Shared, next, Abs, Kind, BlankKind, Lower, New, NumKind, Own, QueuedKind, Armed, Listed, Taken, Instr, Arm, Begin, Call, Clear, Complete, Const, Dequeue, Disarm, Get, Insert, Load, LoadPaged, Mark, Move, Next, Pass, Release, ReleaseCancel, Remove, Start, Take, Unlink, Guard, CancelLock, DeviceLock, Declared, Activation, Armer, Value, Blank, Num, Ref}
+use Rattle.run_laws.proofs.Prelude.{refl, subst, sym, zero, ◌∙◌, cond_both, list_any, Bool, List, Option, [], false, slice_index_or, slice_set, suc, true, ℕ, ⊤, ◌&&◌, ◌∷◌, ◌≡◌, Action, all_let_go, is_guard, is_stage, kind_disarmed, kind_inserted, kind_removed, left_behind, let_go, given_down, handed, handed_at_label, kind_of, marked, StartState, Set, cancel_routine_of, flow_of, guard_named, sort_of, Shared, next, Abs, Kind, BlankKind, Lower, New, NumKind, Own, QueuedKind, Armed, Listed, Taken, Instr, Arm, Begin, Call, Clear, Complete, Const, Dequeue, Disarm, Get, Insert, Load, LoadPaged, Mark, Move, Next, Pass, Release, ReleaseCancel, Remove, Start, Take, Unlink, Guard, CancelLock, DeviceLock, Declared, Activation, Armer, Value, Blank, Num, Ref}
 use Rattle.run_laws.proofs.States.Frames.{Runs, state_of}
 use Rattle.run_laws.proofs.States.Kinds.{number_kinds}
 use Rattle.run_laws.proofs.States.Moves.{arrives, arrives_next, has_next}

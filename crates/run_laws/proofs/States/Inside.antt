@@ -1,6 +1,6 @@
 -- Every routine's frame of a thread stands inside the code of its routine, with all its registers,
 -- which hold what their kinds say, on top or below: but for one in which it is told a status.
-use Rattle.run_laws.specs.Prelude.{ap, refl, subst, sym, zero, ◌-◌, ◌∙◌, get_or-set_other, length-set, List, None, Option, Some, [], length, slice_get, slice_set, suc, ℕ, ◌∷◌, ◌≡◌, ◌≢◌, answered, answered_in, operand_of, kind_of, Set, instruction_at, told_register, register, Kind, Status, Success, Activation, Frame, CancelFrame, Routine, Walk, Value, Blank, StatusValue}
+use Rattle.run_laws.proofs.Prelude.{ap, refl, subst, sym, zero, ◌-◌, ◌∙◌, get_or-set_other, length-set, List, None, Option, Some, [], length, slice_get, slice_set, suc, ℕ, ◌∷◌, ◌≡◌, ◌≢◌, answered, answered_in, operand_of, kind_of, Set, instruction_at, told_register, register, Kind, Status, Success, Activation, Frame, CancelFrame, Routine, Walk, Value, Blank, StatusValue}
 use Rattle.run_laws.specs.Holder.{StandsInside}
 use Rattle.run_laws.proofs.States.Frames.{Ready, state_of}
 use Rattle.run_laws.proofs.States.Kinds.{HasKinds, Suits, kinds_get}

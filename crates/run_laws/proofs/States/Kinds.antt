@@ -1,7 +1,7 @@
 -- Registers hold what their kinds say: a number, a status, or a packet that was issued; and an
 -- instruction that breaks no rule finds its operands there, and leaves registers of the kinds that
 -- the local rule says.
-use Rattle.run_laws.specs.Prelude.{ap, arith, inl, inr, refl, subst, sym, zero, ◌∙◌, cond_both, lt-ltb, length-set, set-get_or, Bool, List, None, Option, Some, [], false, length, nat_lt, slice_index_or, slice_set, suc, true, ℕ, ⊤, ◌&&◌, ◌<◌, ◌||◌, ◌∷◌, ◌≡◌, ◌≤◌, ◌⊎◌, all_let_go, is_at, is_exchanged, is_guard, is_lower, is_packet, is_right, is_stage, kind_disarmed, kind_inserted, kind_removed, left_behind, let_go, a_new_one, an_owned_one, complete_kind, demanded, given_down, handed, handed_at_label, kind_of, mark_fault, marked, number_kind, one_handed_or_owned, queued_kind, refuses, Set, cancel_routine_of, guard_named, Shared, number_in, packet_in, status_in, Abs, Kind, BlankKind, Lower, New, NumKind, Own, Queued, View, Armed, Cancelling, Listed, Taken, Instr, Acquire, Add, Arm, Begin, Call, Clear, Complete, Const, Dequeue, Disarm, Get, IfCancel, IfPending, Insert, JumpIfLess, JumpIfZero, Load, LoadPaged, Mark, Move, Pass, Put, Release, ReleaseCancel, Remove, Start, Store, StorePaged, Subtract, Take, Unlink, Guard, CancelLock, DeviceLock, QueueName, Declared, DeviceQueue, Sort, Status, Activation, Value, Blank, Num, Ref, StatusValue}
+use Rattle.run_laws.proofs.Prelude.{ap, arith, inl, inr, refl, subst, sym, zero, ◌∙◌, cond_both, lt-ltb, length-set, set-get_or, Bool, List, None, Option, Some, [], false, length, nat_lt, slice_index_or, slice_set, suc, true, ℕ, ⊤, ◌&&◌, ◌<◌, ◌||◌, ◌∷◌, ◌≡◌, ◌≤◌, ◌⊎◌, all_let_go, is_at, is_exchanged, is_guard, is_lower, is_packet, is_right, is_stage, kind_disarmed, kind_inserted, kind_removed, left_behind, let_go, a_new_one, an_owned_one, complete_kind, demanded, given_down, handed, handed_at_label, kind_of, mark_fault, marked, number_kind, one_handed_or_owned, queued_kind, refuses, Set, cancel_routine_of, guard_named, Shared, number_in, packet_in, status_in, Abs, Kind, BlankKind, Lower, New, NumKind, Own, Queued, View, Armed, Cancelling, Listed, Taken, Instr, Acquire, Add, Arm, Begin, Call, Clear, Complete, Const, Dequeue, Disarm, Get, IfCancel, IfPending, Insert, JumpIfLess, JumpIfZero, Load, LoadPaged, Mark, Move, Pass, Put, Release, ReleaseCancel, Remove, Start, Store, StorePaged, Subtract, Take, Unlink, Guard, CancelLock, DeviceLock, QueueName, Declared, DeviceQueue, Sort, Status, Activation, Value, Blank, Num, Ref, StatusValue}
 use Rattle.model.specs.LocalRule.{Wanted, any_packet, one_to_mark, one_to_look_at}
 use Rattle.run_laws.proofs.Lists.{copied}
 use Rattle.run_laws.proofs.States.NoViews.{is_queued}

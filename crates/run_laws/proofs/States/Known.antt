@@ -1,5 +1,5 @@
 -- A state for every position of every routine of an accepted set, the default routine included.
-use Rattle.run_laws.specs.Prelude.{arith, inl, inr, refl, subst, zero, eqb_tells, slice_get_within, All, IfSome, List, None, Option, Some, [], false, length, option_and_then, slice_get, slice_index_or, suc, true, ℕ, ⊤, ◌<◌, ◌∷◌, ◌≡◌, ◌≤◌, entered_with, is_completion, open_at, Member, Set, default_code, default_number, default_routine, member, routine_of, DriverFits, HasSort, IsSound, OperandFits, QueueFits, queue_named, IsTypable, IsTypableRoutine, Abs, NoDuty, Open, Instr, MAX_QUEUES, MAX_ROUTINES, Driver, Sort, Hold, Propagate}
+use Rattle.run_laws.proofs.Prelude.{arith, inl, inr, refl, subst, zero, eqb_tells, slice_get_within, All, IfSome, List, None, Option, Some, [], false, length, option_and_then, slice_get, slice_index_or, suc, true, ℕ, ⊤, ◌<◌, ◌∷◌, ◌≡◌, ◌≤◌, entered_with, is_completion, open_at, Member, Set, default_code, default_number, default_routine, member, routine_of, DriverFits, HasSort, IsSound, OperandFits, QueueFits, queue_named, IsTypable, IsTypableRoutine, Abs, NoDuty, Open, Instr, MAX_QUEUES, MAX_ROUTINES, Driver, Sort, Hold, Propagate}
 use Rattle.model.specs.declared.abs.Kind.TheVariants.{Blank}
 use Rattle.model.specs.declared.set.Routine.{Routine}
 use Rattle.model.specs.Sound.{RoutineFits, IsCompletion, CallsFit, completion_named, QueuesFit}

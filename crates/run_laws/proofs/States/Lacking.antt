@@ -1,6 +1,6 @@
 -- No step of an accepted set is wrong: the frame on top lacks nothing that its instruction wants.
 use Rattle.run_laws.proofs.States.Listed.{HasCancel, armed_fits}
-use Rattle.run_laws.specs.Prelude.{arith, refl, subst, sym, ◌∙◌, slice_get-get_or, slice_get_within, Bool, IfSome, None, Option, Some, false, length, nat_lt, not, slice_get, slice_index_or, true, ℕ, ◌<◌, ◌≡◌, spin_lock, broken_if, duty_fault, form_fault, kind_of, Set, cancel_routine_of, sort_of, OperandFits, QueueFits, queue_named, Shared, blank_cells, register, status_in, Rule, Lock, SystemCancel, Instr, Acquire, AcquireCancel, Arm, Call, End, Pass, Release, ReleaseCancel, Ret, Return, Continue, Stop, Void, WithStatus, MAX_LOOPS, MAX_QUEUES, Declared, Sort, Cancel, Dispatch, Dpc, Hold, Propagate, StartIo, Status, Activation, Routine}
+use Rattle.run_laws.proofs.Prelude.{arith, refl, subst, sym, ◌∙◌, slice_get-get_or, slice_get_within, Bool, IfSome, None, Option, Some, false, length, nat_lt, not, slice_get, slice_index_or, true, ℕ, ◌<◌, ◌≡◌, spin_lock, broken_if, duty_fault, form_fault, kind_of, Set, cancel_routine_of, sort_of, OperandFits, QueueFits, queue_named, Shared, blank_cells, register, status_in, Rule, Lock, SystemCancel, Instr, Acquire, AcquireCancel, Arm, Call, End, Pass, Release, ReleaseCancel, Ret, Return, Continue, Stop, Void, WithStatus, MAX_LOOPS, MAX_QUEUES, Declared, Sort, Cancel, Dispatch, Dpc, Hold, Propagate, StartIo, Status, Activation, Routine}
 use Rattle.model.specs.declared.instr.Return.TheVariants.{Lower}
 use Rattle.run_laws.proofs.Lists.{all_at}
 use Rattle.run_laws.proofs.States.Entering.{LowerThere, lower_there}

@@ -2,7 +2,7 @@
 -- queue has one, and the thread holds its guard while it has a packet that stands in the queue, or
 -- was taken off it, or while it has one that IoCancelIrp handed to the cancel routine of the device
 -- queue.
-use Rattle.run_laws.specs.Prelude.{ap, arith, eqb-true, inl, inr, refl, subst, sym, zero, ◌-◌, ◌∙◌, cases_Bool, eqb_tells, get_or-set_same, list_any, Bool, List, None, Option, Some, [], false, if◌then◌else◌, length, option_and_then, replicate, slice_get, slice_index_or, slice_set, suc, true, ℕ, ⊤, ◌&&◌, ◌+◌, ◌<◌, ◌||◌, ◌∷◌, ◌≡◌, all_let_go, is_at, is_guard, is_name, is_stage, kind_disarmed, kind_inserted, kind_removed, left_behind, let_go, entered_with, entry_of_cancel, entry_of_sort, given_down, guard_fault, handed, handed_at_label, is_guarded, kind_of, marked, queued_kind, refuses, Arrives, Member, Set, cancel_routine_named, cancel_routine_of, cancels_for, guard_named, Abs, Duty, Fresh, NoDuty, Kind, Lower, New, Own, Queued, View, CancelState, GuardRule, Settled, Open, SettledMark, Stage, Armed, Cancelling, Listed, Taken, Instr, Acquire, AcquireCancel, Arm, Begin, Call, Clear, Complete, Const, Dequeue, Disarm, Get, Insert, Load, LoadPaged, Mark, Move, Pass, Release, ReleaseCancel, Remove, Start, Take, Unlink, REGISTERS, SPIN_LOCKS, Driver, Guard, CancelLock, DeviceLock, Queue, QueueName, Declared, DeviceQueue, Sort, Cancel, Dispatch, Dpc, Hold, Propagate, StartIo}
+use Rattle.run_laws.proofs.Prelude.{ap, arith, eqb-true, inl, inr, refl, subst, sym, zero, ◌-◌, ◌∙◌, cases_Bool, eqb_tells, get_or-set_same, list_any, Bool, List, None, Option, Some, [], false, if◌then◌else◌, length, option_and_then, replicate, slice_get, slice_index_or, slice_set, suc, true, ℕ, ⊤, ◌&&◌, ◌+◌, ◌<◌, ◌||◌, ◌∷◌, ◌≡◌, all_let_go, is_at, is_guard, is_name, is_stage, kind_disarmed, kind_inserted, kind_removed, left_behind, let_go, entered_with, entry_of_cancel, entry_of_sort, given_down, guard_fault, handed, handed_at_label, is_guarded, kind_of, marked, queued_kind, refuses, Arrives, Member, Set, cancel_routine_named, cancel_routine_of, cancels_for, guard_named, Abs, Duty, Fresh, NoDuty, Kind, Lower, New, Own, Queued, View, CancelState, GuardRule, Settled, Open, SettledMark, Stage, Armed, Cancelling, Listed, Taken, Instr, Acquire, AcquireCancel, Arm, Begin, Call, Clear, Complete, Const, Dequeue, Disarm, Get, Insert, Load, LoadPaged, Mark, Move, Pass, Release, ReleaseCancel, Remove, Start, Take, Unlink, REGISTERS, SPIN_LOCKS, Driver, Guard, CancelLock, DeviceLock, Queue, QueueName, Declared, DeviceQueue, Sort, Cancel, Dispatch, Dpc, Hold, Propagate, StartIo}
 use Rattle.std.proofs.Common.{get_or-set_other, eq-eqb}
 use Rattle.model.specs.declared.abs.Kind.TheVariants.{Blank, Num}
 use Rattle.model.specs.Kinds.{needs_guard, stays_under_guard}

@@ -1,5 +1,5 @@
 -- Loops: a step into one, and the end of its body, where it turns again or is closed.
-use Rattle.run_laws.specs.Prelude.{ap, arith, drop, refl, subst, sym, take, zero, ◌*◌, ◌-◌, ◌∙◌, cond_both, leb-false, lt-ltb, ltb-true, List, None, Option, Some, [], false, length, nat_eq, nat_le, nat_lt, slice_get, suc, true, ℕ, ◌++◌, ◌+◌, ◌<◌, ◌∷◌, ◌≡◌, ◌≤◌, turned, loops_round, open_at, open_by, is_misplaced, Closes, Flow, Opens, Set, flow_of, Shared, at_label, innermost, next, with_loops, Abs, Instr, End, Loop, MAX_LOOPS, Activation, OpenLoop}
+use Rattle.run_laws.proofs.Prelude.{ap, arith, drop, refl, subst, sym, take, zero, ◌*◌, ◌-◌, ◌∙◌, cond_both, leb-false, lt-ltb, ltb-true, List, None, Option, Some, [], false, length, nat_eq, nat_le, nat_lt, slice_get, suc, true, ℕ, ◌++◌, ◌+◌, ◌<◌, ◌∷◌, ◌≡◌, ◌≤◌, turned, loops_round, open_at, open_by, is_misplaced, Closes, Flow, Opens, Set, flow_of, Shared, at_label, innermost, next, with_loops, Abs, Instr, End, Loop, MAX_LOOPS, Activation, OpenLoop}
 use Rattle.model.specs.World.{outer_loops}
 use Rattle.run_laws.proofs.Lists.{last_of, before_last}
 use Rattle.run_laws.proofs.States.Follows.{next_state, placed}

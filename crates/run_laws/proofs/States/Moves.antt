@@ -1,6 +1,6 @@
 -- How a step moves a routine's frame: where it goes on, its registers hold what the state there
 -- says, its loops are those that are open there, and it has less left to execute.
-use Rattle.run_laws.specs.Prelude.{ap, arith, drop, refl, subst, sym, ◌∙◌, ltb-true, Bool, List, Option, Some, [], false, length, nat_lt, slice_get, suc, true, ℕ, ◌&&◌, ◌+◌, ◌<◌, ◌∷◌, ◌≡◌, ◌≤◌, handed, handed_at_label, outs_by, loops_round, open_at, open_by, goes_forward, Branches, Closes, Flow, Jumps, Leaves, Onward, Opens, Set, flow_of, label_in, label_of, OperandFits, Shared, at_label, next, Abs, Instr, Loop, REGISTERS, SPIN_LOCKS, Activation, OpenLoop, Value}
+use Rattle.run_laws.proofs.Prelude.{ap, arith, drop, refl, subst, sym, ◌∙◌, ltb-true, Bool, List, Option, Some, [], false, length, nat_lt, slice_get, suc, true, ℕ, ◌&&◌, ◌+◌, ◌<◌, ◌∷◌, ◌≡◌, ◌≤◌, handed, handed_at_label, outs_by, loops_round, open_at, open_by, goes_forward, Branches, Closes, Flow, Jumps, Leaves, Onward, Opens, Set, flow_of, label_in, label_of, OperandFits, Shared, at_label, next, Abs, Instr, Loop, REGISTERS, SPIN_LOCKS, Activation, OpenLoop, Value}
 use Rattle.std.proofs.lemmas.Bool.{eqb-true}
 use Rattle.model.specs.declared.set.Routine.{Routine}
 use Rattle.model.specs.Paths.{are_same_positions}

@@ -2,7 +2,7 @@
 -- where a routine begins alone: a dispatch routine and a deferred routine have no packet on its way
 -- up, in no state that arrives at a position, and a deferred routine and a completion routine have
 -- none that was handed over.
-use Rattle.run_laws.specs.Prelude.{ap, refl, subst, sym, zero, ◌-◌, ◌∙◌, cond_both, list_any, Bool, List, None, Option, Some, [], false, replicate, slice_index_or, slice_set, suc, true, ℕ, ◌&&◌, ◌∷◌, ◌≡◌, all_let_go, is_at, is_guard, is_new, is_stage, is_view, kind_disarmed, kind_inserted, kind_removed, left_behind, let_go, entered_with, entry_of_cancel, entry_of_sort, entry_state, given_down, handed, handed_at_label, kind_of, marked, queued_kind, refuses, Arrives, Member, Set, cancel_routine_of, cancels_for, guard_named, Abs, Fresh, NoDuty, Kind, Lower, New, Own, Queued, View, SettledMark, Stage, Armed, Cancelling, Listed, Taken, Instr, Arm, Begin, Call, Clear, Complete, Const, Dequeue, Disarm, Get, Insert, Load, LoadPaged, Mark, Move, Pass, Release, ReleaseCancel, Remove, Start, Take, Unlink, REGISTERS, Guard, CancelLock, DeviceLock, QueueName, Declared, Sort, Cancel, Dispatch, Dpc, Hold, Propagate, StartIo}
+use Rattle.run_laws.proofs.Prelude.{ap, refl, subst, sym, zero, ◌-◌, ◌∙◌, cond_both, list_any, Bool, List, None, Option, Some, [], false, replicate, slice_index_or, slice_set, suc, true, ℕ, ◌&&◌, ◌∷◌, ◌≡◌, all_let_go, is_at, is_guard, is_new, is_stage, is_view, kind_disarmed, kind_inserted, kind_removed, left_behind, let_go, entered_with, entry_of_cancel, entry_of_sort, entry_state, given_down, handed, handed_at_label, kind_of, marked, queued_kind, refuses, Arrives, Member, Set, cancel_routine_of, cancels_for, guard_named, Abs, Fresh, NoDuty, Kind, Lower, New, Own, Queued, View, SettledMark, Stage, Armed, Cancelling, Listed, Taken, Instr, Arm, Begin, Call, Clear, Complete, Const, Dequeue, Disarm, Get, Insert, Load, LoadPaged, Mark, Move, Pass, Release, ReleaseCancel, Remove, Start, Take, Unlink, REGISTERS, Guard, CancelLock, DeviceLock, QueueName, Declared, Sort, Cancel, Dispatch, Dpc, Hold, Propagate, StartIo}
 use Rattle.model.specs.declared.abs.Kind.TheVariants.{Blank, Num}
 use Rattle.run_laws.proofs.States.Along.{arrives_keep}
 use Rattle.run_laws.proofs.States.Rules.{first_none}

@@ -1,6 +1,6 @@
 -- What an instruction that breaks no rule tells of the state before it: where it sends a packet
 -- down, completes one, or returns.
-use Rattle.run_laws.specs.Prelude.{refl, subst, sym, ◌∙◌, list_any, Bool, List, None, Some, [], false, true, ℕ, ◌&&◌, ◌∷◌, ◌≡◌, is_too_small, lacks_lower, is_kept, is_right, a_new_one, an_owned_one, broken_if, complete_kind, completion_sort_fault, demanded, duty_fault, form_fault, forward_fault, forward_sort_fault, given_down, gives_back, handed, holds_lock, holds_spin_lock, is_completion, is_dropped, is_hold, is_pending, kept_fault, kind_of, least_of, one_handed_or_owned, refuses, settled_fault, Set, Abs, Kind, New, Own, CancelSpinLock, CompletionRule, Dropped, SpinLock, Instr, Call, Complete, Pass, Ret, Return, Sort, Dispatch, Hold, Status}
+use Rattle.run_laws.proofs.Prelude.{refl, subst, sym, ◌∙◌, list_any, Bool, List, None, Some, [], false, true, ℕ, ◌&&◌, ◌∷◌, ◌≡◌, is_too_small, lacks_lower, is_kept, is_right, a_new_one, an_owned_one, broken_if, complete_kind, completion_sort_fault, demanded, duty_fault, form_fault, forward_fault, forward_sort_fault, given_down, gives_back, handed, holds_lock, holds_spin_lock, is_completion, is_dropped, is_hold, is_pending, kept_fault, kind_of, least_of, one_handed_or_owned, refuses, settled_fault, Set, Abs, Kind, New, Own, CancelSpinLock, CompletionRule, Dropped, SpinLock, Instr, Call, Complete, Pass, Ret, Return, Sort, Dispatch, Hold, Status}
 use Rattle.model.specs.declared.abs.Rule.TheVariants.{MarkIrpPending, LockHeld, StackTooSmall, NoLower}
 use Rattle.run_laws.proofs.States.NoViews.{is_queued}
 use Rattle.run_laws.proofs.States.Rules.{first_none, second_none, unbroken}

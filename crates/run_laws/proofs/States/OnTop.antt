@@ -1,6 +1,6 @@
 -- The top frame of a thread of an accepted set: it stands as it should, what it executes is the
 -- instruction of a routine that breaks no rule, and it lacks nothing that the instruction wants.
-use Rattle.run_laws.specs.Prelude.{ap, subst, sym, ◌∙◌, None, Option, Some, option_and_then, slice_get, ℕ, ◌≡◌, ◌⊎◌, kind_of, refuses, Set, instruction_at, member, routine_of, sort_in, sort_of, fault_in, Shared, number_in, packet_in, register, NumKind, Instr, RoutineOf, Sort, Activation, Frame, Routine, Ref}
+use Rattle.run_laws.proofs.Prelude.{ap, subst, sym, ◌∙◌, None, Option, Some, option_and_then, slice_get, ℕ, ◌≡◌, ◌⊎◌, kind_of, refuses, Set, instruction_at, member, routine_of, sort_in, sort_of, fault_in, Shared, number_in, packet_in, register, NumKind, Instr, RoutineOf, Sort, Activation, Frame, Routine, Ref}
 use Rattle.run_laws.proofs.States.Fits.{Fits}
 use Rattle.run_laws.proofs.States.Frames.{state_of, Stays, IsGood, Runs}
 use Rattle.run_laws.proofs.States.Kinds.{Suits, kinds_get, number_there, packet_ref, packet_wanted, number_wanted}

@@ -1,7 +1,7 @@
 -- What the instructions about queues do to a routine's frame: it goes on to the next position, with
 -- the first packet of a queue or the one in the current slot in a register where one was taken, or
 -- to a label where there was none.
-use Rattle.run_laws.specs.Prelude.{refl, subst, Bool, List, None, Option, Some, false, slice_set, true, ℕ, ◌<◌, ◌∷◌, Action, kind_removed, StartState, dequeued, inserted, next_started, started, unlinked, with_slot, Set, cancel_routine_of, Shared, next, Own, Instr, Begin, Dequeue, Insert, Next, Remove, Start, Take, Unlink, Declared, Activation, Armer, Ref}
+use Rattle.run_laws.proofs.Prelude.{refl, subst, Bool, List, None, Option, Some, false, slice_set, true, ℕ, ◌<◌, ◌∷◌, Action, kind_removed, StartState, dequeued, inserted, next_started, started, unlinked, with_slot, Set, cancel_routine_of, Shared, next, Own, Instr, Begin, Dequeue, Insert, Next, Remove, Start, Take, Unlink, Declared, Activation, Armer, Ref}
 use Rattle.run_laws.proofs.Lists.{each_push}
 use Rattle.run_laws.proofs.Past.Packets.{named}
 use Rattle.run_laws.proofs.States.Fits.{AllQueuesFit, queue_issued, queue_put_fits}

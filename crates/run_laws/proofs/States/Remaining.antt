@@ -1,7 +1,7 @@
 -- The loops that are open at a position, and what is left to execute there. `rest code d` is the
 -- cost of executing, once and with all inner loops' turns, what stands from here up to the `end`
 -- that closes the loop which has d open loops inside it.
-use Rattle.run_laws.specs.Prelude.{ap, arith, drop, get_or, inl, inr, refl, subst, sym, zero, ◌*◌, ◌-◌, ◌∙◌, cases_lt, slice_get-get_or, List, None, Option, Some, [], false, length, nat_eq, slice_get, suc, true, ℕ, ⊤, ◌+◌, ◌<◌, ◌∷◌, ◌≡◌, ◌≤◌, certificate, loops_round, open_at, open_by, is_malformed, is_misplaced, is_misplaced_by, Closes, Flow, Opens, flow_of, Instr, End, Loop}
+use Rattle.run_laws.proofs.Prelude.{ap, arith, drop, get_or, inl, inr, refl, subst, sym, zero, ◌*◌, ◌-◌, ◌∙◌, cases_lt, slice_get-get_or, List, None, Option, Some, [], false, length, nat_eq, slice_get, suc, true, ℕ, ⊤, ◌+◌, ◌<◌, ◌∷◌, ◌≡◌, ◌≤◌, certificate, loops_round, open_at, open_by, is_malformed, is_misplaced, is_misplaced_by, Closes, Flow, Opens, flow_of, Instr, End, Loop}
 use Rattle.std.specs.Prelude.{filter}
 use Rattle.std.proofs.lemmas.Nat.{mul-le}
 use Rattle.model.specs.Certificate.{turns_at, certificate_to}

@@ -1,6 +1,6 @@
 -- Where a thread's lowest frame began: each dispatch routine's frame is on a thread that began at
 -- PASSIVE_LEVEL, since only dispatch routines send packets down.
-use Rattle.run_laws.specs.Prelude.{refl, subst, sym, ◌-◌, ◌∙◌, List, None, Option, Some, [], false, slice_get, ℕ, ⊤, ◌∷◌, ◌≡◌, Outcome, answered_in, completes_with, operand_of, routine_of_device, turned, root_over, Set, instruction_at, Shared, entered, Call, Pass, Cancel, Dispatch, Hold, Propagate, Status, Activation, Armer, CancelStep, Frame, CancelFrame, Routine, Walk, Irql, Passive, Ref}
+use Rattle.run_laws.proofs.Prelude.{refl, subst, sym, ◌-◌, ◌∙◌, List, None, Option, Some, [], false, slice_get, ℕ, ⊤, ◌∷◌, ◌≡◌, Outcome, answered_in, completes_with, operand_of, routine_of_device, turned, root_over, Set, instruction_at, Shared, entered, Call, Pass, Cancel, Dispatch, Hold, Propagate, Status, Activation, Armer, CancelStep, Frame, CancelFrame, Routine, Walk, Irql, Passive, Ref}
 use Rattle.run_laws.proofs.States.Fits.{ArmerLeads, word_leads}
 use Rattle.run_laws.proofs.Lists.{Each}
 use Rattle.run_laws.proofs.States.Entering.{IsOfSort, Begins, begins_back, begins_lent, begins_cancelled}

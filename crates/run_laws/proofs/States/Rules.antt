@@ -1,5 +1,5 @@
 -- What follows where an instruction breaks no rule: each of its conditions holds.
-use Rattle.run_laws.specs.Prelude.{cond, refl, Bool, None, Option, Some, false, nat_le, true, ◌≡◌, broken_if, least_of, unless, Rule}
+use Rattle.run_laws.proofs.Prelude.{cond, refl, Bool, None, Option, Some, false, nat_le, true, ◌≡◌, broken_if, least_of, unless, Rule}
 use Rattle.model.specs.LocalRule.{rule_number}
 
 -- one of two broken rules is broken

@@ -1,6 +1,6 @@
 -- Frames on frames: how a frame stands that is the top one, or that stands below another; and that
 -- frames in place of one stand as they should.
-use Rattle.run_laws.specs.Prelude.{append-nil, arith, subst, sym, ◌-◌, List, None, Option, Some, [], false, ℕ, ⊤, ◌++◌, ◌<◌, ◌∷◌, ◌≡◌, ◌≤◌, answered, answered_in, operand_of, told_to, holds_lock, Set, instruction_at, Sort, Dispatch, Status, Activation, Frame, CancelFrame, Routine, Walk}
+use Rattle.run_laws.proofs.Prelude.{append-nil, arith, subst, sym, ◌-◌, List, None, Option, Some, [], false, ℕ, ⊤, ◌++◌, ◌<◌, ◌∷◌, ◌≡◌, ◌≤◌, answered, answered_in, operand_of, told_to, holds_lock, Set, instruction_at, Sort, Dispatch, Status, Activation, Frame, CancelFrame, Routine, Walk}
 use Rattle.run_laws.proofs.Lists.{Each}
 use Rattle.run_laws.proofs.Past.Walks.{WalkIssued}
 use Rattle.run_laws.proofs.States.Entering.{IsOfSort, IsCompleting}

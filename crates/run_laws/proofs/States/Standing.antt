@@ -1,6 +1,6 @@
 -- Every run of an accepted set stands as it should: what is shared fits the set, the past tells of
 -- it, and each thread has frames that stand on one another, dispatch routines at PASSIVE_LEVEL.
-use Rattle.run_laws.specs.Prelude.{ap, arith, inl, inr, refl, subst, ◌∙◌, ltb-true, length-append, list_any, Bool, List, None, Option, Some, [], false, length, slice_get, ℕ, ◌++◌, ◌+◌, ◌<◌, ◌∷◌, ◌≡◌, ◌≤◌, Outcome, top_of, Change, finished_or, standing, with_stack, with_thread, first_fault, without_first_to_start, begun, frames_of, frames_on, root_of, Set, Actor, Entry, recorded, Shared, World, new_packet, Reply, Stepped, MAX_LIVE_PACKETS, Frame, Walk, Irql, Packet, Thread}
+use Rattle.run_laws.proofs.Prelude.{ap, arith, inl, inr, refl, subst, ◌∙◌, ltb-true, length-append, list_any, Bool, List, None, Option, Some, [], false, length, slice_get, ℕ, ◌++◌, ◌+◌, ◌<◌, ◌∷◌, ◌≡◌, ◌≤◌, Outcome, top_of, Change, finished_or, standing, with_stack, with_thread, first_fault, without_first_to_start, begun, frames_of, frames_on, root_of, Set, Actor, Entry, recorded, Shared, World, new_packet, Reply, Stepped, MAX_LIVE_PACKETS, Frame, Walk, Irql, Packet, Thread}
 use Rattle.std.proofs.Common.{append_assoc}
 use Rattle.run_laws.proofs.Lists.{Each, each_push, each_append, each_before, each_after}
 use Rattle.run_laws.proofs.Past.Packets.{Tells, tells_nothing}

@@ -1,6 +1,6 @@
 -- What the devices have for StartIo fits the set: each device has it, and the packets in it were
 -- issued.
-use Rattle.run_laws.specs.Prelude.{arith, sym, ◌∙◌, cond_both, length-replicate, length-set, slice_get-get_or, List, None, Option, Some, [], length, nat_eq, replicate, slice_get, slice_index_or, true, ℕ, ⊤, ◌<◌, ◌∷◌, ◌≡◌, ◌≤◌, StartState, dequeued, head_of, idle, inserted, next_of, next_started, started, unlinked, with_slot, without_first_to_start, without_head, Set, Shared, start_of, with_start}
+use Rattle.run_laws.proofs.Prelude.{arith, sym, ◌∙◌, cond_both, length-replicate, length-set, slice_get-get_or, List, None, Option, Some, [], length, nat_eq, replicate, slice_get, slice_index_or, true, ℕ, ⊤, ◌<◌, ◌∷◌, ◌≡◌, ◌≤◌, StartState, dequeued, head_of, idle, inserted, next_of, next_started, started, unlinked, with_slot, without_first_to_start, without_head, Set, Shared, start_of, with_start}
 use Rattle.run_laws.proofs.Lists.{Each, each_at, each_map, each_push, each_same, each_set}
 
 abbrev pub WereIssued : ℕ → List ℕ → Type 0

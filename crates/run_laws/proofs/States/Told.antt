@@ -1,6 +1,6 @@
 -- What a step tells the frame below the one that ran: the last of those below is told, and the
 -- frame under the next.
-use Rattle.run_laws.specs.Prelude.{ap, arith, get_or, refl, sym, take, ◌-◌, ◌∙◌, slice_get-get_or, List, None, Option, Some, [], length, slice_get, ◌++◌, ◌∷◌, ◌≡◌, answered, told_to, told_top, top_of, Set, Status, Frame, CancelFrame, Routine, Walk}
+use Rattle.run_laws.proofs.Prelude.{ap, arith, get_or, refl, sym, take, ◌-◌, ◌∙◌, slice_get-get_or, List, None, Option, Some, [], length, slice_get, ◌++◌, ◌∷◌, ◌≡◌, answered, told_to, told_top, top_of, Set, Status, Frame, CancelFrame, Routine, Walk}
 use Rattle.run_laws.proofs.Lists.{last_split}
 
 -- a frame is told a status, if any

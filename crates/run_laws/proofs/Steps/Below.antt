@@ -1,6 +1,6 @@
 -- What stands after a step: no step takes the frame below away, but that of a completion routine
 -- which stops the completion.
-use Rattle.run_laws.specs.Prelude.{ap, append-nil, inl, inr, refl, take, ◌-◌, Bool, List, None, Option, [], false, length, true, ℕ, ◌++◌, ◌∷◌, ◌≡◌, ◌⊎◌, Executes, Outcome, kept_below, told_to, top_of, standing, is_completion, Set, sort_of, Shared, Ret, Stop, Activation, CancelStep, Frame, Routine, Walk}
+use Rattle.run_laws.proofs.Prelude.{ap, append-nil, inl, inr, refl, take, ◌-◌, Bool, List, None, Option, [], false, length, true, ℕ, ◌++◌, ◌∷◌, ◌≡◌, ◌⊎◌, Executes, Outcome, kept_below, told_to, top_of, standing, is_completion, Set, sort_of, Shared, Ret, Stop, Activation, CancelStep, Frame, Routine, Walk}
 use Rattle.run_laws.proofs.Lists.{last_split}
 use Rattle.run_laws.proofs.Steps.Comes.{Cancels, takes_cancel, Comes, Executing, errs, stops_walk, cancels}
 

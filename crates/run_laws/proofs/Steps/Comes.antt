@@ -1,7 +1,7 @@
 -- The shapes of a step: a thread's top frame, over another frame or none, leaves one of these
 -- outcomes. Each shape has the instruction, and all that decided it. What a step does to a law is
 -- then said once a shape, and an instruction of a known shape costs a law nothing.
-use Rattle.run_laws.specs.Prelude.{Bool, List, None, Option, Some, [], false, is_none, is_some, length, nat_eq, nat_lt, not, slice_get, slice_set, true, ℕ, ◌&&◌, ◌++◌, ◌+◌, ◌∷◌, ◌≡◌, ◌⊎◌, Acquires, Action, Calls, Completes, Continues, Exchanges, Executes, Lends, Marks, Releases, TopsOut, Touches, TouchesPaged, Ups, Outcome, armer_of, armer_waiting, asks, completes_with, goes_on, goes_on_cancelling, goes_wrong, is_walk, leaves, next_disarmed, returned, routine_of_device, set_by, sort_of_completion, turned, waits, is_completion, is_hold, StartState, dequeued, has_room_for_next, has_room_to_start, inserted, is_full, next_started, started, unlinked, with_slot, Set, cancel_routine_named, cancel_routine_of, has_cancel, instruction_at, label_of, lower_of, sort_of, queue_named, Shared, at_label, cancelled, completed, completion_of, current_location, entered, innermost, is_marked, left_location, mark_current, moved_up, next, number_in, owner_of, packet_in, packet_of, queue_of, register, sent_down, shared_with, start_of, with_armer, with_info, with_locks, with_loops, with_owner, with_packet, with_queue, with_register, with_start, without_packet, Lock, SystemCancel, OfDevice, Topped, Waited, Instr, Arm, Begin, Call, Clear, Complete, Dequeue, Disarm, End, Insert, Loop, Mark, Move, Next, Pass, Put, Remove, Ret, Start, Take, Unlink, Return, Continue, Stop, Void, MAX_LOOPS, DeviceQueue, Cancel, Dispatch, Dpc, Hold, Propagate, StartIo, Status, Activation, Armer, CancelStep, AcquireStep, Exchange, SetFlag, Cells, Completion, Frame, CancelFrame, Routine, Walk, OpenLoop, Packet, Value, Blank, Num, Ref}
+use Rattle.run_laws.proofs.Prelude.{Bool, List, None, Option, Some, [], false, is_none, is_some, length, nat_eq, nat_lt, not, slice_get, slice_set, true, ℕ, ◌&&◌, ◌++◌, ◌+◌, ◌∷◌, ◌≡◌, ◌⊎◌, Acquires, Action, Calls, Completes, Continues, Exchanges, Executes, Lends, Marks, Releases, TopsOut, Touches, TouchesPaged, Ups, Outcome, armer_of, armer_waiting, asks, completes_with, goes_on, goes_on_cancelling, goes_wrong, is_walk, leaves, next_disarmed, returned, routine_of_device, set_by, sort_of_completion, turned, waits, is_completion, is_hold, StartState, dequeued, has_room_for_next, has_room_to_start, inserted, is_full, next_started, started, unlinked, with_slot, Set, cancel_routine_named, cancel_routine_of, has_cancel, instruction_at, label_of, lower_of, sort_of, queue_named, Shared, at_label, cancelled, completed, completion_of, current_location, entered, innermost, is_marked, left_location, mark_current, moved_up, next, number_in, owner_of, packet_in, packet_of, queue_of, register, sent_down, shared_with, start_of, with_armer, with_info, with_locks, with_loops, with_owner, with_packet, with_queue, with_register, with_start, without_packet, Lock, SystemCancel, OfDevice, Topped, Waited, Instr, Arm, Begin, Call, Clear, Complete, Dequeue, Disarm, End, Insert, Loop, Mark, Move, Next, Pass, Put, Remove, Ret, Start, Take, Unlink, Return, Continue, Stop, Void, MAX_LOOPS, DeviceQueue, Cancel, Dispatch, Dpc, Hold, Propagate, StartIo, Status, Activation, Armer, CancelStep, AcquireStep, Exchange, SetFlag, Cells, Completion, Frame, CancelFrame, Routine, Walk, OpenLoop, Packet, Value, Blank, Num, Ref}
 use Rattle.model.specs.Action.{Leaves}
 use Rattle.model.specs.Effect.{cancel_ends}
 use Rattle.run_laws.proofs.Steps.Words.{Computing, Paging, Looking, Exchanging, Forwarding, work_of, starts_packets, is_touching, goes_next, packet_operand, number_operand, second_operand, keeps_registers, numbered_by, is_of_cells, lock_taken, lock_freed, jumps_on, status_returned, is_form_of}

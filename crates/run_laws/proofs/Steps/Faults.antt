@@ -1,7 +1,7 @@
 -- The bug checks of a list of actions, by the kind of action: of locks and paged cells, of packets
 -- that are touched, that are sent down, and that are completed. Where no kind has one there is
 -- none.
-use Rattle.run_laws.specs.Prelude.{refl, Bool, List, None, Option, Some, [], false, if◌then◌else◌, true, ℕ, ◌∷◌, ◌≡◌, Action, OfRoutine, OnLocation, OnLock, OnPacket, Touch, TouchPaged, bug_if, fault_of, first_fault, first_or, topped, Actor, Entry, entry, Bug, IrqlNotLessOrEqual, PacketSubject}
+use Rattle.run_laws.proofs.Prelude.{refl, Bool, List, None, Option, Some, [], false, if◌then◌else◌, true, ℕ, ◌∷◌, ◌≡◌, Action, OfRoutine, OnLocation, OnLock, OnPacket, Touch, TouchPaged, bug_if, fault_of, first_fault, first_or, topped, Actor, Entry, entry, Bug, IrqlNotLessOrEqual, PacketSubject}
 use Rattle.model.specs.Action.{Complete, Call}
 
 abbrev pub is_of_locks : Action → Bool

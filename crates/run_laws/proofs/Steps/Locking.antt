@@ -1,5 +1,5 @@
 -- What takes or frees a lock goes on at the next position, with its registers as they were.
-use Rattle.run_laws.specs.Prelude.{refl, Some, true, ◌≡◌, Lock, Instr, Acquire, AcquireCancel, Release, ReleaseCancel, Activation}
+use Rattle.run_laws.proofs.Prelude.{refl, Some, true, ◌≡◌, Lock, Instr, Acquire, AcquireCancel, Release, ReleaseCancel, Activation}
 use Rattle.run_laws.proofs.Steps.Words.{Locking, goes_next, keeps_registers, lock_freed, lock_taken, work_of}
 
 pub record LockWord (i : Instr) : Type 0 where

@@ -1,5 +1,5 @@
 -- Where a routine goes on, it is the same one's, for the same device.
-use Rattle.run_laws.specs.Prelude.{refl, cond_both, Bool, nat_lt, ◌≡◌, turned, Instr, Activation, OpenLoop}
+use Rattle.run_laws.proofs.Prelude.{refl, cond_both, Bool, nat_lt, ◌≡◌, turned, Instr, Activation, OpenLoop}
 use Rattle.run_laws.proofs.Steps.Comes.{GoesTo, onward, jumping}
 
 abbrev pub SameRoutine : Activation → Activation → Type 0

@@ -1,6 +1,6 @@
 -- What the instructions about queues have in common: they touch one packet or none, and the routine
 -- goes on.
-use Rattle.run_laws.specs.Prelude.{inl, inr, refl, Bool, List, Option, [], false, true, ℕ, ◌∷◌, ◌≡◌, ◌⊎◌, Action, Touches, StartState, Set, Shared, Instr, Activation, Armer}
+use Rattle.run_laws.proofs.Prelude.{inl, inr, refl, Bool, List, Option, [], false, true, ℕ, ◌∷◌, ◌≡◌, ◌⊎◌, Action, Touches, StartState, Set, Shared, Instr, Activation, Armer}
 use Rattle.run_laws.proofs.Steps.Comes.{Queued, Waits, arms_waiting, disarms_next, starts_gone, dequeues_packet, inserts, removes, removes_none, unlinks, starts_packet, takes_out, takes_none, puts_in, starts_next}
 use Rattle.run_laws.proofs.Steps.Words.{Queueing, work_of}
 

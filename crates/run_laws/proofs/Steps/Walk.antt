@@ -1,5 +1,5 @@
 -- Every step has one of the shapes: the one walk over the instructions and the I/O manager's steps.
-use Rattle.run_laws.specs.Prelude.{ap, inl, inr, refl, sym, ◌∙◌, cond_both, eqb_tells, length-set, Bool, List, None, Option, Some, [], false, if◌then◌else◌, is_none, length, nat_eq, nat_lt, not, option_map, slice_get, slice_set, true, ℕ, ◌+◌, ◌∷◌, ◌≡◌, Acquires, Continues, Exchanges, Executes, Marks, Touches, Ups, Outcome, acquire_effect, arm_effect, arm_packet, ask_effect, ask_packet, begin_effect, call_effect, call_packet, cancel_step, complete_effect, complete_packet, completes_with, dequeue_effect, difference_of, disarm_effect, disarm_packet, end_effect, frame_effect, get_effect, get_packet, goes_on, goes_on_cancelling, goes_wrong, insert_effect, instruction_effect, is_less_at, is_zero_at, jump_effect, leaves, let_on, load_effect, load_paged_effect, look_effect, look_packet, mark_effect, mark_packet, next_disarmed, next_effect, next_packet, next_waiting, number_effect, pass_effect, pass_packet, put_effect, put_packet, release_effect, remove_effect, remove_from, return_effect, return_lower, routine_effect, routine_of_device, sort_of_completion, spin_lock, start_effect, start_packet, start_waiting, store_effect, store_paged_effect, sum_of, take_effect, take_from, unlink_effect, waits, walk_packet, is_completion, StartState, has_room_for_next, has_room_to_start, Set, cancel_routine_named, cancel_routine_of, instruction_at, label_of, lower_of, sort_of, Shared, at_label, completion_of, current_location, innermost, is_marked, left_location, mark_current, moved_up, next, number_in, owner_of, packet_in, packet_of, queue_of, register, start_of, status_in, with_armer, with_packet, Lock, SystemCancel, Waited, Field, Instr, Acquire, AcquireCancel, Add, Arm, Begin, Call, Clear, Complete, Const, Dequeue, Disarm, End, Get, IfCancel, IfPending, Insert, Jump, JumpIfLess, JumpIfZero, Load, LoadPaged, Loop, Mark, Move, Next, Pass, Put, Release, ReleaseCancel, Remove, Ret, Start, Store, StorePaged, Subtract, Take, Unlink, Return, Continue, Stop, Void, WithStatus, MAX_LOOPS, Sort, Cancel, Dispatch, Dpc, Hold, Propagate, StartIo, Status, Activation, Armer, CancelStep, AcquireStep, Exchange, SetFlag, Cells, Completion, Frame, CancelFrame, Routine, Walk, OpenLoop, Packet, Value}
+use Rattle.run_laws.proofs.Prelude.{ap, inl, inr, refl, sym, ◌∙◌, cond_both, eqb_tells, length-set, Bool, List, None, Option, Some, [], false, if◌then◌else◌, is_none, length, nat_eq, nat_lt, not, option_map, slice_get, slice_set, true, ℕ, ◌+◌, ◌∷◌, ◌≡◌, Acquires, Continues, Exchanges, Executes, Marks, Touches, Ups, Outcome, acquire_effect, arm_effect, arm_packet, ask_effect, ask_packet, begin_effect, call_effect, call_packet, cancel_step, complete_effect, complete_packet, completes_with, dequeue_effect, difference_of, disarm_effect, disarm_packet, end_effect, frame_effect, get_effect, get_packet, goes_on, goes_on_cancelling, goes_wrong, insert_effect, instruction_effect, is_less_at, is_zero_at, jump_effect, leaves, let_on, load_effect, load_paged_effect, look_effect, look_packet, mark_effect, mark_packet, next_disarmed, next_effect, next_packet, next_waiting, number_effect, pass_effect, pass_packet, put_effect, put_packet, release_effect, remove_effect, remove_from, return_effect, return_lower, routine_effect, routine_of_device, sort_of_completion, spin_lock, start_effect, start_packet, start_waiting, store_effect, store_paged_effect, sum_of, take_effect, take_from, unlink_effect, waits, walk_packet, is_completion, StartState, has_room_for_next, has_room_to_start, Set, cancel_routine_named, cancel_routine_of, instruction_at, label_of, lower_of, sort_of, Shared, at_label, completion_of, current_location, innermost, is_marked, left_location, mark_current, moved_up, next, number_in, owner_of, packet_in, packet_of, queue_of, register, start_of, status_in, with_armer, with_packet, Lock, SystemCancel, Waited, Field, Instr, Acquire, AcquireCancel, Add, Arm, Begin, Call, Clear, Complete, Const, Dequeue, Disarm, End, Get, IfCancel, IfPending, Insert, Jump, JumpIfLess, JumpIfZero, Load, LoadPaged, Loop, Mark, Move, Next, Pass, Put, Release, ReleaseCancel, Remove, Ret, Start, Store, StorePaged, Subtract, Take, Unlink, Return, Continue, Stop, Void, WithStatus, MAX_LOOPS, Sort, Cancel, Dispatch, Dpc, Hold, Propagate, StartIo, Status, Activation, Armer, CancelStep, AcquireStep, Exchange, SetFlag, Cells, Completion, Frame, CancelFrame, Routine, Walk, OpenLoop, Packet, Value}
 use Rattle.model.specs.declared.instr.Return.TheVariants.{Lower}
 use Rattle.model.specs.Action.{Leaves}
 use Rattle.model.specs.Effect.{of_both, loop_effect, cell_of, stored, stored_paged, acquire_owned, continued, given_back, stopped, lent_to, lending, cancel_acquires, cancel_flags, cancel_calls, cancel_armed, cancel_exchanges, walk_up, walk_out, walk_from}

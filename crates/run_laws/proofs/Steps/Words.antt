@@ -1,6 +1,6 @@
 -- What kind of work each instruction does, and which operands it has: what the laws ask of an
 -- instruction without naming it.
-use Rattle.run_laws.specs.Prelude.{Bool, None, Option, Some, false, true, ℕ, spin_lock, Branches, Closes, Flow, Jumps, Leaves, Onward, Opens, flow_of, register, status_in, Lock, SystemCancel, Instr, Acquire, AcquireCancel, Add, Arm, Begin, Call, Clear, Complete, Const, Dequeue, Disarm, End, Get, IfCancel, IfPending, Insert, Jump, JumpIfLess, JumpIfZero, Load, LoadPaged, Loop, Mark, Move, Next, Pass, Put, Release, ReleaseCancel, Remove, Ret, Start, Store, StorePaged, Subtract, Take, Unlink, Return, Continue, Stop, Void, WithStatus, Sort, Cancel, Dispatch, Dpc, Hold, Propagate, StartIo, Status, Activation, Packet}
+use Rattle.run_laws.proofs.Prelude.{Bool, None, Option, Some, false, true, ℕ, spin_lock, Branches, Closes, Flow, Jumps, Leaves, Onward, Opens, flow_of, register, status_in, Lock, SystemCancel, Instr, Acquire, AcquireCancel, Add, Arm, Begin, Call, Clear, Complete, Const, Dequeue, Disarm, End, Get, IfCancel, IfPending, Insert, Jump, JumpIfLess, JumpIfZero, Load, LoadPaged, Loop, Mark, Move, Next, Pass, Put, Release, ReleaseCancel, Remove, Ret, Start, Store, StorePaged, Subtract, Take, Unlink, Return, Continue, Stop, Void, WithStatus, Sort, Cancel, Dispatch, Dpc, Hold, Propagate, StartIo, Status, Activation, Packet}
 use Rattle.model.specs.declared.instr.Return.TheVariants.{Lower}
 
 -- computing with registers and cells, opening and turning loops, touching paged cells, looking at a

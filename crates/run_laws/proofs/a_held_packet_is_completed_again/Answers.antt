@@ -1,4 +1,4 @@
-use Rattle.run_laws.specs.Prelude.{refl}
+use Rattle.run_laws.proofs.Prelude.{refl}
 use Rattle.run_laws.proofs.a_held_packet_is_completed_again.Goals as goal
 
 pub returns : goal.returns

@@ -1,4 +1,4 @@
-use Rattle.run_laws.specs.Prelude.{refl}
+use Rattle.run_laws.proofs.Prelude.{refl}
 use Rattle.run_laws.proofs.a_mark_is_carried_up.Goals as goal
 
 pub returns : goal.returns

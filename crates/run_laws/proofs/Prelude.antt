@@ -1,4 +1,4 @@
--- The names of the standard library and of the model that laws and their proofs cite, passed on
+-- The names of the standard library and of the model that proofs of laws cite, passed on
 -- from one place. Declares nothing.
 pub use Rattle.std.proofs.Common.{ap, append-nil, arith, cond, drop, eqb-true, get_or, inl, inr, map, refl, subst, sym, take, zero, ◌*◌, ◌-◌, ◌∙◌}
 pub use Rattle.std.proofs.lemmas.Bool.{cases_Bool, cases_eq, cases_lt, cond_both, eq-eqb, leb-false, lt-ltb, ltb-false, ltb-true, ne_eqb}
