@@ -1,6 +1,8 @@
 -- What can't be made by a routine alone: where nothing is shared, it is wrong or does something else.
-use Rattle.std.proofs.Common.{◌≡◌, ◌≢◌, ◌≤◌, ◌∙◌, ℕ, suc, Bool, true, false, List, [], ◌∷◌, Option, None, Some, ap, sym, refl, inl, inr, arith}
+use Rattle.std.proofs.Common.{◌≡◌, ◌≢◌, ◌<◌, ◌≤◌, ◌⊎◌, ◌∙◌, ℕ, zero, suc, Bool, true, false, List, [], ◌∷◌, ◌++◌, Option, None, Some, length, ap, sym, subst, refl, inl, inr, arith}
+use Rattle.std.specs.Prelude.{nat_lt, slice_get}
 use Rattle.std.proofs.lemmas.Bool.Decides.{leb_tells}
+use Rattle.std.proofs.lemmas.Option.{slice_get_past}
 use Rattle.model.specs.declared.event.Lock.TheVariants.{SystemCancel}
 use Rattle.model.specs.declared.event.Reply.TheVariants.{Stepped}
 use Rattle.model.specs.declared.instr.Instr.{Instr}
@@ -10,15 +12,21 @@ use Rattle.model.specs.declared.instr.Return.TheVariants.{WithStatus, Lower, Con
 use Rattle.model.specs.declared.set.Sort.{Sort}
 use Rattle.model.specs.declared.set.Sort.TheVariants.{Dispatch, StartIo, Dpc, Propagate, Hold, Cancel}
 use Rattle.model.specs.declared.status.Status.{Status}
+use Rattle.model.specs.declared.status.Status.TheVariants.{InvalidDeviceRequest}
 use Rattle.model.specs.declared.world.Activation.{Activation}
+use Rattle.model.specs.declared.world.Frame.{Frame}
 use Rattle.model.specs.declared.world.Frame.TheVariants.{Routine}
+use Rattle.model.specs.declared.world.Thread.{Thread}
 use Rattle.model.specs.declared.world.Value.{Value}
 use Rattle.model.specs.declared.world.Value.TheVariants.{Blank, Num, Ref, Status as StatusValue}
 use Rattle.model.specs.Action.{Action, Acquires, Executes, Releases}
-use Rattle.model.specs.Effect.{Outcome, continued, ended, goes_on, goes_wrong, instruction_effect, let_on, put_effect, return_effect, return_lower, returned, stopped, store_effect, store_paged_effect}
-use Rattle.model.specs.Set.{Set, sort_of}
-use Rattle.model.specs.World.{Shared, number_in, packet_in, register, status_in, unused}
-use Rattle.checked.specs.GoingOn.{Makes, MakesAlone}
+use Rattle.model.specs.Effect.{Outcome, continued, ended, goes_on, goes_wrong, instruction_effect, let_on, put_effect, return_effect, return_lower, returned, routine_effect, stopped, store_effect, store_paged_effect, top_of}
+use Rattle.model.specs.Events.{with_thread}
+use Rattle.model.specs.Set.{Set, default_number, instruction_at, routine_of, sort_of}
+use Rattle.model.specs.World.{World, number_in, packet_in, register, status_in, unused}
+use Rattle.checked.specs.GoingOn.{FrameGoesNoFurther, Makes, MakesAlone, RoutineGoesNoFurther, ThreadGoesNoFurther, WorldGoesNoFurther}
+use Rattle.checked.proofs.GoingOn.{found_set}
+use Rattle.run_laws.proofs.Lists.{last_of}
 
 -- no value refers to a packet there
 no_packet : (v : Value) → packet_in (unused 0) v ≡ None
@@ -84,6 +92,13 @@ module _ (set : Set) (a b : Activation) where
   returns Cancel Void = gone (ended (unused 0)) refl
   returns Cancel form = wrong
 
+  completes : (r : ℕ) (status : Status)
+      → Other (instruction_effect set (unused 0) 0 None a (Complete r status))
+  completes r status = rw (no_packet (register a r)) wrong
+
+  returns_here : (form : Return) → Other (instruction_effect set (unused 0) 0 None a (Ret form))
+  returns_here form = returns (sort_of set a.driver a.routine) form
+
   module _ (i : Instr) (no_const : (r n : ℕ) → i ≢ Const r n) (no_move : (r q : ℕ) → i ≢ Move r q)
       (no_clear : (r : ℕ) → i ≢ Clear r) (no_add : (r q : ℕ) → i ≢ Add r q)
       (no_subtract : (r q : ℕ) → i ≢ Subtract r q)
@@ -128,9 +143,9 @@ module _ (set : Set) (a b : Activation) where
     others (Dequeue r) is = rw (no_packet (register a r)) wrong
     others (Pass r) is = rw (no_packet (register a r)) wrong
     others (Call r f) is = rw (no_packet (register a r)) wrong
-    others (Complete r status) is = rw (no_packet (register a r)) wrong
+    others (Complete r status) is = completes r status
     others (IfPending r label) is = rw (no_packet (register a r)) wrong
-    others (Ret form) is = returns (sort_of set a.driver a.routine) form
+    others (Ret form) is = returns_here form
 
     pub other_instruction : MakesAlone set i a b → ⊥
     other_instruction makes = others i refl (makes (unused 0) 0 None)
@@ -143,3 +158,81 @@ module _ (set : Set) (a b : Activation) where
   not_made i j is c false makes fails goes =
       let made : instruction_effect set (unused 0) 0 None a j ≡ goes_on (unused 0) b [] =
       rw is at (goes (unused 0) 0 None) in wrong (sym (makes.0 (unused 0)) ∙ made)
+
+-- where an activation stands
+module _ (set : Set) (a : Activation) where
+  stays_at : (i : Option Instr) → instruction_at set a.driver a.routine a.position ≡ i
+      → ((b : Activation) → routine_effect set (unused 0) 0 None a i ≡ goes_on (unused 0) b [] → ⊥)
+      → RoutineGoesNoFurther set a
+  stays_at i here other b alone =
+      other b
+      (ap (λ (j : Option Instr). routine_effect set (unused 0) 0 None a j) (sym here)
+      ∙ alone.goes (unused 0) 0 None)
+
+  past_end : instruction_at set a.driver a.routine a.position ≡ None → RoutineGoesNoFurther set a
+  past_end none = stays_at None none (wrong set a)
+
+  at_other : (i : Instr) → instruction_at set a.driver a.routine a.position ≡ Some i
+      → ((b : Activation) → MakesAlone set i a b → ⊥) → RoutineGoesNoFurther set a
+  at_other i here other b alone =
+      other b (λ s t under. ap (λ (j : Option Instr). routine_effect set s t under a j) (sym here)
+      ∙ alone.goes s t under)
+
+  -- the default routine completes its packet and returns
+  in_default : (p : ℕ) → a.position ≡ p → a.routine ≡ default_number → RoutineGoesNoFurther set a
+  in_default zero is default =
+      stays_at (Some (Complete 0 InvalidDeviceRequest)) (rw (default, is) refl)
+      (λ b. completes set a b 0 InvalidDeviceRequest)
+  in_default (suc zero) is default =
+      stays_at (Some (Ret (WithStatus InvalidDeviceRequest))) (rw (default, is) refl)
+      (λ b. returns_here set a b (WithStatus InvalidDeviceRequest))
+  in_default (suc (suc p)) is default = past_end (rw (default, is) refl)
+
+  -- where there is no code but the default routine's
+  pub without_code : (a.routine ≡ default_number) ⊎ (routine_of set a.driver a.routine ≡ None)
+      → RoutineGoesNoFurther set a
+  without_code (inl default) = in_default a.position refl default
+  without_code (inr none) = past_end (rw none refl)
+
+-- by its code
+module _ (set : Set) (a : Activation) (code : List Instr)
+    (coded : (p : ℕ) → instruction_at set a.driver a.routine p ≡ slice_get code p)
+    (b : Activation) (driver : b.driver ≡ a.driver) (routine : b.routine ≡ a.routine) where
+  stands : instruction_at set b.driver b.routine b.position ≡ slice_get code b.position
+  stands = rw (driver, routine) (coded b.position)
+
+  pub past_code : nat_lt b.position (length code) ≡ false → RoutineGoesNoFurther set b
+  past_code past =
+      elim (leb_tells (suc b.position) (length code)) [
+        | inl l ↦ let no : true ≡ false = sym l.0 ∙ past in cc
+        | inr l ↦
+            let low : length code < suc b.position = l.1 in
+            past_end set b (stands ∙ slice_get_past code b.position (omega arith))
+      ]
+
+  pub before_other : (i : Instr) → slice_get code b.position ≡ Some i
+      → ((c : Activation) → MakesAlone set i b c → ⊥) → RoutineGoesNoFurther set b
+  before_other i here other = at_other set b i (stands ∙ here) other
+
+-- a frame of a routine
+pub frame_far : (set : Set) (a : Activation) → RoutineGoesNoFurther set a
+    → FrameGoesNoFurther set (Routine a)
+frame_far set a far b is =
+    let same : a ≡ b = cc in subst (λ (c : Activation). RoutineGoesNoFurther set c) same far
+
+-- a thread with a frame on top
+pub thread_far : (set : Set) (x : Thread) (below : List Frame) (f : Frame)
+    → x.frames.items ≡ below ++ f ∷ [] → FrameGoesNoFurther set f → ThreadGoesNoFurther set x
+thread_far set x below f is far under a stack =
+    let on_top : Some f ≡ Some (Routine a) =
+    sym (last_of below f) ∙ ap top_of (sym is ∙ stack) ∙ last_of under (Routine a) in
+    let same : f ≡ Routine a = cc in far a same
+
+-- a world with the thread
+pub world_far : (set : Set) (w : World) (t : ℕ) (x y : Thread) → slice_get w.threads t ≡ Some x
+    → ThreadGoesNoFurther set y → WorldGoesNoFurther set (with_thread w t w.shared y) t
+world_far set w t x y found far v step =
+    let there : Some y ≡ Some step.thread = sym (found_set w.threads t x y found) ∙ step.there in
+    let same : y ≡ step.thread = cc in
+    far step.below step.before (ap (λ (z : Thread). z.frames.items) same ∙ step.stack) step.now
+    step.alone

@@ -15,12 +15,14 @@ returns-in-Subtract-clause-far c = λ fails set b.
 
 pub returns-in-JumpIfZero-clause-far : goal.returns-in-JumpIfZero-clause-far
 returns-in-JumpIfZero-clause-far c = λ fails set b.
-    not_made set c.args.a.now b c.args.instruction (JumpIfZero c.in-JumpIfZero.r c.in-JumpIfZero.label)
+    not_made set c.args.a.now b c.args.instruction
+    (JumpIfZero c.in-JumpIfZero.r c.in-JumpIfZero.label)
     c.in-JumpIfZero.is c.jump_if_zero.new.a c.jump_if_zero.result c.jump_if_zero.ensures fails
 
 pub returns-in-JumpIfLess-clause-far : goal.returns-in-JumpIfLess-clause-far
 returns-in-JumpIfLess-clause-far c = λ fails set b.
-    not_made set c.args.a.now b c.args.instruction (JumpIfLess c.in-JumpIfLess.r c.in-JumpIfLess.s c.in-JumpIfLess.label)
+    not_made set c.args.a.now b c.args.instruction
+    (JumpIfLess c.in-JumpIfLess.r c.in-JumpIfLess.s c.in-JumpIfLess.label)
     c.in-JumpIfLess.is c.jump_if_less.new.a c.jump_if_less.result c.jump_if_less.ensures fails
 
 pub returns-in-Loop-clause-far : goal.returns-in-Loop-clause-far
