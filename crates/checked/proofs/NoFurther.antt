@@ -1,4 +1,5 @@
--- What can't be made by a routine alone: where nothing is shared, it is wrong or does something else.
+-- What a routine can't make by itself: where nothing is shared, each instruction that isn't local is
+-- wrong or does something else.
 use Rattle.std.proofs.Common.{◌≡◌, ◌≢◌, ◌<◌, ◌≤◌, ◌⊎◌, ◌∙◌, ℕ, zero, suc, Bool, true, false, List, [], ◌∷◌, ◌++◌, Option, None, Some, length, ap, sym, subst, refl, inl, inr, arith}
 use Rattle.std.specs.Prelude.{nat_lt, slice_get}
 use Rattle.std.proofs.lemmas.Bool.Decides.{leb_tells}
@@ -53,9 +54,9 @@ module _ (set : Set) (a b : Activation) where
   gone o none h =
       let no : [] ≡ Routine b ∷ [] = sym none ∙ ap (λ (x : Outcome). x.frames) h in cc
 
-  -- and one whose step does two things
-  twice : (o : Outcome) (action : Action) → o.actions ≡ Executes ∷ action ∷ [] → Other o
-  twice o action two h =
+  -- and one whose step does something beside
+  beside : (o : Outcome) (action : Action) → o.actions ≡ Executes ∷ action ∷ [] → Other o
+  beside o action two h =
       let no : Executes ∷ action ∷ [] ≡ Executes ∷ [] =
       sym two ∙ ap (λ (x : Outcome). x.actions) h in cc
 
@@ -127,9 +128,11 @@ module _ (set : Set) (a b : Activation) where
     others (Acquire lock) is = wrong
     others (Release lock) is = wrong
     others AcquireCancel is =
-        twice (instruction_effect set (unused 0) 0 None a AcquireCancel) (Acquires SystemCancel) refl
+        beside (instruction_effect set (unused 0) 0 None a AcquireCancel) (Acquires SystemCancel)
+        refl
     others ReleaseCancel is =
-        twice (instruction_effect set (unused 0) 0 None a ReleaseCancel) (Releases SystemCancel) refl
+        beside (instruction_effect set (unused 0) 0 None a ReleaseCancel) (Releases SystemCancel)
+        refl
     others (Insert r q) is = rw (no_packet (register a r)) wrong
     others (Remove r q label) is = wrong
     others (Unlink r q) is = rw (no_packet (register a r)) wrong
