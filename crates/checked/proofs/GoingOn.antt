@@ -57,7 +57,7 @@ thread_goes set s n x below f g k split (frame_runs a b j is goes) =
     (runs below a b j (split.0 ∙ ap (λ (h : Frame). below ++ h ∷ []) is) goes)
 
 -- what is written at a place is found there
-found_set : (threads : List Thread) (t : ℕ) (x y : Thread)
+pub found_set : (threads : List Thread) (t : ℕ) (x y : Thread)
     → slice_get threads t ≡ Some x → slice_get (slice_set threads t y) t ≡ Some y
 found_set threads t x y found =
     let within : t < length threads = slice_get_within threads t x found in

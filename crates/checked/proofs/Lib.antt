@@ -6,3 +6,4 @@ pub mod Effects
 pub mod GoingOn
 pub mod Compare
 pub mod Runs
+pub mod NoFurther

@@ -1,12 +1,13 @@
 -- Steps of a thread whose top routine goes on by itself.
-use Rattle.std.specs.Prelude.{ℕ, ◌≡◌, ◌++◌, ◌∷◌, [], suc, Bool, true, false, List, Option, Some, slice_get}
+use Rattle.std.specs.Prelude.{ℕ, ◌≡◌, ◌++◌, ◌∷◌, ◌⊎◌, [], suc, Bool, true, false, List, Option, Some, slice_get}
 use Rattle.model.specs.declared.event.Event.TheVariants.{Step}
 use Rattle.model.specs.declared.event.Reply.TheVariants.{Stepped}
+use Rattle.model.specs.declared.instr.Instr.{Instr}
 use Rattle.model.specs.declared.world.Activation.{Activation}
 use Rattle.model.specs.declared.world.Frame.{Frame}
 use Rattle.model.specs.declared.world.Frame.TheVariants.{Routine}
 use Rattle.model.specs.declared.world.Thread.{Thread}
-use Rattle.model.specs.Effect.{Outcome, frame_effect, goes_on, goes_wrong}
+use Rattle.model.specs.Effect.{Outcome, frame_effect, goes_on, goes_wrong, instruction_effect}
 use Rattle.model.specs.Events.{with_thread}
 use Rattle.model.specs.Machine.{AppliesWhole, Machine}
 use Rattle.model.specs.Set.{Set}
@@ -24,12 +25,23 @@ abbrev pub Makes : Activation → (Shared → Outcome) → Activation → Bool �
 Makes a o b true = ((s : Shared) → o s ≡ goes_on s b []) × SameRoutine a b
 Makes a o b false = ((s : Shared) → o s ≡ goes_wrong s a) × (b ≡ a)
 
--- a step of the one is that it becomes the other, whatever is shared, whoever runs, and over
--- whatever frame
+-- what an instruction of the one does is that it becomes the other, whatever is shared, whoever
+-- runs, and over whatever frame
+abbrev pub MakesAlone : Set → Instr → Activation → Activation → Type 0
+MakesAlone set i a b =
+    (s : Shared) (t : ℕ) (under : Option Frame)
+    → instruction_effect set s t under a i ≡ goes_on s b []
+
+-- a step of the one is that it becomes the other, likewise
 pub record GoesAlone (set : Set) (a b : Activation) : Type 0 where
   pub goes : (s : Shared) (t : ℕ) (under : Option Frame)
       → frame_effect set s t under (Routine a) ≡ goes_on s b []
   pub same : SameRoutine a b
+
+-- it can't go on by itself: its next instruction may change anything but it, or is wrong there, or
+-- there is none
+abbrev pub RoutineGoesNoFurther : Set → Activation → Type 0
+RoutineGoesNoFurther set a = (b : Activation) → GoesAlone set a b → ⊥
 
 -- a routine has gone on by itself so many steps
 pub data RoutineGoes (set : Set) (a : Activation) : ℕ → Activation → Type 0 where
@@ -43,6 +55,10 @@ pub data FrameGoes (set : Set) (f : Frame) : ℕ → Frame → Type 0 where
   frame_runs : (a b : Activation) (k : ℕ) → f ≡ Routine a → RoutineGoes set a k b
       → FrameGoes set f k (Routine b)
 
+-- a frame that can't go on by itself: it is no routine's, or that can't
+abbrev pub FrameGoesNoFurther : Set → Frame → Type 0
+FrameGoesNoFurther set f = (a : Activation) → f ≡ Routine a → RoutineGoesNoFurther set a
+
 -- a thread with these frames, and a routine on top
 abbrev pub with_top : Thread → List Frame → Activation → Thread
 with_top x below a = record x { frames = record { items = below ++ Routine a ∷ [] } }
@@ -53,6 +69,12 @@ pub data ThreadGoes (set : Set) (x : Thread) : ℕ → Thread → Type 0 where
   runs : (below : List Frame) (a b : Activation) (k : ℕ)
       → x.frames.items ≡ below ++ Routine a ∷ [] → RoutineGoes set a k b
       → ThreadGoes set x k (with_top x below b)
+
+-- a thread on whose top no routine stands that can go on by itself
+abbrev pub ThreadGoesNoFurther : Set → Thread → Type 0
+ThreadGoesNoFurther set x =
+    (below : List Frame) (a : Activation)
+    → x.frames.items ≡ below ++ Routine a ∷ [] → RoutineGoesNoFurther set a
 
 -- a world on whose thread a routine has gone on by itself so many steps, or which has stayed
 pub data WorldGoes (set : Set) (w : World) (t : ℕ) : ℕ → World → Type 0 where
@@ -70,6 +92,14 @@ pub record StepsAlone (set : Set) (w : World) (t : ℕ) (v : World) : Type 0 whe
   pub stack : thread.frames.items ≡ below ++ Routine before ∷ []
   pub alone : GoesAlone set before now
   pub left : v ≡ with_thread w t w.shared (with_top thread below now)
+
+-- no step of the thread changes nothing but the activation on its top
+abbrev pub WorldGoesNoFurther : Set → World → ℕ → Type 0
+WorldGoesNoFurther set w t = (v : World) → StepsAlone set w t v → ⊥
+
+-- no such step can be made: the machine has stopped, or none of the thread is such a step
+abbrev pub GoesNoFurther : ℕ → Machine → Type 0
+GoesNoFurther t m = (m.stopped ≡ true) ⊎ WorldGoesNoFurther m.set m.world t
 
 -- so many steps of a thread are applied, one after another: each replies that the thread stepped,
 -- and changes nothing but the activation on its top

@@ -1,7 +1,7 @@
 //! Steps of a frame, and what it is told.
 
-ghost use Rattle.std.specs.Prelude.{◌≡◌, ◌≤◌, Some};
-ghost use Rattle.checked.specs.GoingOn.{FrameGoes};
+ghost use Rattle.std.specs.Prelude.{◌≡◌, ◌<◌, ◌≤◌, Some};
+ghost use Rattle.checked.specs.GoingOn.{FrameGoes, FrameGoesNoFurther};
 ghost use Rattle.checked.specs.Step.{told_frame};
 ghost use Rattle.checked_parts.specs.Left.{frame_now};
 ghost use Rattle.checked_parts.specs.Ran.{left_of};
@@ -32,10 +32,11 @@ pub fn step(
 }
 
 /// Lets a frame go on by itself, where it is a routine's, for at most so many steps, and answers how
-/// many.
+/// many. Fewer only where it can't go on.
 pub fn go_on(frame: &mut Frame, set: &DriverSet, count: usize) -> usize
     ensures few { result ≤ count }
     ensures goes { FrameGoes set.now frame.old result frame.new }
+    ensures far { result < count → FrameGoesNoFurther set.now frame.new }
 {
     if frame.manager().is_some() {
         return 0;

@@ -1,13 +1,13 @@
 //! Instructions that change nothing but their activation. Where one isn't made, its operands are
 //! wrong, and nothing has changed.
 
-ghost use Rattle.std.specs.Prelude.{◌≡◌, ◌<◌, [], ℕ, IsTrue, Option, false};
+ghost use Rattle.std.specs.Prelude.{◌≡◌, ◌<◌, IsTrue, false};
 ghost use Rattle.model.specs.declared.limits.TheConstants.{MAX_INSTRUCTIONS};
-ghost use Rattle.model.specs.declared.world.Frame.{Frame};
-ghost use Rattle.checked.specs.GoingOn.{Makes, SameRoutine};
-ghost use Rattle.model.specs.Effect.{difference_of, end_effect, goes_on, instruction_effect, is_less_at, is_zero_at, jump_effect, loop_effect, number_effect, sum_of};
+ghost use Rattle.model.specs.declared.world.Activation.{Activation};
+ghost use Rattle.checked.specs.GoingOn.{Makes, MakesAlone, SameRoutine};
+ghost use Rattle.model.specs.Effect.{difference_of, end_effect, is_less_at, is_zero_at, jump_effect, loop_effect, number_effect, sum_of};
 ghost use Rattle.model.specs.Set.{Set};
-ghost use Rattle.model.specs.World.{Shared, at_label, innermost, next, with_register};
+ghost use Rattle.model.specs.World.{at_label, innermost, next, with_register};
 
 use checked_parts::number_in;
 use driver_set::{Instr, Register, Turns};
@@ -170,10 +170,11 @@ pub fn end_turn(a: &mut Activation) -> bool
 /// where it is another one, or its operands are wrong.
 pub fn execute(instruction: Instr, a: &mut Activation) -> bool
     requires { a.old.position < MAX_INSTRUCTIONS }
-    ensures goes { IsTrue result → (set : Set) (s : Shared) (t : ℕ) (under : Option Frame)
-        → instruction_effect set s t under a.old instruction ≡ goes_on s a.new [] }
+    ensures goes { IsTrue result → (set : Set) → MakesAlone set instruction a.old a.new }
     ensures same { SameRoutine a.old a.new }
     ensures other { result ≡ false → a.new ≡ a.old }
+    ensures far { result ≡ false → (set : Set) (b : Activation)
+        → MakesAlone set instruction a.old b → ⊥ }
 {
     match instruction {
         Instr::Const(r, number) => set(r, Value::Num(u64::from(number)), a),

@@ -1,7 +1,7 @@
 //! The reference machine.
 
-ghost use Rattle.std.specs.Prelude.{◌≡◌, ◌≤◌, [], IfOk, IfErr};
-ghost use Rattle.checked.specs.GoingOn.{GoesOn};
+ghost use Rattle.std.specs.Prelude.{◌≡◌, ◌<◌, ◌≤◌, [], IfOk, IfErr};
+ghost use Rattle.checked.specs.GoingOn.{GoesNoFurther, GoesOn};
 ghost use Rattle.model.specs.declared.limits.TheConstants.{MAX_THREADS};
 ghost use Rattle.model.specs.Machine.{ShowsWhole, AppliesWhole};
 ghost use Rattle.model.specs.Sound.{IsSound};
@@ -73,12 +73,13 @@ impl Checked {
 
     /// Lets the routine on the top of a thread make steps by itself, at most `count`, and answers how
     /// many it made: the machine is then as after so many steps of the thread, each of which replies
-    /// that it stepped. It ends before the first instruction that may change anything but its
-    /// activation, or whose operands are wrong; it makes none where no routine stands on the
-    /// top, or where the machine has stopped.
+    /// that it stepped. It makes fewer only where no other step is like that: it ends before the
+    /// first instruction that may change anything but its activation, or whose operands are wrong;
+    /// it makes none where no routine stands on the top, or where the machine has stopped.
     pub fn go_on(&mut self, thread: u8, count: usize) -> usize
         ensures few { result ≤ count }
         ensures goes { GoesOn thread self.old result self.new }
+        ensures far { result < count → GoesNoFurther thread self.new }
     {
         self.state.go_on(&self.driver_set, thread, count)
     }

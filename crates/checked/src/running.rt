@@ -1,20 +1,22 @@
 //! A routine that goes on by itself for some steps.
 
-ghost use Rattle.std.specs.Prelude.{◌≡◌, ◌≤◌, ℕ, IfSome, length, slice_get};
+ghost use Rattle.std.specs.Prelude.{◌≡◌, ◌<◌, ◌≤◌, ◌⊎◌, None, ℕ, IfSome, length, slice_get};
 ghost use Rattle.model.specs.declared.limits.TheConstants.{MAX_INSTRUCTIONS};
-ghost use Rattle.model.specs.Set.{instruction_at};
-ghost use Rattle.checked.specs.GoingOn.{RoutineGoes};
+ghost use Rattle.model.specs.Set.{default_number, instruction_at, routine_of};
+ghost use Rattle.checked.specs.GoingOn.{RoutineGoes, RoutineGoesNoFurther};
 
 use crate::local;
 use driver_set::{DriverSet, Instr};
 use model::limits::DEFAULT_ROUTINE;
 use model::world::Activation;
 
-/// The code of a routine of a driver. None of the default routine.
+/// The code of a routine of a driver, if there is such a routine. None of the default routine.
 fn code_of(set: &DriverSet, driver: u8, routine: u8) -> Option<&[Instr]>
     ensures code { IfSome result (λ code. (p : ℕ)
         → instruction_at set.now driver routine p ≡ slice_get code.now p) }
     ensures short { IfSome result (λ code. length code.now ≤ MAX_INSTRUCTIONS) }
+    ensures none { result ≡ None → (routine ≡ default_number)
+        ⊎ (routine_of set.now driver routine ≡ None) }
 {
     if routine == DEFAULT_ROUTINE {
         return None;
@@ -29,6 +31,7 @@ fn code_of(set: &DriverSet, driver: u8, routine: u8) -> Option<&[Instr]>
 pub fn run(set: &DriverSet, a: &mut Activation, count: usize) -> usize
     ensures few { result ≤ count }
     ensures goes { RoutineGoes set.now a.old result a.new }
+    ensures far { result < count → RoutineGoesNoFurther set.now a.new }
 {
     let Some(code) = code_of(set, a.driver, a.routine) else {
         return 0;

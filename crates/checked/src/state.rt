@@ -1,7 +1,7 @@
 //! What a machine holds beside the set that it runs.
 
-ghost use Rattle.std.specs.Prelude.{◌≡◌, ◌≤◌, false, length, IfOk};
-ghost use Rattle.checked.specs.GoingOn.{GoesOn};
+ghost use Rattle.std.specs.Prelude.{◌≡◌, ◌<◌, ◌≤◌, false, length, IfOk};
+ghost use Rattle.checked.specs.GoingOn.{GoesNoFurther, GoesOn};
 ghost use Rattle.checked.specs.Step.{machine_of, state_now};
 ghost use Rattle.model.specs.Machine.{AppliesWhole};
 ghost use Rattle.model.specs.Sound.{IsSound};
@@ -65,12 +65,13 @@ impl State {
     }
 
     /// Lets the routine on the top of a thread go on by itself for at most so many steps, and answers
-    /// how many. None after the run has stopped.
+    /// how many. Fewer only where it can't go on, and none after the run has stopped.
     pub fn go_on(&mut self, set: &DriverSet, thread: u8, count: usize) -> usize
         requires { IsSound set.now }
         ensures few { result ≤ count }
         ensures goes { GoesOn thread (machine_of set.now self.old) result
             (machine_of set.now self.new) }
+        ensures far { result < count → GoesNoFurther thread (machine_of set.now self.new) }
     {
         if self.halted {
             return 0;

@@ -1,8 +1,8 @@
 //! The I/O system of a run, and what an event does to it.
 
-ghost use Rattle.std.specs.Prelude.{◌≡◌, ◌≤◌, IfOk, IfSome, slice_get};
+ghost use Rattle.std.specs.Prelude.{◌≡◌, ◌<◌, ◌≤◌, IfOk, IfSome, slice_get};
 ghost use Rattle.model.specs.declared.limits.TheConstants.{MAX_STACK};
-ghost use Rattle.checked.specs.GoingOn.{WorldGoes};
+ghost use Rattle.checked.specs.GoingOn.{WorldGoes, WorldGoesNoFurther};
 ghost use Rattle.checked.specs.Step.{ended, event_now, step_now};
 ghost use Rattle.model.specs.Events.{cancel_on, irql_of};
 ghost use Rattle.model.specs.View.{due_at, packet_at, thread_at};
@@ -254,10 +254,11 @@ impl System {
     }
 
     /// Lets the routine on the top of a thread go on by itself for at most so many steps, and answers
-    /// how many.
+    /// how many. Fewer only where there is no such thread, or no routine that can go on on its top.
     pub fn go_on(&mut self, set: &DriverSet, thread: u8, count: usize) -> usize
         ensures few { result ≤ count }
         ensures goes { WorldGoes set.now self.old thread result self.new }
+        ensures far { result < count → WorldGoesNoFurther set.now self.new thread }
     {
         let Some(runner) = self.thread_list.get_mut(thread as usize) else {
             return 0;

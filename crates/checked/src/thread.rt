@@ -1,7 +1,7 @@
 //! A thread: its frames, and their steps.
 
-ghost use Rattle.std.specs.Prelude.{◌≡◌, ◌≤◌, ◌-◌, ◌∷◌, [], Some, true, length, take};
-ghost use Rattle.checked.specs.GoingOn.{ThreadGoes};
+ghost use Rattle.std.specs.Prelude.{◌≡◌, ◌<◌, ◌≤◌, ◌-◌, ◌∷◌, [], Some, true, length, take};
+ghost use Rattle.checked.specs.GoingOn.{ThreadGoes, ThreadGoesNoFurther};
 ghost use Rattle.checked.specs.Step.{thread_now};
 ghost use Rattle.model.specs.Effect.{told_to};
 ghost use Rattle.model.specs.Events.{is_idle, with_stack, finished_or};
@@ -121,10 +121,11 @@ impl Thread {
     }
 
     /// Lets the routine on top, if one stands there, go on by itself for at most so many steps, and
-    /// answers how many.
+    /// answers how many. Fewer only where no routine that can go on stands there.
     pub fn go_on(&mut self, set: &DriverSet, count: usize) -> usize
         ensures few { result ≤ count }
         ensures goes { ThreadGoes set.now self.old result self.new }
+        ensures far { result < count → ThreadGoesNoFurther set.now self.new }
     {
         let Some((top, _below)) = self.frames.as_mut_slice().split_last_mut() else {
             return 0;

@@ -1,3 +1,4 @@
+use Rattle.std.proofs.Common.{inr}
 use Rattle.checked.specs.GoingOn.{none}
 use Rattle.checked.proofs.GoingOn.{goes_state}
 use Rattle.checked.proofs.state.State.go_on.Goals as goal
@@ -11,3 +12,6 @@ returns-clause-goes c =
     (goes_state c.the_past_tells_of_the_world.ensures c.owning_tells.ensures c.args.set.now
     c.requires c.self.inside.current c.args.thread c.go_on.result c.go_on.new.self
     c.go_on.ensures.goes)
+
+pub returns-clause-far : goal.returns-clause-far
+returns-clause-far c = λ short. inr (c.go_on.ensures.far short)
