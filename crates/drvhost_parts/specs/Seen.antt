@@ -1,5 +1,5 @@
 -- What is seen of an event of a run that is told.
-use Rattle.std.specs.Prelude.{ℕ, ◌≡◌, true, List, Option, None, Some}
+use Rattle.std.specs.Prelude.{ℕ, ◌≡◌, Bool, true, false, List, Option, None, Some}
 use Rattle.model.specs.declared.event.Event.{Event}
 use Rattle.model.specs.declared.event.Reply.{Reply}
 use Rattle.model.specs.declared.event.Reply.TheVariants.{Stepped}
@@ -15,6 +15,11 @@ use Rattle.told.specs.declared.line.Happened.{Happened}
 abbrev pub reply_of : Option Happened → Reply
 reply_of None = Stepped
 reply_of (Some happened) = happened.reply
+
+-- a reply that says that a step was made
+abbrev pub is_stepped : Reply → Bool
+is_stepped Stepped = true
+is_stepped reply = false
 
 -- it was seen as it was before a machine applied it: what it does to uses, and the frame that acts,
 -- whatever run the machine shows

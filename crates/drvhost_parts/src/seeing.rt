@@ -1,7 +1,7 @@
 //! Events of a run that is told, applied one by one: what is seen of each.
 
-ghost use Rattle.std.specs.Prelude.{◌≡◌, ◌×◌, None, IfOk, IfSome, IsTrue, OnOk, true};
-ghost use Rattle.drvhost_parts.specs.Seen.{GoesUnseen, SeenBefore, reply_of};
+ghost use Rattle.std.specs.Prelude.{◌≡◌, None, IfOk, IfSome, IsTrue, OnOk, true};
+ghost use Rattle.drvhost_parts.specs.Seen.{GoesUnseen, SeenBefore, is_stepped, reply_of};
 ghost use Rattle.drvhost_parts.specs.Told.{LedgerGoesOn};
 ghost use Rattle.model.specs.declared.event.Reply.TheVariants.{Stepped};
 ghost use Rattle.model.specs.Machine.{AppliesWhole};
@@ -85,7 +85,7 @@ fn see_after(
     plain_steps_keep_ledgers();
     plain_steps_step_or_stay();
     let reply = machine.apply(event);
-    if matches!(reply, Reply::Stepped) {
+    if is_stepped(&reply) {
         return Ok(None);
     }
     ledger.note(alloc, UseStep::Nothing, event, &reply, machine)?;
@@ -95,6 +95,13 @@ fn see_after(
         step: UseStep::Nothing,
         reply,
     }))
+}
+
+/// Whether a reply says that a step was made.
+fn is_stepped(reply: &Reply) -> bool
+    ensures { result ≡ is_stepped reply.now }
+{
+    matches!(reply, Reply::Stepped)
 }
 
 /// Whether an event is passed over: nothing is told of it, and nothing noted for the audit.
