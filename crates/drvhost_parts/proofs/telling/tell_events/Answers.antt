@@ -53,8 +53,8 @@ loop-next-preserved c =
           (telling_stays _ _ _ _ _ _ _ _ _ c.in_ok-made.made _ _ _
           (rw c.in-Some.ensures.next at c.loop-next.invariant.telling) zero
           c.in_ok-made.ensures.number c.in_ok-made.ensures.none)
-          c.in_ok-answered.ensures.applied
-          c.in_ok-answered.ensures.noted c.in_ok-answered.ensures.kept c.waiting_changes_nothing.ensures
+          c.in_ok-answered.ensures.applied c.in_ok-answered.ensures.noted
+          c.in_ok-answered.ensures.kept c.waiting_changes_nothing.ensures
           (sym c.is_last.ensures ∙ c.if-is_last.false)
           c.in-Some.ensures.equal c.in_ok-answered.ensures.told);
     }
