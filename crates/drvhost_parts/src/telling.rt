@@ -214,35 +214,60 @@ fn tell_next(
     ensures told { IfOk result (λ answered.
         ToldNext detail number.old answered.reply next.rest text.old.items text.new.items) }
 {
-    let seen = see(alloc, ledger, machine, &next.event, unseen, detail)?;
-    let Some(happened) = &seen else {
-        teller.pass(1);
-        number.advance();
-        return Ok(Answered {
-            reply: Reply::Stepped,
-            rest: next.rest,
-        });
-    };
-    teller.note(happened, machine)?;
+    match see(alloc, ledger, machine, &next.event, unseen, detail)? {
+        Some(happened) => tell_happened(
+            teller, machine, number, happened, next.rest, detail, lines, text,
+        ),
+        None => {
+            teller.pass(1);
+            number.advance();
+            Ok(Answered {
+                reply: Reply::Stepped,
+                rest: next.rest,
+            })
+        }
+    }
+}
+
+/// Adds what is told of an event that happened, and of the others of its run where they do nothing,
+/// by the machine after it.
+fn tell_happened(
+    teller: &mut Teller<'_>,
+    machine: &Checked,
+    number: &mut EventNumber,
+    happened: Happened,
+    rest: Option<Repeated>,
+    detail: Detail,
+    lines: &mut Lines,
+    text: &mut Vec<u8>,
+) -> Result<Answered, AllocError>
+    requires { number.old + 1 + count_left rest < 2 ^ 64 }
+    ensures number { OnOk result
+        (number.new ≡ number.old + 1 + times_again happened.reply rest) }
+    ensures answered { IfOk result (λ answered. answered
+        ≡ record { reply = happened.reply; rest = left_again happened.reply rest }) }
+    ensures told { OnOk result
+        (ToldNext detail number.old happened.reply rest text.old.items text.new.items) }
+{
+    teller.note(&happened, machine)?;
     add_event(
         teller,
         machine,
         number,
-        happened,
+        &happened,
         Turn::First,
         detail,
         lines,
         text,
     )?;
     number.advance();
-    let reply = happened.reply;
-    let count = times_again(&reply, &next.rest);
+    let count = times_again(&happened.reply, &rest);
     tell_again(
-        teller, machine, number, happened, count, detail, lines, text,
+        teller, machine, number, &happened, count, detail, lines, text,
     )?;
     Ok(Answered {
-        reply,
-        rest: left_again(&reply, next.rest),
+        reply: happened.reply,
+        rest: left_again(&happened.reply, rest),
     })
 }
 
@@ -280,12 +305,12 @@ fn go_ahead(
     ensures none { IfOk result (λ made. made ≡ 0
         → (machine.new ≡ machine.old) × (text.new.items ≡ text.old.items)) }
 {
-    let Event::Step { thread } = next.event else {
-        return Ok(0);
-    };
     if unseen {
         return Ok(0);
     }
+    let Event::Step { thread } = next.event else {
+        return Ok(0);
+    };
     match detail {
         Detail::Quiet => {
             let made = machine.go_on(thread, count_left(&next.rest) + 1);
