@@ -27,14 +27,9 @@ written_broken (Err e) b n t w = w
 pub room_added : (b : Option (List ℕ)) (g l t : List ℕ) → l ≡ g ++ t → Adds b b g l t
 room_added b g l t is = rw is (adds_line b b g g [] t (adds_none b g))
 
--- more is added, or breaks
-pub more_ok : {T E : Type 0} (r : Result T E) (P Q : Type 0) → (P → Q) → OnOk r P → OnOk r Q
-more_ok (Ok x) P Q f p = f p
-more_ok (Err e) P Q f p = tt
-
-pub more_err : {T E : Type 0} (r : Result T E) (P Q : Type 0) → (P → Q) → OnErr r P → OnErr r Q
-more_err (Ok x) P Q f p = tt
-more_err (Err e) P Q f p = f p
+-- nothing is added yet
+pub none_gathered : (all : List ℕ) (b : Option (List ℕ)) (g : List ℕ) → Gathered all all b b g g
+none_gathered all b g = record { text = []; whole = refl; adds = adds_none b g }
 
 -- the head of a line is added where there was made room
 pub head_added : (head words : List ℕ) (b m : Option (List ℕ)) (g l k : List ℕ)
@@ -57,6 +52,25 @@ pub last_broken : (all later : List ℕ) (b m n : Option (List ℕ)) (g l : List
     → Gathered all later b m g l → TakesBeginning m n (l ++ later) → TakesBeginning b n (g ++ all)
 last_broken all later b m n g l h p =
     gathered_part all later later [] b m n g l h (sym (append-nil later)) p
+
+pub last_ok : {T E : Type 0} (r : Result T E) (all later : List ℕ) (b m n : Option (List ℕ))
+    (g l k : List ℕ) → Gathered all later b m g l → OnOk r (Adds m n l k later)
+    → OnOk r (Adds b n g k all)
+last_ok (Ok x) all later b m n g l k h a = last_added all later b m n g l k h a
+last_ok (Err e) all later b m n g l k h a = tt
+
+pub last_err : {T E : Type 0} (r : Result T E) (all later : List ℕ) (b m n : Option (List ℕ))
+    (g l : List ℕ) → Gathered all later b m g l → OnErr r (TakesBeginning m n (l ++ later))
+    → OnErr r (TakesBeginning b n (g ++ all))
+last_err (Ok x) all later b m n g l h p = tt
+last_err (Err e) all later b m n g l h p = last_broken all later b m n g l h p
+
+-- where no lines had gathered
+pub begins_clear : (b n : Option (List ℕ)) (g t : List ℕ) → g ≡ [] → TakesBeginning b n (g ++ t)
+    → TakesBeginning b n t
+begins_clear b n g t none p =
+    let P : List ℕ → Type 0 = λ k. TakesBeginning b n (k ++ t) in
+    subst P none p
 
 -- some pieces are added, and then one more
 pub pieces_added : (text last : List ℕ) (b m : Option (List ℕ)) (g l : List ℕ)

@@ -1,5 +1,5 @@
 -- Pieces of a text, as more words are stored and more lines are added.
-use Rattle.std.proofs.Common.{◌≡◌, ◌∙◌, ◌<◌, ◌≤◌, ◌^◌, ℕ, zero, suc, ◌+◌, ◌-◌, Bool, true, false, List, [], ◌∷◌, ◌++◌, Option, Some, None, ap, append_assoc, arith, drop, get_or, length, refl, replicate, sym, take}
+use Rattle.std.proofs.Common.{◌≡◌, ◌∙◌, ◌<◌, ◌≤◌, ◌^◌, ℕ, zero, suc, ◌+◌, ◌-◌, Bool, true, false, List, [], ◌∷◌, ◌++◌, Option, Some, None, Result, Ok, Err, OnErr, OnOk, ap, append_assoc, arith, drop, get_or, length, refl, replicate, sym, take}
 use Rattle.std.proofs.lemmas.List.{append-nil, drop-append-le, get_or-drop, get_or_append_left, length-append, length-drop, length-take-le, take-append-le}
 use Rattle.std.proofs.lemmas.List.Elements.{All-head, All-push, All-tail, All-weaker}
 use Rattle.std.proofs.Math.Seq.{take-suc}
@@ -150,8 +150,8 @@ words_worded w reply is number words (suc count) =
     (words_worded w reply is (number + 1) words count)
 
 -- one such line more
-pub worded_push : (number : ℕ) (reply : Reply) (words : List ℕ) (count : ℕ)
-    → worded_lines number reply words (count + 1)
+worded_push : (number : ℕ) (reply : Reply) (words : List ℕ) (count : ℕ)
+    → worded_lines number reply words (suc count)
     ≡ worded_lines number reply words count ++ worded_line (number + count) reply words
 worded_push number reply words zero =
     let same : number + 0 ≡ number = omega arith in
@@ -163,3 +163,72 @@ worded_push number reply words (suc count) =
     ∙ sym (append_assoc (worded_line number reply words)
     (worded_lines (number + 1) reply words count) (worded_line (number + 1 + count) reply words))
     ∙ ap (λ n. worded_lines number reply words (suc count) ++ worded_line n reply words) same
+
+pub again_added : (now before text : List ℕ) (number count at : ℕ) (reply : Reply) (words : List ℕ)
+    → before ≡ text ++ worded_lines number reply words count → at ≡ number + count
+    → now ≡ before ++ worded_line at reply words
+    → now ≡ text ++ worded_lines number reply words (count + 1)
+again_added now before text number count at reply words was numbered adds =
+    let more : count + 1 ≡ suc count = omega arith in
+    adds ∙ ap (λ b. b ++ worded_line at reply words) was
+    ∙ append_assoc text (worded_lines number reply words count) (worded_line at reply words)
+    ∙ ap (λ n. text ++ (worded_lines number reply words count ++ worded_line n reply words)) numbered
+    ∙ ap (λ lines. text ++ lines) (sym (worded_push number reply words count))
+    ∙ ap (λ n. text ++ worded_lines number reply words n) (sym more)
+
+-- a line of its own
+pub single_line : (stored : List (List ℕ)) (said : Option Word) (number index : ℕ) (words : List ℕ)
+    → index < length stored → get_or stored index [] ≡ words
+    → said_lines said number (run_words stored false index 1) ≡ said_line said number words
+single_line stored said number index words within stands =
+    piece_grows stored said number index 0 number index words (omega arith) (omega arith) within
+    stands
+
+-- a line goes on from the last piece
+pub line_joined : (now stored more : List (List ℕ)) (pieces : List Piece) (last : Piece) (word : Word)
+    (number index : ℕ) (words text : List ℕ) → now ≡ stored ++ more → All (Stands stored) pieces
+    → Stands stored last → text_of stored pieces ++ piece_text stored last ≡ text
+    → last.said ≡ Some word → last.same ≡ false → last.first + last.count ≡ number
+    → last.words + last.count ≡ index → index < length now → get_or now index [] ≡ words
+    → text_of now pieces
+    ++ said_lines last.said last.first (run_words now last.same last.words (last.count + 1))
+    ≡ text ++ said_line (Some word) number words
+line_joined now stored more pieces last word number index words text grows stand stands was says each
+    numbered is within found =
+    let line : List ℕ = said_line (Some word) number words in
+    let longer : said_lines last.said last.first (run_words now last.same last.words (last.count + 1))
+    ≡ piece_text now last ++ said_line last.said number words =
+    rw each (piece_grows now last.said last.first last.words last.count number index words is numbered
+    within found) in
+    ap (λ added. text_of now pieces ++ added)
+    (longer ∙ ap (λ s. piece_text now last ++ said_line s number words) says)
+    ∙ sym (append_assoc (text_of now pieces) (piece_text now last) line)
+    ∙ ap (λ before. before ++ line) (all_stays now stored more pieces last grows stand stands ∙ was)
+
+-- another piece is begun, if there is memory for it
+pub begun_text : {T E : Type 0} (r : Result T E) (now stored more : List (List ℕ))
+    (pieces grown : List Piece) (last next after : Piece) (text added : List ℕ)
+    → now ≡ stored ++ more → All (Stands stored) pieces → Stands stored last
+    → text_of stored pieces ++ piece_text stored last ≡ text → piece_text now next ≡ added
+    → OnOk r ((grown ≡ pieces ++ last ∷ []) × (after ≡ next))
+    → OnOk r (text_of now grown ++ piece_text now after ≡ text ++ added)
+begun_text (Ok x) now stored more pieces grown last next after text added grows stand stands was is
+    begun =
+    text_grows now stored more pieces grown last after text added grows stand stands was begun.0
+    (ap (piece_text now) begun.1 ∙ is)
+begun_text (Err e) now stored more pieces grown last next after text added grows stand stands was is
+    begun = tt
+
+pub begun_stand : {T E : Type 0} (r : Result T E) (now stored more : List (List ℕ))
+    (pieces grown : List Piece) (last next after : Piece) → now ≡ stored ++ more
+    → All (Stands stored) pieces → Stands stored last → Stands now next
+    → OnOk r ((grown ≡ pieces ++ last ∷ []) × (after ≡ next))
+    → OnErr r ((grown ≡ pieces) × (after ≡ last)) → All (Stands now) grown × Stands now after
+begun_stand (Ok x) now stored more pieces grown last next after grows stand stands fits begun kept = (
+  grown_stand now stored more pieces grown last grows stand stands begun.0,
+  rw begun.1 fits,
+)
+begun_stand (Err e) now stored more pieces grown last next after grows stand stands fits begun kept = (
+  rw kept.0 (all_stand now stored more pieces grows stand),
+  rw kept.1 (still_stands now stored more last grows stands),
+)

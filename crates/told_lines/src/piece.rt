@@ -22,8 +22,37 @@ pub(crate) struct Piece {
 }
 
 impl Piece {
+    /// No lines.
+    pub(crate) fn none() -> Piece
+        ensures { result ≡ record {
+            first = 0; count = 0; words = 0; same = false; said = None } }
+    {
+        Piece {
+            first: 0,
+            count: 0,
+            words: 0,
+            same: false,
+            said: None,
+        }
+    }
+
+    /// A line with the words of an index.
+    #[inline]
+    pub(crate) fn line(word: Word, first: u64, words: usize) -> Piece
+        ensures { result ≡ record {
+            first = first; count = 1; words = words; same = false; said = Some word } }
+    {
+        Piece {
+            first,
+            count: 1,
+            words,
+            same: false,
+            said: Some(word),
+        }
+    }
+
     /// So many lines with the same words, those of an index.
-    pub(crate) fn of(said: Option<Word>, first: u64, words: usize, count: usize) -> Piece
+    pub(crate) fn again(said: Option<Word>, first: u64, words: usize, count: usize) -> Piece
         ensures { result ≡ record {
             first = first; count = count; words = words; same = true; said = said } }
     {
@@ -59,7 +88,7 @@ impl Piece {
     /// The index of the words of a line.
     #[inline]
     pub(crate) fn index(&self, line: usize) -> usize
-        requires { self.now.words + run_width self.now.same self.now.count < 2 ^ 64 }
+        requires fits { self.now.words + run_width self.now.same self.now.count < 2 ^ 64 }
         requires line { line < self.now.count }
         ensures { result ≡ (if self.now.same then self.now.words else self.now.words + line) }
     {

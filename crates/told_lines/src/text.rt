@@ -53,7 +53,7 @@ impl ToldLines {
         Ok(ToldLines {
             words: StoredWords::new(alloc)?,
             pieces: Vec::new(alloc),
-            last: Piece::of(None, 0, 0, 0),
+            last: Piece::none(),
         })
     }
 
@@ -68,7 +68,7 @@ impl ToldLines {
         Ok(ToldLines {
             words: StoredWords::of_bytes(alloc, bytes)?,
             pieces: Vec::new(alloc),
-            last: Piece::of(None, 0, 0, 1),
+            last: Piece::again(None, 0, 0, 1),
         })
     }
 
@@ -102,10 +102,12 @@ impl ToldLines {
         ensures added { OnOk result
             (self.new ≡ self.old ++ worded_line number.old reply.now words.now) }
     {
-        match Word::of(reply) {
-            Some(word) => self.add_worded(number.value(), word, words)?,
-            None => self.add_other(lines, number, reply, words)?,
+        if let Some(word) = Word::of(reply) {
+            self.add_worded(number.value(), word, words)?;
+            number.advance();
+            return Ok(());
         }
+        self.add_other(lines, number, reply, words)?;
         number.advance();
         Ok(())
     }
@@ -151,9 +153,11 @@ impl ToldLines {
             self.last.count += 1;
             return Ok(());
         }
-        let mut line = Piece::of(Some(word), number, index, 1);
-        line.same = false;
-        begin(&mut self.pieces, &mut self.last, line)
+        begin(
+            &mut self.pieces,
+            &mut self.last,
+            Piece::line(word, number, index),
+        )
     }
 
     /// Adds so many lines of events in a row that replied a word, or of words alone, all with the
@@ -173,7 +177,7 @@ impl ToldLines {
         begin(
             &mut self.pieces,
             &mut self.last,
-            Piece::of(said, number, index, count),
+            Piece::again(said, number, index, count),
         )
     }
 
