@@ -13,7 +13,7 @@ ghost use Rattle.drvhost_parts.specs.Seen.{GoesUnseen};
 ghost use Rattle.drvhost_parts.specs.Told.{GoesAlone, HasTold, IsRunTold, IsTold, LedgerGoesOn, ToldAlone, ToldNext, count_left, happens_again, is_left_out, left_again, reply_head, times_again, told_line};
 
 use crate::follow::{is_last, next_run, rest_of};
-use crate::seeing::{goes_unseen, see};
+use crate::seeing::{Seen, goes_unseen, see};
 use crate::tell::Detail;
 use audit::findings::Findings;
 use checked::Checked;
@@ -214,11 +214,11 @@ fn tell_next(
     ensures told { IfOk result (λ answered.
         ToldNext detail number.old answered.reply next.rest text.old.items text.new.items) }
 {
-    match see(alloc, ledger, machine, &next.event, unseen, detail)? {
-        Some(happened) => tell_happened(
+    match see(alloc, ledger, machine, &next.event, unseen, detail) {
+        Ok(Seen::Happened(happened)) => tell_happened(
             teller, machine, number, happened, next.rest, detail, lines, text,
         ),
-        None => {
+        Ok(Seen::Passed) => {
             teller.pass(1);
             number.advance();
             Ok(Answered {
@@ -226,6 +226,7 @@ fn tell_next(
                 rest: next.rest,
             })
         }
+        Err(refused) => Err(refused),
     }
 }
 
