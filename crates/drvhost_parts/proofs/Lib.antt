@@ -3,4 +3,5 @@ pub mod Repeating
 pub mod Following
 pub mod ToldRuns
 pub mod ToldAlone
+pub mod PlainlySeen
 pub mod DrawnRuns

@@ -35,6 +35,10 @@ noted_by m n e reply l k ran noted threads events shows tells =
     ∙ ap (λ (s : Set). (run s threads (events ++ e ∷ [])).world) ran.set) tells
 
 -- where none was made
+pub goes_nowhere : (e : Event) (m : Machine) → GoesAlone e m 0 m
+goes_nowhere (Step t) m = none
+goes_nowhere _ m = (refl, refl)
+
 pub stays_on : (t : ℕ) (m : Machine) (k : ℕ) (n : Machine) → GoesOn t m k n → k ≡ 0 → n ≡ m
 stays_on t m j n none is = refl
 stays_on t m j o (goes_more k n p before applies alone) is = absurd (omega (arith, is))

@@ -1,3 +1,4 @@
 pub mod Repeats
+pub mod Seen
 pub mod Served
 pub mod Told

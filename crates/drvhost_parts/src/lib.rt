@@ -7,6 +7,7 @@ mod drawing;
 mod follow;
 pub mod host;
 mod running;
+mod seeing;
 mod show;
 pub mod tell;
 mod telling;

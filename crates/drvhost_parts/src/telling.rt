@@ -1,19 +1,19 @@
 //! Runs that are told in words.
 
 ghost use Rattle.std.specs.Prelude.{◌≡◌, ◌+◌, ◌++◌, ◌∷◌, ◌<◌, ◌≤◌, ◌^◌, ◌||◌, List, ℕ, [], IfOk, IfSome, IsTrue, MatchOption, OnOk, codes, if◌then◌else◌, replicate, true};
-ghost use Rattle.pending_uses.specs.Acts.{use_step};
-ghost use Rattle.pending_uses.specs.Ledger.{Tells as TellsRun, TellsOn};
+ghost use Rattle.pending_uses.specs.Ledger.{Tells as TellsRun};
 ghost use Rattle.checked.specs.GoingOn.{GoesOn};
 ghost use Rattle.interleave.specs.Listing.{IsWithinLimits};
-ghost use Rattle.model.specs.declared.event.Reply.TheVariants.{Stepped};
 ghost use Rattle.model.specs.Machine.{AppliesWhole, ShowsWhole};
 ghost use Rattle.model.specs.Run.{begun};
 ghost use Rattle.run_laws.specs.Waits.{says_unchanged};
 ghost use Rattle.inputs_outputs.specs.Answer.{ended};
 ghost use Rattle.drvhost_parts.specs.Repeats.{awaited};
-ghost use Rattle.drvhost_parts.specs.Told.{GoesAlone, HasTold, IsRunTold, IsTold, ToldAlone, ToldNext, count_left, happens_again, is_left_out, left_again, reply_head, times_again, told_line};
+ghost use Rattle.drvhost_parts.specs.Seen.{GoesUnseen};
+ghost use Rattle.drvhost_parts.specs.Told.{GoesAlone, HasTold, IsRunTold, IsTold, LedgerGoesOn, ToldAlone, ToldNext, count_left, happens_again, is_left_out, left_again, reply_head, times_again, told_line};
 
 use crate::follow::{is_last, next_run, rest_of};
+use crate::seeing::{Seen, goes_unseen, see};
 use crate::tell::Detail;
 use audit::findings::Findings;
 use checked::Checked;
@@ -24,7 +24,6 @@ use interleave::schedule::Schedule;
 use model::event::{Event, Reply};
 use model::view::FrameView;
 use packet_holders::Rights;
-use pending_uses::acts::{UseStep, use_step_of};
 use pending_uses::laws::going_on_keeps_ledgers;
 use pending_uses::ledger::Ledger;
 use pending_uses::standing::top_frame;
@@ -32,7 +31,7 @@ use report::event_number::EventNumber;
 use report::lines::Lines;
 use run_laws::waiting_changes_nothing;
 use std::alloc::{AllocError, Global};
-use told::{Happened, Moment, Teller};
+use told::{Happened, Teller};
 
 /// What stands before the words of the audit.
 const AUDIT: &[u8] = b"\naudit\n";
@@ -118,7 +117,17 @@ fn tell_events(
     let mut upcoming = schedule.events.upcoming();
     let mut rest = None;
     while let Some(next) = next_event(rest, &mut upcoming) {
-        let made = go_ahead(teller, machine, &mut number, &next, detail, lines, text)?;
+        let unseen = goes_unseen(machine, &next.event, detail);
+        let made = go_ahead(
+            teller,
+            machine,
+            &mut number,
+            &next,
+            unseen,
+            detail,
+            lines,
+            text,
+        )?;
         if made > 0 {
             rest = rest_of(next.event, count_left(&next.rest) + 1 - made);
             continue;
@@ -130,6 +139,7 @@ fn tell_events(
             machine,
             &mut number,
             next,
+            unseen,
             detail,
             lines,
             text,
@@ -185,18 +195,18 @@ fn tell_next(
     machine: &mut Checked,
     number: &mut EventNumber,
     next: Next,
+    unseen: bool,
     detail: Detail,
     lines: &mut Lines,
     text: &mut Vec<u8>,
 ) -> Result<Answered, AllocError>
-    requires { number.old + 1 + count_left next.rest < 2 ^ 64 }
+    requires number { number.old + 1 + count_left next.rest < 2 ^ 64 }
+    requires unseen { IsTrue unseen → GoesUnseen detail machine.old next.event }
     ensures number { IfOk result (λ answered.
         number.new ≡ number.old + 1 + times_again answered.reply next.rest) }
     ensures applied { IfOk result (λ answered.
         AppliesWhole machine.old next.event machine.new answered.reply) }
-    ensures noted { IfOk result (λ answered. TellsOn machine.new.set machine.new.world next.event
-        (use_step machine.old.set machine.old.world next.event) answered.reply ledger.old
-        ledger.new) }
+    ensures noted { OnOk result (LedgerGoesOn machine.old next.event ledger.old ledger.new) }
     ensures kept { IfOk result (λ answered. says_unchanged answered.reply ≡ true
         → ledger.new ≡ ledger.old) }
     ensures rest { IfOk result (λ answered.
@@ -204,24 +214,42 @@ fn tell_next(
     ensures told { IfOk result (λ answered.
         ToldNext detail number.old answered.reply next.rest text.old.items text.new.items) }
 {
-    let moment = Moment::before(machine, &next.event);
-    let step = use_step_of(machine, &next.event, &moment.acting);
-    let reply = machine.apply(&next.event);
-    ledger.note(alloc, step, &next.event, &reply, machine)?;
-    if is_passed(detail, step, &reply) {
-        teller.pass(1);
-        number.advance();
-        return Ok(Answered {
-            reply,
-            rest: next.rest,
-        });
+    match see(alloc, ledger, machine, &next.event, unseen, detail) {
+        Ok(Seen::Happened(happened)) => tell_happened(
+            teller, machine, number, happened, next.rest, detail, lines, text,
+        ),
+        Ok(Seen::Passed) => {
+            teller.pass(1);
+            number.advance();
+            Ok(Answered {
+                reply: Reply::Stepped,
+                rest: next.rest,
+            })
+        }
+        Err(refused) => Err(refused),
     }
-    let happened = Happened {
-        event: next.event,
-        moment,
-        step,
-        reply,
-    };
+}
+
+/// Adds what is told of an event that happened, and of the others of its run where they do nothing,
+/// by the machine after it.
+fn tell_happened(
+    teller: &mut Teller<'_>,
+    machine: &Checked,
+    number: &mut EventNumber,
+    happened: Happened,
+    rest: Option<Repeated>,
+    detail: Detail,
+    lines: &mut Lines,
+    text: &mut Vec<u8>,
+) -> Result<Answered, AllocError>
+    requires { number.old + 1 + count_left rest < 2 ^ 64 }
+    ensures number { OnOk result
+        (number.new ≡ number.old + 1 + times_again happened.reply rest) }
+    ensures answered { IfOk result (λ answered. answered
+        ≡ record { reply = happened.reply; rest = left_again happened.reply rest }) }
+    ensures told { OnOk result
+        (ToldNext detail number.old happened.reply rest text.old.items text.new.items) }
+{
     teller.note(&happened, machine)?;
     add_event(
         teller,
@@ -234,25 +262,14 @@ fn tell_next(
         text,
     )?;
     number.advance();
-    let count = times_again(&reply, &next.rest);
+    let count = times_again(&happened.reply, &rest);
     tell_again(
         teller, machine, number, &happened, count, detail, lines, text,
     )?;
     Ok(Answered {
-        reply,
-        rest: left_again(&reply, next.rest),
+        reply: happened.reply,
+        rest: left_again(&happened.reply, rest),
     })
-}
-
-/// Whether an event is passed over: nothing is told of it, and nothing noted for the audit.
-fn is_passed(detail: Detail, step: UseStep, reply: &Reply) -> bool
-    ensures { IsTrue result → (detail ≡ Detail.Quiet) × (reply.now ≡ Stepped) }
-{
-    let opens = matches!(step, UseStep::Issue(_) | UseStep::Call(_));
-    match (detail, reply) {
-        (Detail::Quiet, Reply::Stepped) => !opens,
-        _ => false,
-    }
 }
 
 /// How many events are left of a run.
@@ -267,12 +284,14 @@ fn count_left(rest: &Option<Repeated>) -> usize
 
 /// Lets the thread of the step that comes next, and of those equal to it, go on by itself: in quiet
 /// for as many as it can make so, of which nothing is told, and else for the first, of which a line
-/// is told. It answers how many were made; none where another event comes next.
+/// is told. It answers how many were made; none where another event comes next, or a step that needs
+/// no look at it.
 fn go_ahead(
     teller: &mut Teller<'_>,
     machine: &mut Checked,
     number: &mut EventNumber,
     next: &Next,
+    unseen: bool,
     detail: Detail,
     lines: &mut Lines,
     text: &mut Vec<u8>,
@@ -287,6 +306,9 @@ fn go_ahead(
     ensures none { IfOk result (λ made. made ≡ 0
         → (machine.new ≡ machine.old) × (text.new.items ≡ text.old.items)) }
 {
+    if unseen {
+        return Ok(0);
+    }
     let Event::Step { thread } = next.event else {
         return Ok(0);
     };

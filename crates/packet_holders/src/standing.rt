@@ -8,7 +8,7 @@ ghost use Rattle.model.specs.Typable.{IsTypable};
 ghost use Rattle.packet_holders.specs.Right.{Decides, DecidesRegister, has_right, is_plain, lends_to, waits_plain};
 
 use crate::arriving::state_at;
-use absstate::{Abs, Kind};
+use absstate::{Abs, Kind, Stage};
 use audit::sites::Site;
 use checked::Checked;
 use checked_parts::Frame;
@@ -92,7 +92,7 @@ fn is_right(kind: Kind) -> bool
 {
     matches!(
         kind,
-        Kind::New | Kind::Own | Kind::Listed(_) | Kind::Cancelling(_)
+        Kind::New | Kind::Own | Kind::Queued(_, Stage::Listed | Stage::Cancelling)
     )
 }
 

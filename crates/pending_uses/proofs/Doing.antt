@@ -454,7 +454,7 @@ module _ (set : Set) (w : World) (t : ℕ) where
   acts_top thread None below = refl
   acts_top thread (Some f) below = acts_frame set w.shared t (top_of below) f
 
-  acts_step : (o : Option Thread)
+  pub acts_step : (o : Option Thread)
       → uses_in (step_thread set w t o).actions
       ≡ actions_of (frame_uses set w.shared (top_of (frames_of o)))
   acts_step None = refl

@@ -29,7 +29,7 @@ use Rattle.pending_uses.proofs.Rows.{Fits, TagFits}
 use Rattle.pending_uses.specs.Ledger.{LedgerState, Tells, row_settled}
 
 -- what is written at a place is found there
-found_set : (threads : List Thread) (t : ℕ) (x y : Thread)
+pub found_set : (threads : List Thread) (t : ℕ) (x y : Thread)
     → slice_get threads t ≡ Some x → slice_get (slice_set threads t y) t ≡ Some y
 found_set threads t x y found =
     let within : t < length threads = slice_get_within threads t x found in
@@ -39,7 +39,7 @@ found_set threads t x y found =
     ∙ ap (λ (z : Thread). Some z) (get_or-set_same threads t y y within)
 
 -- the level of a thread with a frame is its own
-root_more : (root : Irql) (below : List Frame) (f : Frame) (frames : List Frame)
+pub root_more : (root : Irql) (below : List Frame) (f : Frame) (frames : List Frame)
     → root_over root (below ++ f ∷ frames) ≡ root
 root_more root [] f frames = refl
 root_more root (b ∷ below) f frames = refl
@@ -49,7 +49,7 @@ top_fits : (a b : Activation) (tag : Tag) → TagFits (Routine a) tag → TagFit
 top_fits a b Managing h = absurd h
 top_fits a b (Activated g driver routine serving) h = tt
 
-all_fit : (below : List Frame) (a b : Activation) (row : List Tag)
+pub all_fit : (below : List Frame) (a b : Activation) (row : List Tag)
     → Fits (below ++ Routine a ∷ []) row → Fits (below ++ Routine b ∷ []) row
 all_fit [] a b [] h = absurd h
 all_fit [] a b (tag ∷ tags) h = (top_fits a b tag h.0, h.1)

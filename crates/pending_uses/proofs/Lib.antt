@@ -5,5 +5,6 @@ pub mod GoingOn
 pub mod Knowing
 pub mod Noted
 pub mod Noting
+pub mod PlainSteps
 pub mod Rows
 pub mod Settling

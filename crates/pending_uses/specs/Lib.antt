@@ -4,4 +4,5 @@ pub mod GoingOn
 pub mod Knowing
 pub mod Ledger
 pub mod Pending
+pub mod Plain
 pub mod Uses

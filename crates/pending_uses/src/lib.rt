@@ -7,5 +7,6 @@ pub mod acting;
 pub mod acts;
 pub mod laws;
 pub mod ledger;
+pub mod plain;
 pub mod standing;
 pub mod uses;

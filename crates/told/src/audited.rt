@@ -4,7 +4,7 @@ use crate::book::Book;
 use crate::disagreement::{Place, add_note, add_place, opened_place};
 use crate::line::Happened;
 use crate::places::{add_holders, add_sites};
-use crate::words::{add_lock, reason_words, status_name};
+use crate::words::{add_lock, add_top_out, reason_words};
 use audit::findings::Findings;
 use audit::refusal::Reason;
 use audit::ring::waits_for;
@@ -123,12 +123,8 @@ pub(crate) fn add_audit(
 /// Adds the packets that topped out, in order.
 fn add_topped(words: &mut String, audited: &Audited) -> Result<(), AllocError> {
     for top in audited.topped.iter() {
-        let name = status_name(top.status);
-        write!(
-            words,
-            "packet {} topped out with {name}, information {}\n",
-            top.packet, top.info
-        )?;
+        add_top_out(words, top.packet, " topped out with ", top.status, top.info)?;
+        words.push_str("\n")?;
     }
     Ok(())
 }

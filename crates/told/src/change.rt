@@ -2,7 +2,10 @@
 
 use crate::book::Book;
 use crate::line::Moment;
-use crate::words::{add_lock, cause_of, check_name, major_name, reason_words, status_name};
+use crate::words::{
+    add_lock, add_number, add_packet, add_top_out, cause_of, check_name, major_name, reason_words,
+    status_name,
+};
 use audit::ring::waits_for;
 use checked::Checked;
 use model::event::{Event, Lock, OfDevice, Reply};
@@ -47,13 +50,7 @@ pub fn add_change(
             packet,
             status,
             info,
-        } => {
-            let name = status_name(status);
-            write!(
-                words,
-                "packet {packet}: tops out with {name}, information {info}"
-            )
-        }
+        } => add_top_out(words, packet, ": tops out with ", status, info),
         Reply::Stepped | Reply::Finished => add_step(words, book, event, moment, machine),
     }
 }
@@ -72,18 +69,15 @@ fn add_start(
             argument,
             ..
         } => {
-            let major = major_name(major);
-            write!(
-                words,
-                "packet {packet}: a {major} with {argument} is issued to "
-            )?;
+            add_packet(words, packet, ": a ")?;
+            words.push_str(major_name(major))?;
+            words.push_str(" with ")?;
+            add_number(words, argument)?;
+            words.push_str(" is issued to ")?;
             book.add_device(words, device)
         }
-        Event::Cancel { .. } => write!(words, "packet {packet}: IoCancelIrp begins"),
-        _ => write!(
-            words,
-            "packet {packet}: taken off the start list, StartIo begins"
-        ),
+        Event::Cancel { .. } => add_packet(words, packet, ": IoCancelIrp begins"),
+        _ => add_packet(words, packet, ": taken off the start list, StartIo begins"),
     }
 }
 
@@ -93,7 +87,11 @@ fn add_wait(words: &mut String, event: &Event, machine: &Checked) -> Result<(), 
         return Ok(());
     };
     match waits_for(machine, thread) {
-        Some(owner) => write!(words, "waits: thread {owner} owns the lock"),
+        Some(owner) => {
+            words.push_str("waits: thread ")?;
+            add_number(words, u64::from(owner))?;
+            words.push_str(" owns the lock")
+        }
         None => words.push_str("waits"),
     }
 }
@@ -125,7 +123,7 @@ fn add_step(
                 words.push_str(": its DPC routine begins")
             }
             Event::Cancel { packet, .. } => {
-                write!(words, "packet {packet}: has topped out, nothing to cancel")
+                add_packet(words, packet, ": has topped out, nothing to cancel")
             }
             _ => Ok(()),
         };
@@ -154,13 +152,14 @@ fn add_walk(
     let Some(PacketView::Live(before)) = moment.packet else {
         return Ok(());
     };
-    let depth = before.depth;
-    write!(words, "packet {n}: completion leaves location {depth}")?;
+    add_packet(words, n, ": completion leaves location ")?;
+    add_number(words, u64::from(before.depth))?;
     let PacketView::Live(after) = machine.packet(n) else {
         return Ok(());
     };
     if is_marked(&after) && !mark_at(&before, after.depth) {
-        write!(words, ", the mark is carried up to {}", after.depth)?;
+        words.push_str(", the mark is carried up to ")?;
+        add_number(words, u64::from(after.depth))?;
     }
     Ok(())
 }
@@ -188,18 +187,18 @@ fn add_cancelling(
     let released = matches!(machine.shared().owner(Lock::SystemCancel), Some(None));
     match step {
         CancelStep::Acquire => words.push_str("owns the system cancel spin lock"),
-        CancelStep::SetFlag if released => {
-            write!(
-                words,
-                "packet {n}: has topped out; the system cancel spin lock is free"
-            )
-        }
-        CancelStep::SetFlag => write!(words, "packet {n}: Irp->Cancel is set"),
-        CancelStep::Exchange if released => write!(
+        CancelStep::SetFlag if released => add_packet(
             words,
-            "packet {n}: no cancel routine was set; the system cancel spin lock is free"
+            n,
+            ": has topped out; the system cancel spin lock is free",
         ),
-        CancelStep::Exchange => write!(words, "packet {n}: its cancel routine is called"),
+        CancelStep::SetFlag => add_packet(words, n, ": Irp->Cancel is set"),
+        CancelStep::Exchange if released => add_packet(
+            words,
+            n,
+            ": no cancel routine was set; the system cancel spin lock is free",
+        ),
+        CancelStep::Exchange => add_packet(words, n, ": its cancel routine is called"),
     }
 }
 
@@ -220,7 +219,7 @@ fn add_about(
     if matches!(instr, Instr::Get(_, _, _)) {
         return Ok(());
     }
-    write!(words, "packet {n}: ")?;
+    add_packet(words, n, ": ")?;
     match instr {
         Instr::Put(_, _) => words.push_str("its information is set"),
         Instr::Mark(_) => words.push_str("its current location is marked pending"),
@@ -253,11 +252,8 @@ fn add_about(
         Instr::Dequeue(_) => words.push_str("taken off the device queue"),
         Instr::Pass(_) | Instr::Call(_, _) => add_sent(words, book, machine, device, n),
         Instr::Complete(_, status) => {
-            write!(
-                words,
-                "IoCompleteRequest is called with {}",
-                status_name(status)
-            )
+            words.push_str("IoCompleteRequest is called with ")?;
+            words.push_str(status_name(status))
         }
         Instr::IfPending(_, _) => words.push_str("PendingReturned is looked at"),
         _ => Ok(()),
@@ -296,7 +292,10 @@ fn add_sent(
         book.add_device(words, lower)?;
     }
     match machine.packet(n) {
-        PacketView::Live(after) => write!(words, ", location {}", after.depth),
+        PacketView::Live(after) => {
+            words.push_str(", location ")?;
+            add_number(words, u64::from(after.depth))
+        }
         _ => Ok(()),
     }
 }
@@ -355,7 +354,9 @@ fn add_owner(
     lock: Lock,
 ) -> Result<(), AllocError> {
     if let Some(thread) = thread_of(event) {
-        write!(words, "thread {thread} owns ")?;
+        words.push_str("thread ")?;
+        add_number(words, u64::from(thread))?;
+        words.push_str(" owns ")?;
         add_lock(words, book, lock)?;
     }
     Ok(())

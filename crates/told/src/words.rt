@@ -76,13 +76,35 @@ pub(crate) fn add_number(words: &mut String, number: u64) -> Result<(), AllocErr
     words.push_str(buffer.format(number))
 }
 
+/// Adds a packet by its number, and these words behind it.
+pub(crate) fn add_packet(words: &mut String, packet: u64, behind: &str) -> Result<(), AllocError> {
+    words.push_str("packet ")?;
+    add_number(words, packet)?;
+    words.push_str(behind)
+}
+
+/// Adds with what a packet topped out, behind these words.
+pub(crate) fn add_top_out(
+    words: &mut String,
+    packet: u64,
+    before: &str,
+    status: Status,
+    info: u64,
+) -> Result<(), AllocError> {
+    add_packet(words, packet, before)?;
+    words.push_str(status_name(status))?;
+    words.push_str(", information ")?;
+    add_number(words, info)
+}
+
 /// Adds a lock.
 pub(crate) fn add_lock(words: &mut String, book: &Book<'_>, lock: Lock) -> Result<(), AllocError> {
     match lock {
         Lock::SystemCancel => words.push_str("the system cancel spin lock"),
         Lock::Spin(OfDevice { device, number }) => {
             book.add_device(words, device)?;
-            write!(words, ".l{number}")
+            words.push_str(".l")?;
+            add_number(words, u64::from(number))
         }
     }
 }

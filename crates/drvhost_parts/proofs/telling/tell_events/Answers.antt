@@ -1,6 +1,6 @@
 use Rattle.std.proofs.Common.{◌≡◌, ◌∙◌, ◌+◌, ◌-◌, ◌≤◌, ℕ, ap, arith, sym}
 use Rattle.drvhost_parts.specs.Repeats.{awaited}
-use Rattle.drvhost_parts.proofs.ToldAlone.{left_ahead, noted_by, telling_ahead, telling_stays}
+use Rattle.drvhost_parts.proofs.ToldAlone.{left_ahead, telling_ahead, telling_stays}
 use Rattle.drvhost_parts.proofs.ToldRuns.{left_some, length_on, next_last, next_on, telling_first, told_all, told_last}
 use Rattle.drvhost_parts.proofs.telling.tell_events.Goals as goal
 
@@ -26,8 +26,7 @@ returns-then-is_last c =
     (rw c.in-Some.ensures.next at c.loop-next.invariant.telling) zero
     c.in_ok-made.ensures.number c.in_ok-made.ensures.none)
     c.in_ok-answered.ensures.applied
-    (noted_by _ _ _ _ _ _ c.in_ok-answered.ensures.applied c.in_ok-answered.ensures.noted)
-    told.1 (sym c.is_last.ensures ∙ c.if-is_last.true)
+    c.in_ok-answered.ensures.noted told.1 (sym c.is_last.ensures ∙ c.if-is_last.true)
 
 pub loop-next-preserved : goal.loop-next-preserved
 loop-next-preserved c =
@@ -54,9 +53,7 @@ loop-next-preserved c =
           (telling_stays _ _ _ _ _ _ _ _ _ c.in_ok-made.made _ _ _
           (rw c.in-Some.ensures.next at c.loop-next.invariant.telling) zero
           c.in_ok-made.ensures.number c.in_ok-made.ensures.none)
-          c.in_ok-answered.ensures.applied
-          (noted_by _ _ _ _ _ _ c.in_ok-answered.ensures.applied
-          c.in_ok-answered.ensures.noted)
+          c.in_ok-answered.ensures.applied c.in_ok-answered.ensures.noted
           c.in_ok-answered.ensures.kept c.waiting_changes_nothing.ensures
           (sym c.is_last.ensures ∙ c.if-is_last.false)
           c.in-Some.ensures.equal c.in_ok-answered.ensures.told);
