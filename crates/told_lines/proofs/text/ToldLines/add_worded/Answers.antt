@@ -1,4 +1,4 @@
-use Rattle.std.proofs.Common.{◌≡◌, ◌∙◌, ◌+◌, ◌<◌, ◌≤◌, ◌^◌, Some, ap, arith, length}
+use Rattle.std.proofs.Common.{◌≡◌, ◌∙◌, ◌+◌, ◌<◌, ◌≤◌, ◌^◌, Some, ap, arith, length, refl}
 use Rattle.told_lines.specs.Lines.{Stands, piece_text}
 use Rattle.told_lines.proofs.Pieces.{begun_stand, begun_text, line_joined, single_line}
 use Rattle.told_lines.proofs.text.ToldLines.add_worded.Goals as goal
@@ -8,8 +8,8 @@ returns-then-goes_on c =
     line_joined c.index_of.new.self c.self.inside.words c.index_of.ensures.kept.0
     c.self.inside.pieces.items c.self.inside.last c.args.word c.args.number c.in_ok-index.index
     c.args.words.now c.args.self.now c.index_of.ensures.kept.1 c.self.invariant.0
-    c.self.invariant.1 c.self.view_is c.if-goes_on.ensures.said c.if-goes_on.ensures.each
-    c.if-goes_on.ensures.number c.if-goes_on.ensures.words c.in_ok-index.ensures.found.0
+    c.self.invariant.1 c.self.view_is (c.if-goes_on.ensures.said refl) (c.if-goes_on.ensures.each refl)
+    (c.if-goes_on.ensures.number refl) (c.if-goes_on.ensures.words refl) c.in_ok-index.ensures.found.0
     c.in_ok-index.ensures.found.1
 
 pub invariant_of-self-2 : goal.invariant_of-self-2

@@ -14,19 +14,19 @@ returns-in_err-add_piece-clause-written g c =
     (begins_clear _ _ c.clear.new.self (text ++ last) c.clear.ensures
     (last_broken (text ++ last) last _ _ _ c.clear.new.self c.add_pieces.new.lines
     (pieces_added text last _ _ c.clear.new.self c.add_pieces.new.lines
-    c.in_ok-add_pieces.ensures.added)
+    (rw c.as_slice.ensures.value at c.in_ok-add_pieces.ensures.added))
     c.in_err-add_piece.ensures.broken))
 
 pub returns-clause-written : goal.returns-clause-written
 returns-clause-written g c =
     let text : List ℕ = text_of c.self.inside.words c.self.inside.pieces.items in
     let last : List ℕ = piece_text c.self.inside.words c.self.inside.last in
-    rw ← c.self.view_is
+    rw (← c.self.view_is)
     (rest_written c.write_lines.result _ _ _ c.clear.new.self c.add_piece.new.lines (text ++ last)
     c.clear.ensures
     (last_added (text ++ last) last _ _ _ c.clear.new.self c.add_pieces.new.lines
     c.add_piece.new.lines
     (pieces_added text last _ _ c.clear.new.self c.add_pieces.new.lines
-    c.in_ok-add_pieces.ensures.added)
+    (rw c.as_slice.ensures.value at c.in_ok-add_pieces.ensures.added))
     c.in_ok-add_piece.ensures.added)
     c.write_lines.ensures.written)
