@@ -1,9 +1,9 @@
 -- How the text of pieces is added behind lines that gather.
-use Rattle.std.proofs.Common.{◌≡◌, ◌∙◌, ◌<◌, ◌≤◌, ℕ, ◌+◌, Bool, true, false, List, [], ◌∷◌, ◌++◌, if◌then◌else◌, Option, Result, Ok, Err, OnErr, OnOk, ap, append_assoc, arith, drop, get_or, length, refl, replicate, subst, sym, take}
+use Rattle.std.proofs.Common.{◌≡◌, ◌∙◌, ◌<◌, ◌≤◌, ℕ, ◌+◌, Bool, true, false, List, [], ◌∷◌, ◌++◌, if◌then◌else◌, Option, Result, Ok, Err, OnErr, OnOk, ap, arith, drop, get_or, length, refl, subst, sym}
 use Rattle.std.proofs.lemmas.List.{append-nil, at_drop_all, at_drop_more, get_or-drop, get_or-replicate, get_or-take, length-drop, length-replicate, length-take-le}
 use Rattle.report.specs.declared.word.Word.{Word}
 use Rattle.inputs_outputs.specs.Device.{Adds, TakesBeginning, Writes}
-use Rattle.inputs_outputs.proofs.Writing.{Gathered, adds_all, adds_line, adds_none, gathered_line, gathered_more, gathered_part, writes_behind}
+use Rattle.inputs_outputs.proofs.Writing.{Gathered, adds_line, adds_none, gathered_line, gathered_more, gathered_part, writes_behind}
 use Rattle.told_lines.specs.declared.piece.Piece.{Piece}
 use Rattle.told_lines.specs.Lines.{piece_text, run_width, run_words, said_line, said_lines, text_of}
 

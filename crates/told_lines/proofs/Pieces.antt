@@ -1,5 +1,5 @@
 -- Pieces of a text, as more words are stored and more lines are added.
-use Rattle.std.proofs.Common.{◌≡◌, ◌∙◌, ◌<◌, ◌≤◌, ◌^◌, ℕ, zero, suc, ◌+◌, ◌-◌, Bool, true, false, List, [], ◌∷◌, ◌++◌, Option, Some, None, Result, Ok, Err, OnErr, OnOk, ap, append_assoc, arith, drop, get_or, length, refl, replicate, sym, take}
+use Rattle.std.proofs.Common.{◌≡◌, ◌∙◌, ◌<◌, ◌≤◌, ℕ, zero, suc, ◌+◌, ◌-◌, Bool, true, false, List, [], ◌∷◌, ◌++◌, Option, Some, Result, Ok, Err, OnErr, OnOk, ap, append_assoc, arith, drop, get_or, length, refl, replicate, sym, take}
 use Rattle.std.proofs.lemmas.List.{append-nil, drop-append-le, get_or-drop, get_or_append_left, length-append, length-drop, length-take-le, take-append-le}
 use Rattle.std.proofs.lemmas.List.Elements.{All-head, All-push, All-tail, All-weaker}
 use Rattle.std.proofs.Math.Seq.{take-suc}
@@ -7,7 +7,7 @@ use Rattle.std.specs.List.{All}
 use Rattle.model.specs.declared.event.Reply.{Reply}
 use Rattle.report.specs.declared.word.Word.{Word}
 use Rattle.report.specs.Reply.{worded_line}
-use Rattle.report.specs.Word.{word_head, word_of}
+use Rattle.report.specs.Word.{word_of}
 use Rattle.report.proofs.Heads.{word_heads_reply}
 use Rattle.told_lines.specs.declared.piece.Piece.{Piece}
 use Rattle.told_lines.specs.Lines.{Stands, piece_text, run_width, run_words, said_line, said_lines, text_of, worded_lines}

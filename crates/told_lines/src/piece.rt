@@ -25,7 +25,12 @@ impl Piece {
     /// No lines.
     pub(crate) fn none() -> Piece
         ensures { result ≡ record {
-            first = 0; count = 0; words = 0; same = false; said = None } }
+          first = 0;
+          count = 0;
+          words = 0;
+          same = false;
+          said = None;
+        } }
     {
         Piece {
             first: 0,
@@ -40,7 +45,12 @@ impl Piece {
     #[inline]
     pub(crate) fn line(word: Word, first: u64, words: usize) -> Piece
         ensures { result ≡ record {
-            first = first; count = 1; words = words; same = false; said = Some word } }
+          first = first;
+          count = 1;
+          words = words;
+          same = false;
+          said = Some word;
+        } }
     {
         Piece {
             first,
@@ -54,7 +64,12 @@ impl Piece {
     /// So many lines with the same words, those of an index.
     pub(crate) fn again(said: Option<Word>, first: u64, words: usize, count: usize) -> Piece
         ensures { result ≡ record {
-            first = first; count = count; words = words; same = true; said = said } }
+          first = first;
+          count = count;
+          words = words;
+          same = true;
+          said = said;
+        } }
     {
         Piece {
             first,

@@ -60,11 +60,7 @@ impl StoredWords {
         StoredWords::of(alloc, bytes, places)
     }
 
-    fn of(
-        alloc: Global,
-        bytes: Vec<u8>,
-        places: Vec<Place>,
-    ) -> Result<StoredWords, AllocError>
+    fn of(alloc: Global, bytes: Vec<u8>, places: Vec<Place>) -> Result<StoredWords, AllocError>
         requires { All (IsWithin bytes.items) places.items }
         ensures { IfOk result (λ stored. stored ≡ words_of bytes.items places.items) }
     {

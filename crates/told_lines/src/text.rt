@@ -216,7 +216,13 @@ impl ToldLines {
     {
         lines.clear();
         let mut number = EventNumber::first();
-        add_pieces(&self.words, self.pieces.as_slice(), &mut number, lines, sink)?;
+        add_pieces(
+            &self.words,
+            self.pieces.as_slice(),
+            &mut number,
+            lines,
+            sink,
+        )?;
         add_piece(&self.words, &self.last, &mut number, lines, sink)?;
         write_lines(lines, sink)
     }

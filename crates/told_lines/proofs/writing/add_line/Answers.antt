@@ -1,4 +1,4 @@
-use Rattle.std.proofs.Common.{◌≡◌, ◌∷◌, ◌++◌, [], List, ℕ, refl}
+use Rattle.std.proofs.Common.{◌∷◌, ◌++◌, [], List, ℕ, refl}
 use Rattle.std.proofs.lemmas.Result.{err_from_is_err_and}
 use Rattle.report.specs.Word.{word_head}
 use Rattle.inputs_outputs.proofs.Writing.{begins_before, gathered_more, gathered_part}

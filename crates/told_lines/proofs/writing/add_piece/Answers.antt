@@ -1,4 +1,4 @@
-use Rattle.std.proofs.Common.{◌≡◌, ◌∙◌, ◌+◌, ◌++◌, [], ap, arith, drop, get_or, refl, rules, sym}
+use Rattle.std.proofs.Common.{◌∙◌, ◌+◌, ◌++◌, [], ap, arith, drop, get_or, refl, rules, sym}
 use Rattle.std.proofs.lemmas.Result.{err_from_is_err_and}
 use Rattle.inputs_outputs.proofs.Writing.{gathered_all, gathered_more, gathered_part}
 use Rattle.told_lines.specs.Lines.{piece_text, run_words, said_line, said_lines}

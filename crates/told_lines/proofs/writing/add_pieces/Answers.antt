@@ -1,4 +1,4 @@
-use Rattle.std.proofs.Common.{arith, refl, rules}
+use Rattle.std.proofs.Common.{rules}
 use Rattle.std.proofs.lemmas.List.{at_drop_all}
 use Rattle.std.proofs.lemmas.Result.{err_from_is_err_and}
 use Rattle.inputs_outputs.proofs.Writing.{gathered_all, gathered_more, gathered_part}

@@ -5,17 +5,21 @@ use Rattle.told_lines.proofs.WordStore.{all_stay, stored_last, stored_more}
 use Rattle.told_lines.proofs.stored.StoredWords.store.Goals as goal
 
 pub returns-in_err-push-clause-kept : goal.returns-in_err-push-clause-kept
-returns-in_err-push-clause-kept c =
-    ([], rw (c.in_ok-extend_from_slice.ensures.items, c.in_err-push.ensures.items)
-    (all_stay c.self.inside.bytes.items c.args.words.now c.self.inside.places.items
-    c.self.invariant ∙ c.self.view_is ∙ sym (append-nil c.args.self.now)))
+returns-in_err-push-clause-kept c = (
+  [],
+  rw (c.in_ok-extend_from_slice.ensures.items, c.in_err-push.ensures.items)
+      (all_stay c.self.inside.bytes.items c.args.words.now c.self.inside.places.items
+      c.self.invariant ∙ c.self.view_is ∙ sym (append-nil c.args.self.now)),
+)
 
 pub returns-clause-kept : goal.returns-clause-kept
 returns-clause-kept c =
-    let start : c.len.result ≡ length c.self.inside.bytes.items = c.len.ensures ∙ omega arith in
-    (c.args.words.now ∷ [], stored_more c.args.self.now c.self.inside.bytes.items c.args.words.now _
-    c.self.inside.places.items _ _ c.self.view_is c.self.invariant
-    c.in_ok-extend_from_slice.ensures.items c.in_ok-push.ensures.items start refl)
+    let start : c.len.result ≡ length c.self.inside.bytes.items = c.len.ensures ∙ omega arith in (
+      c.args.words.now ∷ [],
+      stored_more c.args.self.now c.self.inside.bytes.items c.args.words.now _
+          c.self.inside.places.items _ _ c.self.view_is c.self.invariant
+          c.in_ok-extend_from_slice.ensures.items c.in_ok-push.ensures.items start refl,
+    )
 
 pub returns-clause-found : goal.returns-clause-found
 returns-clause-found c =

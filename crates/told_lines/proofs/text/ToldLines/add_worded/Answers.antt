@@ -1,4 +1,4 @@
-use Rattle.std.proofs.Common.{◌≡◌, ◌∙◌, ◌+◌, ◌<◌, ◌≤◌, ◌^◌, Some, ap, arith, length, refl}
+use Rattle.std.proofs.Common.{◌∙◌, ◌+◌, ◌<◌, ◌≤◌, ◌^◌, Some, ap, arith, length, refl}
 use Rattle.told_lines.specs.Lines.{Stands, piece_text}
 use Rattle.told_lines.proofs.Pieces.{begun_stand, begun_text, line_joined, single_line}
 use Rattle.told_lines.proofs.text.ToldLines.add_worded.Goals as goal
