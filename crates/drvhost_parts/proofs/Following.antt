@@ -18,7 +18,8 @@ use Rattle.inputs_outputs.specs.Answer.{Answer, ended, is_last, replies, reply_l
 use Rattle.inputs_outputs.specs.Device.{Adds, TakesBeginning}
 use Rattle.inputs_outputs.specs.Fault.{Goes}
 use Rattle.drvhost_parts.specs.Repeats.{AreReplies, RepeatsBy, told_by}
-use Rattle.set_answers.proofs.Judging.{Certified, certified_all, certified_more, certified_part}
+use Rattle.report.proofs.Heads.{word_is_reply}
+use Rattle.inputs_outputs.proofs.Writing.{Gathered, gathered_all, gathered_more, gathered_part}
 use Rattle.inputs_outputs.proofs.Writing.{adds_none}
 
 -- the run of one event more
@@ -80,24 +81,6 @@ breaks_before b n l more p =
       split = ap (λ x. x ++ more) p.split ∙ append_assoc p.part p.rest more;
       appended = p.appended;
     }
-
--- the line of what may be a word
-abbrev line_as : ℕ → Option Word → List ℕ
-line_as number None = []
-line_as number (Some w) = word_line w number
-
--- the line of a reply that is a word
-word_is_reply : (w : Word) (reply : Reply) → word_of reply ≡ Some w → (number : ℕ)
-    → reply_line number reply ≡ word_line w number
-word_is_reply w Stepped is number = ap (λ (x : Option Word). line_as number x) is
-word_is_reply w Finished is number = ap (λ (x : Option Word). line_as number x) is
-word_is_reply w Waited is number = ap (λ (x : Option Word). line_as number x) is
-word_is_reply w Idle is number = ap (λ (x : Option Word). line_as number x) is
-word_is_reply w Refused is number = ap (λ (x : Option Word). line_as number x) is
-word_is_reply w (Started packet) is number = let none : None ≡ Some w = is in cc
-word_is_reply w (Topped packet status info) is number = let none : None ≡ Some w = is in cc
-word_is_reply w (Bug bug) is number = let none : None ≡ Some w = is in cc
-word_is_reply w (Wrong place) is number = let none : None ≡ Some w = is in cc
 
 -- the lines of replies that are all the same word
 pub lines_word : (w : Word) (reply : Reply) → word_of reply ≡ Some w → (number count : ℕ)
@@ -174,7 +157,7 @@ module _ {M : Type 0} (set_of : M → Set) (ShowsRun : M → ℕ → List Event 
       (rest : List Event) (b n : Option (List ℕ)) (left : List ℕ) : Type 0 where
     pub later : List Reply
     pub remains : Remains m set threads rest later
-    pub lines : Certified (reply_lines 0 all) (reply_lines number later) b n [] left
+    pub lines : Gathered (reply_lines 0 all) (reply_lines number later) b n [] left
     pub last : list_any is_last all ≡ list_any is_last later
 
   pub followed_first : (m : M) (threads : ℕ) (events : List Event) (b : Option (List ℕ))
@@ -363,17 +346,17 @@ module _ {M : Type 0} (set_of : M → Set) (ShowsRun : M → ℕ → List Event 
   first_broken d p = (
     trace_of all,
     refl,
-    certified_part (reply_lines 0 all) (reply_lines number f.later)
+    gathered_part (reply_lines 0 all) (reply_lines number f.later)
         (reply_lines number stepped) (reply_lines line_after (others ++ told_of.after)) b c d []
         l f.lines first_lines p,
   )
 
   module _ (d : Option (List ℕ)) (k : List ℕ)
       (first : Adds c d l k (reply_lines number stepped)) where
-    stepped_told : Certified (reply_lines 0 all) (reply_lines line_after (others ++ told_of.after))
+    stepped_told : Gathered (reply_lines 0 all) (reply_lines line_after (others ++ told_of.after))
         b d [] k
     stepped_told =
-        certified_more (reply_lines 0 all) (reply_lines number f.later)
+        gathered_more (reply_lines 0 all) (reply_lines number f.later)
         (reply_lines number stepped) (reply_lines line_after (others ++ told_of.after)) b c d []
         l k f.lines first_lines first
 
@@ -384,7 +367,7 @@ module _ {M : Type 0} (set_of : M → Set) (ShowsRun : M → ℕ → List Event 
     others_broken o p = (
       trace_of all,
       refl,
-      certified_part (reply_lines 0 all)
+      gathered_part (reply_lines 0 all)
           (reply_lines line_after (others ++ told_of.after)) (reply_lines line_after others)
           (reply_lines (line_after + r.times) told_of.after) b d o [] k stepped_told
           other_lines p,
@@ -392,10 +375,10 @@ module _ {M : Type 0} (set_of : M → Set) (ShowsRun : M → ℕ → List Event 
 
     module _ (o : Option (List ℕ)) (i : List ℕ)
         (second : Adds d o k i (reply_lines line_after others)) where
-      all_told : Certified (reply_lines 0 all)
+      all_told : Gathered (reply_lines 0 all)
           (reply_lines (line_after + r.times) told_of.after) b o [] i
       all_told =
-          certified_more (reply_lines 0 all)
+          gathered_more (reply_lines 0 all)
           (reply_lines line_after (others ++ told_of.after)) (reply_lines line_after others)
           (reply_lines (line_after + r.times) told_of.after) b d o [] k i stepped_told
           other_lines second
@@ -409,7 +392,7 @@ module _ {M : Type 0} (set_of : M → Set) (ShowsRun : M → ℕ → List Event 
             reply_lines 0 all,
             sym (ap (λ (x : Bool). ended (if x then Stopped else Complete) (reply_lines 0 all))
                 any),
-            certified_all (reply_lines 0 all)
+            gathered_all (reply_lines 0 all)
                 (reply_lines (line_after + r.times) told_of.after) b o [] i all_told
                 (ap (λ told. reply_lines (line_after + r.times) told) (told_of.ends ends)),
           )

@@ -40,7 +40,7 @@ use Rattle.inputs_outputs.specs.declared.verification.Verification.{Verification
 use Rattle.inputs_outputs.specs.Ends.{HoldsRun}
 use Rattle.inputs_outputs.specs.Fault.{Goes, ReadsSchedule, ReadsSet}
 use Rattle.drvhost_parts.specs.Repeats.{awaited}
-use Rattle.drvhost_parts.specs.Told.{HasTold, LedgerGoesOn, IsRunShown, IsRunTold, IsScheduleShown, IsShownRunOf, IsTold, Tells, ToldNext, count_left, happens_again, is_left_out, left_again, past_by, replies_by, reply_head, run_to_end, times_again, told_line, world_by}
+use Rattle.drvhost_parts.specs.Told.{HasTold, LedgerGoesOn, IsRunShown, IsRunTold, IsScheduleShown, IsShownRunOf, IsTold, Tells, ToldNext, count_left, happens_again, is_left_out, left_again, past_by, replies_by, run_to_end, times_again, told_line, world_by}
 use Rattle.drvhost_parts.proofs.Following.{counted, run_more}
 use Rattle.inputs_outputs.proofs.Writing.{keeps_same}
 
@@ -481,14 +481,12 @@ next_on detail set threads events m n l k number e rest later text more reply t 
     (sym told.whole) next
 
 -- a line is told of an event
-pub line_told : (detail : Detail) (number : ℕ) (reply : Reply) (text more head words : List ℕ)
-    → is_left_out detail reply ≡ false → head ≡ reply_head number reply
-    → more ≡ text ++ (head ++ (words ++ 10 ∷ []))
+pub line_told : (detail : Detail) (number : ℕ) (reply : Reply) (text more words : List ℕ)
+    → is_left_out detail reply ≡ false → more ≡ text ++ worded_line number reply words
     → more ≡ text ++ told_line detail number reply words
-line_told detail number reply text more head words told begins added =
-    added ∙ ap (λ h. text ++ (h ++ (words ++ 10 ∷ []))) begins
-    ∙ ap (λ (b : Bool). text ++ (if b then [] else reply_head number reply ++ (words ++ 10 ∷ [])))
-    (sym told)
+line_told detail number reply text more words told added =
+    added
+    ∙ ap (λ (b : Bool). text ++ (if b then [] else worded_line number reply words)) (sym told)
 
 -- or nothing is
 pub nothing_told : (detail : Detail) (number : ℕ) (reply : Reply) (text : List ℕ)
@@ -497,7 +495,7 @@ pub nothing_told : (detail : Detail) (number : ℕ) (reply : Reply) (text : List
 nothing_told detail number reply text left = (
   [],
   sym (append-nil text)
-      ∙ ap (λ (b : Bool). text ++ (if b then [] else reply_head number reply ++ ([] ++ 10 ∷ [])))
+      ∙ ap (λ (b : Bool). text ++ (if b then [] else worded_line number reply []))
       (sym left),
 )
 
@@ -557,11 +555,11 @@ run_told detail set threads events after world l stopped amiss text words found 
 -- a schedule was read, and its run is shown
 pub schedule_shown : (showing : Showing) (held : Supply) (set : Set) (schedule : Schedule)
     (told : Told) → ReadsSchedule held (Ok schedule)
-    → IsRunShown showing set schedule.threads schedule.events (ended told.end told.text.items)
+    → IsRunShown showing set schedule.threads schedule.events (ended told.end told.text)
     → Tells (IsShownRunOf showing held set) (Ok told)
 schedule_shown showing held set schedule told (text, holds, lists) right =
     let P : Result Schedule ScheduleFault → Type 0 = λ s.
-    IsScheduleShown showing set s (ended told.end told.text.items) in
+    IsScheduleShown showing set s (ended told.end told.text) in
     (text, holds, subst P (sym lists) right)
 
 -- it can't be read
@@ -598,7 +596,7 @@ tells_rightly R Q (Err (OfScript fault)) on h = h
 pub refusal_told : (set : Set) (refusal : Refusal) (told : Result Told Fault)
     → (refusal ≡ at_start Rule.Memory) ⊎ IsFirstFault set refusal
     → IfOk told (λ t. (t.end ≡ Stopped) × (refusal.rule ≢ Rule.Memory)
-    × (t.text.items ≡ refusal_line refusal))
+    × (t.text ≡ refusal_line refusal))
     → IfErr told (λ fault. fault ≡ Memory)
     → Tells (IsRefused set) told
 refusal_told set refusal (Ok told) (inl e) h i = absurd (h.1 (ap (λ r. r.rule) e))
@@ -606,26 +604,26 @@ refusal_told set refusal (Ok told) (inr first) h i =
     record {
       refusal = refusal;
       first = first;
-      is = ap (λ x. ended x told.text.items) h.0 ∙ ap (λ x. ended Stopped x) h.2;
+      is = ap (λ x. ended x told.text) h.0 ∙ ap (λ x. ended Stopped x) h.2;
     }
 refusal_told set refusal (Err fault) e h i = tells_nothing (IsRefused set) fault i
 
 -- the text is written, or a beginning of it, or there is none
 pub told_written : (R : Answer → Type 0) (b n : Option (List ℕ)) (told : Told)
-    → Tells R (Ok told) → Appends b n told.text.items → Goes R b n [] [] (Ok told.end)
+    → Tells R (Ok told) → Appends b n told.text → Goes R b n [] [] (Ok told.end)
 told_written R b n told h p = (
-  told.text.items,
+  told.text,
   h,
   record {
-    written = told.text.items;
+    written = told.text;
     appended = p;
-    whole = sym (append-nil told.text.items);
+    whole = sym (append-nil told.text);
   },
 )
 
 pub told_broken : (R : Answer → Type 0) (b n : Option (List ℕ)) (told : Told)
-    → Tells R (Ok told) → TakesBeginning b n told.text.items → Goes R b n [] [] (Err Write)
-told_broken R b n told h p = (ended told.end told.text.items, h, p)
+    → Tells R (Ok told) → TakesBeginning b n told.text → Goes R b n [] [] (Err Write)
+told_broken R b n told h p = (ended told.end told.text, h, p)
 
 pub untold : (R : Answer → Type 0) (b : Option (List ℕ)) (fault : Fault)
     → Tells R (Err fault) → Goes R b b [] [] (Err fault)

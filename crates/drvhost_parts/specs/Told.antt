@@ -19,7 +19,7 @@ use Rattle.model.specs.Set.{Set}
 use Rattle.model.specs.Trace.{Entry}
 use Rattle.model.specs.World.{World}
 use Rattle.report.specs.Fault.{schedule_fault_line}
-use Rattle.report.specs.Reply.{reply_line}
+use Rattle.report.specs.Reply.{worded_line}
 use Rattle.inputs_outputs.specs.declared.fault.End.{End}
 use Rattle.inputs_outputs.specs.declared.fault.End.TheVariants.{Complete, Stopped}
 use Rattle.inputs_outputs.specs.declared.fault.Fault.{Fault}
@@ -33,11 +33,6 @@ use Rattle.inputs_outputs.specs.declared.verification.Verification.{Verification
 use Rattle.inputs_outputs.specs.Answer.{Answer, IsTraced, ended, faulty, is_last, replies}
 use Rattle.inputs_outputs.specs.Device.{Holds, Supply}
 use Rattle.inputs_outputs.specs.Ends.{IsOfSupply}
-
--- the line of the trace for an event, without its end: its number, and what the run answered
-abbrev pub reply_head : ℕ → Reply → List ℕ
-reply_head number reply =
-    take (length (reply_line number reply) - 1) (reply_line number reply)
 
 -- a reply that only says that a step was made, or that there was nothing to do
 abbrev pub is_quiet : Reply → Bool
@@ -59,7 +54,7 @@ is_left_out Quiet reply = is_quiet reply
 -- what is told of an event, with these words: a line, or nothing
 abbrev pub told_line : Detail → ℕ → Reply → List ℕ → List ℕ
 told_line detail number reply words =
-    if is_left_out detail reply then [] else reply_head number reply ++ (words ++ 10 ∷ [])
+    if is_left_out detail reply then [] else worded_line number reply words
 
 -- what is told of events with these replies, the first of which has this number: of each a line
 -- with some words, or nothing
@@ -195,7 +190,7 @@ IsDrawOf verification supply schedule answer =
 -- a text was made, and with the way that the job ends it is a right answer; or an input is rightly
 -- told as faulty, or a read failed or memory ran out
 abbrev pub Tells : (Answer → Type 0) → Result Told Fault → Type 0
-Tells Right (Ok told) = Right (ended told.end told.text.items)
+Tells Right (Ok told) = Right (ended told.end told.text)
 Tells Right (Err (OfSchedule fault)) = Right (faulty (schedule_fault_line fault))
 Tells Right (Err Read) = ⊤
 Tells Right (Err Memory) = ⊤

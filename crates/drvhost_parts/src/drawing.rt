@@ -14,6 +14,7 @@ use drawn::{Drawing, add_picture};
 use interleave::schedule::Schedule;
 use std::alloc::{AllocError, Global};
 use told::{Book, Moment};
+use told_lines::text::ToldLines;
 
 /// Draws the run of a machine by a schedule, up to an event that stops it: with the names and the
 /// lines of a text that names its set.
@@ -26,7 +27,7 @@ pub(crate) fn draw_run(
     requires begun { ShowsWhole machine.old schedule.now.threads [] }
     requires limits { IsWithinLimits schedule.now }
     ensures { IfOk result (λ told. IsRunDrawn machine.old.set schedule.now.threads
-        schedule.now.events (ended told.end told.text.items)) }
+        schedule.now.events (ended told.end told.text)) }
 {
     let book = Book::of(alloc, source)?;
     let mut drawing = Drawing::begin(alloc, machine, &book)?;
@@ -34,7 +35,7 @@ pub(crate) fn draw_run(
     let mut picture = String::new(alloc);
     add_picture(&mut picture, &drawing)?;
     Ok(Told {
-        text: picture.into_bytes(),
+        text: ToldLines::of_bytes(alloc, picture.into_bytes())?,
         end: end_of(stopped, false),
     })
 }

@@ -1,6 +1,7 @@
 //! Events of a run that is told, applied one by one: what is seen of each.
 
-ghost use Rattle.std.specs.Prelude.{◌≡◌, None, IfOk, IfSome, IsTrue, OnOk, true};
+ghost use Rattle.std.specs.Prelude.{◌≡◌, IfOk, IsTrue, OnOk, true};
+ghost use Rattle.drvhost_parts.specs.declared.seeing.Seen.TheVariants.{Passed};
 ghost use Rattle.drvhost_parts.specs.Seen.{GoesUnseen, SeenBefore, is_stepped, reply_of};
 ghost use Rattle.drvhost_parts.specs.Told.{LedgerGoesOn};
 ghost use Rattle.model.specs.declared.event.Reply.TheVariants.{Stepped};
@@ -17,6 +18,14 @@ use pending_uses::plain::{is_plain, plain_steps_keep_ledgers, plain_steps_step_o
 use std::alloc::{AllocError, Global};
 use told::{Happened, Moment};
 
+/// What is seen of an event that was applied.
+pub(crate) enum Seen {
+    /// It is passed over: nothing is told of it, and nothing noted for the audit.
+    Passed,
+    /// This is told.
+    Happened(Happened),
+}
+
 /// Whether an event needs no look at it before it is applied: in quiet a plain step, of which nothing
 /// is told if it steps, and before which all was as it is after it if it doesn't.
 pub(crate) fn goes_unseen(machine: &Checked, event: &Event, detail: Detail) -> bool
@@ -28,8 +37,7 @@ pub(crate) fn goes_unseen(machine: &Checked, event: &Event, detail: Detail) -> b
     }
 }
 
-/// Applies an event and notes it in the ledger. It answers what happened, unless it is passed over:
-/// nothing is told of it then, and nothing noted for the audit.
+/// Applies an event and notes it in the ledger.
 pub(crate) fn see(
     alloc: Global,
     ledger: &mut Ledger,
@@ -37,15 +45,15 @@ pub(crate) fn see(
     event: &Event,
     unseen: bool,
     detail: Detail,
-) -> Result<Option<Happened>, AllocError>
+) -> Result<Seen, AllocError>
     requires { IsTrue unseen → GoesUnseen detail machine.old event.now }
     ensures applied { IfOk result (λ seen.
         AppliesWhole machine.old event.now machine.new (reply_of seen)) }
     ensures noted { OnOk result (LedgerGoesOn machine.old event.now ledger.old ledger.new) }
     ensures kept { IfOk result (λ seen. says_unchanged (reply_of seen) ≡ true
         → ledger.new ≡ ledger.old) }
-    ensures seen { IfOk result (λ seen. IfSome seen (SeenBefore machine.old event.now)) }
-    ensures passed { IfOk result (λ seen. seen ≡ None → detail ≡ Detail.Quiet) }
+    ensures seen { IfOk result (SeenBefore machine.old event.now) }
+    ensures passed { IfOk result (λ seen. seen ≡ Passed → detail ≡ Detail.Quiet) }
 {
     if unseen {
         return see_after(alloc, ledger, machine, event);
@@ -55,9 +63,9 @@ pub(crate) fn see(
     let reply = machine.apply(event);
     ledger.note(alloc, step, event, &reply, machine)?;
     if is_passed(detail, step, &reply) {
-        return Ok(None);
+        return Ok(Seen::Passed);
     }
-    Ok(Some(Happened {
+    Ok(Seen::Happened(Happened {
         event: *event,
         moment,
         step,
@@ -73,23 +81,23 @@ fn see_after(
     ledger: &mut Ledger,
     machine: &mut Checked,
     event: &Event,
-) -> Result<Option<Happened>, AllocError>
+) -> Result<Seen, AllocError>
     requires { is_plain machine.old.set machine.old.world event.now ≡ true }
     ensures applied { IfOk result (λ seen.
         AppliesWhole machine.old event.now machine.new (reply_of seen)) }
     ensures noted { OnOk result (LedgerGoesOn machine.old event.now ledger.old ledger.new) }
     ensures kept { IfOk result (λ seen. says_unchanged (reply_of seen) ≡ true
         → ledger.new ≡ ledger.old) }
-    ensures seen { IfOk result (λ seen. IfSome seen (SeenBefore machine.old event.now)) }
+    ensures seen { IfOk result (SeenBefore machine.old event.now) }
 {
     plain_steps_keep_ledgers();
     plain_steps_step_or_stay();
     let reply = machine.apply(event);
     if is_stepped(&reply) {
-        return Ok(None);
+        return Ok(Seen::Passed);
     }
     ledger.note(alloc, UseStep::Nothing, event, &reply, machine)?;
-    Ok(Some(Happened {
+    Ok(Seen::Happened(Happened {
         event: *event,
         moment: Moment::before(machine, event),
         step: UseStep::Nothing,

@@ -21,13 +21,14 @@ use image::DriverSet;
 use inputs_outputs::device::{Sink, Source};
 use inputs_outputs::fault::{End, Fault, finish, no_memory};
 use inputs_outputs::reading::{begins_image, set_of};
-use inputs_outputs::transfer::{read_whole, write_bytes};
+use inputs_outputs::transfer::read_whole;
 use inputs_outputs::verification::Verification;
 use interleave::schedule::Schedule;
 use model::abs::{Refusal, Rule};
 use report::lines::Lines;
 use set_answers::check::refuse;
 use std::alloc::{AllocError, Global};
+use told_lines::text::ToldLines;
 use verifier::{Accepted, verify};
 
 /// How a run is shown to people.
@@ -95,7 +96,7 @@ fn show_set<S: Source, P: Source, O: Sink>(
     let bytes = bytes.as_slice();
     let set = set_of(alloc, bytes)?;
     let told = shown_as(alloc, bytes, set, schedule, verification, showing, lines)?;
-    write_bytes(told.text.as_slice(), out)?;
+    told.text.write_to(lines, out)?;
     Ok(told.end)
 }
 
@@ -149,12 +150,12 @@ fn shown_verified<P: Source>(
 fn shown_refusal(alloc: Global, refusal: &Refusal, lines: &mut Lines) -> Result<Told, Fault>
     requires { lines.old ≡ [] }
     ensures refused { IfOk result (λ told. (told.end ≡ End.Stopped)
-        × (refusal.now.rule ≢ Rule.Memory) × (told.text.items ≡ refusal_line refusal.now)) }
+        × (refusal.now.rule ≢ Rule.Memory) × (told.text ≡ refusal_line refusal.now)) }
     ensures memory { IfErr result (λ fault. fault ≡ Fault.Memory) }
 {
     let end = refuse(refusal, lines)?;
-    let mut text = Vec::new(alloc);
-    text.extend_from_slice(lines.bytes())?;
+    let mut text = ToldLines::new(alloc)?;
+    text.add_bytes(lines.bytes())?;
     Ok(Told { text, end })
 }
 
@@ -218,7 +219,7 @@ fn run_shown(
     requires begun { ShowsWhole machine.old schedule.now.threads [] }
     requires limits { IsWithinLimits schedule.now }
     ensures { IfOk result (λ told. IsRunShown showing machine.old.set schedule.now.threads
-        schedule.now.events (ended told.end told.text.items)) }
+        schedule.now.events (ended told.end told.text)) }
 {
     match showing {
         Showing::InWords(detail) => tell_run(alloc, source, machine, schedule, detail, lines),

@@ -10,10 +10,10 @@ ghost use Rattle.run_laws.specs.Waits.{says_unchanged};
 ghost use Rattle.inputs_outputs.specs.Answer.{ended};
 ghost use Rattle.drvhost_parts.specs.Repeats.{awaited};
 ghost use Rattle.drvhost_parts.specs.Seen.{GoesUnseen};
-ghost use Rattle.drvhost_parts.specs.Told.{GoesAlone, HasTold, IsRunTold, IsTold, LedgerGoesOn, ToldAlone, ToldNext, count_left, happens_again, is_left_out, left_again, reply_head, times_again, told_line};
+ghost use Rattle.drvhost_parts.specs.Told.{GoesAlone, HasTold, IsRunTold, IsTold, LedgerGoesOn, ToldAlone, ToldNext, count_left, happens_again, is_left_out, left_again, times_again, told_line};
 
 use crate::follow::{is_last, next_run, rest_of};
-use crate::seeing::{goes_unseen, see};
+use crate::seeing::{Seen, goes_unseen, see};
 use crate::tell::Detail;
 use audit::findings::Findings;
 use checked::Checked;
@@ -32,6 +32,7 @@ use report::lines::Lines;
 use run_laws::waiting_changes_nothing;
 use std::alloc::{AllocError, Global};
 use told::{Happened, Teller};
+use told_lines::text::ToldLines;
 
 /// What stands before the words of the audit.
 const AUDIT: &[u8] = b"\naudit\n";
@@ -39,7 +40,7 @@ const AUDIT: &[u8] = b"\naudit\n";
 /// A text, and how the job ends of which it tells.
 #[derive(Drop)]
 pub(crate) struct Told {
-    pub(crate) text: Vec<u8>,
+    pub(crate) text: ToldLines,
     pub(crate) end: End,
 }
 
@@ -56,11 +57,11 @@ pub(crate) fn tell_run(
     requires begun { ShowsWhole machine.old schedule.now.threads [] }
     requires limits { IsWithinLimits schedule.now }
     ensures { IfOk result (λ told. IsRunTold detail machine.old.set schedule.now.threads
-        schedule.now.events (ended told.end told.text.items)) }
+        schedule.now.events (ended told.end told.text)) }
 {
     let mut teller = Teller::of(alloc, source)?;
     let mut ledger = Ledger::new(alloc, schedule.threads)?;
-    let mut text = Vec::new(alloc);
+    let mut text = ToldLines::new(alloc)?;
     let stopped = tell_events(
         alloc,
         &mut teller,
@@ -101,15 +102,15 @@ fn tell_events(
     schedule: &Schedule,
     detail: Detail,
     lines: &mut Lines,
-    text: &mut Vec<u8>,
+    text: &mut ToldLines,
 ) -> Result<bool, AllocError>
     requires begun { ShowsWhole machine.old schedule.now.threads [] }
     requires limits { IsWithinLimits schedule.now }
     requires tells { TellsRun (begun machine.old.set schedule.now.threads) ledger.old }
-    requires empty { text.old.items ≡ [] }
+    requires empty { text.old ≡ [] }
     ensures { IfOk result (λ stopped. HasTold detail machine.old.set schedule.now.threads
         schedule.now.events machine.new.set machine.new.world ledger.new stopped
-        text.new.items) }
+        text.new) }
 {
     waiting_changes_nothing();
     going_on_keeps_ledgers();
@@ -198,7 +199,7 @@ fn tell_next(
     unseen: bool,
     detail: Detail,
     lines: &mut Lines,
-    text: &mut Vec<u8>,
+    text: &mut ToldLines,
 ) -> Result<Answered, AllocError>
     requires number { number.old + 1 + count_left next.rest < 2 ^ 64 }
     requires unseen { IsTrue unseen → GoesUnseen detail machine.old next.event }
@@ -212,13 +213,13 @@ fn tell_next(
     ensures rest { IfOk result (λ answered.
         answered.rest ≡ left_again answered.reply next.rest) }
     ensures told { IfOk result (λ answered.
-        ToldNext detail number.old answered.reply next.rest text.old.items text.new.items) }
+        ToldNext detail number.old answered.reply next.rest text.old text.new) }
 {
-    match see(alloc, ledger, machine, &next.event, unseen, detail)? {
-        Some(happened) => tell_happened(
+    match see(alloc, ledger, machine, &next.event, unseen, detail) {
+        Ok(Seen::Happened(happened)) => tell_happened(
             teller, machine, number, happened, next.rest, detail, lines, text,
         ),
-        None => {
+        Ok(Seen::Passed) => {
             teller.pass(1);
             number.advance();
             Ok(Answered {
@@ -226,6 +227,7 @@ fn tell_next(
                 rest: next.rest,
             })
         }
+        Err(refused) => Err(refused),
     }
 }
 
@@ -239,7 +241,7 @@ fn tell_happened(
     rest: Option<Repeated>,
     detail: Detail,
     lines: &mut Lines,
-    text: &mut Vec<u8>,
+    text: &mut ToldLines,
 ) -> Result<Answered, AllocError>
     requires { number.old + 1 + count_left rest < 2 ^ 64 }
     ensures number { OnOk result
@@ -247,7 +249,7 @@ fn tell_happened(
     ensures answered { IfOk result (λ answered. answered
         ≡ record { reply = happened.reply; rest = left_again happened.reply rest }) }
     ensures told { OnOk result
-        (ToldNext detail number.old happened.reply rest text.old.items text.new.items) }
+        (ToldNext detail number.old happened.reply rest text.old text.new) }
 {
     teller.note(&happened, machine)?;
     add_event(
@@ -293,7 +295,7 @@ fn go_ahead(
     unseen: bool,
     detail: Detail,
     lines: &mut Lines,
-    text: &mut Vec<u8>,
+    text: &mut ToldLines,
 ) -> Result<usize, AllocError>
     requires { number.old + 1 + count_left next.now.rest < 2 ^ 64 }
     ensures few { IfOk result (λ made. made ≤ count_left next.now.rest + 1) }
@@ -301,9 +303,9 @@ fn go_ahead(
     ensures goes { IfOk result (λ made.
         GoesAlone next.now.event machine.old made machine.new) }
     ensures told { IfOk result (λ made. 1 ≤ made
-        → ToldAlone detail number.old made text.old.items text.new.items) }
+        → ToldAlone detail number.old made text.old text.new) }
     ensures none { IfOk result (λ made. made ≡ 0
-        → (machine.new ≡ machine.old) × (text.new.items ≡ text.old.items)) }
+        → (machine.new ≡ machine.old) × (text.new ≡ text.old)) }
 {
     if unseen {
         return Ok(0);
@@ -329,16 +331,16 @@ fn tell_alone(
     number: &mut EventNumber,
     thread: u8,
     lines: &mut Lines,
-    text: &mut Vec<u8>,
+    text: &mut ToldLines,
 ) -> Result<usize, AllocError>
     requires { number.old + 1 < 2 ^ 64 }
     ensures few { IfOk result (λ made. made ≤ 1) }
     ensures number { IfOk result (λ made. number.new ≡ number.old + made) }
     ensures goes { IfOk result (λ made. GoesOn thread machine.old made machine.new) }
     ensures told { IfOk result (λ made. 1 ≤ made
-        → ToldAlone Detail.Whole number.old made text.old.items text.new.items) }
+        → ToldAlone Detail.Whole number.old made text.old text.new) }
     ensures none { IfOk result (λ made. made ≡ 0
-        → (machine.new ≡ machine.old) × (text.new.items ≡ text.old.items)) }
+        → (machine.new ≡ machine.old) × (text.new ≡ text.old)) }
 {
     let Some(place) = top_place(machine, thread) else {
         return Ok(0);
@@ -346,10 +348,9 @@ fn tell_alone(
     if machine.go_on(thread, 1) == 0 {
         return Ok(0);
     }
-    let head = head_of(number, &Reply::Stepped, lines);
-    teller.tell_alone(head.len(), thread, place, machine)?;
-    add_line(head, teller.words(), text)?;
-    number.advance();
+    let head = lines.head_length(number, &Reply::Stepped);
+    teller.tell_alone(head, thread, place, machine)?;
+    text.add_line(lines, number, &Reply::Stepped, teller.words())?;
     Ok(1)
 }
 
@@ -359,13 +360,6 @@ fn top_place(machine: &Checked, thread: u8) -> Option<FrameView> {
         Some(frame) => Some(frame.view()),
         None => None,
     }
-}
-
-/// Whether an event is told for the first time, or again as it was told last.
-#[derive(Clone, Copy)]
-enum Turn {
-    First,
-    Again,
 }
 
 /// How often an event that has this reply is told again of what is left of its run.
@@ -386,7 +380,7 @@ fn left_again(reply: &Reply, rest: Option<Repeated>) -> Option<Repeated>
     if happens_again(reply) { None } else { rest }
 }
 
-/// Tells an event that happened so many times more.
+/// Tells an event that happened so many times more, unless it is left out.
 fn tell_again(
     teller: &mut Teller<'_>,
     machine: &Checked,
@@ -395,99 +389,88 @@ fn tell_again(
     count: usize,
     detail: Detail,
     lines: &mut Lines,
-    text: &mut Vec<u8>,
+    text: &mut ToldLines,
 ) -> Result<(), AllocError>
     requires { number.old + count < 2 ^ 64 }
     ensures number { OnOk result (number.new ≡ number.old + count) }
-    ensures told { OnOk result ((added : List ℕ) × (text.new.items ≡ text.old.items ++ added)
+    ensures told { OnOk result ((added : List ℕ) × (text.new ≡ text.old ++ added)
         × IsTold detail number.old (replicate count happened.now.reply) added) }
 {
     teller.pass(count as u64);
-    for _ in 0..count {
-        add_event(
-            teller,
-            machine,
-            number,
-            happened,
-            Turn::Again,
-            detail,
-            lines,
-            text,
-        )?;
-        number.advance();
-    }
-    Ok(())
-}
-
-/// Adds what is told of an event: a line, unless it is left out.
-fn add_event(
-    teller: &mut Teller<'_>,
-    machine: &Checked,
-    number: &mut EventNumber,
-    happened: &Happened,
-    turn: Turn,
-    detail: Detail,
-    lines: &mut Lines,
-    text: &mut Vec<u8>,
-) -> Result<(), AllocError>
-    ensures number { number.new ≡ number.old }
-    ensures told { OnOk result ((words : List ℕ) × (text.new.items
-        ≡ text.old.items ++ told_line detail number.old happened.now.reply words)) }
-{
     if is_left_out(detail, &happened.reply) {
+        number.advance_many(count as u64);
         return Ok(());
     }
-    let head = head_of(number, &happened.reply, lines);
-    make_words(teller, machine, happened, turn, head.len())?;
-    add_line(head, teller.words(), text)?;
+    let mut left = count;
+    while left > 0 {
+        let head = lines.head_length(number, &happened.reply);
+        make_words(teller, machine, happened, head)?;
+        let some = as_long(number, left);
+        text.add_again(lines, number, &happened.reply, teller.words(), some)?;
+        left -= some;
+    }
     Ok(())
 }
 
-/// Makes the words of an event behind so many bytes: those that were made last, where it is told
-/// again behind as many.
+/// How many of so many numbers, from this one on, have as many digits.
+fn as_long(number: &EventNumber, most: usize) -> usize
+    requires { 0 < most }
+    ensures some { 0 < result }
+    ensures most { result ≤ most }
+{
+    let longer = match 10_u64.checked_pow(number.digits() as u32) {
+        Some(longer) => longer,
+        None => u64::MAX,
+    };
+    let shorter = longer.saturating_sub(number.value());
+    most.min((shorter as usize).max(1))
+}
+
+/// Makes the words of an event that is told again behind so many bytes: those that were made last,
+/// where they stand behind as many.
 fn make_words(
     teller: &mut Teller<'_>,
     machine: &Checked,
     happened: &Happened,
-    turn: Turn,
     head: usize,
 ) -> Result<(), AllocError> {
-    if matches!(turn, Turn::Again) && teller.is_behind(head) {
+    if teller.is_behind(head) {
         return Ok(());
     }
     teller.tell(head, happened, machine)
 }
 
-/// The line of the trace for an event, without its end.
-fn head_of<'l>(number: &mut EventNumber, reply: &Reply, lines: &'l mut Lines) -> &'l [u8]
-    ensures head { result.now ≡ reply_head number.old reply.now }
-    ensures number { number.new ≡ number.old }
+/// Adds what is told of an event, a line unless it is left out, and goes on to the next number.
+fn add_event(
+    teller: &mut Teller<'_>,
+    machine: &Checked,
+    number: &mut EventNumber,
+    happened: &Happened,
+    detail: Detail,
+    lines: &mut Lines,
+    text: &mut ToldLines,
+) -> Result<(), AllocError>
+    requires { number.old + 1 < 2 ^ 64 }
+    ensures number { OnOk result (number.new ≡ number.old + 1) }
+    ensures told { OnOk result ((words : List ℕ) × (text.new
+        ≡ text.old ++ told_line detail number.old happened.now.reply words)) }
 {
-    lines.clear();
-    lines.reply(number, reply);
-    let line = lines.bytes();
-    &line[..line.len().saturating_sub(1)]
-}
-
-/// Adds a line of a head and words behind it.
-fn add_line(head: &[u8], words: &[u8], text: &mut Vec<u8>) -> Result<(), AllocError>
-    ensures { OnOk result
-        (text.new.items ≡ text.old.items ++ (head.now ++ (words.now ++ 10 ∷ []))) }
-{
-    text.extend_from_slice(head)?;
-    text.extend_from_slice(words)?;
-    text.push(b'\n')?;
-    Ok(())
+    if is_left_out(detail, &happened.reply) {
+        number.advance();
+        return Ok(());
+    }
+    let head = lines.head_length(number, &happened.reply);
+    teller.tell(head, happened, machine)?;
+    text.add_line(lines, number, &happened.reply, teller.words())
 }
 
 /// Adds the audit of a run: that it is one, and words on it.
-fn add_audit(words: &[u8], text: &mut Vec<u8>) -> Result<(), AllocError>
+fn add_audit(words: &[u8], text: &mut ToldLines) -> Result<(), AllocError>
     ensures { OnOk result
-        (text.new.items ≡ text.old.items ++ (codes "\naudit\n" ++ words.now)) }
+        (text.new ≡ text.old ++ (codes "\naudit\n" ++ words.now)) }
 {
-    text.extend_from_slice(AUDIT)?;
-    text.extend_from_slice(words)?;
-    Ok(())
+    text.add_bytes(AUDIT)?;
+    text.add_bytes(words)
 }
 
 /// Whether nothing is told of an event with this reply.

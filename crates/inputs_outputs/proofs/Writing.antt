@@ -1,5 +1,5 @@
 -- What a source gave and a sink took, call after call.
-use Rattle.std.proofs.Common.{◌∙◌, ℕ, List, [], ◌++◌, Option, Some, None, Result, Ok, Err, refl, sym, ap, append_assoc}
+use Rattle.std.proofs.Common.{◌≡◌, ◌∙◌, ℕ, List, [], ◌++◌, Option, Some, None, Result, Ok, Err, refl, sym, ap, subst, append_assoc}
 use Rattle.std.proofs.lemmas.List.{append-nil}
 use Rattle.std.specs.Io.KnownBytes.{Appends, Keeps}
 use Rattle.inputs_outputs.specs.Device.{Adds, TakesBeginning, Writes}
@@ -93,3 +93,65 @@ adds_breaks b m n g l t more a p =
           ∙ append_assoc (a.written ++ p.part) p.rest more;
       appended = appends_more b m n a.written p.part a.appended p.appended;
     }
+
+-- of a text, what was added so far and what is still to come
+pub record Gathered (all later : List ℕ) (b n : Option (List ℕ)) (gathered left : List ℕ) : Type 0
+  where
+    pub text : List ℕ
+    pub whole : all ≡ text ++ later
+    pub adds : Adds b n gathered left text
+
+-- some of the lines are written
+pub gathered_room : (all later : List ℕ) (b m n : Option (List ℕ)) (g l k : List ℕ)
+    → Gathered all later b m g l → Adds m n l k [] → Gathered all later b n g k
+gathered_room all later b m n g l k h a =
+    let P : List ℕ → Type 0 = Adds b n g k in
+    record {
+      text = h.text;
+      whole = h.whole;
+      adds =
+          subst P (append-nil h.text) (adds_more b m n g l k h.text [] h.adds a);
+    }
+
+-- one line more
+pub gathered_line : (all later line after : List ℕ) (b n : Option (List ℕ)) (g l : List ℕ)
+    → Gathered all later b n g l → later ≡ line ++ after
+    → Gathered all after b n g (l ++ line)
+gathered_line all later line after b n g l h e =
+    record {
+      text = h.text ++ line;
+      whole = h.whole ∙ ap (λ x. h.text ++ x) e ∙ sym (append_assoc h.text line after);
+      adds = adds_line b n g l h.text line h.adds;
+    }
+
+-- some lines more, of which some may be written
+pub gathered_more : (all later lines after : List ℕ) (b m n : Option (List ℕ)) (g l k : List ℕ)
+    → Gathered all later b m g l → later ≡ lines ++ after → Adds m n l k lines
+    → Gathered all after b n g k
+gathered_more all later lines after b m n g l k h e a =
+    record {
+      text = h.text ++ lines;
+      whole = h.whole ∙ ap (λ x. h.text ++ x) e ∙ sym (append_assoc h.text lines after);
+      adds = adds_more b m n g l k h.text lines h.adds a;
+    }
+
+-- all lines were added
+pub gathered_all : (all later : List ℕ) (b n : Option (List ℕ)) (g l : List ℕ)
+    → Gathered all later b n g l → later ≡ [] → Adds b n g l all
+gathered_all all later b n g l h none =
+    subst (λ (lines : List ℕ). Adds b n g l lines)
+    (sym (h.whole ∙ ap (λ x. h.text ++ x) none ∙ append-nil h.text)) h.adds
+
+-- a write fails
+pub gathered_broken : (all later : List ℕ) (b m n : Option (List ℕ)) (g l : List ℕ)
+    → Gathered all later b m g l → TakesBeginning m n l → TakesBeginning b n (g ++ all)
+gathered_broken all later b m n g l h p =
+    let P : List ℕ → Type 0 = λ x. TakesBeginning b n (g ++ x) in
+    subst P (sym h.whole) (adds_breaks b m n g l h.text later h.adds p)
+
+pub gathered_part : (all later lines after : List ℕ) (b m n : Option (List ℕ)) (g l : List ℕ)
+    → Gathered all later b m g l → later ≡ lines ++ after
+    → TakesBeginning m n (l ++ lines) → TakesBeginning b n (g ++ all)
+gathered_part all later lines after b m n g l h e p =
+    gathered_broken all after b m n g (l ++ lines)
+    (gathered_line all later lines after b m g l h e) p

@@ -1,5 +1,5 @@
 -- The line of a trace for an event: its number, and what the run answered to it.
-use Rattle.std.specs.Prelude.{ℕ, List, [], ◌∷◌, ◌++◌, codes}
+use Rattle.std.specs.Prelude.{ℕ, ◌-◌, List, [], ◌∷◌, ◌++◌, codes, length, take}
 use Rattle.std.specs.Fmt.{decimal}
 use Rattle.model.specs.declared.event.Lock.{Lock}
 use Rattle.model.specs.declared.event.Lock.TheVariants.{SystemCancel, Spin}
@@ -48,3 +48,12 @@ reply_words (Wrong place) = codes "wrong" ∷ place_text place ∷ []
 -- the line of the event of a number
 abbrev pub reply_line : ℕ → Reply → List ℕ
 reply_line number reply = line_of (decimal number ∷ reply_words reply)
+
+-- that line without its end
+abbrev pub reply_head : ℕ → Reply → List ℕ
+reply_head number reply =
+    take (length (reply_line number reply) - 1) (reply_line number reply)
+
+-- that line with words before its end
+abbrev pub worded_line : ℕ → Reply → List ℕ → List ℕ
+worded_line number reply words = reply_head number reply ++ (words ++ 10 ∷ [])

@@ -1,5 +1,5 @@
 -- Replies of one word, and the lines that events with such a reply give.
-use Rattle.std.specs.Prelude.{ℕ, zero, suc, ◌+◌, List, [], ◌++◌, codes, Option, None, Some}
+use Rattle.std.specs.Prelude.{ℕ, zero, suc, ◌+◌, ◌-◌, List, [], ◌++◌, codes, length, take, Option, None, Some}
 use Rattle.std.specs.Fmt.{decimal}
 use Rattle.model.specs.declared.event.Reply.{Reply}
 use Rattle.model.specs.declared.event.Reply.TheVariants.{Stepped as SteppedReply, Finished as FinishedReply, Waited as WaitedReply, Idle as IdleReply, Refused as RefusedReply}
@@ -31,3 +31,7 @@ word_line word number = decimal number ++ word_text word
 abbrev pub word_lines : Word → ℕ → ℕ → List ℕ
 word_lines word number zero = []
 word_lines word number (suc count) = word_line word number ++ word_lines word (number + 1) count
+
+-- the line of an event of a number, without its end
+abbrev pub word_head : Word → ℕ → List ℕ
+word_head word number = decimal number ++ take (length (word_text word) - 1) (word_text word)

@@ -1,6 +1,6 @@
 //! The numbers of a run's events, counted up as they are written.
 
-ghost use Rattle.std.specs.Prelude.{◌≡◌, ◌+◌, ◌%◌, ◌^◌, ◌<◌, ◌≤◌, ℕ};
+ghost use Rattle.std.specs.Prelude.{◌≡◌, ◌+◌, ◌%◌, ◌^◌, ◌<◌, ◌≤◌, ℕ, decimal, length};
 
 use crate::ready_line::{LONGEST_WORD_LINE, ReadyLine, line_of, put_word};
 use crate::word::Word;
@@ -57,6 +57,22 @@ impl EventNumber {
         }
     }
 
+    /// This number.
+    #[inline]
+    pub fn value(&self) -> u64
+        ensures { result ≡ self.now }
+    {
+        self.number
+    }
+
+    /// How many digits it has.
+    #[inline]
+    pub fn digits(&self) -> usize
+        ensures { result ≡ length (decimal self.now) }
+    {
+        self.place + 1
+    }
+
     /// The last digit of this number.
     #[inline]
     pub(crate) fn last_digit(&self) -> u8
@@ -110,6 +126,16 @@ impl EventNumber {
             0 => {}
             1 => self.advance(),
             _ => self.renew(self.number + count),
+        }
+    }
+
+    /// Becomes this number.
+    #[inline]
+    pub fn go_to(&mut self, number: u64)
+        ensures { self.new ≡ number }
+    {
+        if self.number != number {
+            self.renew(number);
         }
     }
 

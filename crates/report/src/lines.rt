@@ -2,13 +2,15 @@
 
 ghost use Rattle.std.specs.Prelude.{◌≡◌, ◌+◌, ◌-◌, ◌%◌, ◌^◌, ◌<◌, ◌≤◌, ◌↔◌, ◌++◌, [], IfOk, IsTrue, decimal, length, take};
 ghost use Rattle.report.specs.Lines.{HasRoom};
-ghost use Rattle.report.specs.Word.{word_line, word_lines};
+ghost use Rattle.report.specs.Reply.{reply_head};
+ghost use Rattle.report.specs.Word.{word_head, word_line, word_lines};
 
 use crate::event_number::EventNumber;
 use crate::ready_line::{LONGEST_NUMBER, LONGEST_WORD_LINE};
 use crate::word::Word;
 use crate::word_lines::{LONGEST_TEN, write_line, write_some, write_ten};
 use itoa::Buffer;
+use model::event::Reply;
 use std::alloc::{AllocError, Global};
 use std::marker::Model;
 
@@ -79,9 +81,17 @@ impl Lines {
         self.used = 0;
     }
 
+    /// For how many bytes there is room.
+    #[inline]
+    pub fn room(&self) -> usize
+        ensures { result + length self.now ≡ ROOM }
+    {
+        ROOM - self.used
+    }
+
     /// Adds a part of a line.
     #[inline]
-    pub(crate) fn text(&mut self, part: &[u8])
+    pub fn text(&mut self, part: &[u8])
         requires { length self.old + length part.now ≤ ROOM }
         ensures added { self.new ≡ self.old ++ part.now }
         ensures grown { length self.new ≡ length self.old + length part.now }
@@ -101,6 +111,28 @@ impl Lines {
         let line = number.line_with(word);
         let digits = write_line(&mut self.buffer, self.used, &line, number.last_digit());
         self.used += digits + word.length();
+    }
+
+    /// Adds the line of the event of a number that replied a word, without its end.
+    #[inline]
+    pub fn head(&mut self, number: &mut EventNumber, word: Word)
+        requires { HasRoom self.old }
+        ensures head { self.new ≡ self.old ++ word_head word number.old }
+        ensures number { number.new ≡ number.old }
+    {
+        self.one_word(number, word);
+        self.used -= 1;
+    }
+
+    /// How many bytes the line of an event of a number has before its end. Lines that gathered are
+    /// forgotten.
+    pub fn head_length(&mut self, number: &mut EventNumber, reply: &Reply) -> usize
+        ensures length { result ≡ length (reply_head number.old reply.now) }
+        ensures number { number.new ≡ number.old }
+    {
+        self.clear();
+        self.reply(number, reply);
+        self.used - 1
     }
 
     /// Adds the lines of so many events that all replied this word, from a number on, as long as

@@ -36,7 +36,7 @@ impl Word {
 
     /// Whether it is this word.
     #[inline]
-    pub(crate) fn is(self, other: Word) -> bool
+    pub fn is(self, other: Word) -> bool
         ensures { IsTrue result ↔ (self ≡ other) }
     {
         matches!(

@@ -2,21 +2,21 @@ use Rattle.std.proofs.Common.{◌≡◌, ◌∙◌, ◌-◌, ap, arith, replicat
 use Rattle.std.proofs.lemmas.Result.{err_from_is_err_and}
 use Rattle.inputs_outputs.specs.Answer.{reply_lines}
 use Rattle.drvhost_parts.proofs.Following.{lines_word, next_reply}
-use Rattle.set_answers.proofs.Judging.{certified_all, certified_more, certified_part}
+use Rattle.inputs_outputs.proofs.Writing.{gathered_all, gathered_more, gathered_part}
 use Rattle.drvhost_parts.proofs.follow.add_replies.Goals as goal
 
 pub returns-in_err-add_reply-clause-broken : goal.returns-in_err-add_reply-clause-broken
 returns-in_err-add_reply-clause-broken g c =
     let p = err_from_is_err_and c.from_residual.result c.from_residual.ensures.1 in
     rw p.1
-    (certified_part _ _ _ _ _ _ _ _ _ c.loop.invariant.certified
+    (gathered_part _ _ _ _ _ _ _ _ _ c.loop.invariant.certified
     (next_reply c.loop.number c.args.count c.loop.counter c.args.reply.now c.loop-test.true)
     c.in_err-add_reply.ensures.broken)
 
 pub returns-clause-added : goal.returns-clause-added
 returns-clause-added g c =
     let none : c.args.count - c.loop.counter ≡ 0 = omega (arith, c.loop-test.false) in
-    certified_all _ _ _ _ _ _ c.loop.invariant.certified
+    gathered_all _ _ _ _ _ _ c.loop.invariant.certified
     (ap (λ n. reply_lines c.loop.number (replicate n c.args.reply.now)) none)
 
 pub loop-preserved : goal.loop-preserved
@@ -27,7 +27,7 @@ loop-preserved g c =
       fine = search rules;
       certified =
           rw c.in_ok-add_reply.ensures.number
-          (certified_more _ _ _ _ _ _ _ _ _ _ c.loop.invariant.certified
+          (gathered_more _ _ _ _ _ _ _ _ _ _ c.loop.invariant.certified
           (next_reply c.loop.number c.args.count c.loop.counter c.args.reply.now c.loop-test.true)
           c.in_ok-add_reply.ensures.added);
     }

@@ -1,6 +1,6 @@
 use Rattle.std.proofs.Common.{◌≡◌, ◌+◌, ◌-◌, ◌≤◌, replicate}
 use Rattle.inputs_outputs.specs.Answer.{reply_lines}
-use Rattle.set_answers.proofs.Judging.{Certified}
+use Rattle.inputs_outputs.proofs.Writing.{Gathered}
 use Rattle.drvhost_parts.proofs.follow.add_replies.Given as goal
 
 abbrev pub invariant-loop : goal.invariant-loop
@@ -10,7 +10,7 @@ invariant-loop g l =
       few : l.counter ≤ l.count;
       fine : g.O.Sink.failures l.out ≡ g.O.Sink.failures l.initial.out;
       certified :
-          Certified (reply_lines l.initial.number (replicate l.count l.reply))
+          Gathered (reply_lines l.initial.number (replicate l.count l.reply))
           (reply_lines l.number (replicate (l.count - l.counter) l.reply))
           (g.O.Sink.contents l.initial.out) (g.O.Sink.contents l.out) l.initial.lines l.lines;
     }

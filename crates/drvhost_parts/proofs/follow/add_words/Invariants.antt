@@ -1,6 +1,6 @@
 use Rattle.std.proofs.Common.{◌≡◌, ◌+◌}
 use Rattle.report.specs.Word.{word_lines}
-use Rattle.set_answers.proofs.Judging.{Certified}
+use Rattle.inputs_outputs.proofs.Writing.{Gathered}
 use Rattle.drvhost_parts.proofs.follow.add_words.Given as goal
 
 abbrev pub invariant-loop-left : goal.invariant-loop-left
@@ -9,7 +9,7 @@ invariant-loop-left g l =
       numbered : l.number + l.left ≡ l.fn.number + l.count;
       fine : g.O.Sink.failures l.out ≡ g.O.Sink.failures l.initial.out;
       certified :
-          Certified (word_lines l.fn.word l.fn.number l.count) (word_lines l.fn.word l.number l.left)
+          Gathered (word_lines l.fn.word l.fn.number l.count) (word_lines l.fn.word l.number l.left)
           (g.O.Sink.contents l.initial.out) (g.O.Sink.contents l.out) l.initial.lines l.lines;
     }
 

@@ -1,6 +1,6 @@
 use Rattle.std.proofs.Common.{rules}
 use Rattle.std.proofs.lemmas.Result.{err_from_is_err_and}
-use Rattle.set_answers.proofs.Judging.{certified_broken, certified_line, certified_room}
+use Rattle.inputs_outputs.proofs.Writing.{gathered_broken, gathered_line, gathered_room}
 use Rattle.drvhost_parts.proofs.Serving.{next_command}
 use Rattle.drvhost_parts.proofs.host.tell_commands.Goals as goal
 
@@ -8,7 +8,7 @@ pub returns-in_err-make_room-clause-broken : goal.returns-in_err-make_room-claus
 returns-in_err-make_room-clause-broken g c =
     let p = err_from_is_err_and c.from_residual.result c.from_residual.ensures.1 in
     rw p.1
-    (certified_broken _ _ _ _ _ _ _ c.loop-told.invariant.certified
+    (gathered_broken _ _ _ _ _ _ _ c.loop-told.invariant.certified
     c.in_err-make_room.ensures.broken)
 
 pub loop-told-preserved : goal.loop-told-preserved
@@ -20,7 +20,7 @@ loop-told-preserved g c =
       fine = search rules;
       certified =
           rw (c.tell_command.ensures.line, number)
-          (certified_line _ _ _ _ _ _ _ _
-          (certified_room _ _ _ _ _ _ _ _ c.loop-told.invariant.certified
+          (gathered_line _ _ _ _ _ _ _ _
+          (gathered_room _ _ _ _ _ _ _ _ c.loop-told.invariant.certified
           c.in_ok-make_room.ensures.written) next);
     }

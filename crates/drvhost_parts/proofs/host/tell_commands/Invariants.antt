@@ -1,6 +1,6 @@
 use Rattle.std.proofs.Common.{◌≡◌, drop}
 use Rattle.drvhost_parts.specs.Served.{command_lines}
-use Rattle.set_answers.proofs.Judging.{Certified}
+use Rattle.inputs_outputs.proofs.Writing.{Gathered}
 use Rattle.drvhost_parts.proofs.host.tell_commands.Given as goal
 
 abbrev pub invariant-loop-told : goal.invariant-loop-told
@@ -9,7 +9,7 @@ invariant-loop-told g l =
       numbered : l.number ≡ l.told-index;
       fine : g.O.Sink.failures l.out ≡ g.O.Sink.failures l.initial.out;
       certified :
-          Certified (command_lines 0 l.commands)
+          Gathered (command_lines 0 l.commands)
           (command_lines l.told-index (drop l.told-index l.commands))
           (g.O.Sink.contents l.initial.out) (g.O.Sink.contents l.out) l.initial.lines l.lines;
     }

@@ -1,7 +1,8 @@
 use Rattle.std.proofs.Common.{◌∙◌, ◌+◌, ◌++◌, drop, ap, rules, sym}
 use Rattle.std.proofs.lemmas.Result.{err_from_is_err_and}
 use Rattle.inputs_outputs.specs.Answer.{driver_lines, routine_lines}
-use Rattle.set_answers.proofs.Judging.{certified_more, certified_part, next_driver}
+use Rattle.inputs_outputs.proofs.Writing.{gathered_more, gathered_part}
+use Rattle.set_answers.proofs.Judging.{next_driver}
 use Rattle.set_answers.proofs.check.accept.Goals as goal
 
 pub returns-in_err-certify-clause-broken : goal.returns-in_err-certify-clause-broken
@@ -15,7 +16,7 @@ returns-in_err-certify-clause-broken g c =
     (rw drivers at c.loop-number-test.true)
     ∙ ap (λ d. routine_lines set number 0 d.routines ++ later)
     (sym (rw drivers at c.driver-item.is)) in
-    rw p.1 (certified_part _ _ _ _ _ _ _ _ _ c.loop-number.invariant.certified next
+    rw p.1 (gathered_part _ _ _ _ _ _ _ _ _ c.loop-number.invariant.certified next
     c.in_err-certify.ensures.broken)
 
 pub loop-number-preserved : goal.loop-number-preserved
@@ -30,6 +31,6 @@ loop-number-preserved g c =
     (sym (rw drivers at c.driver-item.is)) in
     record {
       fine = search rules;
-      certified = certified_more _ _ _ _ _ _ _ _ _ _ c.loop-number.invariant.certified next
+      certified = gathered_more _ _ _ _ _ _ _ _ _ _ c.loop-number.invariant.certified next
           c.in_ok-certify.ensures.added;
     }

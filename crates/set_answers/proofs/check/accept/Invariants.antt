@@ -1,7 +1,7 @@
 use Rattle.std.proofs.Common.{◌≡◌, drop}
 use Rattle.report.specs.Verdict.{accepted_line}
 use Rattle.inputs_outputs.specs.Answer.{driver_lines}
-use Rattle.set_answers.proofs.Judging.{Certified}
+use Rattle.inputs_outputs.proofs.Writing.{Gathered}
 use Rattle.set_answers.proofs.check.accept.Given as goal
 
 abbrev pub invariant-loop-number : goal.invariant-loop-number
@@ -9,7 +9,7 @@ invariant-loop-number g l =
     record {
       fine : g.O.Sink.failures l.out ≡ g.O.Sink.failures l.initial.out;
       certified :
-          Certified (driver_lines l.accepted 0 l.accepted.drivers)
+          Gathered (driver_lines l.accepted 0 l.accepted.drivers)
           (driver_lines l.accepted l.number (drop l.number l.accepted.drivers))
           (g.O.Sink.contents l.initial.out) (g.O.Sink.contents l.out) accepted_line l.lines;
     }

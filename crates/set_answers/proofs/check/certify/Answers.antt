@@ -3,14 +3,15 @@ use Rattle.std.proofs.lemmas.Result.{err_from_is_err_and}
 use Rattle.model.specs.Certificate.{certificate_of}
 use Rattle.report.specs.Verdict.{certificate_line}
 use Rattle.inputs_outputs.specs.Answer.{routine_lines}
-use Rattle.set_answers.proofs.Judging.{certified_broken, certified_line, certified_room, next_routine, routine_there}
+use Rattle.inputs_outputs.proofs.Writing.{gathered_broken, gathered_line, gathered_room}
+use Rattle.set_answers.proofs.Judging.{next_routine, routine_there}
 use Rattle.set_answers.proofs.check.certify.Goals as goal
 
 pub returns-in_err-make_room-clause-broken : goal.returns-in_err-make_room-clause-broken
 returns-in_err-make_room-clause-broken g c =
     let p = err_from_is_err_and c.from_residual.result c.from_residual.ensures.1 in
     rw (p.1, ← c.as_slice-routines.ensures)
-    (certified_broken _ _ _ _ _ _ _ c.loop-place.invariant.certified
+    (gathered_broken _ _ _ _ _ _ _ c.loop-place.invariant.certified
     c.in_err-make_room.ensures.broken)
 
 pub cert-certificate-requires : goal.cert-certificate-requires
@@ -35,7 +36,7 @@ loop-place-preserved g c =
       fine = search rules;
       certified =
           rw (c.certificate.ensures, c.cert-certificate.ensures)
-          (certified_line _ _ _ _ _ _ _ _
-          (certified_room _ _ _ _ _ _ _ _ c.loop-place.invariant.certified
+          (gathered_line _ _ _ _ _ _ _ _
+          (gathered_room _ _ _ _ _ _ _ _ c.loop-place.invariant.certified
           c.in_ok-make_room.ensures.written) next);
     }

@@ -1,6 +1,6 @@
 use Rattle.std.proofs.Common.{◌≡◌, drop}
 use Rattle.inputs_outputs.specs.Answer.{routine_lines}
-use Rattle.set_answers.proofs.Judging.{Certified}
+use Rattle.inputs_outputs.proofs.Writing.{Gathered}
 use Rattle.set_answers.proofs.check.certify.Given as goal
 
 abbrev pub invariant-loop-place : goal.invariant-loop-place
@@ -8,7 +8,7 @@ invariant-loop-place g l =
     record {
       fine : g.O.Sink.failures l.out ≡ g.O.Sink.failures l.initial.out;
       certified :
-          Certified (routine_lines l.accepted l.number 0 l.routines)
+          Gathered (routine_lines l.accepted l.number 0 l.routines)
           (routine_lines l.accepted l.number l.place (drop l.place l.routines))
           (g.O.Sink.contents l.initial.out) (g.O.Sink.contents l.out) l.initial.lines l.lines;
     }

@@ -1,0 +1,3 @@
+pub mod WordStore
+pub mod Pieces
+pub mod Gathering

@@ -1,0 +1,9 @@
+use Rattle.std.proofs.Common.{arith}
+use Rattle.std.proofs.lemmas.List.Elements.{All-nil}
+use Rattle.told_lines.specs.Lines.{Stands}
+use Rattle.told_lines.proofs.text.ToldLines.new.Goals as goal
+
+pub invariant_of-result : goal.invariant_of-result
+invariant_of-result c =
+    rw (c.new-2.ensures.items, c.none.ensures)
+    (All-nil (Stands c.in_ok-new.field-0), (omega arith, omega arith))

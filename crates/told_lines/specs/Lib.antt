@@ -1,0 +1,2 @@
+pub mod Stored
+pub mod Lines

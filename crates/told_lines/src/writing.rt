@@ -1,0 +1,111 @@
+//! Pieces of a text, written through lines that gather.
+
+ghost use Rattle.std.specs.Prelude.{◌≡◌, ◌+◌, ◌++◌, ◌∷◌, ◌<◌, ◌^◌, [], IfErr, OnErr, OnOk};
+ghost use Rattle.std.specs.List.{All};
+ghost use Rattle.inputs_outputs.specs.Device.{Adds, CanCount, TakesBeginning};
+ghost use Rattle.inputs_outputs.specs.Fault.{writes_failed};
+ghost use Rattle.told_lines.specs.Lines.{Stands, piece_text, said_line, text_of};
+
+use crate::piece::Piece;
+use crate::stored::StoredWords;
+use inputs_outputs::device::Sink;
+use inputs_outputs::fault::Fault;
+use inputs_outputs::transfer::{make_room, write_words};
+use report::event_number::EventNumber;
+use report::lines::Lines;
+use report::word::Word;
+
+/// Adds the text of pieces. Lines that fill their room are written.
+pub(crate) fn add_pieces<K: Sink>(
+    stored: &StoredWords,
+    pieces: &[Piece],
+    number: &mut EventNumber,
+    lines: &mut Lines,
+    sink: &mut K,
+) -> Result<(), Fault>
+    requires stand { All (Stands stored.now) pieces.now }
+    requires sink { CanCount (K.failures sink.old) }
+    ensures added { OnOk result (Adds (K.contents sink.old) (K.contents sink.new) lines.old lines.new
+        (text_of stored.now pieces.now)) }
+    ensures broken { OnErr result (TakesBeginning (K.contents sink.old) (K.contents sink.new)
+        (lines.old ++ text_of stored.now pieces.now)) }
+    ensures fault { IfErr result (λ fault. fault ≡ Fault.Write) }
+    ensures writes { K.failures sink.new ≡ K.failures sink.old + writes_failed result }
+{
+    for i in 0..pieces.len() {
+        add_piece(stored, &pieces[i], number, lines, sink)?;
+    }
+    Ok(())
+}
+
+/// Adds the text of a piece.
+pub(crate) fn add_piece<K: Sink>(
+    stored: &StoredWords,
+    piece: &Piece,
+    number: &mut EventNumber,
+    lines: &mut Lines,
+    sink: &mut K,
+) -> Result<(), Fault>
+    requires stands { Stands stored.now piece.now }
+    requires sink { CanCount (K.failures sink.old) }
+    ensures added { OnOk result (Adds (K.contents sink.old) (K.contents sink.new) lines.old lines.new
+        (piece_text stored.now piece.now)) }
+    ensures broken { OnErr result (TakesBeginning (K.contents sink.old) (K.contents sink.new)
+        (lines.old ++ piece_text stored.now piece.now)) }
+    ensures fault { IfErr result (λ fault. fault ≡ Fault.Write) }
+    ensures writes { K.failures sink.new ≡ K.failures sink.old + writes_failed result }
+{
+    let _stored = stored.count();
+    number.go_to(piece.first);
+    for i in 0..piece.count {
+        let words = stored.get(piece.index(i));
+        add_line(piece.said, number, words, lines, sink)?;
+        number.advance();
+    }
+    Ok(())
+}
+
+/// Adds a line of an event that replied a word, or words alone.
+#[inline]
+fn add_line<K: Sink>(
+    said: Option<Word>,
+    number: &mut EventNumber,
+    words: &[u8],
+    lines: &mut Lines,
+    sink: &mut K,
+) -> Result<(), Fault>
+    requires sink { CanCount (K.failures sink.old) }
+    ensures number { number.new ≡ number.old }
+    ensures added { OnOk result (Adds (K.contents sink.old) (K.contents sink.new) lines.old lines.new
+        (said_line said number.old words.now)) }
+    ensures broken { OnErr result (TakesBeginning (K.contents sink.old) (K.contents sink.new)
+        (lines.old ++ said_line said number.old words.now)) }
+    ensures fault { IfErr result (λ fault. fault ≡ Fault.Write) }
+    ensures writes { K.failures sink.new ≡ K.failures sink.old + writes_failed result }
+{
+    let Some(word) = said else {
+        return gather(words, lines, sink);
+    };
+    make_room(lines, sink)?;
+    lines.head(number, word);
+    gather(words, lines, sink)?;
+    gather(b"\n", lines, sink)
+}
+
+/// Adds bytes behind lines that gather: both are written where there is no room for them.
+#[inline]
+fn gather<K: Sink>(bytes: &[u8], lines: &mut Lines, sink: &mut K) -> Result<(), Fault>
+    requires { CanCount (K.failures sink.old) }
+    ensures added { OnOk result (Adds (K.contents sink.old) (K.contents sink.new) lines.old lines.new
+        bytes.now) }
+    ensures broken { OnErr result (TakesBeginning (K.contents sink.old) (K.contents sink.new)
+        (lines.old ++ bytes.now)) }
+    ensures fault { IfErr result (λ fault. fault ≡ Fault.Write) }
+    ensures writes { K.failures sink.new ≡ K.failures sink.old + writes_failed result }
+{
+    if bytes.len() > lines.room() {
+        return write_words(lines, bytes, sink);
+    }
+    lines.text(bytes);
+    Ok(())
+}
