@@ -1,5 +1,5 @@
--- Plain steps, as runs are told: the ledger stays as it is where one steps, and where it doesn't the
--- frame that acts is the one that is looked up after it.
+-- Plain steps, as runs are told: the ledger stays as it is where one steps, and where it doesn't
+-- the frame that acts is the one that is looked up after it.
 use Rattle.std.proofs.Common.{◌≡◌, ◌≢◌, ◌∙◌, ℕ, List, [], ◌∷◌, ◌++◌, Option, true, false, refl, sym, ap, subst}
 use Rattle.model.specs.declared.event.Event.{Event}
 use Rattle.model.specs.declared.event.Reply.{Reply}
@@ -12,6 +12,7 @@ use Rattle.pending_uses.specs.declared.acting.Acting.{Acting}
 use Rattle.pending_uses.specs.declared.acts.UseStep.{UseStep}
 use Rattle.pending_uses.specs.declared.acts.UseStep.TheVariants.{Nothing}
 use Rattle.pending_uses.specs.Acting.{acting_in}
+use Rattle.pending_uses.specs.Acts.{use_step}
 use Rattle.pending_uses.specs.Ledger.{LedgerState, TellsOn}
 use Rattle.pending_uses.specs.Plain.{PlainStepsKeepLedgers, PlainStepsStepOrStay, is_plain}
 use Rattle.pending_uses.proofs.PlainSteps.{nothing_used}
@@ -55,9 +56,11 @@ module _ (m n : Machine) (e : Event) (reply : Reply) (plain : is_plain m.set m.w
       is ∙ ap (λ (s : Set). acting_in s n.world e) ran.set
       ∙ ap (λ (w : World). acting_in m.set w e) world
 
+  pub uses_nothing : Nothing ≡ use_step m.set m.world e
+  uses_nothing = sym (nothing_used m.set m.world e plain)
+
   pub notes_ledger : (l k : LedgerState) → TellsOn n.set n.world e Nothing reply l k
       → LedgerGoesOn m e l k
   notes_ledger l k noted =
       noted_by m n e reply l k ran
-      (subst (λ (u : UseStep). TellsOn n.set n.world e u reply l k)
-      (sym (nothing_used m.set m.world e plain)) noted)
+      (subst (λ (u : UseStep). TellsOn n.set n.world e u reply l k) uses_nothing noted)

@@ -26,8 +26,8 @@ pub(crate) enum Seen {
     Happened(Happened),
 }
 
-/// Whether an event needs no look at it before it is applied: in quiet a plain step, of which nothing
-/// is told if it steps, and before which all was as it is after it if it doesn't.
+/// Whether an event needs no look at it before it is applied: in quiet a plain step. Nothing is told
+/// of it where it steps, and nothing has changed where it doesn't.
 pub(crate) fn goes_unseen(machine: &Checked, event: &Event, detail: Detail) -> bool
     ensures { IsTrue result → GoesUnseen detail machine.now event.now }
 {

@@ -285,8 +285,8 @@ fn count_left(rest: &Option<Repeated>) -> usize
 
 /// Lets the thread of the step that comes next, and of those equal to it, go on by itself: in quiet
 /// for as many as it can make so, of which nothing is told, and else for the first, of which a line
-/// is told. It answers how many were made; none where another event comes next, or a step that needs
-/// no look at it.
+/// is told. It answers how many were made; none where another event comes next, or one that needs no
+/// look at it before.
 fn go_ahead(
     teller: &mut Teller<'_>,
     machine: &mut Checked,

@@ -1,6 +1,5 @@
 use Rattle.std.proofs.Common.{◌∙◌, refl, sym}
-use Rattle.pending_uses.proofs.PlainSteps.{nothing_used}
-use Rattle.drvhost_parts.proofs.PlainlySeen.{acts_after, keeps_ledger, not_stepped, notes_ledger, stepped}
+use Rattle.drvhost_parts.proofs.PlainlySeen.{acts_after, keeps_ledger, not_stepped, notes_ledger, stepped, uses_nothing}
 use Rattle.drvhost_parts.proofs.seeing.see_after.Goals as goal
 
 pub returns-then-is_stepped-clause-noted : goal.returns-then-is_stepped-clause-noted
@@ -16,8 +15,7 @@ pub returns-clause-seen : goal.returns-clause-seen
 returns-clause-seen c =
     record {
       event = refl;
-      step =
-          sym (nothing_used c.args.machine.now.set c.args.machine.now.world c.args.event.now c.requires);
+      step = uses_nothing _ _ _ _ c.requires c.apply-reply.ensures;
       acting =
           acts_after _ _ _ _ c.requires c.apply-reply.ensures _ c.plain_steps_step_or_stay.ensures
           (not_stepped _ (sym c.is_stepped.ensures ∙ c.if-is_stepped.false)) c.before-2.ensures;
