@@ -14,7 +14,7 @@ use drawn::{Drawing, add_picture};
 use interleave::schedule::Schedule;
 use std::alloc::{AllocError, Global};
 use told::{Book, Moment};
-use told_lines::text::ToldLines;
+use told_lines::kept::ToldLines;
 
 /// Draws the run of a machine by a schedule, up to an event that stops it: with the names and the
 /// lines of a text that names its set.

@@ -28,7 +28,7 @@ use model::abs::{Refusal, Rule};
 use report::lines::Lines;
 use set_answers::check::refuse;
 use std::alloc::{AllocError, Global};
-use told_lines::text::ToldLines;
+use told_lines::kept::ToldLines;
 use verifier::{Accepted, verify};
 
 /// How a run is shown to people.

@@ -32,7 +32,7 @@ use report::lines::Lines;
 use run_laws::waiting_changes_nothing;
 use std::alloc::{AllocError, Global};
 use told::{Happened, Teller};
-use told_lines::text::ToldLines;
+use told_lines::kept::ToldLines;
 
 /// What stands before the words of the audit.
 const AUDIT: &[u8] = b"\naudit\n";

@@ -2,7 +2,7 @@
 //! stand once, however often they come again.
 #![tactic(auto)]
 
+pub mod kept;
 mod piece;
 mod stored;
-pub mod text;
 mod writing;

@@ -2,7 +2,7 @@ use Rattle.std.proofs.Common.{◌++◌, List, ℕ}
 use Rattle.std.proofs.lemmas.Result.{err_from_is_err_and}
 use Rattle.told_lines.specs.Lines.{piece_text, text_of}
 use Rattle.told_lines.proofs.Gathering.{begins_clear, last_added, last_broken, pieces_added, rest_written}
-use Rattle.told_lines.proofs.text.ToldLines.write_to.Goals as goal
+use Rattle.told_lines.proofs.kept.ToldLines.write_to.Goals as goal
 
 pub returns-in_err-add_piece-clause-written : goal.returns-in_err-add_piece-clause-written
 returns-in_err-add_piece-clause-written g c =

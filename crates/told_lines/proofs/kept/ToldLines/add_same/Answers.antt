@@ -1,7 +1,7 @@
 use Rattle.std.proofs.Common.{◌∙◌, ap, replicate}
 use Rattle.told_lines.specs.Lines.{piece_text, said_lines}
 use Rattle.told_lines.proofs.Pieces.{begun_text}
-use Rattle.told_lines.proofs.text.ToldLines.add_same.Goals as goal
+use Rattle.told_lines.proofs.kept.ToldLines.add_same.Goals as goal
 
 pub returns : goal.returns
 returns c =

@@ -1,7 +1,7 @@
 use Rattle.std.proofs.Common.{arith}
 use Rattle.std.proofs.lemmas.List.Elements.{All-nil}
 use Rattle.told_lines.specs.Lines.{Stands}
-use Rattle.told_lines.proofs.text.ToldLines.new.Goals as goal
+use Rattle.told_lines.proofs.kept.ToldLines.new.Goals as goal
 
 pub invariant_of-result : goal.invariant_of-result
 invariant_of-result c =

@@ -1,7 +1,7 @@
 use Rattle.std.proofs.Common.{◌∙◌, ◌++◌, Some, ap, sym}
 use Rattle.told_lines.specs.Lines.{said_line}
 use Rattle.told_lines.proofs.Pieces.{word_worded}
-use Rattle.told_lines.proofs.text.ToldLines.add_line.Goals as goal
+use Rattle.told_lines.proofs.kept.ToldLines.add_line.Goals as goal
 
 pub returns-in-Some-clause-added : goal.returns-in-Some-clause-added
 returns-in-Some-clause-added c =

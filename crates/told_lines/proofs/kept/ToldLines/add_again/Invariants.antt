@@ -1,6 +1,6 @@
 use Rattle.std.proofs.Common.{◌≡◌, ◌+◌, ◌≤◌, ◌++◌}
 use Rattle.told_lines.specs.Lines.{worded_lines}
-use Rattle.told_lines.proofs.text.ToldLines.add_again.Given as goal
+use Rattle.told_lines.proofs.kept.ToldLines.add_again.Given as goal
 
 abbrev pub invariant-loop : goal.invariant-loop
 invariant-loop l =

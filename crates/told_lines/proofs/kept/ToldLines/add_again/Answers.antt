@@ -2,7 +2,7 @@ use Rattle.std.proofs.Common.{◌∙◌, ◌++◌, Some, ap, arith, replicate, r
 use Rattle.std.proofs.lemmas.List.{append-nil}
 use Rattle.told_lines.specs.Lines.{said_lines}
 use Rattle.told_lines.proofs.Pieces.{again_added, words_worded}
-use Rattle.told_lines.proofs.text.ToldLines.add_again.Goals as goal
+use Rattle.told_lines.proofs.kept.ToldLines.add_again.Goals as goal
 
 pub returns-in-Some-clause-added : goal.returns-in-Some-clause-added
 returns-in-Some-clause-added c =

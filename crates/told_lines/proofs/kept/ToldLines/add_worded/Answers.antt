@@ -1,7 +1,7 @@
 use Rattle.std.proofs.Common.{◌∙◌, ◌+◌, ◌<◌, ◌≤◌, ◌^◌, Some, ap, arith, length, refl}
 use Rattle.told_lines.specs.Lines.{Stands, piece_text}
 use Rattle.told_lines.proofs.Pieces.{begun_stand, begun_text, line_joined, single_line}
-use Rattle.told_lines.proofs.text.ToldLines.add_worded.Goals as goal
+use Rattle.told_lines.proofs.kept.ToldLines.add_worded.Goals as goal
 
 pub returns-then-goes_on : goal.returns-then-goes_on
 returns-then-goes_on c =
