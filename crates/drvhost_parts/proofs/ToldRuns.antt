@@ -26,6 +26,7 @@ use Rattle.model.specs.Trace.{Entry, recorded}
 use Rattle.model.specs.Typable.{IsFirstFault, at_start}
 use Rattle.model.specs.World.{World}
 use Rattle.report.specs.Fault.{schedule_fault_line}
+use Rattle.report.specs.Reply.{worded_line}
 use Rattle.run_laws.specs.Waits.{WaitingChangesNothing, says_unchanged}
 use Rattle.report.specs.Verdict.{refusal_line}
 use Rattle.inputs_outputs.specs.declared.fault.End.TheVariants.{Complete, Stopped}
@@ -40,6 +41,7 @@ use Rattle.inputs_outputs.specs.declared.verification.Verification.{Verification
 use Rattle.inputs_outputs.specs.Ends.{HoldsRun}
 use Rattle.inputs_outputs.specs.Fault.{Goes, ReadsSchedule, ReadsSet}
 use Rattle.drvhost_parts.specs.Repeats.{awaited}
+use Rattle.told_lines.specs.Lines.{worded_lines}
 use Rattle.drvhost_parts.specs.Told.{HasTold, LedgerGoesOn, IsRunShown, IsRunTold, IsScheduleShown, IsShownRunOf, IsTold, Tells, ToldNext, count_left, happens_again, is_left_out, left_again, past_by, replies_by, run_to_end, times_again, told_line, world_by}
 use Rattle.drvhost_parts.proofs.Following.{counted, run_more}
 use Rattle.inputs_outputs.proofs.Writing.{keeps_same}
@@ -416,24 +418,70 @@ told_again detail (suc count) number reply added words (first, (later, is, told)
     subst (λ (k : ℕ). IsTold detail number (reply ∷ replicate (suc count) reply)
     (added ++ told_line detail k reply words)) numbers all
 
--- an event is told once more behind so many of the same
-pub again_more : (detail : Detail) (count number now : ℕ) (reply : Reply)
-    (text before beyond : List ℕ) → now ≡ number + count
+-- lines with the same words are told behind so many of the same
+told_lines : (detail : Detail) (some count number : ℕ) (reply : Reply) (added words : List ℕ)
+    → is_left_out detail reply ≡ false → IsTold detail number (replicate count reply) added
+    → IsTold detail number (replicate (count + some) reply)
+    (added ++ worded_lines (number + count) reply words some)
+told_lines detail zero count number reply added words told all =
+    let none : count + 0 ≡ count = omega arith in
+    rw (append-nil added, none) all
+told_lines detail (suc some) count number reply added words told all =
+    let line : List ℕ = worded_line (number + count) reply words in
+    let later : List ℕ = worded_lines (number + count + 1) reply words some in
+    let counts : suc count + some ≡ count + suc some = omega arith in
+    let numbers : number + suc count ≡ number + count + 1 = omega arith in
+    let is : told_line detail (number + count) reply words ≡ line =
+    ap (λ (b : Bool). if b then [] else worded_line (number + count) reply words) told in
+    let once : IsTold detail number (replicate (suc count) reply) (added ++ line) =
+    subst (λ (l : List ℕ). IsTold detail number (replicate (suc count) reply) (added ++ l)) is
+    (told_again detail count number reply added words all) in
+    let whole : (added ++ line) ++ worded_lines (number + suc count) reply words some
+    ≡ added ++ (line ++ later) =
+    ap (λ n. (added ++ line) ++ worded_lines n reply words some) numbers
+    ∙ append_assoc added line later in
+    subst (λ (k : ℕ). IsTold detail number (replicate k reply) (added ++ (line ++ later))) counts
+    (subst (λ (l : List ℕ). IsTold detail number (replicate (suc count + some) reply) l) whole
+    (told_lines detail some (suc count) number reply (added ++ line) words told once))
+
+pub lines_told : (detail : Detail) (number count left some at : ℕ) (reply : Reply)
+    (words text before beyond : List ℕ) → is_left_out detail reply ≡ false
+    → at + left ≡ number + count → left ≤ count → some ≤ left
     → (added : List ℕ) × (before ≡ text ++ added)
-    × IsTold detail number (replicate count reply) added
-    → (words : List ℕ) × (beyond ≡ before ++ told_line detail now reply words)
+    × IsTold detail number (replicate (count - left) reply) added
+    → beyond ≡ before ++ worded_lines at reply words some
     → (added : List ℕ) × (beyond ≡ text ++ added)
-    × IsTold detail number (replicate (count + 1) reply) added
-again_more detail count number now reply text before beyond is (added, holds, told) (words, more) =
-    let line = told_line detail (number + count) reply words in
-    let whole : beyond ≡ text ++ (added ++ line) =
-    more ∙ ap (λ n. before ++ told_line detail n reply words) is
-    ∙ ap (λ x. x ++ line) holds ∙ append_assoc text added line in
-    let counts : suc count ≡ count + 1 = omega arith in
-    let all : IsTold detail number (replicate (count + 1) reply) (added ++ line) =
-    subst (λ (k : ℕ). IsTold detail number (replicate k reply) (added ++ line)) counts
-    (told_again detail count number reply added words told) in
-    (added ++ line, whole, all)
+    × IsTold detail number (replicate (count - (left - some)) reply) added
+lines_told detail number count left some at reply words text before beyond told is few most
+    (added, holds, all) more =
+    let place : at ≡ number + (count - left) = omega (arith, is, few) in
+    let counts : count - left + some ≡ count - (left - some) = omega (arith, few, most) in
+    let lines : List ℕ = worded_lines (number + (count - left)) reply words some in
+    let whole : beyond ≡ text ++ (added ++ lines) =
+    more ∙ ap (λ n. before ++ worded_lines n reply words some) place ∙ ap (λ x. x ++ lines) holds
+    ∙ append_assoc text added lines in (
+      added ++ lines,
+      whole,
+      subst (λ (k : ℕ). IsTold detail number (replicate k reply) (added ++ lines)) counts
+          (told_lines detail some (count - left) number reply added words told all),
+    )
+
+-- none of them is told yet
+pub none_told : (detail : Detail) (number count : ℕ) (reply : Reply) (text : List ℕ)
+    → (added : List ℕ) × (text ≡ text ++ added)
+    × IsTold detail number (replicate (count - count) reply) added
+none_told detail number count reply text =
+    let none : count - count ≡ 0 = omega arith in
+    ([], sym (append-nil text), rw none refl)
+
+-- nothing is told of any that are left out
+pub none_left : (detail : Detail) (count number : ℕ) (reply : Reply)
+    → is_left_out detail reply ≡ true → IsTold detail number (replicate count reply) []
+none_left detail zero number reply out = refl
+none_left detail (suc count) number reply out =
+    let nothing : [] ≡ told_line detail number reply [] ++ [] =
+    ap (λ (b : Bool). (if b then [] else worded_line number reply []) ++ []) (sym out) in
+    ([], ([], nothing, none_left detail count (number + 1) reply out))
 
 -- a reply that ends the run isn't told again
 pub last_once : (reply : Reply) → is_last reply ≡ true → happens_again reply ≡ false

@@ -37,6 +37,29 @@ use told_lines::kept::ToldLines;
 /// What stands before the words of the audit.
 const AUDIT: &[u8] = b"\naudit\n";
 
+/// The least number of two digits, of three, and so on.
+const LONGER: [u64; 19] = [
+    10,
+    100,
+    1_000,
+    10_000,
+    100_000,
+    1_000_000,
+    10_000_000,
+    100_000_000,
+    1_000_000_000,
+    10_000_000_000,
+    100_000_000_000,
+    1_000_000_000_000,
+    10_000_000_000_000,
+    100_000_000_000_000,
+    1_000_000_000_000_000,
+    10_000_000_000_000_000,
+    100_000_000_000_000_000,
+    1_000_000_000_000_000_000,
+    10_000_000_000_000_000_000,
+];
+
 /// A text, and how the job ends of which it tells.
 #[derive(Drop)]
 pub(crate) struct Told {
@@ -252,17 +275,7 @@ fn tell_happened(
         (ToldNext detail number.old happened.reply rest text.old text.new) }
 {
     teller.note(&happened, machine)?;
-    add_event(
-        teller,
-        machine,
-        number,
-        &happened,
-        Turn::First,
-        detail,
-        lines,
-        text,
-    )?;
-    number.advance();
+    add_event(teller, machine, number, &happened, detail, lines, text)?;
     let count = times_again(&happened.reply, &rest);
     tell_again(
         teller, machine, number, &happened, count, detail, lines, text,
@@ -418,8 +431,8 @@ fn as_long(number: &EventNumber, most: usize) -> usize
     ensures some { 0 < result }
     ensures most { result ≤ most }
 {
-    let longer = match 10_u64.checked_pow(number.digits() as u32) {
-        Some(longer) => longer,
+    let longer = match LONGER.get(number.digits().saturating_sub(1)) {
+        Some(longer) => *longer,
         None => u64::MAX,
     };
     let shorter = longer.saturating_sub(number.value());
@@ -461,7 +474,8 @@ fn add_event(
     }
     let head = lines.head_length(number, &happened.reply);
     teller.tell(head, happened, machine)?;
-    text.add_line(lines, number, &happened.reply, teller.words())
+    text.add_line(lines, number, &happened.reply, teller.words())?;
+    Ok(())
 }
 
 /// Adds the audit of a run: that it is one, and words on it.

@@ -60,8 +60,8 @@ returns-in_err-told-clause-goes g c =
     (tells_rightly (Right set) All (Err c.in_err-told.field-0.0) (right_on Right held set read)
     c.in_err-told.ensures.tells))
 
-pub returns-in_err-write_bytes-clause-unread : goal.returns-in_err-write_bytes-clause-unread
-returns-in_err-write_bytes-clause-unread g c =
+pub returns-in_err-write_to-clause-unread : goal.returns-in_err-write_to-clause-unread
+returns-in_err-write_to-clause-unread g c =
     let held = g.S.Source.supply c.args.set.now in
     let bytes = c.as_slice-bytes.result.now in
     let holds = subst (λ (bytes : List ℕ). Holds held bytes) (sym c.as_slice-bytes.ensures.value)
@@ -70,10 +70,10 @@ returns-in_err-write_bytes-clause-unread g c =
     (set_read held bytes (Ok c.in_ok-set.set) holds c.in_ok-set.ensures.set)
     c.in_ok-told.ensures.unread
 
-pub returns-in_err-write_bytes-clause-goes : goal.returns-in_err-write_bytes-clause-goes
-returns-in_err-write_bytes-clause-goes g c =
-    let p = err_from_is_err_and c.from_residual-in_err-write_bytes.result
-    c.from_residual-in_err-write_bytes.ensures.1 in
+pub returns-in_err-write_to-clause-goes : goal.returns-in_err-write_to-clause-goes
+returns-in_err-write_to-clause-goes g c =
+    let p = err_from_is_err_and c.from_residual-in_err-write_to.result
+    c.from_residual-in_err-write_to.ensures.1 in
     let held = g.S.Source.supply c.args.set.now in
     let scheduled = g.P.Source.supply c.args.schedule.now in
     let Right = IsTraced c.args.verification (IsShownRunOf c.args.showing scheduled) in
@@ -84,12 +84,12 @@ returns-in_err-write_bytes-clause-goes g c =
     let set = c.in_ok-set.set in
     let read = set_read held bytes (Ok set) holds c.in_ok-set.ensures.set in
     let told = c.in_ok-told.told in
-    rw (p.1, p.2, c.in_err-write_bytes.ensures.fault)
-    (told_broken All (g.O.Sink.contents c.args.out.now) (g.O.Sink.contents c.write_bytes.new.sink)
+    rw (p.1, p.2, c.in_err-write_to.ensures.fault)
+    (told_broken All (g.O.Sink.contents c.args.out.now) (g.O.Sink.contents c.write_to.new.sink)
     told
     (tells_rightly (Right set) All (Ok told) (right_on Right held set read)
     c.in_ok-told.ensures.tells)
-    (rw c.as_slice.ensures.value at c.in_err-write_bytes.ensures.written))
+    c.in_err-write_to.ensures.written)
 
 pub returns-clause-unread : goal.returns-clause-unread
 returns-clause-unread g c =
@@ -113,8 +113,8 @@ returns-clause-goes g c =
     let set = c.in_ok-set.set in
     let read = set_read held bytes (Ok set) holds c.in_ok-set.ensures.set in
     let told = c.in_ok-told.told in
-    told_written All (g.O.Sink.contents c.args.out.now) (g.O.Sink.contents c.write_bytes.new.sink)
+    told_written All (g.O.Sink.contents c.args.out.now) (g.O.Sink.contents c.write_to.new.sink)
     told
     (tells_rightly (Right set) All (Ok told) (right_on Right held set read)
     c.in_ok-told.ensures.tells)
-    (rw c.as_slice.ensures.value at c.in_ok-write_bytes.ensures.written)
+    c.in_ok-write_to.ensures.written

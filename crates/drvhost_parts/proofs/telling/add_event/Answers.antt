@@ -4,13 +4,13 @@ use Rattle.drvhost_parts.proofs.telling.add_event.Goals as goal
 
 pub returns-then-is_left_out-clause-told : goal.returns-then-is_left_out-clause-told
 returns-then-is_left_out-clause-told c =
-    nothing_told c.args.detail c.args.number.now c.args.happened.now.reply c.args.text.now.items
+    nothing_told c.args.detail c.args.number.now c.args.happened.now.reply c.args.text.now
     (sym c.is_left_out.ensures ∙ c.if-is_left_out.true)
 
 pub returns-clause-told : goal.returns-clause-told
 returns-clause-told c = (
   c.words.result.now,
-  line_told c.args.detail c.args.number.now c.args.happened.now.reply _ _ _ _
-      (sym c.is_left_out.ensures ∙ c.if-is_left_out.false) c.head_of-head.ensures.head
-      c.in_ok-add_line.ensures,
+  line_told c.args.detail c.args.number.now c.args.happened.now.reply _ _ _
+      (sym c.is_left_out.ensures ∙ c.if-is_left_out.false)
+      (rw c.head_length-head.ensures.number at c.in_ok-add_line.ensures.added),
 )

@@ -1,12 +1,15 @@
-use Rattle.std.proofs.Common.{◌≡◌, ◌+◌, ◌≤◌, ◌++◌, List, ℕ, replicate}
+use Rattle.std.proofs.Common.{◌≡◌, ◌+◌, ◌-◌, ◌≤◌, ◌++◌, List, ℕ, replicate}
 use Rattle.drvhost_parts.specs.Told.{IsTold}
 use Rattle.drvhost_parts.proofs.telling.tell_again.Given as goal
 
-abbrev pub invariant-loop : goal.invariant-loop
-invariant-loop l =
+abbrev pub invariant-loop-left : goal.invariant-loop-left
+invariant-loop-left l =
     record {
-      numbered : l.number ≡ l.initial.number + l.counter;
-      few : l.counter ≤ l.count;
-      told : (added : List ℕ) × (l.text.items ≡ l.initial.text.items ++ added)
-          × IsTold l.detail l.initial.number (replicate l.counter l.happened.reply) added;
+      numbered : l.number + l.left ≡ l.initial.number + l.count;
+      few : l.left ≤ l.count;
+      told : (added : List ℕ) × (l.text ≡ l.initial.text ++ added)
+          × IsTold l.detail l.initial.number (replicate (l.count - l.left) l.happened.reply) added;
     }
+
+abbrev pub decreases-loop-left : goal.decreases-loop-left
+decreases-loop-left l = l.left
