@@ -459,10 +459,12 @@ lines_told detail number count left some at reply words text before beyond told 
     let lines : List ℕ = worded_lines (number + (count - left)) reply words some in
     let whole : beyond ≡ text ++ (added ++ lines) =
     more ∙ ap (λ n. before ++ worded_lines n reply words some) place ∙ ap (λ x. x ++ lines) holds
-    ∙ append_assoc text added lines in
-    (added ++ lines, whole,
-    subst (λ (k : ℕ). IsTold detail number (replicate k reply) (added ++ lines)) counts
-    (told_lines detail some (count - left) number reply added words told all))
+    ∙ append_assoc text added lines in (
+      added ++ lines,
+      whole,
+      subst (λ (k : ℕ). IsTold detail number (replicate k reply) (added ++ lines)) counts
+          (told_lines detail some (count - left) number reply added words told all),
+    )
 
 -- none of them is told yet
 pub none_told : (detail : Detail) (number count : ℕ) (reply : Reply) (text : List ℕ)
