@@ -484,7 +484,8 @@ fn add_audit(words: &[u8], text: &mut ToldLines) -> Result<(), AllocError>
         (text.new ≡ text.old ++ (codes "\naudit\n" ++ words.now)) }
 {
     text.add_bytes(AUDIT)?;
-    text.add_bytes(words)
+    text.add_bytes(words)?;
+    Ok(())
 }
 
 /// Whether nothing is told of an event with this reply.

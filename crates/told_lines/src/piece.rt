@@ -1,6 +1,6 @@
 //! Lines of a run that is told, one after another.
 
-ghost use Rattle.std.specs.Prelude.{◌≡◌, ◌+◌, ◌<◌, ◌≤◌, ◌^◌, IsTrue, None, Some, false, if◌then◌else◌, true};
+ghost use Rattle.std.specs.Prelude.{◌≡◌, ◌+◌, ◌<◌, ◌^◌, IsTrue, None, Some, false, if◌then◌else◌, true};
 ghost use Rattle.told_lines.specs.Lines.{run_width};
 
 use report::word::Word;

@@ -1,6 +1,6 @@
 //! Pieces of a text, written through lines that gather.
 
-ghost use Rattle.std.specs.Prelude.{◌≡◌, ◌+◌, ◌++◌, ◌∷◌, ◌<◌, ◌^◌, [], IfErr, OnErr, OnOk};
+ghost use Rattle.std.specs.Prelude.{◌≡◌, ◌+◌, ◌++◌, IfErr, OnErr, OnOk};
 ghost use Rattle.std.specs.List.{All};
 ghost use Rattle.inputs_outputs.specs.Device.{Adds, CanCount, TakesBeginning};
 ghost use Rattle.inputs_outputs.specs.Fault.{writes_failed};

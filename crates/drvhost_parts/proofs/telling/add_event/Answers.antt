@@ -1,4 +1,5 @@
-use Rattle.std.proofs.Common.{◌∙◌, sym}
+use Rattle.std.proofs.Common.{◌∙◌, ◌++◌, ap, sym}
+use Rattle.report.specs.Reply.{worded_line}
 use Rattle.drvhost_parts.proofs.ToldRuns.{line_told, nothing_told}
 use Rattle.drvhost_parts.proofs.telling.add_event.Goals as goal
 
@@ -12,5 +13,8 @@ returns-clause-told c = (
   c.words.result.now,
   line_told c.args.detail c.args.number.now c.args.happened.now.reply _ _ _
       (sym c.is_left_out.ensures ∙ c.if-is_left_out.false)
-      (rw c.head_length-head.ensures.number at c.in_ok-add_line.ensures.added),
+      (c.in_ok-add_line.ensures.added
+      ∙ ap (λ n. c.args.text.now
+      ++ worded_line n c.args.happened.now.reply c.words.result.now)
+      c.head_length-head.ensures.number),
 )

@@ -1,5 +1,6 @@
-use Rattle.std.proofs.Common.{◌≡◌, ◌∙◌, ◌-◌, [], arith, sym}
+use Rattle.std.proofs.Common.{◌≡◌, ◌∙◌, ◌-◌, ◌++◌, [], ap, arith, sym}
 use Rattle.std.proofs.lemmas.List.{append-nil}
+use Rattle.told_lines.specs.Lines.{worded_lines}
 use Rattle.drvhost_parts.proofs.ToldRuns.{lines_told, none_left, none_told}
 use Rattle.drvhost_parts.proofs.telling.tell_again.Goals as goal
 
@@ -38,7 +39,10 @@ loop-left-preserved c =
           c.args.text.now c.loop-left.text _
           (sym c.is_left_out.ensures ∙ c.if-is_left_out.false) c.loop-left.invariant.numbered
           c.loop-left.invariant.few c.as_long-some.ensures.most c.loop-left.invariant.told
-          (rw c.head_length-head.ensures.number at c.in_ok-add_again.ensures.added);
+          (c.in_ok-add_again.ensures.added
+          ∙ ap (λ n. c.loop-left.text
+          ++ worded_lines n c.args.happened.now.reply c.words.result.now c.as_long-some.result)
+          c.head_length-head.ensures.number);
     }
 
 pub returns-clause-told : goal.returns-clause-told

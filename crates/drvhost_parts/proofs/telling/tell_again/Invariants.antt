@@ -8,7 +8,7 @@ invariant-loop-left l =
       numbered : l.number + l.left ≡ l.initial.number + l.count;
       few : l.left ≤ l.count;
       told : (added : List ℕ) × (l.text ≡ l.initial.text ++ added)
-          × IsTold l.detail l.initial.number (replicate (l.count - l.left) l.happened.reply) added;
+          × IsTold l.fn.detail l.initial.number (replicate (l.count - l.left) l.happened.reply) added;
     }
 
 abbrev pub decreases-loop-left : goal.decreases-loop-left
