@@ -11,3 +11,4 @@ pub mod Unknown
 pub mod Named
 pub mod Written
 pub mod Listed
+pub mod Declared

@@ -15,7 +15,9 @@ use Rattle.asm_line.specs.declared.line.UsedNames.{UsedNames}
 use Rattle.asm.specs.declared.routines.Role.{Role}
 use Rattle.asm.specs.declared.routines.Role.TheVariants.{Handler, Completion, StartIo, Dpc, Cancel}
 use Rattle.asm_line.specs.Line.{line_of, read_line}
-use Rattle.asm.specs.Outline.{Outline, nothing_read, has_room, has_routine, is_again, is_among, is_out_of_range, misfit, noted, stands}
+use Rattle.asm.specs.Names.{is_among, is_known}
+use Rattle.asm.specs.Faults.{is_out_of_range, stands}
+use Rattle.asm.specs.Outline.{Outline, nothing_read, has_room, has_routine, is_again, misfit, noted}
 use Rattle.asm.specs.Reading.{IsFaultOf, IsNamed}
 
 -- the number of a kind
@@ -278,11 +280,6 @@ scope_after s body next = record {
   queues = queues_around s.queues body next;
   labels = labels_around s.labels body next;
 }
-
--- there is no name, or it is one of these
-abbrev pub is_known : List (List ℕ) → Option (List ℕ) → Bool
-is_known names None = true
-is_known names (Some name) = is_among names name
 
 -- there is no name, or it is one of a routine of a sort for the role
 abbrev pub is_served : Scope → Role → Option (List ℕ) → Bool

@@ -4,3 +4,9 @@ pub mod Reading
 pub mod Plain
 pub mod Laws
 pub mod Code
+pub mod Parts
+pub mod Names
+pub mod Said
+pub mod Faults
+pub mod Naming
+pub mod FirstFault

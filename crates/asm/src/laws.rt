@@ -21,7 +21,7 @@ pub fn named_is_faultless()
 /// that jumps has the position of the instruction on the line of its label, each `call` has the
 /// number of the routine that it names, and one that touches a queue has the number of the queue
 /// that it names.
-#[tactic(auto, using(crate::proofs::Written::Lines::code_is_of_its_lines))]
+#[tactic(auto, using(crate::proofs::Written::Law::code_is_of_its_lines))]
 pub fn code_is_of_its_lines()
     ensures { CodeIsOfItsLines }
 {}
