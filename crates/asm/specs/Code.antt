@@ -14,7 +14,8 @@ use Rattle.asm.specs.declared.routines.Role.TheVariants.{Completion}
 pub use Rattle.asm.specs.Names.{Inventory}
 pub use Rattle.asm.specs.Said.{instruction_on}
 use Rattle.asm.specs.Reading.{IsNamed}
-use Rattle.asm.specs.Laws.{queues_ahead, routines_ahead, sorts_ahead, IsRead}
+use Rattle.asm.specs.Scopes.{queues_ahead, routines_ahead, sorts_ahead}
+use Rattle.asm.specs.Laws.{IsRead}
 
 -- what the driver has whose lines begin here
 abbrev pub inventory : List Line → Inventory

@@ -7,7 +7,7 @@ ghost use Rattle.asm.specs.Laws.{FaultIsFirst, NamedIsFaultless};
 /// The fault that is given is that of the first line that has one, with the least kind that it has,
 /// or that the text ends too early; and only where there is none of these, the first use of a name
 /// that nothing has.
-#[tactic(auto, using(crate::proofs::Named::fault_is_first))]
+#[tactic(auto, using(crate::proofs::Declared::First::fault_is_first))]
 pub fn fault_is_first()
     ensures { FaultIsFirst }
 {}

@@ -1,5 +1,5 @@
 -- What is read with outlines is what a text names, or its first fault.
-use Rattle.std.proofs.Common.{◌≡◌, ℕ, ◌+◌, List, [], ◌∷◌, ◌++◌, Option, Some, None, refl, ap, sym, ◌∙◌}
+use Rattle.std.proofs.Common.{◌≡◌, ℕ, ◌+◌, List, [], ◌∷◌, ◌++◌, Option, Some, None, refl, ap, sym, ◌∙◌, subst}
 use Rattle.std.specs.Prelude.{Result, Ok, Err}
 use Rattle.text.specs.Cut.{lines_of}
 use Rattle.model.specs.Set.{Set}
@@ -13,12 +13,12 @@ use Rattle.asm_line.specs.declared.line.LineFault.TheVariants.{Lex, UnknownWord}
 use Rattle.asm_line.specs.Line.{read_line}
 use Rattle.asm.specs.Outline as outline
 use Rattle.asm.specs.Outline.{Outline, noted, nothing_read}
-use Rattle.asm.specs.Reading as drafted
-use Rattle.asm.specs.Laws.{Reads, nothing_named}
+use Rattle.asm.specs.Drafting as drafted
+use Rattle.asm.specs.Scopes.{Reads, nothing_named}
 use Rattle.asm.specs.Parts.{around, place_after}
 use Rattle.asm.specs.Faults.{misfit, unknown_from}
 use Rattle.asm.specs.Said.{drivers_on, devices_on, set_of}
-use Rattle.asm.specs.Naming.{after_line, ended, fitted, named, placed, reading, resolved, set_in}
+use Rattle.asm.specs.Reading.{after_line, ended, fitted, named, placed, reading, resolved, set_in}
 use Rattle.asm.proofs.Fitting.{fitting}
 use Rattle.asm.proofs.Tidy.{IsTidy, nothing_tidy, tidy_on}
 use Rattle.asm.proofs.Unknown.Lines.{unknown_is}
@@ -64,7 +64,7 @@ more_agree o next before n raw raws l (Ok end) (Err other) form fits is h = absu
 more_agree o next before n raw raws l (Err fault) (Ok ls) form fits is h = absurd h
 
 -- one line
-Later : List Line → ℕ → List (List ℕ) → Outline → Line → Type 0
+abbrev Later : List Line → ℕ → List (List ℕ) → Outline → Line → Type 0
 Later before n raws next l = Agree next (l ∷ before) (n + 1) raws
     (drafted.reading next (n + 1) raws) (reading (l ∷ before) (n + 1) raws)
 
@@ -96,7 +96,9 @@ placed_agree o before n raw raws (Err UnknownWord) form h later = refl
 pub reading_agree : (o : Outline) (before : List Line) (n : ℕ) (raws : List (List ℕ))
     → IsBehind o before → IsTidy o
     → Agree o before n raws (drafted.reading o n raws) (reading before n raws)
-reading_agree o before n [] h tidy = rw h.place (ended_agree o before n (place_after before) h.place)
+reading_agree o before n [] h tidy =
+    subst (λ (p : Place). Agree o before n [] (drafted.ended o n o.place) (ended before n p))
+    h.place (ended_agree o before n o.place refl)
 reading_agree o before n (raw ∷ raws) h tidy =
     placed_agree o before n raw raws (read_line raw) refl h (λ l fits.
     let all = fitting o l fits in
@@ -105,9 +107,9 @@ reading_agree o before n (raw ∷ raws) h tidy =
     (tidy_on o n l.label l.body all.standing tidy))
 
 -- the set of the lines that were read
-set_read : (raws : List (List ℕ)) (ls : List Line) (end : Outline) → Reads nothing_read 1 raws ls end
+lines_set : (raws : List (List ℕ)) (ls : List Line) (end : Outline) → Reads nothing_read 1 raws ls end
     → end.place ≡ Outside → record { drivers = end.drivers; devices = end.devices } ≡ set_of ls
-set_read raws ls end read closed =
+lines_set raws ls end read closed =
     rw (
       drivers_read nothing_read 1 Outside raws ls end read closed refl nothing_tidy,
       devices_read nothing_read 1 raws ls end [] read (record { drivers = refl; devices = refl }),
@@ -131,13 +133,24 @@ answer_same : (raws : List (List ℕ)) (a : Result Outline AsmFault)
     → drafted.named a ≡ named b
 answer_same raws (Ok end) (Ok ls) h =
     rw (h.all, ← unknown_read raws h.lines end h.read h.closed)
-    (resolved_same end h.lines end.unknown (set_read raws h.lines end h.read h.closed))
+    (resolved_same end h.lines end.unknown (lines_set raws h.lines end h.read h.closed))
 answer_same raws (Err fault) (Err other) h = rw h refl
 answer_same raws (Ok end) (Err other) h = absurd h
 answer_same raws (Err fault) (Ok ls) h = absurd h
 
 -- both give the same answer
 pub set_same : (text : List ℕ) → drafted.set_in text ≡ set_in text
-set_same text = answer_same (lines_of text) (drafted.reading nothing_read 1 (lines_of text))
+set_same text =
+    answer_same (lines_of text) (drafted.reading nothing_read 1 (lines_of text))
     (reading [] 1 (lines_of text))
     (reading_agree nothing_read [] 1 (lines_of text) nothing_behind nothing_tidy)
+
+-- a draft that was read to its end has the answer, and so has a fault
+pub draft_read : (text : List ℕ) (end : Outline)
+    → drafted.reading nothing_read 1 (lines_of text) ≡ Ok end
+    → set_in text ≡ drafted.resolved end end.unknown
+draft_read text end h = sym (set_same text) ∙ ap drafted.named h
+
+pub draft_refused : (text : List ℕ) (fault : AsmFault)
+    → drafted.reading nothing_read 1 (lines_of text) ≡ Err fault → set_in text ≡ Err fault
+draft_refused text fault h = sym (set_same text) ∙ ap drafted.named h

@@ -13,8 +13,8 @@ use Rattle.asm_line.specs.declared.line.LineFault.{LineFault}
 use Rattle.asm_line.specs.Line.{read_line}
 use Rattle.asm.specs.Parts.{around, place_after}
 use Rattle.asm.specs.Faults.{misfit, unknown_from}
-use Rattle.asm.specs.Naming.{after_line, ended, fitted, named, placed, reading, resolved}
-use Rattle.asm.specs.FirstFault.{shows, AreFine, FaultIsFirst, IsEndFault, IsFaultless, IsFirst, IsLineFault, IsRead, NamedIsFaultless}
+use Rattle.asm.specs.Reading.{after_line, ended, fitted, named, placed, reading, resolved}
+use Rattle.asm.specs.Laws.{shows, AreFine, FaultIsFirst, IsEndFault, IsFaultless, IsFirst, IsLineFault, IsRead, NamedIsFaultless}
 use Rattle.asm.proofs.Declared.Least.{least_kind}
 
 -- a line without a fault
@@ -147,7 +147,7 @@ reading_ends behind all n (raw ∷ raws) h =
     after_read behind all n raw raws (λ l. reading_ends (l ∷ behind) all (n + 1) raws)
     (placed behind (read_line raw)) refl h
 
-all_read : (text : List ℕ) (ls : List Line) → reading [] 1 (lines_of text) ≡ Ok ls
+pub all_read : (text : List ℕ) (ls : List Line) → reading [] 1 (lines_of text) ≡ Ok ls
     → (all : IsRead text) × (all.lines ≡ ls)
 all_read text ls is =
     let to = reading_ends [] ls 1 (lines_of text) is in

@@ -11,8 +11,8 @@ use Rattle.asm_line.specs.declared.line.LineFault.TheVariants as unread
 use Rattle.asm_line.specs.Line.{line_of}
 use Rattle.asm.specs.Parts.{place_after}
 use Rattle.asm.specs.Faults.{has_room, is_again, is_out_of_range, stands}
-use Rattle.asm.specs.Naming.{fitted, placed}
-use Rattle.asm.specs.FirstFault.{is_line, is_unknown, kind_number, shows, IsLeastKind}
+use Rattle.asm.specs.Reading.{fitted, placed}
+use Rattle.asm.specs.Laws.{is_line, is_unknown, kind_number, shows, IsLeastKind}
 use Rattle.asm_line.specs.Line.{read_line}
 
 -- the first of five tests that passes, and what each kind's test says

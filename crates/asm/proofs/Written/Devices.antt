@@ -11,7 +11,7 @@ use Rattle.asm_line.specs.declared.line.Line.{Line}
 use Rattle.asm.specs.declared.draft.Use.{Use}
 use Rattle.asm.specs.Outline.{Outline, device_of, noted, used_at}
 use Rattle.asm.specs.Faults.{is_out_of_range}
-use Rattle.asm.specs.Laws.{Reads}
+use Rattle.asm.specs.Scopes.{Reads}
 use Rattle.asm.specs.Names.{number_of}
 use Rattle.asm.specs.Parts.{around, device_on, driver_on, said}
 use Rattle.asm.specs.Said.{added_device, devices_on}
@@ -61,12 +61,31 @@ nothing_added o next l before drivers devices same none nothing added h = record
       ∙ append-nil o.devices);
 }
 
+-- a device, by the names so far
+abbrev device_from : List (List ℕ) → List (List ℕ) → List ℕ → ℕ → Option (List ℕ) → Option Device
+device_from drivers devices driver stack lower = option_map (λ number. record {
+  driver = number;
+  stack = stack;
+  lower = option_and_then (λ name. number_of devices name) lower;
+}) (number_of drivers driver)
+
+named_alike : (o : Outline) (driver : List ℕ) (stack : ℕ) (lower : Option (List ℕ))
+    (before : List Line) → AreNamed o before
+    → device_from o.driver_names o.device_names driver stack lower
+    ≡ device_from (said driver_on (around before [])) (said device_on (around before [])) driver
+    stack lower
+named_alike o driver stack lower before h =
+    ap (λ (names : List (List ℕ)). device_from names o.device_names driver stack lower) h.drivers
+    ∙ ap (λ (names : List (List ℕ)).
+    device_from (said driver_on (around before [])) names driver stack lower) h.devices
+
 device_same : (o : Outline) (n : ℕ) (name driver : List ℕ) (stack : ℕ) (lower : Option (List ℕ))
     (before : List Line) → AreNamed o before
     → device_of o driver stack (used_at n lower)
     ≡ added_device (around before []) (AddDevice name driver stack lower)
-device_same o n name driver stack None before h = rw (h.drivers, h.devices) refl
-device_same o n name driver stack (Some under) before h = rw (h.drivers, h.devices) refl
+device_same o n name driver stack None before h = named_alike o driver stack None before h
+device_same o n name driver stack (Some under) before h =
+    named_alike o driver stack (Some under) before h
 
 device_turn : (o : Outline) (n : ℕ) (label : Option (List ℕ)) (body : Body) (before : List Line)
     → is_out_of_range body ≡ false → AreNamed o before

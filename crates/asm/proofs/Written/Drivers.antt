@@ -20,7 +20,7 @@ use Rattle.asm.specs.declared.draft.QueueLine.{QueueLine}
 use Rattle.asm.specs.declared.draft.StartIoLine.{StartIoLine}
 use Rattle.asm.specs.declared.draft.Use.{Use}
 use Rattle.asm.specs.Outline.{Outline, called, dpc_handled, driver_closed, driver_opened, entry_in, finished, finished_driver, finished_queue, handled, handler_of, is_again, queue_added, queue_at, routine_called, startio_handled, startio_named, used_at, waiting_named}
-use Rattle.asm.specs.Names.{number_of, routine_named}
+use Rattle.asm.specs.Names.{number_of, routine_named, Inventory}
 use Rattle.asm.specs.Parts.{closes_driver, queue_on, said, up_to}
 use Rattle.asm.specs.Said.{added_queue, drivers_on, first_in}
 use Rattle.asm.proofs.Written.Codes.{Whole, name_of, names_used, whole, whole_now, number_called, number_touched, finish, finish_queue, closed, driver_left, driver_with, around, left, Turn}
@@ -164,26 +164,28 @@ whole_queued : (o : Outline) (name : List ℕ) (guard : Option ℕ) (lock : ℕ)
 whole_queued o name guard lock cancel u label ls =
     rw (append_assoc o.queue_names (name ∷ []) (said queue_on ls)) refl
 
-cancel_same : (w : Whole) (n : ℕ) (guard : ℕ) (cancel : Option (List ℕ)) (name : List ℕ)
-    → added_queue w.has (AddQueue name (Some guard) cancel)
-    ≡ Some (finish_queue w.has (record { guard = guard; cancel = used_at n cancel }))
-cancel_same w n guard None name = refl
-cancel_same w n guard (Some routine) name = refl
+queues_more : (has : Inventory) (queues : List QueueLine) (q : QueueLine) (after : List Queue)
+    → map (finish_queue has) queues ++ finish_queue has q ∷ after
+    ≡ map (finish_queue has) (queues ++ q ∷ []) ++ after
+queues_more has queues q after =
+    sym (ap (λ (qs : List Queue). qs ++ after) (map_push (finish_queue has) queues q)
+    ∙ append_assoc (map (finish_queue has) queues) (finish_queue has q ∷ []) after)
 
 queues_pushed : (o : Outline) (w : Whole) (n : ℕ) (name : List ℕ) (guard : ℕ)
-    (cancel : Option (List ℕ)) (label : Option (List ℕ)) (ls : List Line)
-    (more : List Line)
+    (cancel : Option (List ℕ)) (label : Option (List ℕ)) (ls more : List Line)
     → driver_left o w (record { label = label; body = AddQueue name (Some guard) cancel } ∷ ls)
     (record { label = label; body = AddQueue name (Some guard) cancel } ∷ more)
     ≡ driver_left (queue_added o name guard (used_at n cancel)) w ls more
-queues_pushed o w n name guard cancel label ls more =
-    let q : QueueLine = record { guard = guard; cancel = used_at n cancel } in
-    rw (
-      cancel_same w n guard cancel name,
-      map_push (finish_queue w.has) o.queues q,
-      append_assoc (map (finish_queue w.has) o.queues) (finish_queue w.has q ∷ [])
-          (said (added_queue w.has) ls),
-    ) refl
+queues_pushed o w n name guard None label ls more =
+    let next = driver_left (queue_added o name guard None) w ls more in
+    ap (λ (queues : List Queue). record next { queues = queues })
+    (queues_more w.has o.queues (record { guard = guard; cancel = None })
+    (said (added_queue w.has) ls))
+queues_pushed o w n name guard (Some routine) label ls more =
+    let q : QueueLine = record { guard = guard; cancel = used_at n (Some routine) } in
+    let next = driver_left (queue_added o name guard (used_at n (Some routine))) w ls more in
+    ap (λ (queues : List Queue). record next { queues = queues })
+    (queues_more w.has o.queues q (said (added_queue w.has) ls))
 
 pub queue_added_turn : (o : Outline) (n : ℕ) (name : List ℕ) (guard : ℕ)
     (cancel : Option (List ℕ)) (label : Option (List ℕ)) (ls : List Line) → o.place ≡ InDriver

@@ -8,19 +8,15 @@ use Rattle.model.specs.declared.instr.Instr.{Instr}
 use Rattle.asm_line.specs.declared.line.Body.{Body}
 use Rattle.asm_line.specs.declared.line.Body.TheVariants.{OpenDriver, CloseDriver, OpenRoutine, CloseRoutine}
 use Rattle.asm_line.specs.declared.line.Line.{Line}
-use Rattle.asm.specs.declared.draft.Place.TheVariants.{Outside}
 use Rattle.asm.specs.declared.fault.AsmFault.{AsmFault}
-use Rattle.asm.specs.Outline.{Outline, nothing_read}
-use Rattle.asm.specs.Reading.{named, reading, resolved as set_of}
-use Rattle.asm.specs.Laws.{IsRead}
+use Rattle.asm.specs.Reading.{named, reading, resolved}
+use Rattle.asm.specs.Faults.{unknown_from}
 use Rattle.asm.specs.Code as code
 use Rattle.asm.specs.Code.{all_codes, codes_from, codes_of, driver_code, driver_codes, drivers_from, instructions_on, routine_code, routine_codes, routine_lines, unless_end, CodeIsOfItsLines, IsOfItsLines}
 use Rattle.asm.specs.Names.{inventory, Inventory}
 use Rattle.asm.specs.Parts.{closes_driver, closes_routine, said, up_to}
-use Rattle.asm.specs.Said.{drivers_on, instruction_on, opened_driver, opened_routine, routines_on}
-use Rattle.asm.proofs.First.{reading_closed, reading_ends}
-use Rattle.asm.proofs.Tidy.{nothing_tidy}
-use Rattle.asm.proofs.Written.Lines.{drivers_read}
+use Rattle.asm.specs.Said.{drivers_on, instruction_on, routines_on, set_of}
+use Rattle.asm.proofs.Declared.First.{all_read}
 use Rattle.asm.proofs.Declared.Known.{queues_said, routines_said, sorts_said}
 
 one_more : {A : Type 0} (x : Option A) (xs ys : List A) → xs ≡ ys
@@ -76,32 +72,26 @@ driver_said label (OpenDriver name) ls h =
     rw (codes_said (inventory (up_to closes_driver ls)) ls, same, h) refl
 driver_said label _ ls h = h
 
-drivers_said : (ls : List Line) → all_codes (drivers_on ls) ≡ driver_codes ls
+pub drivers_said : (ls : List Line) → all_codes (drivers_on ls) ≡ driver_codes ls
 drivers_said [] = refl
 drivers_said (l ∷ ls) = driver_said l.label l.body ls (drivers_said ls)
 
-resolved_lines : (text : List ℕ) (set : Set) (end : Outline) (unknown : Option ℕ)
-    → reading nothing_read 1 (lines_of text) ≡ Ok end → set_of end unknown ≡ Ok set
+resolved_lines : (text : List ℕ) (set : Set) (ls : List Line) (unknown : Option ℕ)
+    → reading [] 1 (lines_of text) ≡ Ok ls → resolved ls unknown ≡ Ok set
     → IsOfItsLines text set
-resolved_lines text set end None is h =
-    let to = reading_ends nothing_read 1 (lines_of text) end is in
-    let closed = reading_closed nothing_read 1 (lines_of text) end is in
-    let all : IsRead text =
-    record { lines = to.lines; outline = end; read = to.read; closed = closed } in
-    let same : record { drivers = end.drivers; devices = end.devices } ≡ set = cc in
-    let drivers = drivers_read nothing_read 1 Outside (lines_of text) to.lines end to.read closed
-    refl nothing_tidy in (
-      all,
-      ap (λ (s : Set). all_codes s.drivers) (sym same) ∙ ap all_codes drivers
-          ∙ drivers_said to.lines,
+resolved_lines text set ls None is h =
+    let all = all_read text ls is in
+    let same : set_of ls ≡ set = cc in (
+      all.0,
+      ap (λ (s : Set). all_codes s.drivers) (sym same) ∙ drivers_said ls
+          ∙ ap driver_codes (sym all.1),
     )
-resolved_lines text set end (Some line) is h = cc
+resolved_lines text set ls (Some line) is h = cc
 
-named_lines : (text : List ℕ) (set : Set) (r : Result Outline AsmFault)
-    → reading nothing_read 1 (lines_of text) ≡ r → named r ≡ Ok set → IsOfItsLines text set
-named_lines text set (Ok end) is h = resolved_lines text set end end.unknown is h
+named_lines : (text : List ℕ) (set : Set) (r : Result (List Line) AsmFault)
+    → reading [] 1 (lines_of text) ≡ r → named r ≡ Ok set → IsOfItsLines text set
+named_lines text set (Ok ls) is h = resolved_lines text set ls (unknown_from [] 1 ls) is h
 named_lines text set (Err fault) is h = cc
 
 pub code_is_of_its_lines : CodeIsOfItsLines
-code_is_of_its_lines text set h =
-    named_lines text set (reading nothing_read 1 (lines_of text)) refl h
+code_is_of_its_lines text set h = named_lines text set (reading [] 1 (lines_of text)) refl h

@@ -8,7 +8,7 @@ use Rattle.asm.specs.declared.draft.Place.{Place}
 use Rattle.asm.specs.declared.draft.Place.TheVariants.{Outside, InDriver, InRoutine}
 use Rattle.asm.specs.Outline.{Outline, is_again, noted, used_at}
 use Rattle.asm.specs.Faults.{is_out_of_range, stands}
-use Rattle.asm.specs.Laws.{Reads}
+use Rattle.asm.specs.Scopes.{Reads}
 use Rattle.asm.specs.Parts.{place_next}
 use Rattle.asm.proofs.Written.Codes.{left, Turn}
 use Rattle.asm.proofs.Tidy.{IsTidy, tidy_on}
