@@ -1,16 +1,14 @@
 -- The instructions of a text in other words: those of a routine are on its lines, in order, a label
 -- names the position of the instruction on its line, a `call` has the number of the routine that it
 -- names, and an instruction that touches a queue has the number of the queue that it names.
-use Rattle.std.specs.Prelude.{ℕ, ◌≡◌, ◌+◌, Bool, false, bytes_eq, List, [], ◌∷◌, ◌++◌, map, Option, Some, None, option_to_list, unwrap_or, if◌then◌else◌}
+use Rattle.std.specs.Prelude.{ℕ, ◌≡◌, ◌+◌, List, [], ◌∷◌, ◌++◌, map, option_to_list}
 use Rattle.model.specs.declared.instr.Instr.{Instr}
 use Rattle.model.specs.declared.set.Driver.{Driver}
 use Rattle.model.specs.declared.set.Routine.{Routine}
-use Rattle.model.specs.declared.set.Sort.{Sort}
 use Rattle.model.specs.Set.{Set}
 use Rattle.asm_line.specs.declared.line.Body.{Body}
 use Rattle.asm_line.specs.declared.line.Body.TheVariants.{Blank, OpenDriver, CloseDriver, AddQueue, Handle, HandleStartIo, HandleDpc, OpenRoutine, CloseRoutine, AddDevice, Step}
 use Rattle.asm_line.specs.declared.line.Line.{Line}
-use Rattle.asm.specs.declared.routines.Role.TheVariants.{Completion}
 pub use Rattle.asm.specs.Names.{Inventory}
 pub use Rattle.asm.specs.Said.{instruction_on}
 use Rattle.asm.specs.Reading.{IsNamed}

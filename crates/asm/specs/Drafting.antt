@@ -1,5 +1,5 @@
 -- A text read line by line into an outline: a step of the proof, and no definition to believe.
-use Rattle.std.specs.Prelude.{ℕ, ◌≡◌, ◌+◌, List, [], ◌∷◌, Option, Some, None, Result, Ok, Err}
+use Rattle.std.specs.Prelude.{ℕ, ◌+◌, List, [], ◌∷◌, Option, Some, None, Result, Ok, Err}
 use Rattle.text.specs.Cut.{lines_of}
 use Rattle.model.specs.Set.{Set}
 use Rattle.asm.specs.declared.draft.Place.{Place}

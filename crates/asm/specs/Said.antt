@@ -14,7 +14,7 @@ use Rattle.asm_line.specs.declared.line.Body.TheVariants.{OpenDriver, AddQueue, 
 use Rattle.asm_line.specs.declared.line.Line.{Line}
 use Rattle.asm.specs.declared.routines.Role.{Role}
 use Rattle.asm.specs.declared.routines.Role.TheVariants.{Handler, Completion, StartIo, Dpc, Cancel}
-use Rattle.asm.specs.Parts.{around, closes_driver, closes_routine, device_on, dpc_on, driver_on, handler_on, label_on, said, startio_on, up_to, waiting_on}
+use Rattle.asm.specs.Parts.{around, closes_driver, closes_routine, device_on, dpc_on, driver_on, handler_on, said, startio_on, up_to, waiting_on}
 use Rattle.asm.specs.Names.{Inventory, inventory, number_in, number_of}
 
 -- the instruction with this label, routine or queue in place of its own, if it has one

@@ -1,5 +1,5 @@
 -- What is read with outlines is what a text names, or its first fault.
-use Rattle.std.proofs.Common.{◌≡◌, ℕ, ◌+◌, List, [], ◌∷◌, ◌++◌, Option, Some, None, refl, ap, sym, ◌∙◌, subst}
+use Rattle.std.proofs.Common.{◌≡◌, ℕ, ◌+◌, List, [], ◌∷◌, Option, Some, None, refl, ap, sym, ◌∙◌, subst}
 use Rattle.std.specs.Prelude.{Result, Ok, Err}
 use Rattle.text.specs.Cut.{lines_of}
 use Rattle.model.specs.Set.{Set}
@@ -15,9 +15,9 @@ use Rattle.asm.specs.Outline as outline
 use Rattle.asm.specs.Outline.{Outline, noted, nothing_read}
 use Rattle.asm.specs.Drafting as drafted
 use Rattle.asm.specs.Scopes.{Reads, nothing_named}
-use Rattle.asm.specs.Parts.{around, place_after}
+use Rattle.asm.specs.Parts.{around}
 use Rattle.asm.specs.Faults.{misfit, unknown_from}
-use Rattle.asm.specs.Said.{drivers_on, devices_on, set_of}
+use Rattle.asm.specs.Said.{set_of}
 use Rattle.asm.specs.Reading.{after_line, ended, fitted, named, placed, reading, resolved, set_in}
 use Rattle.asm.proofs.Fitting.{fitting}
 use Rattle.asm.proofs.Tidy.{IsTidy, nothing_tidy, tidy_on}

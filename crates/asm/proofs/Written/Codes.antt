@@ -7,7 +7,7 @@ use Rattle.model.specs.declared.set.Queue.{Queue}
 use Rattle.model.specs.declared.set.Routine.{Routine}
 use Rattle.model.specs.declared.status.Major.TheVariants.{Read, Write, Control}
 use Rattle.asm_line.specs.declared.line.Body.{Body}
-use Rattle.asm_line.specs.declared.line.Body.TheVariants.{CloseDriver, Step as TakeStep}
+use Rattle.asm_line.specs.declared.line.Body.TheVariants.{Step as TakeStep}
 use Rattle.asm_line.specs.declared.line.Line.{Line}
 use Rattle.asm.specs.declared.routines.Role.TheVariants.{Handler, Completion, StartIo, Dpc, Cancel}
 use Rattle.asm.specs.declared.draft.ClosedRoutine.{ClosedRoutine}

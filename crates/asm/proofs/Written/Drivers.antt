@@ -1,12 +1,10 @@
 -- The other lines of a driver: one that opens it, one that closes it, and what it has.
-use Rattle.std.proofs.Common.{◌≡◌, ℕ, true, false, List, [], ◌∷◌, ◌++◌, Option, Some, None, refl, ap, sym, ◌∙◌, append_assoc, append-nil}
+use Rattle.std.proofs.Common.{◌≡◌, ℕ, false, List, [], ◌∷◌, ◌++◌, Option, Some, None, refl, ap, sym, ◌∙◌, append_assoc, append-nil}
 use Rattle.std.specs.Prelude.{map, slice_get, unwrap_or, is_some, option_map, option_and_then}
 use Rattle.std.proofs.lemmas.List.{map_push}
 use Rattle.std.proofs.lemmas.Option.{slice_get-map}
-use Rattle.model.specs.declared.instr.Instr.{Instr}
 use Rattle.model.specs.declared.set.Driver.{Driver}
 use Rattle.model.specs.declared.set.Queue.{Queue}
-use Rattle.model.specs.declared.set.Routine.{Routine}
 use Rattle.model.specs.declared.status.Major.{Major}
 use Rattle.model.specs.declared.status.Major.TheVariants.{Read, Write, Control}
 use Rattle.asm_line.specs.declared.line.Body.TheVariants.{OpenDriver, CloseDriver, AddQueue, Handle, HandleStartIo, HandleDpc}
@@ -17,13 +15,12 @@ use Rattle.asm.specs.declared.draft.ClosedRoutine.{ClosedRoutine}
 use Rattle.asm.specs.declared.draft.Linked.{Linked}
 use Rattle.asm.specs.declared.draft.Place.TheVariants.{Outside, InDriver}
 use Rattle.asm.specs.declared.draft.QueueLine.{QueueLine}
-use Rattle.asm.specs.declared.draft.StartIoLine.{StartIoLine}
 use Rattle.asm.specs.declared.draft.Use.{Use}
-use Rattle.asm.specs.Outline.{Outline, called, dpc_handled, driver_closed, driver_opened, entry_in, finished, finished_driver, finished_queue, handled, handler_of, is_again, queue_added, queue_at, routine_called, startio_handled, startio_named, used_at, waiting_named}
+use Rattle.asm.specs.Outline.{Outline, called, dpc_handled, driver_closed, driver_opened, entry_in, finished, finished_driver, handled, handler_of, queue_added, queue_at, routine_called, startio_handled, startio_named, used_at, waiting_named}
 use Rattle.asm.specs.Names.{number_of, routine_named, Inventory}
 use Rattle.asm.specs.Parts.{closes_driver, queue_on, said, up_to}
 use Rattle.asm.specs.Said.{added_queue, drivers_on, first_in}
-use Rattle.asm.proofs.Written.Codes.{Whole, name_of, names_used, whole, whole_now, number_called, number_touched, finish, finish_queue, closed, driver_left, driver_with, around, left, Turn}
+use Rattle.asm.proofs.Written.Codes.{Whole, name_of, names_used, whole, whole_now, number_called, number_touched, finish, finish_queue, closed, driver_left, around, Turn}
 use Rattle.asm.proofs.Tidy.{IsEmpty}
 
 pub driver_opened_turn : (o : Outline) (name : List ℕ) (label : Option (List ℕ)) (ls : List Line)

@@ -3,7 +3,6 @@ use Rattle.std.proofs.Common.{◌≡◌, ℕ, ◌+◌, List, [], ◌∷◌, ◌+
 use Rattle.std.specs.Prelude.{map, slice_get, unwrap_or, option_map, option_and_then, option_to_list}
 use Rattle.std.proofs.lemmas.List.{map-append, map_push}
 use Rattle.model.specs.declared.instr.Instr.{Instr}
-use Rattle.model.specs.declared.set.Driver.{Driver}
 use Rattle.model.specs.declared.set.Routine.{Routine}
 use Rattle.model.specs.declared.set.Sort.{Sort}
 use Rattle.asm_line.specs.declared.line.Body.TheVariants.{OpenRoutine, CloseRoutine, Step as TakeStep}

@@ -4,7 +4,6 @@ use Rattle.std.specs.Prelude.{Result, Ok, Err, option_to_list}
 use Rattle.std.specs.List.{cons_option}
 use Rattle.text.specs.Cut.{lines_of}
 use Rattle.model.specs.Set.{Set}
-use Rattle.model.specs.declared.instr.Instr.{Instr}
 use Rattle.asm_line.specs.declared.line.Body.{Body}
 use Rattle.asm_line.specs.declared.line.Body.TheVariants.{OpenDriver, CloseDriver, OpenRoutine, CloseRoutine}
 use Rattle.asm_line.specs.declared.line.Line.{Line}

@@ -1,12 +1,11 @@
 -- The drivers that are read are those of the lines.
 use Rattle.std.proofs.Common.{◌≡◌, ℕ, ◌+◌, true, false, List, [], ◌∷◌, Option, Some, None, refl, ap, sym, ◌∙◌, subst, append-nil}
-use Rattle.model.specs.declared.set.Driver.{Driver}
 use Rattle.asm_line.specs.declared.line.Body.{Body}
 use Rattle.asm_line.specs.declared.line.Body.TheVariants.{Blank, OpenDriver, CloseDriver, AddQueue, Handle, HandleStartIo, HandleDpc, OpenRoutine, CloseRoutine, AddDevice, Step as TakeStep}
 use Rattle.asm_line.specs.declared.line.Line.{Line}
 use Rattle.asm.specs.declared.draft.Place.{Place}
 use Rattle.asm.specs.declared.draft.Place.TheVariants.{Outside, InDriver, InRoutine}
-use Rattle.asm.specs.Outline.{Outline, is_again, noted, used_at}
+use Rattle.asm.specs.Outline.{Outline, is_again, noted}
 use Rattle.asm.specs.Faults.{is_out_of_range, stands}
 use Rattle.asm.specs.Scopes.{Reads}
 use Rattle.asm.specs.Parts.{place_next}
