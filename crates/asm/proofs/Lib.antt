@@ -5,9 +5,7 @@ pub mod Orderly
 pub mod Turns
 pub mod Plain
 pub mod Bare
-pub mod Least
-pub mod First
 pub mod Unknown
-pub mod Named
 pub mod Written
 pub mod Listed
+pub mod Declared

@@ -7,7 +7,7 @@ use Rattle.asm_line.specs.Plain.{blank_line, plain_line}
 use Rattle.asm.specs.declared.fault.AsmKind.{AsmKind}
 use Rattle.asm.specs.Outline.{Outline, misfit, noted, IsOrderly}
 use Rattle.asm.specs.Plain.{IsPlainOn}
-use Rattle.asm.specs.Reading.{read_on}
+use Rattle.asm.specs.Drafting.{read_on}
 use Rattle.asm.proofs.Fitting.{fitting}
 use Rattle.asm.proofs.Orderly.Lines.{orderly_on}
 

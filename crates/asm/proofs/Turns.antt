@@ -3,7 +3,7 @@ use Rattle.std.proofs.Common.{◌≡◌, ℕ, ◌+◌, List, ◌∷◌, refl}
 use Rattle.std.specs.Prelude.{Ok, Err}
 use Rattle.asm.specs.declared.fault.AsmKind.{AsmKind}
 use Rattle.asm.specs.Outline.{Outline}
-use Rattle.asm.specs.Reading.{read_on, reading}
+use Rattle.asm.specs.Drafting.{read_on, reading}
 
 -- a line that is read leaves the rest to read
 pub line_read : (raws rest : List (List ℕ)) (raw : List ℕ) (o next : Outline) (n : ℕ)

@@ -2,4 +2,6 @@ pub mod Labels
 pub mod Codes
 pub mod Instructions
 pub mod Drivers
+pub mod Devices
 pub mod Lines
+pub mod Law

@@ -1,90 +1,24 @@
 -- The instructions of a text in other words: those of a routine are on its lines, in order, a label
 -- names the position of the instruction on its line, a `call` has the number of the routine that it
 -- names, and an instruction that touches a queue has the number of the queue that it names.
-use Rattle.std.specs.Prelude.{ℕ, ◌≡◌, ◌+◌, Bool, false, bytes_eq, List, [], ◌∷◌, ◌++◌, map, Option, Some, None, option_to_list, unwrap_or, if◌then◌else◌}
+use Rattle.std.specs.Prelude.{ℕ, ◌≡◌, ◌+◌, List, [], ◌∷◌, ◌++◌, map, option_to_list}
 use Rattle.model.specs.declared.instr.Instr.{Instr}
 use Rattle.model.specs.declared.set.Driver.{Driver}
 use Rattle.model.specs.declared.set.Routine.{Routine}
-use Rattle.model.specs.declared.set.Sort.{Sort}
 use Rattle.model.specs.Set.{Set}
 use Rattle.asm_line.specs.declared.line.Body.{Body}
 use Rattle.asm_line.specs.declared.line.Body.TheVariants.{Blank, OpenDriver, CloseDriver, AddQueue, Handle, HandleStartIo, HandleDpc, OpenRoutine, CloseRoutine, AddDevice, Step}
 use Rattle.asm_line.specs.declared.line.Line.{Line}
-use Rattle.asm.specs.declared.routines.Role.TheVariants.{Completion}
-use Rattle.asm.specs.Outline.{number_of, routine_named, with_label, with_queue, with_routine}
+pub use Rattle.asm.specs.Names.{Inventory}
+pub use Rattle.asm.specs.Said.{instruction_on}
 use Rattle.asm.specs.Reading.{IsNamed}
-use Rattle.asm.specs.Laws.{queues_ahead, routines_ahead, sorts_ahead, IsRead}
-
--- the label is this name
-abbrev pub is_labelled : Option (List ℕ) → List ℕ → Bool
-is_labelled None name = false
-is_labelled (Some label) name = bytes_eq name label
-
--- the position that a label names from a line on, where the next instruction has position p
-abbrev pub place_at : List ℕ → ℕ → Option (List ℕ) → Body → (ℕ → Option ℕ) → Option ℕ
-place_at name p label (Step instr used) later =
-    if is_labelled label name then Some p else later (p + 1)
-place_at name p label Blank later = later p
-place_at name p label (OpenDriver other) later = later p
-place_at name p label CloseDriver later = later p
-place_at name p label (AddQueue other guard cancel) later = later p
-place_at name p label (Handle major routine) later = later p
-place_at name p label (HandleStartIo routine cancel) later = later p
-place_at name p label (HandleDpc routine) later = later p
-place_at name p label (OpenRoutine other sort) later = later p
-place_at name p label CloseRoutine later = later p
-place_at name p label (AddDevice other driver stack lower) later = later p
-
--- the position that a label names: that of the instruction on its line
-abbrev pub label_place : List ℕ → ℕ → List Line → Option ℕ
-label_place name p [] = None
-label_place name p (l ∷ ls) = place_at name p l.label l.body (λ next. label_place name next ls)
-
--- where an instruction on a line of a routine jumps to: the position that its label names; 0 where
--- it doesn't jump
-abbrev pub jump_place : List Line → Option (List ℕ) → ℕ
-jump_place routine None = 0
-jump_place routine (Some name) = unwrap_or (label_place name 0 routine) 0
-
--- what a driver has: the names and sorts of its routines, in order, and the names of its queues
-pub record Inventory : Type 0 where
-  pub routines : List (List ℕ)
-  pub sorts : List Sort
-  pub queues : List (List ℕ)
+use Rattle.asm.specs.Scopes.{queues_ahead, routines_ahead, sorts_ahead}
+use Rattle.asm.specs.Laws.{IsRead}
 
 -- what the driver has whose lines begin here
 abbrev pub inventory : List Line → Inventory
 inventory ls =
     record { routines = routines_ahead ls; sorts = sorts_ahead ls; queues = queues_ahead ls }
-
--- the number of the routine that a `call` sets
-abbrev pub call_number : Inventory → Option (List ℕ) → Option ℕ
-call_number has None = None
-call_number has (Some name) = routine_named has.routines has.sorts Completion name
-
--- the number of the queue that an instruction touches; 0 where it touches none
-abbrev pub queue_number : Inventory → Option (List ℕ) → ℕ
-queue_number has None = 0
-queue_number has (Some name) = unwrap_or (number_of has.queues name) 0
-
--- the instruction on one of the lines of a routine; where it jumps, to the position that its label
--- names among them; where it is a `call`, with the number of the routine that it names in its
--- driver, and where it touches a queue, with the number of that
-abbrev pub instruction_on : Inventory → List Line → Body → Option Instr
-instruction_on has routine (Step (Some i) used) =
-    Some (with_queue (with_routine (with_label i (jump_place routine used.label))
-    (call_number has used.routine)) (queue_number has used.queue))
-instruction_on has routine (Step None used) = None
-instruction_on has routine Blank = None
-instruction_on has routine (OpenDriver name) = None
-instruction_on has routine CloseDriver = None
-instruction_on has routine (AddQueue name guard cancel) = None
-instruction_on has routine (Handle major handler) = None
-instruction_on has routine (HandleStartIo handler cancel) = None
-instruction_on has routine (HandleDpc handler) = None
-instruction_on has routine (OpenRoutine name sort) = None
-instruction_on has routine CloseRoutine = None
-instruction_on has routine (AddDevice name driver stack lower) = None
 
 -- the instructions on some of the lines of a routine
 abbrev pub instructions_on : Inventory → List Line → List Line → List Instr

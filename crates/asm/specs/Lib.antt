@@ -1,6 +1,12 @@
-pub mod Bare
-pub mod Outline
+pub mod Parts
+pub mod Names
+pub mod Said
+pub mod Faults
 pub mod Reading
-pub mod Plain
 pub mod Laws
 pub mod Code
+pub mod Outline
+pub mod Drafting
+pub mod Scopes
+pub mod Bare
+pub mod Plain

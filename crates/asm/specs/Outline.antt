@@ -1,15 +1,14 @@
--- What the lines of a driver text say so far, and what the next line adds to it.
-use Rattle.std.specs.Prelude.{ℕ, ⊤, ◌≡◌, ◌<◌, ◌≤◌, All, map, slice_get, unwrap_or, ◌+◌, min, Bool, true, false, not, ◌&&◌, nat_lt, nat_le, bytes_eq, List, [], ◌∷◌, ◌++◌, length, Option, Some, None, is_some, is_none, option_map, option_and_then, option_to_list, position, if◌then◌else◌}
-use Rattle.std.specs.List.{list_any}
+-- What the lines of a driver text say so far, and what the next line adds to it, as the program
+-- keeps it: a step of the proof, and no definition to believe.
+use Rattle.std.specs.Prelude.{ℕ, ⊤, ◌≡◌, ◌<◌, ◌≤◌, All, map, slice_get, unwrap_or, ◌+◌, min, Bool, true, false, not, nat_lt, List, [], ◌∷◌, ◌++◌, length, Option, Some, None, is_some, option_map, option_and_then, option_to_list, position, if◌then◌else◌}
 use Rattle.model.specs.declared.instr.Instr.{Instr}
-use Rattle.model.specs.declared.limits.TheConstants.{MAX_DEVICES, MAX_DRIVERS, MAX_INSTRUCTIONS, MAX_QUEUES, MAX_ROUTINES, MAX_STACK}
+use Rattle.model.specs.declared.limits.TheConstants.{MAX_DEVICES, MAX_DRIVERS, MAX_INSTRUCTIONS, MAX_QUEUES, MAX_ROUTINES}
 use Rattle.model.specs.declared.set.Device.{Device}
 use Rattle.model.specs.declared.set.Driver.{Driver}
 use Rattle.model.specs.declared.set.Queue.{Queue}
 use Rattle.model.specs.declared.set.Routine.{Routine}
 use Rattle.model.specs.declared.set.Sort.{Sort}
-use Rattle.model.specs.declared.set.Sort.TheVariants.{Dispatch, StartIo, Dpc, Propagate, Hold, Cancel}
-use Rattle.forms.specs.InstructionForm.{Operand, ALabel, AQueue, ARoutine, ValueOf, rebuilt}
+use Rattle.model.specs.declared.set.Sort.TheVariants.{Dispatch}
 use Rattle.model.specs.Sound.{DriverFits, DevicesFit, IsSpinLock, LabelFits, OperandFits, queue_named}
 use Rattle.model.specs.declared.status.Major.{Major}
 use Rattle.model.specs.declared.status.Major.TheVariants.{Read, Write, Control}
@@ -29,6 +28,9 @@ use Rattle.asm_line.specs.declared.line.Body.{Body}
 use Rattle.asm_line.specs.declared.line.Body.TheVariants.{Blank, OpenDriver, CloseDriver, AddQueue, Handle, HandleStartIo, HandleDpc, OpenRoutine, CloseRoutine, AddDevice, Step}
 use Rattle.asm_line.specs.declared.line.Line.{Line}
 use Rattle.asm_line.specs.declared.line.UsedNames.{UsedNames}
+pub use Rattle.asm.specs.Names.{is_among, is_known, number_of, serves, number_for, routine_named, Inventory}
+pub use Rattle.asm.specs.Faults.{stands, is_stack_size, is_out_of_range}
+pub use Rattle.asm.specs.Said.{with_label, with_queue, with_routine}
 
 -- What was read: the drivers that are closed and the devices, with the names of all of them; of the
 -- open driver its routines that are closed, the names and sorts of all of its routines, the uses of
@@ -89,48 +91,6 @@ nothing_read = record {
   unknown = None;
 }
 
--- the name is one of these
-abbrev pub is_among : List (List ℕ) → List ℕ → Bool
-is_among names name = list_any (bytes_eq name) names
-
--- what a name is the number of: its place among the names
-abbrev pub number_of : List (List ℕ) → List ℕ → Option ℕ
-number_of names name = position (bytes_eq name) names
-
--- whether a line may stand in a place
-abbrev pub stands : Place → Body → Bool
-stands place Blank = true
-stands Outside (OpenDriver name) = true
-stands Outside CloseDriver = false
-stands Outside (AddQueue name guard cancel) = false
-stands Outside (Handle major routine) = false
-stands Outside (HandleStartIo routine cancel) = false
-stands Outside (HandleDpc routine) = false
-stands Outside (OpenRoutine name sort) = false
-stands Outside CloseRoutine = false
-stands Outside (AddDevice name driver stack lower) = true
-stands Outside (Step instr used) = false
-stands InDriver (OpenDriver name) = false
-stands InDriver CloseDriver = true
-stands InDriver (AddQueue name guard cancel) = true
-stands InDriver (Handle major routine) = true
-stands InDriver (HandleStartIo routine cancel) = true
-stands InDriver (HandleDpc routine) = true
-stands InDriver (OpenRoutine name sort) = true
-stands InDriver CloseRoutine = false
-stands InDriver (AddDevice name driver stack lower) = false
-stands InDriver (Step instr used) = false
-stands InRoutine (OpenDriver name) = false
-stands InRoutine CloseDriver = false
-stands InRoutine (AddQueue name guard cancel) = false
-stands InRoutine (Handle major routine) = false
-stands InRoutine (HandleStartIo routine cancel) = false
-stands InRoutine (HandleDpc routine) = false
-stands InRoutine (OpenRoutine name sort) = false
-stands InRoutine CloseRoutine = true
-stands InRoutine (AddDevice name driver stack lower) = false
-stands InRoutine (Step instr used) = true
-
 -- the routine that serves a major function in the open driver, as its line names it
 abbrev pub handler_of : Outline → Major → Option Use
 handler_of o Read = o.read
@@ -155,24 +115,6 @@ is_again o label (Step instr used) = is_known_label o.labels label
 is_again o label Blank = false
 is_again o label CloseDriver = false
 is_again o label CloseRoutine = false
-
--- a device may have this stack size
-abbrev pub is_stack_size : ℕ → Bool
-is_stack_size n = nat_le 1 n && nat_le n MAX_STACK
-
--- an operand of the line is out of range
-abbrev pub is_out_of_range : Body → Bool
-is_out_of_range (AddDevice name driver stack lower) = not (is_stack_size stack)
-is_out_of_range (AddQueue name guard cancel) = is_none guard
-is_out_of_range (Step instr used) = is_none instr
-is_out_of_range Blank = false
-is_out_of_range (OpenDriver name) = false
-is_out_of_range CloseDriver = false
-is_out_of_range (Handle major routine) = false
-is_out_of_range (HandleStartIo routine cancel) = false
-is_out_of_range (HandleDpc routine) = false
-is_out_of_range (OpenRoutine name sort) = false
-is_out_of_range CloseRoutine = false
 
 -- there is room for what the line adds
 abbrev pub has_room : Outline → Body → Bool
@@ -218,51 +160,6 @@ earliest (Some a) (Some b) = Some (min a b)
 abbrev pub driver_opened : Outline → List ℕ → Outline
 driver_opened o name = record o { place = InDriver; driver_names = o.driver_names ++ name ∷ [] }
 
--- routines of this sort are for this role
-abbrev pub serves : Role → Sort → Bool
-serves Handler Dispatch = true
-serves Handler StartIo = false
-serves Handler Dpc = false
-serves Handler Propagate = false
-serves Handler Hold = false
-serves Handler Cancel = false
-serves Completion Dispatch = false
-serves Completion StartIo = false
-serves Completion Dpc = false
-serves Completion Propagate = true
-serves Completion Hold = true
-serves Completion Cancel = false
-serves StartIoRole Dispatch = false
-serves StartIoRole StartIo = true
-serves StartIoRole Dpc = false
-serves StartIoRole Propagate = false
-serves StartIoRole Hold = false
-serves StartIoRole Cancel = false
-serves DpcRole Dispatch = false
-serves DpcRole StartIo = false
-serves DpcRole Dpc = true
-serves DpcRole Propagate = false
-serves DpcRole Hold = false
-serves DpcRole Cancel = false
-serves CancelRole Dispatch = false
-serves CancelRole StartIo = false
-serves CancelRole Dpc = false
-serves CancelRole Propagate = false
-serves CancelRole Hold = false
-serves CancelRole Cancel = true
-
--- the number, if there is a sort and it is for the role
-abbrev pub number_for : Role → ℕ → Option Sort → Option ℕ
-number_for role number None = None
-number_for role number (Some sort) = if serves role sort then Some number else None
-
--- the number of the routine with this name, if its sort is for the role; given are the names and
--- sorts of the driver's routines, in order
-abbrev pub routine_named : List (List ℕ) → List Sort → Role → List ℕ → Option ℕ
-routine_named names sorts role name =
-    option_and_then (λ number. number_for role number (slice_get sorts number))
-    (number_of names name)
-
 -- there is a routine with this name, and its sort is for the role
 abbrev pub has_routine : List (List ℕ) → List Sort → Role → List ℕ → Bool
 has_routine names sorts role name = is_some (routine_named names sorts role name)
@@ -277,14 +174,6 @@ routine_called o call =
     option_and_then (λ u. routine_named o.routine_names o.sorts Completion u.name)
     (option_and_then (λ place. slice_get o.calls place) call)
 
--- the instruction with this routine in place of its own, if it is a `call`
-abbrev pub to_routine : Option ℕ → (operand : Operand) → ValueOf operand → ValueOf operand
-to_routine routine ARoutine old = routine
-to_routine routine _ value = value
-
-abbrev pub with_routine : Instr → Option ℕ → Instr
-with_routine i routine = rebuilt (to_routine routine) i
-
 -- the number of the queue that the instruction of a place touches, if there is one
 abbrev pub queue_used : Outline → Option ℕ → Option ℕ
 queue_used o place =
@@ -294,14 +183,6 @@ queue_used o place =
 -- 0 where nothing has the name, or where it touches none
 abbrev pub queue_at : Outline → Option ℕ → ℕ
 queue_at o place = unwrap_or (queue_used o place) 0
-
--- the instruction with this queue in place of its own, if it touches one
-abbrev pub to_queue : ℕ → (operand : Operand) → ValueOf operand → ValueOf operand
-to_queue queue AQueue old = queue
-to_queue queue _ value = value
-
-abbrev pub with_queue : Instr → ℕ → Instr
-with_queue i queue = rebuilt (to_queue queue) i
 
 -- an instruction of the open driver; if it is a call, with the number of its routine, and if it
 -- touches a queue, with the number of that
@@ -462,14 +343,6 @@ position_of labels positions name =
 abbrev pub target_position : List (List ℕ) → List ℕ → Option Use → ℕ
 target_position labels positions None = 0
 target_position labels positions (Some u) = unwrap_or (position_of labels positions u.name) 0
-
--- the instruction with this label in place of its own, if it has one
-abbrev pub to_label : ℕ → (operand : Operand) → ValueOf operand → ValueOf operand
-to_label label ALabel old = label
-to_label label _ value = value
-
-abbrev pub with_label : Instr → ℕ → Instr
-with_label i label = rebuilt (to_label label) i
 
 -- an instruction with the position of its label
 abbrev pub resolved : List (List ℕ) → List ℕ → StepOf → Linked

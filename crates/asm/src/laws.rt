@@ -7,7 +7,7 @@ ghost use Rattle.asm.specs.Laws.{FaultIsFirst, NamedIsFaultless};
 /// The fault that is given is that of the first line that has one, with the least kind that it has,
 /// or that the text ends too early; and only where there is none of these, the first use of a name
 /// that nothing has.
-#[tactic(auto, using(crate::proofs::Named::fault_is_first))]
+#[tactic(auto, using(crate::proofs::Declared::First::fault_is_first))]
 pub fn fault_is_first()
     ensures { FaultIsFirst }
 {}
@@ -21,7 +21,7 @@ pub fn named_is_faultless()
 /// that jumps has the position of the instruction on the line of its label, each `call` has the
 /// number of the routine that it names, and one that touches a queue has the number of the queue
 /// that it names.
-#[tactic(auto, using(crate::proofs::Written::Lines::code_is_of_its_lines))]
+#[tactic(auto, using(crate::proofs::Written::Law::code_is_of_its_lines))]
 pub fn code_is_of_its_lines()
     ensures { CodeIsOfItsLines }
 {}

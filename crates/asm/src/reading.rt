@@ -5,7 +5,8 @@ ghost use Rattle.asm_line.specs.Plain.{plain_line};
 ghost use Rattle.asm.specs.Outline.{misfit, nothing_read, IsOrderly};
 ghost use Rattle.asm.specs.declared.draft.Place.{Place};
 ghost use Rattle.asm.specs.Plain.{IsPlainOn};
-ghost use Rattle.asm.specs.Reading.{kind_of, memory, read_on, reading, resolved, set_in, IsFaultOf, IsNamed};
+ghost use Rattle.asm.specs.Drafting.{read_on, reading, resolved};
+ghost use Rattle.asm.specs.Reading.{kind_of, memory, set_in, IsFaultOf, IsNamed};
 
 use crate::draft::{Draft, Place};
 use crate::fault::{AsmFault, AsmKind};
@@ -36,6 +37,7 @@ pub fn assemble(alloc: Global, text: &[u8]) -> Result<DriverSet, AsmFault>
 }
 
 /// The set that a text names, or its first fault.
+#[tactic(auto, using(crate::proofs::Declared::Answer::draft_read, crate::proofs::Declared::Answer::draft_refused))]
 fn set_in(alloc: Global, text: &[u8]) -> Result<Result<DriverSet, AsmFault>, AllocError>
     ensures { IfOk result (λ answer. answer ≡ set_in text.now) }
 {

@@ -14,8 +14,9 @@ use Rattle.asm_line.specs.declared.line.Line.{Line}
 use Rattle.asm_line.specs.Line.{read_line}
 use Rattle.asm.specs.declared.fault.AsmKind.TheVariants.{UnknownWord, DuplicateName, OutOfRange, OverLimit}
 use Rattle.asm.specs.Code.{CodeIsOfItsLines, Inventory, all_codes, codes_from, codes_of, driver_code, driver_codes, drivers_from, instruction_on, instructions_on, inventory, routine_code, routine_codes, routine_lines, unless_end}
-use Rattle.asm.specs.Laws.{Reads}
-use Rattle.asm.specs.Outline.{Outline, has_room, is_again, misfit, noted, nothing_read, stands}
+use Rattle.asm.specs.Faults.{has_room, is_again, misfit, stands}
+use Rattle.asm.specs.Laws.{AreFine}
+use Rattle.asm.specs.Parts.{place_after}
 use Rattle.asm_source.specs.declared.source.Sought.TheVariants.{Driver as InDriver, Routine as InRoutine, End, Nothing}
 use Rattle.asm_source.specs.Source.{counted, instruction_lines, lines_from, past}
 use Rattle.asm_source.specs.Standing.{AreLinesOf, StandOn, StandsOn}
@@ -57,8 +58,8 @@ module _ (text : List ℕ) (number : ℕ) where
 
   -- up to the end of a routine
   module _ (has : Inventory) (routine : List Line) (n : ℕ) (raw : List ℕ) (raws : List (List ℕ))
-      (l : Line) (ls : List Line) (o : Outline) (behind : Behind text n (raw ∷ raws))
-      (read : read_line raw ≡ Ok l) (fits : misfit o l ≡ None)
+      (l : Line) (ls before : List Line) (behind : Behind text n (raw ∷ raws))
+      (read : read_line raw ≡ Ok l) (fits : misfit before l ≡ None)
       (later : StandOn text (instructions_on has routine (routine_lines ls))
       (lines_from number End (n + 1) raws)) where
     standing : (i : Instr) → instruction_on has routine l.body ≡ Some i → StandsOn text i n
@@ -91,17 +92,18 @@ module _ (text : List ℕ) (number : ℕ) where
         let says = ap (λ (b : Body). instruction_on has routine b) e in rw e (standing _ says, later)
     line_to_end (Step None used) e =
         let b : Body = Step None used in
-        absurd (unfit (stands o.place b) (is_again o l.label b) (has_room o b) (rw e at fits))
+        absurd (unfit (stands (place_after before) b) (is_again before l.label b)
+        (has_room before b) (rw e at fits))
 
-  stand_to_end : (has : Inventory) (routine : List Line) (o end : Outline) (n : ℕ)
-      (raws : List (List ℕ)) (ls : List Line) → Reads o n raws ls end → Behind text n raws
+  stand_to_end : (has : Inventory) (routine before : List Line) (n : ℕ)
+      (raws : List (List ℕ)) (ls : List Line) → AreFine before raws ls → Behind text n raws
       → StandOn text (instructions_on has routine (routine_lines ls)) (lines_from number End n raws)
-  stand_to_end has routine o end n [] [] h b = tt
-  stand_to_end has routine o end n [] (l ∷ ls) h b = absurd h
-  stand_to_end has routine o end n (raw ∷ raws) [] h b = absurd h
-  stand_to_end has routine o end n (raw ∷ raws) (l ∷ ls) h b =
-      rw h.0 (line_to_end has routine n raw raws l ls o b h.0 h.1.0
-      (stand_to_end has routine (noted o n l.label l.body) end (n + 1) raws ls h.1.1 (next_behind text n raw raws b))
+  stand_to_end has routine before n [] [] h b = tt
+  stand_to_end has routine before n [] (l ∷ ls) h b = absurd h
+  stand_to_end has routine before n (raw ∷ raws) [] h b = absurd h
+  stand_to_end has routine before n (raw ∷ raws) (l ∷ ls) h b =
+      rw h.0 (line_to_end has routine n raw raws l ls before b h.0 h.1.0
+      (stand_to_end has routine (l ∷ before) (n + 1) raws ls h.1.1 (next_behind text n raw raws b))
       l.body refl)
 
   -- up to the line of a routine
@@ -137,18 +139,18 @@ module _ (text : List ℕ) (number : ℕ) where
     line_to_routine (suc r) (AddDevice other driver stack lower) at = later (suc r) at
     line_to_routine (suc r) (Step i used) at = later (suc r) at
 
-  stand_in_routine : (has : Inventory) (code : List Instr) (o end : Outline) (n : ℕ)
-      (raws : List (List ℕ)) (ls : List Line) → Reads o n raws ls end → Behind text n raws
+  stand_in_routine : (has : Inventory) (code : List Instr) (before : List Line) (n : ℕ)
+      (raws : List (List ℕ)) (ls : List Line) → AreFine before raws ls → Behind text n raws
       → (r : ℕ) → slice_get (routine_codes has ls) r ≡ Some code
       → StandOn text code (lines_from number (InRoutine r) n raws)
-  stand_in_routine has code o end n [] [] h b r at = cc
-  stand_in_routine has code o end n [] (l ∷ ls) h b r at = absurd h
-  stand_in_routine has code o end n (raw ∷ raws) [] h b r at = absurd h
-  stand_in_routine has code o end n (raw ∷ raws) (l ∷ ls) h b r at =
+  stand_in_routine has code before n [] [] h b r at = cc
+  stand_in_routine has code before n [] (l ∷ ls) h b r at = absurd h
+  stand_in_routine has code before n (raw ∷ raws) [] h b r at = absurd h
+  stand_in_routine has code before n (raw ∷ raws) (l ∷ ls) h b r at =
       let behind = next_behind text n raw raws b in
       rw h.0 (line_to_routine has code n raws ls
-      (stand_to_end has (routine_lines ls) _ end (n + 1) raws ls h.1.1 behind)
-      (stand_in_routine has code (noted o n l.label l.body) end (n + 1) raws ls h.1.1 behind) r l.body at)
+      (stand_to_end has (routine_lines ls) (l ∷ before) (n + 1) raws ls h.1.1 behind)
+      (stand_in_routine has code (l ∷ before) (n + 1) raws ls h.1.1 behind) r l.body at)
 
   -- up to the line of a driver
   module _ (codes : List (List Instr)) (code : List Instr) (n : ℕ) (raws : List (List ℕ))
@@ -185,18 +187,18 @@ module _ (text : List ℕ) (number : ℕ) where
     line_to_driver (suc d) (AddDevice other driver stack lower) its = later (suc d) its
     line_to_driver (suc d) (Step i used) its = later (suc d) its
 
-  stand_in_driver : (codes : List (List Instr)) (code : List Instr) (o end : Outline) (n : ℕ)
-      (raws : List (List ℕ)) (ls : List Line) → Reads o n raws ls end → Behind text n raws
+  stand_in_driver : (codes : List (List Instr)) (code : List Instr) (before : List Line) (n : ℕ)
+      (raws : List (List ℕ)) (ls : List Line) → AreFine before raws ls → Behind text n raws
       → slice_get codes number ≡ Some code → (d : ℕ) → slice_get (driver_codes ls) d ≡ Some codes
       → StandOn text code (lines_from number (InDriver d) n raws)
-  stand_in_driver codes code o end n [] [] h b at d its = cc
-  stand_in_driver codes code o end n [] (l ∷ ls) h b at d its = absurd h
-  stand_in_driver codes code o end n (raw ∷ raws) [] h b at d its = absurd h
-  stand_in_driver codes code o end n (raw ∷ raws) (l ∷ ls) h b at d its =
+  stand_in_driver codes code before n [] [] h b at d its = cc
+  stand_in_driver codes code before n [] (l ∷ ls) h b at d its = absurd h
+  stand_in_driver codes code before n (raw ∷ raws) [] h b at d its = absurd h
+  stand_in_driver codes code before n (raw ∷ raws) (l ∷ ls) h b at d its =
       let behind = next_behind text n raw raws b in
       rw h.0 (line_to_driver codes code n raws ls at
-      (stand_in_routine (inventory ls) code _ end (n + 1) raws ls h.1.1 behind number)
-      (stand_in_driver codes code (noted o n l.label l.body) end (n + 1) raws ls h.1.1 behind at) d l.body its)
+      (stand_in_routine (inventory ls) code (l ∷ before) (n + 1) raws ls h.1.1 behind number)
+      (stand_in_driver codes code (l ∷ before) (n + 1) raws ls h.1.1 behind at) d l.body its)
 
 -- the lines that were found are those of the routine
 pub are_lines_of : CodeIsOfItsLines → (text : List ℕ) (driver routine : ℕ)
@@ -212,6 +214,6 @@ are_lines_of law text driver routine set d r named at_driver at_routine =
     ∙ ap (λ (o : Option Driver). option_map (λ (d : Driver). codes_of d.routines) o) at_driver in
     let opened : slice_get (driver_codes its.0.lines) driver ≡ Some codes =
     ap (λ (all : List (List (List Instr))). slice_get all driver) (sym its.1) ∙ codes_there in
-    stand_in_driver text routine codes r.code nothing_read its.0.outline 1 (lines_of text)
+    stand_in_driver text routine codes r.code [] 1 (lines_of text)
     its.0.lines its.0.read (record { before = []; whole = refl; count = refl }) code_there driver
     opened

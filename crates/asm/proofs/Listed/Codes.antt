@@ -18,8 +18,9 @@ use Rattle.asm_line.specs.declared.line.Body.TheVariants.{Step as TakeStep}
 use Rattle.asm_line.specs.declared.line.Line.{Line}
 use Rattle.asm.specs.declared.routines.Role.{Role}
 use Rattle.asm.specs.declared.routines.Role.TheVariants.{Completion}
-use Rattle.asm.specs.Outline.{routine_named, with_label, with_queue, with_routine}
-use Rattle.asm.specs.Code.{all_codes, call_number, codes_of, driver_code, driver_codes, instruction_on, instructions_on, inventory, is_labelled, jump_place, label_place, queue_number, routine_code, routine_codes, routine_lines as code_lines, Inventory}
+use Rattle.asm.specs.Names.{number_in, routine_named, Inventory}
+use Rattle.asm.specs.Said.{instruction_on, is_labelled, jump_place, label_place, queue_number, with_label, with_queue, with_routine}
+use Rattle.asm.specs.Code.{all_codes, codes_of, driver_code, driver_codes, instructions_on, inventory, routine_code, routine_codes, routine_lines as code_lines}
 use Rattle.asm_listing.specs.declared.entry.Entry.{Entry}
 use Rattle.asm_listing.specs.declared.entry.Entry.TheVariants as line
 use Rattle.asm_listing.specs.Words.{label, queue, routine}
@@ -135,7 +136,7 @@ jump_found code (Some k) few h =
 
 call_found : (d : Driver) (f : Option ℕ) → length d.routines ≤ 32
     → Served Completion (sorts_of d.routines) f
-    → call_number (has_of d) (option_map routine f) ≡ f
+    → number_in (has_of d) Completion (option_map routine f) ≡ f
 call_found d None few h = refl
 call_found d (Some r) few h = routine_found d Completion r few h
 

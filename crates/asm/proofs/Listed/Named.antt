@@ -1,5 +1,5 @@
 -- The listing of a set names the set.
-use Rattle.std.proofs.Common.{◌≡◌, ℕ, ◌+◌, ◌<◌, ◌≤◌, suc, Bool, true, false, List, [], ◌∷◌, ◌++◌, length, map, Option, Some, None, IfSome, refl, ap, ◌∙◌, arith, All}
+use Rattle.std.proofs.Common.{◌≡◌, ℕ, ◌+◌, ◌<◌, ◌≤◌, suc, Bool, true, false, List, [], ◌∷◌, ◌++◌, length, map, Option, Some, None, IfSome, refl, ap, sym, ◌∙◌, arith, All}
 use Rattle.std.specs.Prelude.{get_or, slice_get, Ok, if◌then◌else◌}
 use Rattle.std.specs.List.{list_any}
 use Rattle.std.proofs.lemmas.List.Elements.{All-head, All-tail}
@@ -15,8 +15,9 @@ use Rattle.model.specs.Sound.{completion_named, queue_named, CallsFit, CancelFit
 use Rattle.asm_line.specs.declared.line.Line.{Line}
 use Rattle.asm.specs.declared.draft.Place.TheVariants.{Outside}
 use Rattle.asm.specs.Outline.{noted, nothing_read, Outline}
-use Rattle.asm.specs.Reading.{after_line, ended, fitted, named, placed, read_on, reading, resolved, IsNamed}
-use Rattle.asm.specs.Laws.{Reads}
+use Rattle.asm.specs.Drafting.{after_line, ended, fitted, named, placed, read_on, reading, resolved}
+use Rattle.asm.specs.Reading.{IsNamed}
+use Rattle.asm.specs.Scopes.{Reads}
 use Rattle.asm.specs.Code.{all_codes, codes_of}
 use Rattle.asm_listing.specs.declared.entry.Entry.{Entry}
 use Rattle.asm_listing.specs.declared.entry.Entry.TheVariants as line
@@ -27,7 +28,9 @@ use Rattle.asm_listing.proofs.Digits.{IsSmall}
 use Rattle.asm_listing.proofs.Meaning.{meant, EntryFits, InstrFits}
 use Rattle.asm.proofs.Tidy.{nothing_tidy}
 use Rattle.asm.proofs.Unknown.Lines.{unknown_is}
-use Rattle.asm.proofs.Written.Lines.{codes_read}
+use Rattle.asm.proofs.Declared.Answer.{set_same}
+use Rattle.asm.proofs.Written.Law.{drivers_said}
+use Rattle.asm.proofs.Written.Lines.{drivers_read}
 use Rattle.asm.proofs.Listed.Codes.{listed_codes}
 use Rattle.asm.proofs.Listed.Known.{none_unknown}
 use Rattle.asm.proofs.Listed.Sets.{set_walk, waiting_cancel}
@@ -288,13 +291,14 @@ listing_named set h =
     let unknown : end.unknown ≡ None =
     unknown_is raws ls end read closed ∙ none_unknown set h in
     let codes : all_codes end.drivers ≡ all_codes set.drivers =
-    codes_read nothing_read 1 Outside raws ls end read closed refl nothing_tidy
-    ∙ listed_codes set h in
+    ap all_codes (drivers_read nothing_read 1 Outside raws ls end read closed refl nothing_tidy)
+    ∙ drivers_said ls ∙ listed_codes set h in
     let drivers : end.drivers ≡ set.drivers =
     same_drivers end.drivers set.drivers walked.at.drivers.shaped codes in
     let devices : end.devices ≡ set.devices = walked.at.devices.same in
     let through = read_through nothing_read 1 raws ls end read closed in
-    ap (λ raws. named (reading nothing_read 1 raws)) (lines_back es fits)
+    sym (set_same (listing set))
+    ∙ ap (λ raws. named (reading nothing_read 1 raws)) (lines_back es fits)
     ∙ ap (λ r. named r) through
     ∙ ap (λ o. resolved end o) unknown
     ∙ ap (λ ds. Ok (set_with ds end.devices)) drivers

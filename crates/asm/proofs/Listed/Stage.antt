@@ -13,7 +13,7 @@ use Rattle.asm.specs.declared.draft.QueueLine.{QueueLine}
 use Rattle.asm.specs.declared.draft.Step.{Step as StepOf}
 use Rattle.asm.specs.declared.draft.Use.{Use}
 use Rattle.asm.specs.Outline.{Outline, has_room, is_again, is_among, is_out_of_range, misfit, noted, stands, startio_named, waiting_named}
-use Rattle.asm.specs.Laws.{Reads}
+use Rattle.asm.specs.Scopes.{Reads}
 use Rattle.asm_listing.specs.declared.entry.Entry.{Entry}
 use Rattle.asm_listing.specs.Words.{joined, label, routine, words_of}
 use Rattle.asm_listing.proofs.Back.{entry_back, AllFit}

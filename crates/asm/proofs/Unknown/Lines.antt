@@ -8,7 +8,7 @@ use Rattle.asm_line.specs.declared.line.Body.{Body}
 use Rattle.asm_line.specs.declared.line.Body.TheVariants.{Blank, OpenDriver, CloseDriver, AddQueue, Handle, HandleStartIo, HandleDpc, OpenRoutine, CloseRoutine, AddDevice, Step as TakeStep}
 use Rattle.asm_line.specs.declared.line.Line.{Line}
 use Rattle.asm.specs.Outline.{Outline, nothing_read, device_added, driver_closed, driver_opened, earliest, is_again, is_among, is_out_of_range, missed, noted, routine_closed, routine_opened, stands, used_at}
-use Rattle.asm.specs.Laws.{nothing_named, is_known, labels_ahead, unknown_from, Reads}
+use Rattle.asm.specs.Scopes.{nothing_named, is_known, labels_ahead, unknown_from, Reads}
 use Rattle.asm.proofs.Unknown.Earliest.{earliest_none, earliest_assoc, earliest_swap, used_now, both_count}
 use Rattle.asm.proofs.Unknown.Missed.{pending, jumping, missed_split, name_missed}
 use Rattle.asm.proofs.Unknown.Turn.{pending_none, rest_later, Names, names_of, Around, scope_of, ahead_of, ahead_with, around_next, left, Turn}

@@ -1,24 +1,29 @@
--- The codes of all drivers: those that were read, and those on the lines that are left.
-use Rattle.std.proofs.Common.{◌≡◌, ℕ, List, [], ◌∷◌, ◌++◌, length, Option}
+-- All drivers: those that were read, and those on the lines that are left.
+use Rattle.std.proofs.Common.{◌≡◌, ℕ, List, [], ◌∷◌, ◌++◌, length, Option, Some, None}
 use Rattle.std.specs.Prelude.{map, slice_get, unwrap_or, option_and_then, option_to_list}
 use Rattle.model.specs.declared.instr.Instr.{Instr}
+use Rattle.model.specs.declared.set.Driver.{Driver}
+use Rattle.model.specs.declared.set.Queue.{Queue}
+use Rattle.model.specs.declared.set.Routine.{Routine}
+use Rattle.model.specs.declared.status.Major.TheVariants.{Read, Write, Control}
 use Rattle.asm_line.specs.declared.line.Body.{Body}
-use Rattle.asm_line.specs.declared.line.Body.TheVariants.{OpenDriver, CloseDriver, OpenRoutine, CloseRoutine, Step as TakeStep}
+use Rattle.asm_line.specs.declared.line.Body.TheVariants.{Step as TakeStep}
 use Rattle.asm_line.specs.declared.line.Line.{Line}
-use Rattle.asm.specs.declared.routines.Role.TheVariants.{Completion}
+use Rattle.asm.specs.declared.routines.Role.TheVariants.{Handler, Completion, StartIo, Dpc, Cancel}
 use Rattle.asm.specs.declared.draft.ClosedRoutine.{ClosedRoutine}
 use Rattle.asm.specs.declared.draft.Linked.{Linked}
 use Rattle.asm.specs.declared.draft.Place.{Place}
 use Rattle.asm.specs.declared.draft.Place.TheVariants.{Outside, InDriver, InRoutine}
+use Rattle.asm.specs.declared.draft.QueueLine.{QueueLine}
 use Rattle.asm.specs.declared.draft.Use.{Use}
-use Rattle.asm.specs.Outline.{Outline, number_of, resolved, routine_named, with_queue, with_routine}
-use Rattle.asm.specs.Laws.{queues_ahead, routines_ahead, sorts_ahead}
-use Rattle.asm.specs.Code.{all_codes, driver_codes, routine_codes, routine_lines, Inventory}
+use Rattle.asm.specs.Outline.{Outline, entry_in, resolved, startio_named, waiting_named}
+use Rattle.asm.specs.Names.{number_of, routine_named, Inventory}
+use Rattle.asm.specs.Parts.{closes_driver, closes_routine, dpc_on, handler_on, place_next, queue_on, routine_on, said, sort_on, startio_on, up_to, waiting_on}
+use Rattle.asm.specs.Said.{added_queue, drivers_on, first_in, routines_on, with_queue, with_routine}
 use Rattle.asm.proofs.Written.Labels.{labels_in, positions_in, linked_lines}
 
--- the routines that calls name on lines up to the end of the driver
+-- the routines that calls name on lines of a driver
 abbrev called_ahead : Body → List (List ℕ) → List (List ℕ)
-called_ahead CloseDriver after = []
 called_ahead (TakeStep instr used) after = option_to_list used.routine ++ after
 called_ahead _ after = after
 
@@ -26,9 +31,8 @@ abbrev pub calls_ahead : List Line → List (List ℕ)
 calls_ahead [] = []
 calls_ahead (l ∷ ls) = called_ahead l.body (calls_ahead ls)
 
--- the queues that instructions name on lines up to the end of the driver
+-- the queues that instructions name on lines of a driver
 abbrev used_ahead : Body → List (List ℕ) → List (List ℕ)
-used_ahead CloseDriver after = []
 used_ahead (TakeStep instr used) after = option_to_list used.queue ++ after
 used_ahead _ after = after
 
@@ -49,9 +53,9 @@ name_of u = u.name
 abbrev pub whole : Outline → List Line → Whole
 whole o ls = record {
   has = record {
-    routines = o.routine_names ++ routines_ahead ls;
-    sorts = o.sorts ++ sorts_ahead ls;
-    queues = o.queue_names ++ queues_ahead ls;
+    routines = o.routine_names ++ said routine_on ls;
+    sorts = o.sorts ++ said sort_on ls;
+    queues = o.queue_names ++ said queue_on ls;
   };
   calls = map name_of o.calls ++ calls_ahead ls;
   uses = map name_of o.queue_uses ++ uses_ahead ls;
@@ -81,8 +85,17 @@ abbrev pub finish : Whole → Linked → Instr
 finish w step =
     with_queue (with_routine step.instr (number_called w step.call)) (number_touched w step.queue)
 
-abbrev pub closed_codes : Whole → List ClosedRoutine → List (List Instr)
-closed_codes w routines = map (λ (r : ClosedRoutine). map (finish w) r.code) routines
+abbrev pub closed : Whole → ClosedRoutine → Routine
+closed w r = record { sort = r.sort; code = map (finish w) r.code }
+
+abbrev pub finish_queue : Inventory → QueueLine → Queue
+finish_queue has q =
+    record { guard = q.guard; cancel = entry_in has.routines has.sorts Cancel q.cancel }
+
+-- the name that is used, if there is one
+abbrev pub names_used : Option Use → List (List ℕ)
+names_used None = []
+names_used (Some u) = u.name ∷ []
 
 -- the code of the open routine, of which these lines are left
 abbrev pub open_code : Outline → Whole → List Line → List Instr
@@ -93,36 +106,46 @@ open_code o w ls =
     ++ linked_lines w.has (o.labels ++ labels_in ls)
     (o.positions ++ positions_in (length o.steps) ls) ls
 
--- the codes of the open driver in a place: those that were read and those on the lines that are
--- left
-abbrev pub driver_left : Outline → Whole → List Line → List (List Instr)
-driver_left o w ls = closed_codes w o.routines ++ routine_codes w.has ls
+-- the open driver, with these routines: what was read, and what stands on the lines that are left
+abbrev pub driver_with : Outline → Whole → List Line → List Routine → Driver
+driver_with o w ls routines = record {
+  routines = routines;
+  queues = map (finish_queue w.has) o.queues ++ said (added_queue w.has) ls;
+  read = first_in w.has Handler (names_used o.read ++ said (handler_on Read) ls);
+  write = first_in w.has Handler (names_used o.write ++ said (handler_on Write) ls);
+  control = first_in w.has Handler (names_used o.control ++ said (handler_on Control) ls);
+  startio = first_in w.has StartIo (names_used (startio_named o.startio) ++ said startio_on ls);
+  startio_cancel =
+      first_in w.has Cancel (names_used (waiting_named o.startio) ++ said waiting_on ls);
+  dpc = first_in w.has Dpc (names_used o.dpc ++ said dpc_on ls);
+}
 
-abbrev pub routine_left : Outline → Whole → List Instr → List Line → List (List Instr)
-routine_left o w code ls = closed_codes w o.routines ++ code ∷ routine_codes w.has ls
+abbrev pub driver_left : Outline → Whole → List Line → List Line → Driver
+driver_left o w inside ls =
+    driver_with o w inside (map (closed w) o.routines ++ routines_on w.has ls)
 
--- the codes of all drivers, of which the open one has these
-abbrev pub around : Outline → List Line → List (List Instr) → List (List (List Instr))
-around o ls codes = all_codes o.drivers ++ codes ∷ driver_codes ls
+abbrev pub routine_left : Outline → Whole → List Instr → List Line → List Line → Driver
+routine_left o w code inside ls = driver_with o w inside
+    (map (closed w) o.routines ++ record { sort = o.sort; code = code } ∷ routines_on w.has ls)
 
--- the codes of all drivers
-abbrev pub left_codes : Outline → Place → List Line → List (List (List Instr))
-left_codes o Outside ls = all_codes o.drivers ++ driver_codes ls
-left_codes o InDriver ls = all_codes o.drivers ++ driver_left o (whole o ls) ls ∷ driver_codes ls
-left_codes o InRoutine ls =
-    all_codes o.drivers ++ routine_left o (whole o ls) (open_code o (whole o ls) (routine_lines ls))
-    ls ∷ driver_codes ls
+-- all drivers, of which this is the open one
+abbrev pub around : Outline → List Line → Driver → List Driver
+around o ls driver = o.drivers ++ driver ∷ drivers_on ls
 
-abbrev pub place_after : Place → Body → Place
-place_after p (OpenDriver name) = InDriver
-place_after p CloseDriver = Outside
-place_after p (OpenRoutine name sort) = InRoutine
-place_after p CloseRoutine = InDriver
-place_after p _ = p
+-- all drivers, where these lines of the open one are left
+abbrev pub left_in : Outline → Place → List Line → List Line → List Driver
+left_in o Outside inside ls = o.drivers ++ drivers_on ls
+left_in o InDriver inside ls = around o ls (driver_left o (whole o inside) inside ls)
+left_in o InRoutine inside ls = around o ls
+    (routine_left o (whole o inside) (open_code o (whole o inside) (up_to closes_routine ls))
+    inside ls)
 
--- the next outline says the same of all codes
+abbrev pub left : Outline → Place → List Line → List Driver
+left o p ls = left_in o p (up_to closes_driver ls) ls
+
+-- the next outline says the same of all drivers
 pub record Turn (o next : Outline) (p : Place) (label : Option (List ℕ)) (body : Body)
     (ls : List Line) : Type 0 where
-  pub place : next.place ≡ place_after p body
-  pub same : left_codes o p (record { label = label; body = body } ∷ ls) ≡ left_codes next
-      (place_after p body) ls
+  pub place : next.place ≡ place_next body p
+  pub same : left o p (record { label = label; body = body } ∷ ls) ≡ left next (place_next body p)
+      ls

@@ -3,6 +3,7 @@ use Rattle.std.proofs.Common.{◌≡◌, ℕ, ◌+◌, List, [], ◌∷◌, ◌+
 use Rattle.std.specs.Prelude.{map, slice_get, unwrap_or, option_map, option_and_then, option_to_list}
 use Rattle.std.proofs.lemmas.List.{map-append, map_push}
 use Rattle.model.specs.declared.instr.Instr.{Instr}
+use Rattle.model.specs.declared.set.Routine.{Routine}
 use Rattle.model.specs.declared.set.Sort.{Sort}
 use Rattle.asm_line.specs.declared.line.Body.TheVariants.{OpenRoutine, CloseRoutine, Step as TakeStep}
 use Rattle.asm_line.specs.declared.line.Line.{Line}
@@ -11,17 +12,18 @@ use Rattle.asm.specs.declared.routines.Role.TheVariants.{Completion}
 use Rattle.asm.specs.declared.draft.ClosedRoutine.{ClosedRoutine}
 use Rattle.asm.specs.declared.draft.Place.TheVariants.{InDriver, InRoutine}
 use Rattle.asm.specs.declared.draft.Use.{Use}
-use Rattle.asm.specs.Outline.{Outline, called, number_of, resolved, routine_closed, routine_named, routine_opened, stepped, target_position, use_place, used_at, with_label, with_queue, with_routine}
-use Rattle.asm.specs.Laws.{routines_ahead, sorts_ahead}
-use Rattle.asm.specs.Code.{call_number, instructions_on, queue_number, routine_codes, routine_lines, Inventory}
+use Rattle.asm.specs.Outline.{Outline, resolved, routine_closed, routine_opened, stepped, target_position, use_place, used_at}
+use Rattle.asm.specs.Names.{number_in, number_of, routine_named, Inventory}
+use Rattle.asm.specs.Parts.{closes_driver, closes_routine, routine_on, said, sort_on, up_to}
+use Rattle.asm.specs.Said.{instruction_on, queue_number, routines_on, with_label, with_queue, with_routine}
 use Rattle.asm.proofs.Added.{added_step}
 use Rattle.asm.proofs.Written.Labels.{labels_in, positions_in, jump_to, linked_lines, all_linked}
-use Rattle.asm.proofs.Written.Codes.{calls_ahead, uses_ahead, Whole, name_of, whole, number_called, number_touched, finish, closed_codes, open_code, routine_left, around, Turn}
+use Rattle.asm.proofs.Written.Codes.{calls_ahead, uses_ahead, Whole, name_of, whole, number_called, number_touched, finish, closed, open_code, driver_with, routine_left, around, Turn}
 use Rattle.asm.proofs.Tidy.{IsIdle}
 
 -- a routine that is opened
 fresh_code : (o : Outline) (w : Whole) (ls : List Line) → IsIdle o
-    → open_code o w ls ≡ instructions_on w.has ls ls
+    → open_code o w ls ≡ said (instruction_on w.has ls) ls
 fresh_code o w ls idle =
     rw (idle.labels, idle.positions, idle.steps) (all_linked w.has ls ls)
 
@@ -30,8 +32,8 @@ whole_opened : (o : Outline) (name : List ℕ) (sort : Sort) (label : Option (Li
     ≡ whole (routine_opened o name sort) ls
 whole_opened o name sort label ls =
     rw (
-      append_assoc o.routine_names (name ∷ []) (routines_ahead ls),
-      append_assoc o.sorts (sort ∷ []) (sorts_ahead ls),
+      append_assoc o.routine_names (name ∷ []) (said routine_on ls),
+      append_assoc o.sorts (sort ∷ []) (said sort_on ls),
     ) refl
 
 -- a routine that is closed
@@ -76,7 +78,7 @@ number_named : (calls : List Use) (has : Inventory) (uses : List (List ℕ))
       uses = uses;
     })
     (use_place (length calls) routine)
-    ≡ call_number has routine
+    ≡ number_in has Completion routine
 number_named calls has uses None after = refl
 number_named calls has uses (Some name) after =
     ap (λ (found : Option (List ℕ)). option_and_then
@@ -107,24 +109,24 @@ jump_same labels positions n (Some name) = refl
 
 finished_same : (w : Whole) (labels : List (List ℕ)) (positions : List ℕ) (i : Instr) (n : ℕ)
     (used : UsedNames) (call queue : Option ℕ)
-    → number_called w call ≡ call_number w.has used.routine
+    → number_called w call ≡ number_in w.has Completion used.routine
     → number_touched w queue ≡ queue_number w.has used.queue
     → finish w (resolved labels positions
     (record { instr = i; label = used_at n used.label; call = call; queue = queue }))
     ≡ with_queue (with_routine (with_label i (jump_to labels positions used.label))
-    (call_number w.has used.routine)) (queue_number w.has used.queue)
+    (number_in w.has Completion used.routine)) (queue_number w.has used.queue)
 finished_same w labels positions i n used call queue called touched =
     ap (λ (p : ℕ). with_queue (with_routine (with_label i p) (number_called w call))
     (number_touched w queue)) (jump_same labels positions n used.label)
     ∙ ap (λ (number : Option ℕ). with_queue (with_routine
     (with_label i (jump_to labels positions used.label)) number) (number_touched w queue)) called
     ∙ ap (λ (q : ℕ). with_queue (with_routine
-    (with_label i (jump_to labels positions used.label)) (call_number w.has used.routine)) q)
+    (with_label i (jump_to labels positions used.label)) (number_in w.has Completion used.routine)) q)
     touched
 
 step_code : (o : Outline) (w : Whole) (n : ℕ) (label : Option (List ℕ)) (i : Instr)
     (used : UsedNames) (ls : List Line)
-    → number_called w (use_place (length o.calls) used.routine) ≡ call_number w.has used.routine
+    → number_called w (use_place (length o.calls) used.routine) ≡ number_in w.has Completion used.routine
     → number_touched w (use_place (length o.queue_uses) used.queue) ≡ queue_number w.has used.queue
     → open_code o w (record { label = label; body = TakeStep (Some i) used } ∷ ls)
     ≡ open_code (stepped o n label i used) w ls
@@ -152,50 +154,52 @@ pub step_turn : (o : Outline) (n : ℕ) (label : Option (List ℕ)) (i : Instr) 
     → Turn o (stepped o n label i used) InRoutine label (TakeStep (Some i) used) ls
 step_turn o n label i used ls at =
     let next = stepped o n label i used in
-    let old = whole o (record { label = label; body = TakeStep (Some i) used } ∷ ls) in
-    let called = number_named o.calls old.has old.uses used.routine (calls_ahead ls) in
-    let touched = queue_noted o.queue_uses old.has old.calls used.queue (uses_ahead ls) in
+    let inside = up_to closes_driver ls in
+    let old = whole o (record { label = label; body = TakeStep (Some i) used } ∷ inside) in
+    let called = number_named o.calls old.has old.uses used.routine (calls_ahead inside) in
+    let touched = queue_noted o.queue_uses old.has old.calls used.queue (uses_ahead inside) in
     record {
       place = at;
       same =
-          ap (λ (code : List Instr). around o ls (routine_left o old code ls))
-          (step_code o old n label i used (routine_lines ls) called touched)
+          ap (λ (code : List Instr). around o ls (routine_left o old code inside ls))
+          (step_code o old n label i used (up_to closes_routine ls) called touched)
           ∙ ap (λ (w : Whole). around o ls
-          (routine_left o w (open_code next w (routine_lines ls)) ls))
-          (whole_stepped o n label i used ls);
+          (routine_left o w (open_code next w (up_to closes_routine ls)) inside ls))
+          (whole_stepped o n label i used inside);
     }
 
 pub routine_closed_turn : (o : Outline) (label : Option (List ℕ)) (ls : List Line)
     → Turn o (routine_closed o) InRoutine label CloseRoutine ls
 routine_closed_turn o label ls =
-    let w = whole o ls in
-    let closed : ClosedRoutine =
+    let inside = up_to closes_driver ls in
+    let w = whole o inside in
+    let last : ClosedRoutine =
     record { sort = o.sort; code = map (resolved o.labels o.positions) o.steps } in
-    let code = map (finish w) closed.code in
-    let after = routine_codes w.has ls in
-    let pushed : closed_codes w (o.routines ++ closed ∷ []) ≡ closed_codes w o.routines ++ code
-    ∷ [] = map_push (λ (r : ClosedRoutine). map (finish w) r.code) o.routines closed in
+    let after = routines_on w.has ls in
+    let pushed : map (closed w) (o.routines ++ last ∷ []) ≡ map (closed w) o.routines
+    ++ closed w last ∷ [] = map_push (closed w) o.routines last in
     record {
       place = refl;
       same =
-          ap (λ (code : List Instr). around o ls (routine_left o w code ls)) (closed_code o w)
-          ∙ ap (λ (codes : List (List Instr)). around o ls codes)
-          (sym (ap (λ (codes : List (List Instr)). codes ++ after) pushed
-          ∙ append_assoc (closed_codes w o.routines) (code ∷ []) after));
+          ap (λ (code : List Instr). around o ls (routine_left o w code inside ls)) (closed_code o w)
+          ∙ ap (λ (routines : List Routine). around o ls (driver_with o w inside routines))
+          (sym (ap (λ (routines : List Routine). routines ++ after) pushed
+          ∙ append_assoc (map (closed w) o.routines) (closed w last ∷ []) after));
     }
 
 pub routine_opened_turn : (o : Outline) (name : List ℕ) (sort : Sort) (label : Option (List ℕ))
     (ls : List Line) → IsIdle o
     → Turn o (routine_opened o name sort) InDriver label (OpenRoutine name sort) ls
 routine_opened_turn o name sort label ls idle =
+    let inside = up_to closes_driver ls in
     let next = routine_opened o name sort in
-    let old = whole o (record { label = label; body = OpenRoutine name sort } ∷ ls) in
+    let old = whole o (record { label = label; body = OpenRoutine name sort } ∷ inside) in
     record {
       place = refl;
       same =
-          ap (λ (code : List Instr). around o ls (routine_left o old code ls))
-          (sym (fresh_code next old (routine_lines ls) idle))
+          ap (λ (code : List Instr). around o ls (routine_left next old code inside ls))
+          (sym (fresh_code next old (up_to closes_routine ls) idle))
           ∙ ap (λ (w : Whole). around o ls
-          (routine_left o w (open_code next w (routine_lines ls)) ls))
-          (whole_opened o name sort label ls);
+          (routine_left next w (open_code next w (up_to closes_routine ls)) inside ls))
+          (whole_opened o name sort label inside);
     }

@@ -1,15 +1,18 @@
 -- The position that a label names is that of the instruction on its line.
 use Rattle.std.proofs.Common.{◌≡◌, ℕ, ◌+◌, ◌≤◌, inl, inr, Bool, true, false, not, cond, List, [], ◌∷◌, ◌++◌, length, suc, Option, Some, None, refl, ap, sym, ◌∙◌, arith}
 use Rattle.std.specs.Prelude.{bytes_eq, nat_lt, slice_get, unwrap_or, option_map, option_and_then, option_to_list, if◌then◌else◌}
-use Rattle.std.specs.List.{position_or_len}
+use Rattle.std.specs.List.{cons_option, position_or_len}
 use Rattle.std.proofs.lemmas.Option.{slice_get_cases}
 use Rattle.std.proofs.lemmas.Bool.Decides.{nat_tests}
 use Rattle.model.specs.declared.instr.Instr.{Instr}
 use Rattle.asm_line.specs.declared.line.Body.{Body}
 use Rattle.asm_line.specs.declared.line.Body.TheVariants.{Step as TakeStep}
 use Rattle.asm_line.specs.declared.line.Line.{Line}
-use Rattle.asm.specs.Outline.{position_of, with_label, with_queue, with_routine}
-use Rattle.asm.specs.Code.{call_number, instruction_on, instructions_on, jump_place, label_place, queue_number, Inventory}
+use Rattle.asm.specs.declared.routines.Role.TheVariants.{Completion}
+use Rattle.asm.specs.Outline.{position_of}
+use Rattle.asm.specs.Names.{number_in, Inventory}
+use Rattle.asm.specs.Parts.{said}
+use Rattle.asm.specs.Said.{instruction_on, jump_place, label_place, queue_number, with_label, with_queue, with_routine}
 
 -- the labels on lines of a routine, and their positions, where the first instruction has position p
 abbrev pub labels_at : Option (List ℕ) → Body → List (List ℕ)
@@ -102,13 +105,13 @@ jump_to labels positions (Some name) = unwrap_or (position_of labels positions n
 abbrev linked_on : Inventory → List (List ℕ) → List ℕ → Body → Option Instr
 linked_on has labels positions (TakeStep (Some i) used) =
     Some (with_queue (with_routine (with_label i (jump_to labels positions used.label))
-    (call_number has used.routine)) (queue_number has used.queue))
+    (number_in has Completion used.routine)) (queue_number has used.queue))
 linked_on has labels positions _ = None
 
 abbrev pub linked_lines : Inventory → List (List ℕ) → List ℕ → List Line → List Instr
 linked_lines has labels positions [] = []
 linked_lines has labels positions (l ∷ ls) =
-    option_to_list (linked_on has labels positions l.body) ++ linked_lines has labels positions ls
+    cons_option (linked_on has labels positions l.body) (linked_lines has labels positions ls)
 
 jump_linked : (all : List Line) (label : Option (List ℕ))
     → jump_to (labels_in all) (positions_in 0 all) label ≡ jump_place all label
@@ -118,11 +121,11 @@ jump_linked all (Some name) = ap (λ (o : Option ℕ). unwrap_or o 0) (named_pla
 one_linked : (has : Inventory) (all : List Line) (body : Body)
     → linked_on has (labels_in all) (positions_in 0 all) body ≡ instruction_on has all body
 one_linked has all (TakeStep (Some i) used) =
-    ap (λ (p : ℕ). Some (with_queue (with_routine (with_label i p) (call_number has used.routine))
+    ap (λ (p : ℕ). Some (with_queue (with_routine (with_label i p) (number_in has Completion used.routine))
     (queue_number has used.queue))) (jump_linked all used.label)
 one_linked has all _ = refl
 
 pub all_linked : (has : Inventory) (all ls : List Line)
-    → linked_lines has (labels_in all) (positions_in 0 all) ls ≡ instructions_on has all ls
+    → linked_lines has (labels_in all) (positions_in 0 all) ls ≡ said (instruction_on has all) ls
 all_linked has all [] = refl
 all_linked has all (l ∷ ls) = rw (one_linked has all l.body, all_linked has all ls) refl

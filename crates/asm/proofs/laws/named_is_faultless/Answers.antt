@@ -1,4 +1,4 @@
-use Rattle.asm.proofs.Named.{named_is_faultless}
+use Rattle.asm.proofs.Declared.First.{named_is_faultless}
 use Rattle.asm.proofs.laws.named_is_faultless.Goals as goal
 
 pub returns : goal.returns

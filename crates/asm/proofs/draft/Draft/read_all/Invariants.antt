@@ -1,6 +1,6 @@
 use Rattle.std.proofs.Common.{◌≡◌, ◌<◌, ◌+◌, ◌^◌, length}
 use Rattle.asm.specs.Outline.{IsOrderly}
-use Rattle.asm.specs.Reading.{reading}
+use Rattle.asm.specs.Drafting.{reading}
 use Rattle.asm.proofs.draft.Draft.read_all.Given as goal
 
 -- the rest is read as the whole is, and its lines can be counted

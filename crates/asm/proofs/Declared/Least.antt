@@ -9,9 +9,11 @@ use Rattle.asm.specs.declared.fault.AsmKind.TheVariants.{Lex, UnknownWord, Dupli
 use Rattle.asm_line.specs.declared.line.Line.{Line}
 use Rattle.asm_line.specs.declared.line.LineFault.TheVariants as unread
 use Rattle.asm_line.specs.Line.{line_of}
-use Rattle.asm.specs.Outline.{Outline, has_room, is_again, is_out_of_range, stands}
-use Rattle.asm.specs.Reading.{fitted, placed, read_on}
+use Rattle.asm.specs.Parts.{place_after}
+use Rattle.asm.specs.Faults.{has_room, is_again, is_out_of_range, stands}
+use Rattle.asm.specs.Reading.{fitted, placed}
 use Rattle.asm.specs.Laws.{is_line, is_unknown, kind_number, shows, IsLeastKind}
+use Rattle.asm_line.specs.Line.{read_line}
 
 -- the first of five tests that passes, and what each kind's test says
 abbrev chosen : Bool → Bool → Bool → Bool → Bool → Option AsmKind
@@ -88,50 +90,50 @@ least_chosen false false false false true k h =
 least_chosen false false false false false k h = cc
 
 -- what a kind's test says of a line
-tests : (o : Outline) (raw : List ℕ) (k : AsmKind)
-    → shows o raw k ≡ tested (shows o raw Lex) (shows o raw UnknownWord) (shows o raw DuplicateName)
-    (shows o raw OutOfRange) (shows o raw OverLimit) k
-tests o raw Lex = refl
-tests o raw UnknownWord = refl
-tests o raw DuplicateName = refl
-tests o raw UnknownName = refl
-tests o raw OutOfRange = refl
-tests o raw Unclosed = refl
-tests o raw OverLimit = refl
-tests o raw Memory = refl
+tests : (before : List Line) (raw : List ℕ) (k : AsmKind)
+    → shows before raw k ≡ tested (shows before raw Lex) (shows before raw UnknownWord) (shows before raw DuplicateName)
+    (shows before raw OutOfRange) (shows before raw OverLimit) k
+tests before raw Lex = refl
+tests before raw UnknownWord = refl
+tests before raw DuplicateName = refl
+tests before raw UnknownName = refl
+tests before raw OutOfRange = refl
+tests before raw Unclosed = refl
+tests before raw OverLimit = refl
+tests before raw Memory = refl
 
 -- a line's kind is that of the first test that passes: here for a line of some form
-fitted_choice : (o next : Outline) (a b c d : Bool) (k : AsmKind) (n : ℕ) (l : Line)
-    → fitted o n l
+fitted_choice : (a b c d : Bool) (k : AsmKind) (l : Line)
+    → fitted l
     (if not a then Some UnknownWord
     else (if b then Some DuplicateName
     else (if c then Some OutOfRange else (if not d then Some OverLimit else None)))) ≡ Err k
     → chosen false (not a) b c (not d) ≡ Some k
-fitted_choice o next false b c d k n l h = cc
-fitted_choice o next true true c d k n l h = cc
-fitted_choice o next true false true d k n l h = cc
-fitted_choice o next true false false false k n l h = cc
-fitted_choice o next true false false true k n l h = cc
+fitted_choice false b c d k l h = cc
+fitted_choice true true c d k l h = cc
+fitted_choice true false true d k l h = cc
+fitted_choice true false false false k l h = cc
+fitted_choice true false false true k l h = cc
 
-line_choice : (o : Outline) (n : ℕ) (clean : Bool) (read : Option Line) (k : AsmKind)
-    → placed o n (if clean then ok_or read unread.UnknownWord else Err unread.Lex) ≡ Err k
-    → chosen (not clean) (is_unknown o read) (is_line (λ l. is_again o l.label l.body) read)
-    (is_line (λ l. is_out_of_range l.body) read) (is_line (λ l. not (has_room o l.body)) read)
+line_choice : (before : List Line) (clean : Bool) (read : Option Line) (k : AsmKind)
+    → placed before (if clean then ok_or read unread.UnknownWord else Err unread.Lex) ≡ Err k
+    → chosen (not clean) (is_unknown before read) (is_line (λ l. is_again before l.label l.body) read)
+    (is_line (λ l. is_out_of_range l.body) read) (is_line (λ l. not (has_room before l.body)) read)
     ≡ Some k
-line_choice o n false read k h = cc
-line_choice o n true None k h = cc
-line_choice o n true (Some l) k h =
-    fitted_choice o o (stands o.place l.body) (is_again o l.label l.body) (is_out_of_range l.body)
-    (has_room o l.body) k n l h
+line_choice before false read k h = cc
+line_choice before true None k h = cc
+line_choice before true (Some l) k h =
+    fitted_choice (stands (place_after before) l.body) (is_again before l.label l.body)
+    (is_out_of_range l.body) (has_room before l.body) k l h
 
 -- so the kind is the least
-pub least_kind : (o : Outline) (n : ℕ) (raw : List ℕ) (k : AsmKind) → read_on o n raw ≡ Err k
-    → IsLeastKind o raw k
-least_kind o n raw k h =
-    let first = line_choice o n (is_lexical raw) (line_of (tokens_of raw)) k h in
-    let all = least_chosen (shows o raw Lex) (shows o raw UnknownWord) (shows o raw DuplicateName)
-    (shows o raw OutOfRange) (shows o raw OverLimit) k first in
+pub least_kind : (before : List Line) (raw : List ℕ) (k : AsmKind)
+    → placed before (read_line raw) ≡ Err k → IsLeastKind before raw k
+least_kind before raw k h =
+    let first = line_choice before (is_lexical raw) (line_of (tokens_of raw)) k h in
+    let all = least_chosen (shows before raw Lex) (shows before raw UnknownWord) (shows before raw DuplicateName)
+    (shows before raw OutOfRange) (shows before raw OverLimit) k first in
     record {
-      shown = rw (tests o raw k) all.shown;
-      least = λ j less. rw (tests o raw j) (all.least j less);
+      shown = rw (tests before raw k) all.shown;
+      least = λ j less. rw (tests before raw j) (all.least j less);
     }
