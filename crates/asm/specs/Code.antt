@@ -1,7 +1,7 @@
 -- The instructions of a text in other words: those of a routine are on its lines, in order, a label
 -- names the position of the instruction on its line, a `call` has the number of the routine that it
 -- names, and an instruction that touches a queue has the number of the queue that it names.
-use Rattle.std.specs.Prelude.{ℕ, ◌≡◌, ◌+◌, List, [], ◌∷◌, ◌++◌, map, option_to_list}
+use Rattle.std.specs.Prelude.{ℕ, ◌≡◌, List, [], ◌∷◌, ◌++◌, map, option_to_list}
 use Rattle.model.specs.declared.instr.Instr.{Instr}
 use Rattle.model.specs.declared.set.Driver.{Driver}
 use Rattle.model.specs.declared.set.Routine.{Routine}

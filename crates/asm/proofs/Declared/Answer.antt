@@ -16,7 +16,7 @@ use Rattle.asm.specs.Outline.{Outline, noted, nothing_read}
 use Rattle.asm.specs.Drafting as drafted
 use Rattle.asm.specs.Scopes.{Reads, nothing_named}
 use Rattle.asm.specs.Parts.{around}
-use Rattle.asm.specs.Faults.{misfit, unknown_from}
+use Rattle.asm.specs.Faults.{unknown_from}
 use Rattle.asm.specs.Said.{set_of}
 use Rattle.asm.specs.Reading.{after_line, ended, fitted, named, placed, reading, resolved, set_in}
 use Rattle.asm.proofs.Fitting.{fitting}
