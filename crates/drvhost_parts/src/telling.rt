@@ -34,6 +34,9 @@ use std::alloc::{AllocError, Global};
 use told::{Happened, Teller};
 use told_lines::kept::ToldLines;
 
+/// What stands behind the number of a step.
+const STEPPED: &str = " stepped";
+
 /// What stands before the words of the audit.
 const AUDIT: &[u8] = b"\naudit\n";
 
@@ -361,7 +364,7 @@ fn tell_alone(
     if machine.go_on(thread, 1) == 0 {
         return Ok(0);
     }
-    let head = lines.head_length(number, &Reply::Stepped);
+    let head = number.digits().saturating_add(STEPPED.len());
     teller.tell_alone(head, thread, place, machine)?;
     text.add_line(lines, number, &Reply::Stepped, teller.words())?;
     Ok(1)

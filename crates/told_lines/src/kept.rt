@@ -19,14 +19,20 @@ use report::word::Word;
 use std::alloc::{AllocError, Global};
 use std::marker::Model;
 
+/// For how many pieces there is room before any is added: memory that grows is copied, and touched
+/// for the first time once more.
+const ROOM_FOR_PIECES: usize = 262_144;
+
 /// The text of a run that is told, kept in memory until it is written: words that come again stand
-/// once, and no line stands whole.
+/// once, and only lines of events that replied more than a word stand whole.
 #[derive(Drop)]
 pub struct ToldLines {
     words: StoredWords,
     pieces: Vec<Piece>,
     /// The last piece, which may grow.
     last: Piece,
+    /// The last line that stands whole.
+    scratch: Vec<u8>,
 }
 
 impl Model for ToldLines {
@@ -52,8 +58,9 @@ impl ToldLines {
     {
         Ok(ToldLines {
             words: StoredWords::new(alloc)?,
-            pieces: Vec::new(alloc),
+            pieces: Vec::with_capacity(alloc, ROOM_FOR_PIECES)?,
             last: Piece::none(),
+            scratch: Vec::new(alloc),
         })
     }
 
@@ -69,6 +76,7 @@ impl ToldLines {
             words: StoredWords::of_bytes(alloc, bytes)?,
             pieces: Vec::new(alloc),
             last: Piece::again(None, 0, 0, 1),
+            scratch: Vec::new(alloc),
         })
     }
 
@@ -196,9 +204,14 @@ impl ToldLines {
         lines.clear();
         lines.reply(number, reply);
         let line = lines.bytes();
-        self.add_bytes(&line[..line.len().saturating_sub(1)])?;
-        self.add_bytes(words)?;
-        self.add_bytes(b"\n")
+        let head = &line[..line.len().saturating_sub(1)];
+        make_line(&mut self.scratch, head, words)?;
+        let index = self.words.store(self.scratch.as_slice())?;
+        begin(
+            &mut self.pieces,
+            &mut self.last,
+            Piece::again(None, 0, index, 1),
+        )
     }
 
     /// Writes the text to a sink, through lines that gather: what gathered before is forgotten. It
@@ -226,6 +239,17 @@ impl ToldLines {
         add_piece(&self.words, &self.last, &mut number, lines, sink)?;
         write_lines(lines, sink)
     }
+}
+
+/// Makes a line of a head, words behind it and its end.
+fn make_line(line: &mut Vec<u8>, head: &[u8], words: &[u8]) -> Result<(), AllocError>
+    ensures { OnOk result (line.new.items ≡ head.now ++ (words.now ++ 10 ∷ [])) }
+{
+    line.clear();
+    line.extend_from_slice(head)?;
+    line.extend_from_slice(words)?;
+    line.push(b'\n')?;
+    Ok(())
 }
 
 /// Begins another piece behind the last one.

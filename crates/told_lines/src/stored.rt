@@ -7,6 +7,12 @@ ghost use Rattle.told_lines.specs.Stored.{IsWithin, words_at, words_of};
 use std::alloc::{AllocError, Global};
 use std::marker::Model;
 
+/// For how many bytes and words there is room before any are stored: memory that grows is copied, and
+/// touched for the first time once more.
+const ROOM_FOR_BYTES: usize = 16_777_216;
+
+const ROOM_FOR_PLACES: usize = 262_144;
+
 /// How many marks of words there are.
 const MARKS: usize = 16_384;
 
@@ -48,7 +54,9 @@ impl StoredWords {
     pub(crate) fn new(alloc: Global) -> Result<StoredWords, AllocError>
         ensures { IfOk result (λ stored. stored ≡ []) }
     {
-        StoredWords::of(alloc, Vec::new(alloc), Vec::new(alloc))
+        let bytes = Vec::with_capacity(alloc, ROOM_FOR_BYTES)?;
+        let places = Vec::with_capacity(alloc, ROOM_FOR_PLACES)?;
+        StoredWords::of(alloc, bytes, places)
     }
 
     /// Words of all these bytes, and no others.
@@ -149,7 +157,7 @@ impl StoredWords {
     }
 
     /// Stores words behind the others.
-    fn store(&mut self, words: &[u8]) -> Result<usize, AllocError>
+    pub(crate) fn store(&mut self, words: &[u8]) -> Result<usize, AllocError>
         ensures found { IfOk result (λ index. (index < length self.new)
             × (get_or self.new index [] ≡ words.now)) }
         ensures kept { (more : List (List ℕ)) × (self.new ≡ self.old ++ more) }

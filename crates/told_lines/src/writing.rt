@@ -15,6 +15,9 @@ use report::event_number::EventNumber;
 use report::lines::Lines;
 use report::word::Word;
 
+/// How far ahead a number is at most to which single steps lead.
+const NEAR: u64 = 16;
+
 /// Adds the text of pieces. Lines that fill their room are written.
 pub(crate) fn add_pieces<K: Sink>(
     stored: &StoredWords,
@@ -56,13 +59,29 @@ pub(crate) fn add_piece<K: Sink>(
     ensures writes { K.failures sink.new ≡ K.failures sink.old + writes_failed result }
 {
     let _stored = stored.count();
-    number.go_to(piece.first);
+    reach(number, piece.first);
     for i in 0..piece.count {
         let words = stored.get(piece.index(i));
         add_line(piece.said, number, words, lines, sink)?;
         number.advance();
     }
     Ok(())
+}
+
+/// Brings a number to another one, by single steps where that is a little ahead: a number of other
+/// digits is made anew.
+#[inline]
+fn reach(number: &mut EventNumber, to: u64)
+    ensures { number.new ≡ to }
+{
+    if number.value() <= to && to - number.value() <= NEAR {
+        for _ in 0..NEAR {
+            if number.value() < to {
+                number.advance();
+            }
+        }
+    }
+    number.go_to(to);
 }
 
 /// Adds a line of an event that replied a word, or words alone.

@@ -8,10 +8,10 @@ use Rattle.told_lines.proofs.writing.add_piece.Goals as goal
 pub loop-i-init : goal.loop-i-init
 loop-i-init g c =
     record {
-      numbered = omega (arith, c.go_to.ensures);
+      numbered = omega (arith, c.reach.ensures);
       few = omega arith;
       fine = refl;
-      gathered = rw c.go_to.ensures (none_gathered (piece_text c.args.stored.now c.args.piece.now) _ _);
+      gathered = rw c.reach.ensures (none_gathered (piece_text c.args.stored.now c.args.piece.now) _ _);
     }
 
 pub returns-in_err-add_line-clause-broken : goal.returns-in_err-add_line-clause-broken
