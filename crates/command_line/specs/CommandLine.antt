@@ -21,23 +21,23 @@ use Rattle.inputs_outputs.specs.declared.verification.Verification.TheVariants.{
 abbrev pub file_argument : Text → Rule
 file_argument id = record (new_rule id) { required = true; action = Some Set }
 
--- `--unchecked`
-abbrev pub unchecked_flag : Rule
-unchecked_flag =
-    record (new_rule (codes "unchecked")) { long = Some (codes "unchecked"); action = Some SetTrue }
+-- `--NAME`
+abbrev pub flag : Text → Rule
+flag name = record (new_rule name) { long = Some name; action = Some SetTrue }
 
--- `check FILE`
-abbrev pub check_command : App
-check_command = with_rule (new_app (codes "check")) (file_argument (codes "FILE"))
+-- `NAME FILE`, for the driver set of a file
+abbrev pub set_command : Text → App
+set_command name = with_rule (new_app name) (file_argument (codes "FILE"))
 
--- `--all`
-abbrev pub all_flag : Rule
-all_flag = record (new_rule (codes "all")) { long = Some (codes "all"); action = Some SetTrue }
+-- `NAME FILE SCHEDULE [--unchecked]`, which runs it by a schedule
+abbrev pub schedule_command : Text → App
+schedule_command name =
+    with_rule (with_rule (set_command name) (file_argument (codes "SCHEDULE")))
+    (flag (codes "unchecked"))
 
--- `--rule RULE`
-abbrev pub rule_option : Rule
-rule_option =
-    record (new_rule (codes "RULE")) { long = Some (codes "rule"); action = Some Set }
+-- `--NAME VALUE`
+abbrev pub value_option : Text → Text → Rule
+value_option id name = record (new_rule id) { long = Some name; action = Some Set }
 
 -- `explain [FILE] [--all] [--rule RULE]`, of which `NamesTask` says what goes with what
 abbrev pub explain_command : App
@@ -46,63 +46,32 @@ explain_command =
     (with_rule
     (with_rule (new_app (codes "explain"))
     (record (file_argument (codes "FILE")) { required = false }))
-    all_flag)
-    rule_option
-
--- `list FILE`
-abbrev pub list_command : App
-list_command = with_rule (new_app (codes "list")) (file_argument (codes "FILE"))
+    (flag (codes "all")))
+    (value_option (codes "RULE") (codes "rule"))
 
 -- `rewrite FILE OUT`
 abbrev pub rewrite_command : App
-rewrite_command =
-    with_rule (with_rule (new_app (codes "rewrite")) (file_argument (codes "FILE")))
-    (file_argument (codes "OUT"))
+rewrite_command = with_rule (set_command (codes "rewrite")) (file_argument (codes "OUT"))
 
 -- `version`
 abbrev pub version_command : App
 version_command = new_app (codes "version")
 
--- `trace FILE SCHEDULE [--unchecked]`
-abbrev pub trace_command : App
-trace_command =
-    with_rule (with_rule (with_rule (new_app (codes "trace")) (file_argument (codes "FILE")))
-    (file_argument (codes "SCHEDULE"))) unchecked_flag
-
--- `--quiet`
-abbrev pub quiet_flag : Rule
-quiet_flag =
-    record (new_rule (codes "quiet")) { long = Some (codes "quiet"); action = Some SetTrue }
-
 -- `tell FILE SCHEDULE [--unchecked] [--quiet]`
 abbrev pub tell_command : App
-tell_command =
-    with_rule
-    (with_rule (with_rule (with_rule (new_app (codes "tell")) (file_argument (codes "FILE")))
-    (file_argument (codes "SCHEDULE"))) unchecked_flag)
-    quiet_flag
-
--- `draw FILE SCHEDULE [--unchecked]`
-abbrev pub draw_command : App
-draw_command =
-    with_rule (with_rule (with_rule (new_app (codes "draw")) (file_argument (codes "FILE")))
-    (file_argument (codes "SCHEDULE"))) unchecked_flag
+tell_command = with_rule (schedule_command (codes "tell")) (flag (codes "quiet"))
 
 -- `--workers N`, which has to be there
 abbrev pub workers_option : Rule
 workers_option =
-    record (new_rule (codes "workers")) {
-      long = Some (codes "workers");
-      action = Some Set;
-      parser = Some (Signed (pos 1) (pos MAX_THREADS));
-      required = true;
-    }
+    record (value_option (codes "workers") (codes "workers"))
+    { parser = Some (Signed (pos 1) (pos MAX_THREADS)); required = true }
 
 -- `host FILE SCRIPT --workers N`
 abbrev pub host_command : App
 host_command =
-    with_rule (with_rule (with_rule (new_app (codes "host")) (file_argument (codes "FILE")))
-    (file_argument (codes "SCRIPT"))) workers_option
+    with_rule (with_rule (set_command (codes "host")) (file_argument (codes "SCRIPT")))
+    workers_option
 
 -- the program, whose own name isn't among the words
 abbrev pub named_program : App
@@ -117,18 +86,21 @@ bare_program =
 -- or run it, with all that read files alone, with all that name files, and with all
 abbrev pub unrun_program : App
 unrun_program =
-    with_subcommand (with_subcommand bare_program check_command.top) explain_command.top
+    with_subcommand (with_subcommand bare_program (set_command (codes "check")).top)
+    explain_command.top
 
 abbrev pub unthreaded_program : App
 unthreaded_program =
-    with_subcommand (with_subcommand (with_subcommand unrun_program trace_command.top)
-    tell_command.top) draw_command.top
+    with_subcommand
+    (with_subcommand (with_subcommand unrun_program (schedule_command (codes "trace")).top)
+    tell_command.top)
+    (schedule_command (codes "draw")).top
 
 abbrev pub judging_program : App
 judging_program = with_subcommand unthreaded_program host_command.top
 
 abbrev pub reading_program : App
-reading_program = with_subcommand judging_program list_command.top
+reading_program = with_subcommand judging_program (set_command (codes "list")).top
 
 abbrev pub program_of_files : App
 program_of_files = with_subcommand reading_program rewrite_command.top

@@ -6,7 +6,7 @@ ghost use Rattle.clap.specs.declared.builder.command.Command.TheViews.{out-Comma
 ghost use Rattle.inputs_outputs.specs.Device.{CanCount, Says};
 ghost use Rattle.interleave.specs.Line.{number_within};
 ghost use Rattle.model.specs.declared.limits.TheConstants.{MAX_THREADS};
-ghost use Rattle.command_line.specs.CommandLine.{all_flag, check_command, draw_command, explain_command, file_argument, host_command, job_fault_status, job_fault_told, judging_program, list_command, program, program_of_files, quiet_flag, reading_program, rewrite_command, rule_option, tell_command, text_told, trace_command, unchecked_flag, unrun_program, unthreaded_program, usage, version_command, workers_option, IsDetail, IsExtent, IsFlag, Names, NamesTask};
+ghost use Rattle.command_line.specs.CommandLine.{explain_command, file_argument, flag, host_command, job_fault_status, job_fault_told, judging_program, program, program_of_files, reading_program, rewrite_command, schedule_command, set_command, tell_command, text_told, unrun_program, unthreaded_program, usage, value_option, version_command, workers_option, IsDetail, IsExtent, IsFlag, Names, NamesTask};
 
 use clap::builder::ValueParser;
 use clap::error::ErrorKind;
@@ -259,7 +259,7 @@ fn program_of_files<'a>(alloc: Global) -> Result<Command<'a>, AllocError>
 fn reading_program<'a>(alloc: Global) -> Result<Command<'a>, AllocError>
     ensures { IfOk result (λ command. app_of command ≡ reading_program) }
 {
-    let list = list_command(alloc)?;
+    let list = set_command(alloc, "list", "Writes a driver set as a text")?;
     let program = judging_program(alloc)?;
     program.subcommand(list)
 }
@@ -277,9 +277,17 @@ fn judging_program<'a>(alloc: Global) -> Result<Command<'a>, AllocError>
 fn unthreaded_program<'a>(alloc: Global) -> Result<Command<'a>, AllocError>
     ensures { IfOk result (λ command. app_of command ≡ unthreaded_program) }
 {
-    let trace = trace_command(alloc)?;
+    let trace = schedule_command(
+        alloc,
+        "trace",
+        "Runs a driver set by a schedule, and writes a line for each event",
+    )?;
     let tell = tell_command(alloc)?;
-    let draw = draw_command(alloc)?;
+    let draw = schedule_command(
+        alloc,
+        "draw",
+        "Runs a driver set by a schedule, and writes the run as an SVG picture",
+    )?;
     let program = unrun_program(alloc)?;
     program
         .subcommand(trace)?
@@ -291,7 +299,7 @@ fn unthreaded_program<'a>(alloc: Global) -> Result<Command<'a>, AllocError>
 fn unrun_program<'a>(alloc: Global) -> Result<Command<'a>, AllocError>
     ensures { IfOk result (λ command. app_of command ≡ unrun_program) }
 {
-    let check = check_command(alloc)?;
+    let check = set_command(alloc, "check", "Accepts or refuses a driver set")?;
     let explain = explain_command(alloc)?;
     let program = Command::new(alloc, NAME)
         .bin_name(NAME)?
@@ -300,13 +308,33 @@ fn unrun_program<'a>(alloc: Global) -> Result<Command<'a>, AllocError>
     program.subcommand(check)?.subcommand(explain)
 }
 
-fn check_command<'a>(alloc: Global) -> Result<Command<'a>, AllocError>
-    ensures app { IfOk result (λ command. app_of command ≡ check_command) }
+/// A command for the driver set of a file.
+fn set_command<'a>(alloc: Global, name: &'a str, about: &'a str) -> Result<Command<'a>, AllocError>
+    ensures app { IfOk result (λ command. app_of command ≡ set_command name.entry.now) }
     ensures local { IfOk result (λ command. (fields_of command).has_globals ≡ false) }
 {
     let set = file(alloc, "FILE", SET);
-    let command = Command::new(alloc, "check").about("Accepts or refuses a driver set");
+    let command = Command::new(alloc, name).about(about);
     command.arg(set)
+}
+
+/// A command that runs it by a schedule.
+fn schedule_command<'a>(
+    alloc: Global,
+    name: &'a str,
+    about: &'a str,
+) -> Result<Command<'a>, AllocError>
+    ensures app { IfOk result (λ command. app_of command ≡ schedule_command name.entry.now) }
+    ensures local { IfOk result (λ command. (fields_of command).has_globals ≡ false) }
+{
+    let schedule = file(alloc, "SCHEDULE", "The threads and the events");
+    let unchecked = flag(
+        alloc,
+        "unchecked",
+        "Runs the set whether or not it is accepted",
+    );
+    let command = set_command(alloc, name, about)?;
+    command.arg(schedule)?.arg(unchecked)
 }
 
 fn explain_command<'a>(alloc: Global) -> Result<Command<'a>, AllocError>
@@ -314,31 +342,26 @@ fn explain_command<'a>(alloc: Global) -> Result<Command<'a>, AllocError>
     ensures local { IfOk result (λ command. (fields_of command).has_globals ≡ false) }
 {
     let set = file(alloc, "FILE", SET).required(false);
-    let all = all_flag(alloc);
-    let rule = rule_option(alloc);
+    let all = flag(alloc, "all", "Explains the first fault of each routine");
+    let rule = value_option(
+        alloc,
+        "RULE",
+        "rule",
+        "Says this rule in words, V1 to V20, with an example",
+    );
     let command = Command::new(alloc, "explain")
         .about("Accepts or refuses a driver set, and says in words why; or says a rule in words")
         .override_usage(EXPLAIN_USAGE);
     command.arg(set)?.arg(all)?.arg(rule)
 }
 
-fn list_command<'a>(alloc: Global) -> Result<Command<'a>, AllocError>
-    ensures app { IfOk result (λ command. app_of command ≡ list_command) }
-    ensures local { IfOk result (λ command. (fields_of command).has_globals ≡ false) }
-{
-    let set = file(alloc, "FILE", SET);
-    let command = Command::new(alloc, "list").about("Writes a driver set as a text");
-    command.arg(set)
-}
-
 fn rewrite_command<'a>(alloc: Global) -> Result<Command<'a>, AllocError>
     ensures app { IfOk result (λ command. app_of command ≡ rewrite_command) }
     ensures local { IfOk result (λ command. (fields_of command).has_globals ≡ false) }
 {
-    let set = file(alloc, "FILE", SET);
     let output = file(alloc, "OUT", "The file for the image");
-    let command = Command::new(alloc, "rewrite").about("Writes a driver set as an image");
-    command.arg(set)?.arg(output)
+    let command = set_command(alloc, "rewrite", "Writes a driver set as an image")?;
+    command.arg(output)
 }
 
 fn version_command<'a>(alloc: Global) -> Command<'a>
@@ -348,57 +371,35 @@ fn version_command<'a>(alloc: Global) -> Command<'a>
     Command::new(alloc, "version").about("Writes the program's name and its version")
 }
 
-fn trace_command<'a>(alloc: Global) -> Result<Command<'a>, AllocError>
-    ensures app { IfOk result (λ command. app_of command ≡ trace_command) }
-    ensures local { IfOk result (λ command. (fields_of command).has_globals ≡ false) }
-{
-    let set = file(alloc, "FILE", SET);
-    let schedule = file(alloc, "SCHEDULE", "The threads and the events");
-    let unchecked = unchecked_flag(alloc);
-    let command = Command::new(alloc, "trace").about(
-        "Runs a driver set by a schedule, and writes a line for each event",
-    );
-    command.arg(set)?.arg(schedule)?.arg(unchecked)
-}
-
 fn tell_command<'a>(alloc: Global) -> Result<Command<'a>, AllocError>
     ensures app { IfOk result (λ command. app_of command ≡ tell_command) }
     ensures local { IfOk result (λ command. (fields_of command).has_globals ≡ false) }
 {
-    let set = file(alloc, "FILE", SET);
-    let schedule = file(alloc, "SCHEDULE", "The threads and the events");
-    let unchecked = unchecked_flag(alloc);
-    let quiet = quiet_flag(alloc);
-    let command = Command::new(alloc, "tell").about(
+    let quiet = flag(
+        alloc,
+        "quiet",
+        "Leaves out events that only step or find nothing to do",
+    );
+    let command = schedule_command(
+        alloc,
+        "tell",
         "Runs a driver set by a schedule, and tells in words what happens and what is left",
-    );
-    command.arg(set)?.arg(schedule)?.arg(unchecked)?.arg(quiet)
-}
-
-fn draw_command<'a>(alloc: Global) -> Result<Command<'a>, AllocError>
-    ensures app { IfOk result (λ command. app_of command ≡ draw_command) }
-    ensures local { IfOk result (λ command. (fields_of command).has_globals ≡ false) }
-{
-    let set = file(alloc, "FILE", SET);
-    let schedule = file(alloc, "SCHEDULE", "The threads and the events");
-    let unchecked = unchecked_flag(alloc);
-    let command = Command::new(alloc, "draw").about(
-        "Runs a driver set by a schedule, and writes the run as an SVG picture",
-    );
-    command.arg(set)?.arg(schedule)?.arg(unchecked)
+    )?;
+    command.arg(quiet)
 }
 
 fn host_command<'a>(alloc: Global) -> Result<Command<'a>, AllocError>
     ensures app { IfOk result (λ command. app_of command ≡ host_command) }
     ensures local { IfOk result (λ command. (fields_of command).has_globals ≡ false) }
 {
-    let set = file(alloc, "FILE", SET);
     let script = file(alloc, "SCRIPT", "The requests, cancels and interrupts");
     let workers = workers_option(alloc);
-    let command = Command::new(alloc, "host").about(
+    let command = set_command(
+        alloc,
+        "host",
         "Has workers serve a script over one locked core, and writes what came of each command",
-    );
-    command.arg(set)?.arg(script)?.arg(workers)
+    )?;
+    command.arg(script)?.arg(workers)
 }
 
 /// A required argument: the name of a file.
@@ -412,47 +413,26 @@ fn file<'a>(alloc: Global, id: &'a str, help: &'a str) -> Arg<'a>
         .help(help)
 }
 
-/// `--all`.
-fn all_flag<'a>(alloc: Global) -> Arg<'a>
-    ensures rule { rule_of result ≡ all_flag }
+/// A flag of a name, two dashes before it.
+fn flag<'a>(alloc: Global, name: &'a str, help: &'a str) -> Arg<'a>
+    ensures rule { rule_of result ≡ flag name.entry.now }
     ensures local { result.global ≡ false }
 {
-    Arg::new(alloc, "all")
-        .long("all")
+    Arg::new(alloc, name)
+        .long(name)
         .action(ArgAction::SetTrue)
-        .help("Explains the first fault of each routine")
+        .help(help)
 }
 
-/// `--rule RULE`.
-fn rule_option<'a>(alloc: Global) -> Arg<'a>
-    ensures rule { rule_of result ≡ rule_option }
+/// An option of a name, two dashes before it, with a value.
+fn value_option<'a>(alloc: Global, id: &'a str, name: &'a str, help: &'a str) -> Arg<'a>
+    ensures rule { rule_of result ≡ value_option id.entry.now name.entry.now }
     ensures local { result.global ≡ false }
 {
-    Arg::new(alloc, "RULE")
-        .long("rule")
+    Arg::new(alloc, id)
+        .long(name)
         .action(ArgAction::Set)
-        .help("Says this rule in words, V1 to V20, with an example")
-}
-
-fn unchecked_flag<'a>(alloc: Global) -> Arg<'a>
-    ensures rule { rule_of result ≡ unchecked_flag }
-    ensures local { result.global ≡ false }
-{
-    Arg::new(alloc, "unchecked")
-        .long("unchecked")
-        .action(ArgAction::SetTrue)
-        .help("Runs the set whether or not it is accepted")
-}
-
-/// `--quiet`.
-fn quiet_flag<'a>(alloc: Global) -> Arg<'a>
-    ensures rule { rule_of result ≡ quiet_flag }
-    ensures local { result.global ≡ false }
-{
-    Arg::new(alloc, "quiet")
-        .long("quiet")
-        .action(ArgAction::SetTrue)
-        .help("Leaves out events that only step or find nothing to do")
+        .help(help)
 }
 
 /// `--workers N`.
@@ -460,12 +440,14 @@ fn workers_option<'a>(alloc: Global) -> Arg<'a>
     ensures rule { rule_of result ≡ workers_option }
     ensures local { result.global ≡ false }
 {
-    Arg::new(alloc, "workers")
-        .long("workers")
-        .required(true)
-        .action(ArgAction::Set)
-        .value_parser(ValueParser::Signed(1, 64))
-        .help("How many workers serve it, 1 to 64")
+    value_option(
+        alloc,
+        "workers",
+        "workers",
+        "How many workers serve it, 1 to 64",
+    )
+    .required(true)
+    .value_parser(ValueParser::Signed(1, 64))
 }
 
 /// The task that a parsed command line names.
