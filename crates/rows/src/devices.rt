@@ -110,3 +110,21 @@ pub(crate) fn is_failing(good: &mut Option<usize>) -> bool {
         }
     }
 }
+
+/// Whether sinks were given a page, or so many bytes of it before a write failed, which is told.
+pub(crate) fn have_taken(
+    out: &Narrow,
+    err: &Narrow,
+    status: u8,
+    page: &[u8],
+    calls: usize,
+) -> bool {
+    match page.get(..calls) {
+        Some(beginning) if calls < page.len() => {
+            status == 2
+                && out.written.as_slice() == beginning
+                && err.written.as_slice() == b"write failed\n".as_slice()
+        }
+        _ => status == 0 && out.written.as_slice() == page && err.written.is_empty(),
+    }
+}

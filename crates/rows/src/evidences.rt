@@ -239,25 +239,36 @@ fn is_led(path: &Option<Path>, at: u16, shown: &Shown) -> bool {
     }
 }
 
-/// Whether the case is refused at its place, and shown so.
-fn is_met(alloc: Global, case: &Case) -> bool {
-    let Some((set, refusal)) = refused(alloc, case.text) else {
-        return false;
-    };
-    let is_there = |found: Result<Option<Evidence>, AllocError>| match found {
-        Ok(Some(evidence)) => is_shown(&evidence, &case.shown),
+/// Whether evidence was found, and is this.
+fn is_found(found: &Result<Option<Evidence>, AllocError>, shown: &Shown) -> bool {
+    match found {
+        Ok(Some(evidence)) => is_shown(evidence, shown),
         _ => false,
-    };
+    }
+}
+
+/// Whether a refusal is the one of a case, and shown so.
+fn is_refused_so(alloc: Global, set: &DriverSet, refusal: &Refusal, case: &Case) -> bool
+    requires { (refusal.now ≡ at_start Rule.Memory) ⊎ IsFirstFault set.now refusal.now }
+{
     refusal.driver == 0
         && refusal.routine == 0
         && refusal.at == case.at
         && refusal.rule == case.rule
-        && is_there(evidence_of(alloc, &set, &refusal))
-        && is_there(evidence_there(alloc, &set, &refusal))
-        && match path_there(alloc, &set, &refusal) {
+        && is_found(&evidence_of(alloc, set, refusal), &case.shown)
+        && is_found(&evidence_there(alloc, set, refusal), &case.shown)
+        && match path_there(alloc, set, refusal) {
             Ok(path) => is_led(&path, case.at, &case.shown),
             Err(_) => false,
         }
+}
+
+/// Whether the case is refused at its place, and shown so.
+fn is_met(alloc: Global, case: &Case) -> bool {
+    match refused(alloc, case.text) {
+        Some((set, refusal)) => is_refused_so(alloc, &set, &refusal, case),
+        None => false,
+    }
 }
 
 #[test]

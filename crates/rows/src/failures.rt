@@ -3,7 +3,7 @@
 
 ghost use Rattle.std.specs.Prelude.{◌≡◌};
 
-use crate::devices::{Narrow, Slow};
+use crate::devices::{Narrow, Slow, have_taken};
 use crate::images::{EMPTY, OLD_ONE_READ, ONE_READ, QUEUED};
 use drvhost_parts::draw::draw;
 use drvhost_parts::host::host;
@@ -71,6 +71,8 @@ const TOLD: &[u8] = b"\
       nothing is amiss\n";
 
 const SCRIPT: &[u8] = b"request 0 READ 0\ninterrupt 0\n";
+
+const VERSION: &[u8] = b"drvhost 0.1.0\n";
 
 const SERVED: &[u8] = b"0 topped 0 0x00000000 0\n1 stepped\nhistory 17 agrees\n";
 
@@ -515,6 +517,27 @@ fn picture_of(alloc: Global) -> Narrow {
     out
 }
 
+/// Whether a write of 100 bytes of a picture that fails at any call is told, and a beginning of the
+/// picture is there.
+fn tells_each_failed_block<R: Threads + Wait + Sync>(
+    rt: &R,
+    alloc: Global,
+    picture: &[u8],
+) -> bool {
+    let whole = Devices { step: 100, ..WHOLE };
+    for calls in 0..picture.len() / 100 {
+        let devices = Devices {
+            out: Some(calls),
+            ..whole
+        };
+        let written = picture.get(..calls.saturating_mul(100)).unwrap_or(picture);
+        if !is_answered(rt, alloc, &DRAWN, &devices, 2, written, b"write failed\n") {
+            return false;
+        }
+    }
+    is_answered(rt, alloc, &DRAWN, &whole, 0, picture, b"")
+}
+
 /// A read or a write that fails at any call of a run that is drawn is told, and a beginning of the
 /// picture is there, or nothing.
 #[test]
@@ -525,19 +548,7 @@ fn each_call_for_a_picture_fails_in_turn(rt: HostRuntime) {
     let picture = picture_of(alloc);
     let picture = picture.written.as_slice();
     assert!(rt; picture.starts_with(b"<?xml ") && picture.ends_with(b"</svg>\n"));
-    let whole = Devices { step: 100, ..WHOLE };
-    assert!(rt; is_answered(&rt, alloc, &DRAWN, &whole, 0, picture, b""));
-    for calls in 0..picture.len() / 100 {
-        let devices = Devices {
-            out: Some(calls),
-            ..whole
-        };
-        let written = picture.get(..calls.saturating_mul(100)).unwrap_or(picture);
-        assert!(rt;
-            is_answered(&rt, alloc, &DRAWN, &devices, 2, written, b"write failed\n"),
-            "{calls}"
-        );
-    }
+    assert!(rt; tells_each_failed_block(&rt, alloc, picture));
 }
 
 /// Whether the status of a case stays where the error writer fails.
@@ -609,39 +620,39 @@ fn no_one_to_tell_of_a_failure(rt: HostRuntime) {
     }
 }
 
+/// Whether the version goes out, or so many bytes of it before a write fails.
+fn is_versioned(alloc: Global, calls: usize) -> bool {
+    let mut out = Narrow::new(alloc, 1, Some(calls));
+    let mut err = Narrow::new(alloc, 1, None);
+    let status = version(&mut out, &mut err);
+    have_taken(&out, &err, status, VERSION, calls)
+}
+
 /// The program's name and version need no file.
 #[test]
 fn each_write_of_the_version_fails_in_turn(rt: HostRuntime) {
-    let alloc = rt.alloc();
-    let line = b"drvhost 0.1.0\n";
-    for calls in 0..=line.len() {
-        let good = if calls < line.len() {
-            Some(calls)
-        } else {
-            None
-        };
-        let mut out = Narrow::new(alloc, 1, good);
-        let mut err = Narrow::new(alloc, 1, None);
-        let status = version(&mut out, &mut err);
-        assert_eq!(rt; status, if good.is_some() { 2 } else { 0 });
-        assert!(rt; out.written.as_slice() == &line[..calls]);
-        assert!(rt; err.written.is_empty() == good.is_none());
-        assert!(rt; b"write failed\n".starts_with(err.written.as_slice()));
+    for calls in 0..=VERSION.len() {
+        assert!(rt; is_versioned(rt.alloc(), calls), "{calls}");
     }
+}
+
+/// Whether a file that can't be opened is told, by as many bytes as go out.
+fn is_unopened(alloc: Global, good: Option<usize>) -> bool {
+    let mut out = Narrow::new(alloc, 1, None);
+    let mut err = Narrow::new(alloc, 1, good);
+    let mut set = Reader::<&[u8]>::new(None);
+    let status = check(alloc, &mut set, &mut out, &mut err);
+    let told = good.unwrap_or(usize::MAX).min(b"read failed\n".len());
+    status == 2
+        && set.failures() == 1
+        && out.written.is_empty()
+        && err.written.as_slice() == &b"read failed\n"[..told]
 }
 
 /// A file that can't be opened.
 #[test]
 fn no_file(rt: HostRuntime) {
-    let alloc = rt.alloc();
     for good in [None, Some(0), Some(1)] {
-        let mut out = Narrow::new(alloc, 1, None);
-        let mut err = Narrow::new(alloc, 1, good);
-        let mut set = Reader::<&[u8]>::new(None);
-        assert_eq!(rt; check(alloc, &mut set, &mut out, &mut err), 2);
-        assert_eq!(rt; set.failures(), 1);
-        assert!(rt; out.written.is_empty());
-        let told = good.unwrap_or(usize::MAX).min(b"read failed\n".len());
-        assert!(rt; err.written.as_slice() == &b"read failed\n"[..told]);
+        assert!(rt; is_unopened(rt.alloc(), good));
     }
 }

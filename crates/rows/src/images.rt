@@ -4,7 +4,7 @@
 use asm::assemble;
 use image::{ImageFault, decode, encode};
 use md5::{Digest, Md5};
-use std::alloc::Global;
+use std::alloc::{AllocError, Global};
 use std::test::Fail;
 
 /// A driver whose one routine completes a read at once, and its device.
@@ -213,12 +213,34 @@ fn is_image(alloc: Global, bytes: &[u8]) -> bool {
     }
 }
 
-/// The number of the fault of bytes, 0 where they are an image.
+/// The number of the fault of bytes; of an image 0, and 255 of one of the second edition that is
+/// not the image of its set.
 fn fault_number(alloc: Global, bytes: &[u8]) -> u8 {
     match decode(alloc, bytes) {
-        Ok(_) => 0,
+        Ok(_) if bytes.starts_with(b"DVB1") || is_image(alloc, bytes) => 0,
+        Ok(_) => 255,
         Err(fault) => fault as u8,
     }
+}
+
+/// The number of the fault of an image of which a byte is changed.
+fn fault_of_change(alloc: Global, image: &[u8], place: usize, value: u8) -> Result<u8, AllocError> {
+    let mut bytes = Vec::from_slice(alloc, image)?;
+    if let Some(byte) = bytes.get_mut(place) {
+        *byte = value;
+    }
+    Ok(fault_number(alloc, bytes.as_slice()))
+}
+
+/// Whether the numbers of the faults of all changes of one byte of an image have this digest.
+fn have_faults(alloc: Global, image: &[u8], digest: &[u8; 16]) -> Result<bool, AllocError> {
+    let mut faults = Vec::new(alloc);
+    for place in 0..image.len() {
+        for value in 0..=255 {
+            faults.push(fault_of_change(alloc, image, place, value)?)?;
+        }
+    }
+    Ok(Md5::digest(faults.as_slice()).as_slice() == digest.as_slice())
 }
 
 #[test]
@@ -276,21 +298,6 @@ fn old_images(rt: HostRuntime) -> Result<(), Fail> {
     Ok(())
 }
 
-#[test]
-fn every_change_of_one_byte_of_an_old_image(rt: HostRuntime) -> Result<(), Fail> {
-    let alloc = rt.alloc();
-    let mut faults = Vec::new(alloc);
-    for place in 0..40 {
-        for value in 0..=255 {
-            let mut bytes = OLD_ONE_READ;
-            bytes[place] = value;
-            faults.push(fault_number(alloc, bytes.as_slice()))?;
-        }
-    }
-    assert!(rt; Md5::digest(faults.as_slice()).as_slice() == OLD_ONE_READ_FAULTS.as_slice());
-    Ok(())
-}
-
 /// A role of another sort is told only where nothing else is wrong.
 #[test]
 fn roles_come_last(rt: HostRuntime) -> Result<(), Fail> {
@@ -308,20 +315,8 @@ fn roles_come_last(rt: HostRuntime) -> Result<(), Fail> {
 #[test]
 fn every_change_of_one_byte(rt: HostRuntime) -> Result<(), Fail> {
     let alloc = rt.alloc();
-    let mut faults = Vec::new(alloc);
-    for place in 0..40 {
-        for value in 0..=255 {
-            let mut bytes = ONE_READ;
-            bytes[place] = value;
-            let number = fault_number(alloc, bytes.as_slice());
-            assert!(rt;
-                number > 0 || is_image(alloc, bytes.as_slice()),
-                "{place} {value}"
-            );
-            faults.push(number)?;
-        }
-    }
-    assert!(rt; Md5::digest(faults.as_slice()).as_slice() == ONE_READ_FAULTS.as_slice());
+    assert!(rt; have_faults(alloc, ONE_READ.as_slice(), &ONE_READ_FAULTS)?);
+    assert!(rt; have_faults(alloc, OLD_ONE_READ.as_slice(), &OLD_ONE_READ_FAULTS)?);
     Ok(())
 }
 
@@ -351,23 +346,7 @@ fn an_image_of_a_text(rt: HostRuntime) -> Result<(), Fail> {
 
 #[test]
 fn every_change_of_a_larger_image(rt: HostRuntime) -> Result<(), Fail> {
-    let alloc = rt.alloc();
-    let image = queued_image(alloc)?;
-    let mut faults = Vec::new(alloc);
-    for place in 0..image.len() {
-        for value in 0..=255 {
-            let mut bytes = Vec::from_slice(alloc, image.as_slice())?;
-            if let Some(byte) = bytes.get_mut(place) {
-                *byte = value;
-            }
-            let number = fault_number(alloc, bytes.as_slice());
-            assert!(rt;
-                number > 0 || is_image(alloc, bytes.as_slice()),
-                "{place} {value}"
-            );
-            faults.push(number)?;
-        }
-    }
-    assert!(rt; Md5::digest(faults.as_slice()).as_slice() == QUEUED_FAULTS.as_slice());
+    let image = queued_image(rt.alloc())?;
+    assert!(rt; have_faults(rt.alloc(), image.as_slice(), &QUEUED_FAULTS)?);
     Ok(())
 }

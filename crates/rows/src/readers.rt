@@ -84,34 +84,73 @@ fn reader(bytes: &'static [u8], good: Option<usize>) -> Reader<ByteReader<'stati
     Reader::new(Some(ByteReader { bytes, good }))
 }
 
+/// How the devices of a run behave: the calls of each before the one that fails.
+#[derive(Clone, Copy)]
+struct Devices {
+    set: Option<usize>,
+    out: Option<usize>,
+    /// Whether the write that fails takes nothing.
+    takes_nothing: bool,
+}
+
+/// How a run ends: its status, the reads and writes that fail, what goes out, and what is told.
+#[derive(Clone, Copy)]
+struct Ending {
+    status: u8,
+    unread: u64,
+    unwritten: u64,
+    lines: &'static [u8],
+    told: &'static [u8],
+}
+
+/// How it ends where nothing fails.
+const WHOLE: Ending = Ending {
+    status: 0,
+    unread: 0,
+    unwritten: 0,
+    lines: LINES,
+    told: b"",
+};
+
+/// Whether a run over such devices ends so.
+fn ends(alloc: Global, devices: &Devices, ending: &Ending) -> bool {
+    let mut set = reader(TEXT, devices.set);
+    let mut schedule = reader(SCHEDULE, None);
+    let mut out = writer(alloc, devices.out, devices.takes_nothing);
+    let mut err = writer(alloc, None, false);
+    let required = Verification::Required;
+    let status = trace(alloc, &mut set, &mut schedule, required, &mut out, &mut err);
+    let (unread, unwritten) = (set.failures(), out.failures());
+    let (lines, told) = (out.into_inner(), err.into_inner());
+    status == ending.status
+        && unread == ending.unread
+        && schedule.failures() == 0
+        && unwritten == ending.unwritten
+        && lines.written.as_slice() == ending.lines
+        && told.written.as_slice() == ending.told
+}
+
 /// A read that fails at any call, also the one that finds the end, is told, and nothing is written.
 #[test]
 fn each_read_fails_in_turn(rt: HostRuntime) {
-    let alloc = rt.alloc();
     for good in 0..TEXT.len() + 2 {
-        let mut set = reader(TEXT, Some(good));
-        let mut schedule = reader(SCHEDULE, None);
-        let mut out = writer(alloc, None, false);
-        let mut err = writer(alloc, None, false);
-        let status = trace(
-            alloc,
-            &mut set,
-            &mut schedule,
-            Verification::Required,
-            &mut out,
-            &mut err,
-        );
-        let is_read = good > TEXT.len();
-        assert_eq!(rt; status, if is_read { 0 } else { 2 });
-        assert_eq!(rt; set.failures(), if is_read { 0 } else { 1 });
-        assert_eq!(rt; schedule.failures(), 0);
-        let (lines, told) = if is_read {
-            (LINES, b"".as_slice())
-        } else {
-            (b"".as_slice(), b"read failed\n".as_slice())
+        let devices = Devices {
+            set: Some(good),
+            out: None,
+            takes_nothing: false,
         };
-        assert!(rt; out.into_inner().written.as_slice() == lines);
-        assert!(rt; err.into_inner().written.as_slice() == told);
+        let ending = if good > TEXT.len() {
+            WHOLE
+        } else {
+            Ending {
+                status: 2,
+                unread: 1,
+                unwritten: 0,
+                lines: b"",
+                told: b"read failed\n",
+            }
+        };
+        assert!(rt; ends(rt.alloc(), &devices, &ending), "{good}");
     }
 }
 
@@ -119,31 +158,25 @@ fn each_read_fails_in_turn(rt: HostRuntime) {
 /// there.
 #[test]
 fn each_write_fails_in_turn(rt: HostRuntime) {
-    let alloc = rt.alloc();
     for good in 0..LINES.len() + 2 {
+        let ending = if good < LINES.len() {
+            Ending {
+                status: 2,
+                unread: 0,
+                unwritten: 1,
+                lines: &LINES[..good],
+                told: b"write failed\n",
+            }
+        } else {
+            WHOLE
+        };
         for takes_nothing in [false, true] {
-            let mut set = reader(TEXT, None);
-            let mut schedule = reader(SCHEDULE, None);
-            let mut out = writer(alloc, Some(good), takes_nothing);
-            let mut err = writer(alloc, None, false);
-            let status = trace(
-                alloc,
-                &mut set,
-                &mut schedule,
-                Verification::Required,
-                &mut out,
-                &mut err,
-            );
-            let is_written = good >= LINES.len();
-            assert_eq!(rt; status, if is_written { 0 } else { 2 });
-            assert_eq!(rt; out.failures(), if is_written { 0 } else { 1 });
-            assert!(rt; out.into_inner().written.as_slice() == &LINES[..good.min(LINES.len())]);
-            let told = if is_written {
-                b"".as_slice()
-            } else {
-                b"write failed\n".as_slice()
+            let devices = Devices {
+                set: None,
+                out: Some(good),
+                takes_nothing,
             };
-            assert!(rt; err.into_inner().written.as_slice() == told);
+            assert!(rt; ends(rt.alloc(), &devices, &ending), "{good}");
         }
     }
 }

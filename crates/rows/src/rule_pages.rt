@@ -1,8 +1,9 @@
 //! A rule in words, over a writer that fails at each call in turn.
 
-use crate::devices::Narrow;
+use crate::devices::{Narrow, have_taken};
 use model::abs::Rule;
 use set_answers::rule::explain_rule;
+use std::alloc::Global;
 
 /// What is written of a rule about cancellation.
 const CANCEL_STATE: &[u8] = b"V12 CancelState
@@ -43,23 +44,18 @@ endd
 device v d 1
 ";
 
+/// Whether the page goes out, or so many bytes of it before a write fails.
+fn is_written(alloc: Global, calls: usize) -> bool {
+    let mut out = Narrow::new(alloc, 1, Some(calls));
+    let mut err = Narrow::new(alloc, 1, None);
+    let status = explain_rule(alloc, Rule::CancelState, &mut out, &mut err);
+    have_taken(&out, &err, status, CANCEL_STATE, calls)
+}
+
 /// A write that fails is told, and what went out is a beginning of the page.
 #[test]
 fn each_write_of_a_rule_fails_in_turn(rt: HostRuntime) {
-    let alloc = rt.alloc();
-    let page = CANCEL_STATE;
-    for calls in 0..=page.len() {
-        let good = if calls < page.len() {
-            Some(calls)
-        } else {
-            None
-        };
-        let mut out = Narrow::new(alloc, 1, good);
-        let mut err = Narrow::new(alloc, 1, None);
-        let status = explain_rule(alloc, Rule::CancelState, &mut out, &mut err);
-        assert_eq!(rt; status, if good.is_some() { 2 } else { 0 });
-        assert!(rt; out.written.as_slice() == &page[..calls]);
-        assert!(rt; err.written.is_empty() == good.is_none());
-        assert!(rt; b"write failed\n".starts_with(err.written.as_slice()));
+    for calls in 0..=CANCEL_STATE.len() {
+        assert!(rt; is_written(rt.alloc(), calls), "{calls}");
     }
 }

@@ -3,13 +3,16 @@
 
 use asm::assemble;
 use checked::Checked;
+use image::DriverSet;
 use interleave::run::run;
 use machine::World;
-use model::event::{BugCheck, Event, Reply, Subject};
+use model::event::{Bug, BugCheck, Event, Reply, Subject};
 use model::status::{Major, Status};
 use model::view::{FrameView, LiveView, PacketView, ThreadView};
 use model::world::Irql;
-use verifier::verify;
+use std::alloc::Global;
+use std::process::Abort;
+use verifier::{Accepted, verify};
 
 const COMPLETES: &[u8] =
     b"driver d\ndispatch READ f\nroutine f dispatch\ncomplete r0 SUCCESS\nret SUCCESS\nendr\nendd\n\
@@ -32,16 +35,32 @@ const READ: Event = Event::Issue {
 
 const STEP: Event = Event::Step { thread: 0 };
 
+/// The set that a text names.
+fn set_of<R: Abort>(rt: &R, alloc: Global, text: &[u8]) -> DriverSet {
+    assemble(alloc, text).ok().expect(rt, "a set")
+}
+
+/// The accepted set of `COMPLETES`.
+fn completing<R: Abort>(rt: &R, alloc: Global) -> Accepted {
+    verify(alloc, set_of(rt, alloc, COMPLETES))
+        .ok()
+        .expect(rt, "an accepted set")
+}
+
 /// With ample memory a run is there, at its events' end, and goes on.
 #[test]
 fn accepted_runs_go_on(rt: HostRuntime) {
     let alloc = rt.alloc();
-    let set = assemble(alloc, COMPLETES).ok().expect(&rt, "a set");
-    let accepted = verify(alloc, set).ok().expect(&rt, "an accepted set");
-    let mut run = run(alloc, accepted, 1, &[READ, STEP])
+    let accepted = completing(&rt, alloc);
+    let mut world = run(alloc, accepted, 1, &[READ, STEP])
         .ok()
         .expect(&rt, "memory");
-    let topped = run.apply(&STEP);
+    end_read(&rt, &mut world);
+}
+
+/// A read that was completed tops out, its routine returns, and its thread is idle.
+fn end_read<R: Abort>(rt: &R, world: &mut World) {
+    let topped = world.apply(&STEP);
     assert!(rt;
         matches!(
             topped,
@@ -52,8 +71,8 @@ fn accepted_runs_go_on(rt: HostRuntime) {
             }
         )
     );
-    assert!(rt; matches!(run.apply(&STEP), Reply::Finished));
-    assert!(rt; matches!(run.apply(&STEP), Reply::Idle));
+    assert!(rt; matches!(world.apply(&STEP), Reply::Finished));
+    assert!(rt; matches!(world.apply(&STEP), Reply::Idle));
 }
 
 /// A world tells what runs on a thread, and how a packet stands, from before its issue to its
@@ -61,12 +80,16 @@ fn accepted_runs_go_on(rt: HostRuntime) {
 #[test]
 fn worlds_tell_of_threads_and_packets(rt: HostRuntime) {
     let alloc = rt.alloc();
-    let set = assemble(alloc, COMPLETES).ok().expect(&rt, "a set");
-    let accepted = verify(alloc, set).ok().expect(&rt, "an accepted set");
+    let accepted = completing(&rt, alloc);
     let mut world = World::new(alloc, accepted, 1).ok().expect(&rt, "memory");
+    begin_read(&rt, &mut world);
+    top_out(&rt, &mut world);
+}
+
+/// A read is issued, and its routine is the only frame.
+fn begin_read<R: Abort>(rt: &R, world: &mut World) {
     assert!(rt; matches!(world.packet(0), PacketView::Never));
-    let issued = world.apply(&READ);
-    assert!(rt; matches!(issued, Reply::Started(0)));
+    assert!(rt; matches!(world.apply(&READ), Reply::Started(0)));
     assert!(rt;
         matches!(
             world.thread(0),
@@ -82,10 +105,9 @@ fn worlds_tell_of_threads_and_packets(rt: HostRuntime) {
             })
         )
     );
-    let live = world.packet(0);
     assert!(rt;
         matches!(
-            live,
+            world.packet(0),
             PacketView::Live(LiveView {
                 depth: 1,
                 cancel: false,
@@ -94,8 +116,11 @@ fn worlds_tell_of_threads_and_packets(rt: HostRuntime) {
             })
         )
     );
-    let completed = world.apply(&STEP);
-    assert!(rt; matches!(completed, Reply::Stepped));
+}
+
+/// The read is completed, a walk stands on its routine, and its packet tops out.
+fn top_out<R: Abort>(rt: &R, world: &mut World) {
+    assert!(rt; matches!(world.apply(&STEP), Reply::Stepped));
     assert!(rt;
         matches!(
             world.thread(0),
@@ -116,16 +141,26 @@ fn worlds_tell_of_threads_and_packets(rt: HostRuntime) {
 #[test]
 fn machines_stop_at_a_bug_check(rt: HostRuntime) {
     let alloc = rt.alloc();
-    let set = assemble(alloc, TWICE).ok().expect(&rt, "a set");
+    let set = set_of(&rt, alloc, TWICE);
     let mut machine = Checked::run(alloc, set, 1, &[READ, STEP, STEP])
         .ok()
         .expect(&rt, "memory");
+    complete_again(&rt, &mut machine);
+}
+
+/// The packet is completed a second time.
+fn complete_again<R: Abort>(rt: &R, machine: &mut Checked) {
     assert!(rt; !machine.stopped());
-    let Reply::Bug(bug) = machine.apply(&STEP) else {
-        return assert!(rt; false);
-    };
-    assert!(rt; matches!(bug.check, BugCheck::MultipleIrpCompleteRequests));
-    assert!(rt; matches!(bug.subject, Subject::Packet(0)));
+    let completed = machine.apply(&STEP);
+    assert!(rt;
+        matches!(
+            completed,
+            Reply::Bug(Bug {
+                check: BugCheck::MultipleIrpCompleteRequests,
+                subject: Subject::Packet(0)
+            })
+        )
+    );
     assert!(rt; machine.stopped());
     assert!(rt; matches!(machine.apply(&STEP), Reply::Refused));
 }
@@ -135,10 +170,15 @@ fn machines_stop_at_a_bug_check(rt: HostRuntime) {
 #[test]
 fn routines_go_on_by_themselves(rt: HostRuntime) {
     let alloc = rt.alloc();
-    let set = assemble(alloc, COUNTS).ok().expect(&rt, "a set");
+    let set = set_of(&rt, alloc, COUNTS);
     let mut machine = Checked::run(alloc, set, 1, &[READ])
         .ok()
         .expect(&rt, "memory");
+    count_by_itself(&rt, &mut machine);
+}
+
+/// The routine that counts goes on, and its packet is completed.
+fn count_by_itself<R: Abort>(rt: &R, machine: &mut Checked) {
     assert_eq!(rt; machine.go_on(0, 4), 4);
     assert_eq!(rt; machine.go_on(0, 9), 2);
     assert_eq!(rt; machine.go_on(0, 9), 0);
