@@ -1,14 +1,14 @@
 -- Steps that change nothing but the activation on their thread's top, as runs are told.
-use Rattle.std.proofs.Common.{◌≡◌, ◌∙◌, ℕ, suc, ◌+◌, ◌-◌, ◌≤◌, List, [], ◌∷◌, ◌++◌, Option, arith, length, refl, replicate, subst, sym, ap}
+use Rattle.std.proofs.Common.{◌≡◌, ◌∙◌, ℕ, zero, suc, ◌+◌, ◌-◌, ◌≤◌, List, [], ◌∷◌, ◌++◌, Option, append_assoc, arith, length, refl, replicate, subst, sym, ap}
 use Rattle.std.proofs.lemmas.List.{append-nil}
 use Rattle.std.specs.Prelude.{IfSome}
-use Rattle.checked.specs.GoingOn.{GoesOn, more as goes_more, none}
+use Rattle.checked.specs.GoingOn.{GoesOn, StepsAlone, more as goes_more, none}
 use Rattle.drvhost_parts.specs.declared.tell.Detail.{Detail}
-use Rattle.drvhost_parts.specs.declared.tell.Detail.TheVariants.{Quiet, Whole}
+use Rattle.drvhost_parts.specs.declared.tell.Detail.TheVariants.{Quiet}
 use Rattle.drvhost_parts.specs.Repeats.{awaited}
-use Rattle.drvhost_parts.specs.Told.{GoesAlone, LedgerGoesOn, ToldAlone, count_left, told_line}
+use Rattle.drvhost_parts.specs.Told.{GoesAlone, IsTold, LedgerGoesOn, ToldAlone, count_left, told_line}
 use Rattle.drvhost_parts.proofs.Following.{counted}
-use Rattle.drvhost_parts.proofs.ToldRuns.{Telling, left_events, left_length, telling_on}
+use Rattle.drvhost_parts.proofs.ToldRuns.{Telling, left_events, left_length, none_left, telling_on, told_again}
 use Rattle.interleave.specs.declared.read.Repeated.{Repeated}
 use Rattle.model.specs.declared.event.Event.{Event}
 use Rattle.model.specs.declared.event.Event.TheVariants.{Step}
@@ -47,11 +47,12 @@ pub telling_stays : (detail : Detail) (set : Set) (threads : ℕ) (events : List
     (m n : Machine) (l : LedgerState) (number now k : ℕ) (rest : List Event) (text more : List ℕ)
     → Telling detail set threads events m l number rest text → k ≡ 0 → now ≡ number + k
     → (k ≡ 0 → (n ≡ m) × (more ≡ text)) → Telling detail set threads events n l now rest more
-telling_stays detail set threads events m n l number now k rest text more tells zero counts stays =
-    let same : number ≡ now = omega (arith, zero, counts) in
-    subst (λ (x : List ℕ). Telling detail set threads events n l now rest x) (sym (stays zero).1)
+telling_stays detail set threads events m n l number now k rest text more tells none_made counts
+    stays =
+    let same : number ≡ now = omega (arith, none_made, counts) in
+    subst (λ (x : List ℕ). Telling detail set threads events n l now rest x) (sym (stays none_made).1)
     (subst (λ (x : Machine). Telling detail set threads events x l now rest text)
-    (sym (stays zero).0)
+    (sym (stays none_made).0)
     (subst (λ (i : ℕ). Telling detail set threads events m l i rest text) same tells))
 
 -- how many events are left behind some that were made
@@ -68,91 +69,118 @@ left_ahead e rest later all after k left are is counts few =
     left_length rest later in
     omega (arith, before, behind, some, counts, few)
 
+-- a step more
+pub goes_one : (t : ℕ) (m : Machine) (k : ℕ) (n o : Machine) (j : ℕ) → GoesOn t m k n
+    → GoesOn t n j o → j ≤ 1 → 1 ≤ j → GoesOn t m (k + 1) o
+goes_one t m k n o i before none few some = absurd (omega (arith, some))
+goes_one t m k n o i before (goes_more j p q first applies alone) few some =
+    let one : suc k ≡ k + 1 = omega arith in
+    let zero : j ≡ 0 = omega (arith, few) in
+    let same : p ≡ n = stays_on t n j p first zero in
+    subst (λ (x : ℕ). GoesOn t m x o) one
+    (goes_more k n o before
+    (subst (λ (x : Machine). AppliesWhole x (Step t) o Stepped) same applies)
+    (subst (λ (x : Machine). StepsAlone x.set x.world t o.world) same alone))
+
+-- the last of the lines of equal events
+pub record ToldLast (detail : Detail) (k number : ℕ) (reply : Reply) (text : List ℕ) : Type 0 where
+  pub before : List ℕ
+  pub words : List ℕ
+  pub is : text ≡ before ++ told_line detail (number + k) reply words
+  pub told : IsTold detail number (replicate k reply) before
+
+told_last_of : (detail : Detail) (k number : ℕ) (reply : Reply) (text : List ℕ)
+    → IsTold detail number (replicate (suc k) reply) text → ToldLast detail k number reply text
+told_last_of detail zero number reply text (words, (later, is, nothing)) =
+    let line : List ℕ = told_line detail number reply words in
+    let same : number ≡ number + 0 = omega arith in
+    record {
+      before = [];
+      words = words;
+      is = is ∙ ap (λ (x : List ℕ). line ++ x) nothing ∙ append-nil line
+          ∙ ap (λ (i : ℕ). told_line detail i reply words) same;
+      told = refl;
+    }
+told_last_of detail (suc k) number reply text (words, (later, is, rest)) =
+    let line : List ℕ = told_line detail number reply words in
+    let last = told_last_of detail k (number + 1) reply later rest in
+    let same : number + 1 + k ≡ number + suc k = omega arith in
+    let end : List ℕ = told_line detail (number + 1 + k) reply last.words in
+    record {
+      before = line ++ last.before;
+      words = last.words;
+      is = is ∙ ap (λ (x : List ℕ). line ++ x) last.is ∙ sym (append_assoc line last.before end)
+          ∙ ap (λ (i : ℕ). (line ++ last.before) ++ told_line detail i reply last.words) same;
+      told = (words, (last.before, refl, last.told));
+    }
+
+-- one line more of such events
+pub told_one : (detail : Detail) (k number at : ℕ) (text before more words : List ℕ)
+    → ToldAlone detail number k text before → at ≡ number + k
+    → more ≡ before ++ told_line detail at Stepped words
+    → ToldAlone detail number (k + 1) text more
+told_one detail k number at text before more words (added, is, told) numbered adds =
+    let line : List ℕ = told_line detail at Stepped words in
+    let more_by_one : suc k ≡ k + 1 = omega arith in
+    let all : IsTold detail number (replicate (suc k) Stepped)
+    (added ++ told_line detail (number + k) Stepped words) =
+    told_again detail k number Stepped added words told in (
+      added ++ line,
+      adds ∙ ap (λ (x : List ℕ). x ++ line) is ∙ append_assoc text added line,
+      subst (λ (j : ℕ). IsTold detail number (replicate j Stepped) (added ++ line)) more_by_one
+          (subst (λ (i : ℕ). IsTold detail number (replicate (suc k) Stepped)
+          (added ++ told_line detail i Stepped words)) (sym numbered) all),
+    )
+
+-- none is told yet
+pub told_none : (detail : Detail) (number : ℕ) (text : List ℕ) → ToldAlone detail number 0 text text
+told_none detail number text = ([], sym (append-nil text), refl)
+
+-- in quiet nothing is told
+pub told_quiet : (number k : ℕ) (text : List ℕ) → ToldAlone Quiet number k text text
+told_quiet number k text = ([], sym (append-nil text), none_left Quiet k number Stepped refl)
+
 module _ (law : GoingOnKeepsLedgers) where
   -- a ledger stays as it is
   kept_by : (t : ℕ) (n o : Machine) (l : LedgerState) → GoesOn t n 1 o
       → LedgerGoesOn n (Step t) l l
   kept_by t n o l once threads events shows tells = law t 1 n o l threads events once shows tells
 
-  -- one is an event that was applied
-  pub record Once (m : Machine) (e : Event) (n : Machine) (l : LedgerState) : Type 0 where
-    pub applies : AppliesWhole m e n Stepped
-    pub keeps : LedgerGoesOn m e l l
-
-  once_on : (t : ℕ) (m : Machine) (k : ℕ) (n : Machine) (l : LedgerState) → GoesOn t m k n → k ≡ 1
-      → Once m (Step t) n l
-  once_on t m j n l none is = absurd (omega (arith, is))
-  once_on t m j p l (goes_more k n o before applies alone) is =
-      let one : suc k ≡ 1 = is in
-      let first : n ≡ m = stays_on t m k n before (omega (arith, one)) in
-      subst (λ (x : Machine). Once x (Step t) o l) first
-      (record { applies = applies; keeps = kept_by t n o l (goes_more 0 n o none applies alone) })
-
-  once_alone : (e : Event) (m n : Machine) (l : LedgerState) → GoesAlone e m 1 n → Once m e n l
-  once_alone (Step t) m n l goes = once_on t m 1 n l goes refl
-  once_alone e m n l goes = absurd (omega (arith, goes.0))
-
-  -- in quiet nothing is told of them
-  module _ (set : Set) (threads : ℕ) (events later : List Event) (l : LedgerState)
-      (text : List ℕ) (t number : ℕ) (m : Machine) where
-    quiet_on : (k : ℕ) (n : Machine) (left : ℕ) → GoesOn t m k n
-        → Telling Quiet set threads events m l number (replicate (k + left) (Step t) ++ later) text
-        → Telling Quiet set threads events n l (number + k) (replicate left (Step t) ++ later) text
-    quiet_on j n left none tells =
+  -- as many events are told as go on
+  module _ (detail : Detail) (set : Set) (threads : ℕ) (events later : List Event)
+      (l : LedgerState) (t number : ℕ) (m : Machine) where
+    told_on : (k : ℕ) (n : Machine) (left : ℕ) (text more : List ℕ) → GoesOn t m k n
+        → ToldAlone detail number k text more
+        → Telling detail set threads events m l number (replicate (k + left) (Step t) ++ later) text
+        → Telling detail set threads events n l (number + k) (replicate left (Step t) ++ later) more
+    told_on j n left text more none (added, is, nothing) tells =
         let numbers : number ≡ number + 0 = omega arith in
         let counts : 0 + left ≡ left = omega arith in
-        subst (λ (i : ℕ). Telling Quiet set threads events m l i
+        let same : text ≡ more =
+        sym (is ∙ ap (λ (x : List ℕ). text ++ x) nothing ∙ append-nil text) in
+        subst (λ (x : List ℕ). Telling detail set threads events m l (number + 0)
+        (replicate left (Step t) ++ later) x) same
+        (subst (λ (i : ℕ). Telling detail set threads events m l i
         (replicate left (Step t) ++ later) text) numbers
-        (subst (λ (i : ℕ). Telling Quiet set threads events m l number
-        (replicate i (Step t) ++ later) text) counts tells)
-    quiet_on j p left (goes_more k n o before applies alone) tells =
+        (subst (λ (i : ℕ). Telling detail set threads events m l number
+        (replicate i (Step t) ++ later) text) counts tells))
+    told_on j p left text more (goes_more k n o before applies alone) (added, is, told) tells =
         let counts : suc k + left ≡ k + suc left = omega arith in
         let numbers : number + k + 1 ≡ number + suc k = omega arith in
-        let there : Telling Quiet set threads events n l (number + k)
-        (replicate (suc left) (Step t) ++ later) text =
-        quiet_on k n (suc left) before
-        (subst (λ (i : ℕ). Telling Quiet set threads events m l number
+        let last = told_last_of detail k number Stepped added told in
+        let line : List ℕ = told_line detail (number + k) Stepped last.words in
+        let there : Telling detail set threads events n l (number + k)
+        (replicate (suc left) (Step t) ++ later) (text ++ last.before) =
+        told_on k n (suc left) text (text ++ last.before) before (last.before, refl, last.told)
+        (subst (λ (i : ℕ). Telling detail set threads events m l number
         (replicate i (Step t) ++ later) text) counts tells) in
-        subst (λ (i : ℕ). Telling Quiet set threads events o l i
-        (replicate left (Step t) ++ later) text) numbers
-        (telling_on Quiet set threads events n o l l (number + k) (Step t)
-        (replicate left (Step t) ++ later) text text [] Stepped there applies
-        (kept_by t n o l (goes_more 0 n o none applies alone)) (sym (append-nil text)) refl)
-
-  quiet_alone : (set : Set) (threads : ℕ) (events : List Event) (m n : Machine)
-      (l : LedgerState) (number k : ℕ) (e : Event) (rest : Option Repeated) (later : List Event)
-      (text : List ℕ)
-      → Telling Quiet set threads events m l number (e ∷ awaited rest later) text
-      → GoesAlone e m k n → 1 ≤ k → k ≤ count_left rest + 1 → IfSome rest (λ run. run.event ≡ e)
-      → Telling Quiet set threads events n l (number + k)
-      (replicate (count_left rest + 1 - k) e ++ later) text
-  quiet_alone set threads events m n l number k (Step t) rest later text tells goes some few equal =
-      let left : ℕ = count_left rest + 1 - k in
-      let counts : suc (count_left rest) ≡ k + left = omega (arith, few) in
-      let are : Step t ∷ awaited rest later ≡ replicate (k + left) (Step t) ++ later =
-      ap (λ (es : List Event). Step t ∷ es) (left_events (Step t) rest later equal)
-      ∙ ap (λ (i : ℕ). replicate i (Step t) ++ later) counts in
-      quiet_on set threads events later l text t number m k n left goes
-      (subst (λ (es : List Event). Telling Quiet set threads events m l number es text) are tells)
-  quiet_alone set threads events m n l number k e rest later text tells goes some few equal =
-      absurd (omega (arith, goes.0, some))
-
-  -- else a line is told of one
-  whole_alone : (set : Set) (threads : ℕ) (events : List Event) (m n : Machine)
-      (l : LedgerState) (number : ℕ) (e : Event) (rest : Option Repeated) (later : List Event)
-      (text more words : List ℕ)
-      → Telling Whole set threads events m l number (e ∷ awaited rest later) text
-      → GoesAlone e m 1 n → more ≡ text ++ told_line Whole number Stepped words
-      → IfSome rest (λ run. run.event ≡ e)
-      → Telling Whole set threads events n l (number + 1)
-      (replicate (count_left rest + 1 - 1) e ++ later) more
-  whole_alone set threads events m n l number e rest later text more words tells goes is equal =
-      let once : Once m e n l = once_alone e m n l goes in
-      let counts : count_left rest ≡ count_left rest + 1 - 1 = omega arith in
-      subst (λ (es : List Event). Telling Whole set threads events n l (number + 1) es more)
-      (left_events e rest later equal ∙ ap (λ (i : ℕ). replicate i e ++ later) counts)
-      (telling_on Whole set threads events m n l l number e (awaited rest later) text more words
-      Stepped tells once.applies once.keeps is refl)
+        let whole : more ≡ (text ++ last.before) ++ line =
+        is ∙ ap (λ (x : List ℕ). text ++ x) last.is ∙ sym (append_assoc text last.before line) in
+        subst (λ (i : ℕ). Telling detail set threads events o l i
+        (replicate left (Step t) ++ later) more) numbers
+        (telling_on detail set threads events n o l l (number + k) (Step t)
+        (replicate left (Step t) ++ later) (text ++ last.before) more last.words Stepped there applies
+        (kept_by t n o l (goes_more 0 n o none applies alone)) whole refl)
 
   -- so the telling goes on
   pub telling_ahead : (detail : Detail) (set : Set) (threads : ℕ) (events : List Event)
@@ -163,14 +191,15 @@ module _ (law : GoingOnKeepsLedgers) where
       → ToldAlone detail number k text more
       → Telling detail set threads events n l (number + k)
       (replicate (count_left rest + 1 - k) e ++ later) more
-  telling_ahead Quiet set threads events m n l number k e rest later text more tells goes some few
+  telling_ahead detail set threads events m n l number k (Step t) rest later text more tells goes
+      some few equal told =
+      let left : ℕ = count_left rest + 1 - k in
+      let counts : suc (count_left rest) ≡ k + left = omega (arith, few) in
+      let are : Step t ∷ awaited rest later ≡ replicate (k + left) (Step t) ++ later =
+      ap (λ (es : List Event). Step t ∷ es) (left_events (Step t) rest later equal)
+      ∙ ap (λ (i : ℕ). replicate i (Step t) ++ later) counts in
+      told_on detail set threads events later l t number m k n left text more goes told
+      (subst (λ (es : List Event). Telling detail set threads events m l number es text) are tells)
+  telling_ahead detail set threads events m n l number k e rest later text more tells goes some few
       equal told =
-      subst (λ (x : List ℕ). Telling Quiet set threads events n l (number + k)
-      (replicate (count_left rest + 1 - k) e ++ later) x) (sym told)
-      (quiet_alone set threads events m n l number k e rest later text tells goes some few equal)
-  telling_ahead Whole set threads events m n l number k e rest later text more tells goes some few
-      equal (one, (words, is)) =
-      subst (λ (j : ℕ). Telling Whole set threads events n l (number + j)
-      (replicate (count_left rest + 1 - j) e ++ later) more) (sym one)
-      (whole_alone set threads events m n l number e rest later text more words tells
-      (subst (λ (j : ℕ). GoesAlone e m j n) one goes) is equal)
+      absurd (omega (arith, goes.0, some))

@@ -1,5 +1,5 @@
 -- How the telling of a run goes on.
-use Rattle.std.proofs.Common.{◌≡◌, ◌∙◌, ℕ, zero, suc, ◌+◌, ◌-◌, ◌≤◌, Bool, true, false, ◌||◌, List, [], ◌∷◌, ◌++◌, ◌⊎◌, inl, inr, Option, None, Some, Result, Ok, Err, IfErr, IfOk, ◌≢◌, refl, sym, ap, arith, length, replicate, subst, append_assoc, if◌then◌else◌}
+use Rattle.std.proofs.Common.{◌≡◌, ◌∙◌, ℕ, zero, suc, ◌+◌, ◌-◌, ◌≤◌, Bool, true, false, ◌||◌, List, [], ◌∷◌, ◌++◌, ◌⊎◌, inl, inr, Option, None, Some, Result, Ok, Err, IfErr, IfOk, OnOk, ◌≢◌, refl, sym, ap, arith, length, replicate, subst, append_assoc, if◌then◌else◌}
 use Rattle.std.proofs.lemmas.Bool.{cases_Bool, false≢true}
 use Rattle.std.proofs.lemmas.List.{append-nil}
 use Rattle.std.specs.List.{list_any}
@@ -394,7 +394,7 @@ left_some reply rest some =
     ]
 
 -- one more of the same
-told_again : (detail : Detail) (count number : ℕ) (reply : Reply) (added words : List ℕ)
+pub told_again : (detail : Detail) (count number : ℕ) (reply : Reply) (added words : List ℕ)
     → IsTold detail number (replicate count reply) added
     → IsTold detail number (replicate (suc count) reply)
     (added ++ told_line detail (number + count) reply words)
@@ -535,6 +535,14 @@ pub line_told : (detail : Detail) (number : ℕ) (reply : Reply) (text more word
 line_told detail number reply text more words told added =
     added
     ∙ ap (λ (b : Bool). text ++ (if b then [] else worded_line number reply words)) (sym told)
+
+pub lines_of : {T E : Type 0} (r : Result T E) (detail : Detail) (number : ℕ) (reply : Reply)
+    (text more : List ℕ) → is_left_out detail reply ≡ false
+    → OnOk r ((words : List ℕ) × (more ≡ text ++ worded_line number reply words))
+    → OnOk r ((words : List ℕ) × (more ≡ text ++ told_line detail number reply words))
+lines_of (Ok x) detail number reply text more told (words, added) =
+    (words, line_told detail number reply text more words told added)
+lines_of (Err e) detail number reply text more told h = tt
 
 -- or nothing is
 pub nothing_told : (detail : Detail) (number : ℕ) (reply : Reply) (text : List ℕ)

@@ -1,5 +1,5 @@
 -- What is seen of an event of a run that is told.
-use Rattle.std.specs.Prelude.{ℕ, ⊤, ◌≡◌, Bool, true, false, List}
+use Rattle.std.specs.Prelude.{ℕ, ◌≡◌, Bool, true, false, List}
 use Rattle.model.specs.declared.event.Event.{Event}
 use Rattle.model.specs.declared.event.Reply.{Reply}
 use Rattle.model.specs.declared.event.Reply.TheVariants.{Stepped}
@@ -7,16 +7,9 @@ use Rattle.model.specs.Machine.{Machine, ShowsWhole}
 use Rattle.pending_uses.specs.Acting.{acting_in}
 use Rattle.pending_uses.specs.Acts.{use_step}
 use Rattle.pending_uses.specs.Plain.{is_plain}
-use Rattle.drvhost_parts.specs.declared.seeing.Seen.{Seen}
-use Rattle.drvhost_parts.specs.declared.seeing.Seen.TheVariants.{Passed, Happened as HasHappened}
 use Rattle.drvhost_parts.specs.declared.tell.Detail.{Detail}
 use Rattle.drvhost_parts.specs.declared.tell.Detail.TheVariants.{Quiet}
 use Rattle.told.specs.declared.line.Happened.{Happened}
-
--- the reply to an event of which this was seen: one that is passed over stepped
-abbrev pub reply_of : Seen → Reply
-reply_of Passed = Stepped
-reply_of (HasHappened happened) = happened.reply
 
 -- a reply that says that a step was made
 abbrev pub is_stepped : Reply → Bool
@@ -30,10 +23,6 @@ pub record HappensBefore (m : Machine) (e : Event) (happened : Happened) : Type 
   pub step : happened.step ≡ use_step m.set m.world e
   pub acting : (threads : ℕ) (events : List Event) → ShowsWhole m threads events
       → happened.moment.acting ≡ acting_in m.set m.world e
-
-abbrev pub SeenBefore : Machine → Event → Seen → Type 0
-SeenBefore m e Passed = ⊤
-SeenBefore m e (HasHappened happened) = HappensBefore m e happened
 
 -- an event needs no look at it before it is applied: a plain step, in quiet
 pub record GoesUnseen (detail : Detail) (m : Machine) (e : Event) : Type 0 where

@@ -108,12 +108,10 @@ abbrev pub GoesAlone : Event → Machine → ℕ → Machine → Type 0
 GoesAlone (Step t) m k n = GoesOn t m k n
 GoesAlone e m k n = (k ≡ 0) × (n ≡ m)
 
--- so many such steps are told, the first of which has this number: nothing in quiet, and else a
--- line of one
+-- so many such steps are told, the first of which has this number
 abbrev pub ToldAlone : Detail → ℕ → ℕ → List ℕ → List ℕ → Type 0
-ToldAlone Quiet number k text more = more ≡ text
-ToldAlone Whole number k text more =
-    (k ≡ 1) × ((words : List ℕ) × (more ≡ text ++ told_line Whole number Stepped words))
+ToldAlone detail number k text more =
+    (added : List ℕ) × (more ≡ text ++ added) × IsTold detail number (replicate k Stepped) added
 
 -- a run after these events, or after the first of them that stops it
 abbrev pub run_to_end : Set → Run → List Event → Run

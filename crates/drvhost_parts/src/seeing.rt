@@ -1,8 +1,7 @@
 //! Events of a run that is told, applied one by one: what is seen of each.
 
-ghost use Rattle.std.specs.Prelude.{◌≡◌, IfOk, IsTrue, OnOk, true};
-ghost use Rattle.drvhost_parts.specs.declared.seeing.Seen.TheVariants.{Passed};
-ghost use Rattle.drvhost_parts.specs.Seen.{GoesUnseen, SeenBefore, is_stepped, reply_of};
+ghost use Rattle.std.specs.Prelude.{◌≡◌, IfOk, IsTrue, OnOk, false, true};
+ghost use Rattle.drvhost_parts.specs.Seen.{GoesUnseen, HappensBefore, is_stepped};
 ghost use Rattle.drvhost_parts.specs.Told.{LedgerGoesOn};
 ghost use Rattle.model.specs.declared.event.Reply.TheVariants.{Stepped};
 ghost use Rattle.model.specs.Machine.{AppliesWhole};
@@ -18,12 +17,18 @@ use pending_uses::plain::{is_plain, plain_steps_keep_ledgers, plain_steps_step_o
 use std::alloc::{AllocError, Global};
 use told::{Happened, Moment};
 
-/// What is seen of an event that was applied.
-pub(crate) enum Seen {
-    /// It is passed over: nothing is told of it, and nothing noted for the audit.
-    Passed,
-    /// This is told.
-    Happened(Happened),
+/// What is seen before the first event.
+pub(crate) fn nothing_seen() -> Happened {
+    Happened {
+        event: Event::Interrupt { device: 0 },
+        moment: Moment {
+            acting: None,
+            packet: None,
+            reason: None,
+        },
+        step: UseStep::Nothing,
+        reply: Reply::Idle,
+    }
 }
 
 /// Whether an event needs no look at it before it is applied: in quiet a plain step. Nothing is told
@@ -37,7 +42,8 @@ pub(crate) fn goes_unseen(machine: &Checked, event: &Event, detail: Detail) -> b
     }
 }
 
-/// Applies an event and notes it in the ledger.
+/// Applies an event and notes it in the ledger, and puts down what is seen of it. It answers whether
+/// the event is passed over: nothing is told of it, and nothing noted for the audit.
 pub(crate) fn see(
     alloc: Global,
     ledger: &mut Ledger,
@@ -45,32 +51,28 @@ pub(crate) fn see(
     event: &Event,
     unseen: bool,
     detail: Detail,
-) -> Result<Seen, AllocError>
+    happened: &mut Happened,
+) -> Result<bool, AllocError>
     requires { IsTrue unseen → GoesUnseen detail machine.old event.now }
-    ensures applied { IfOk result (λ seen.
-        AppliesWhole machine.old event.now machine.new (reply_of seen)) }
+    ensures applied { OnOk result
+        (AppliesWhole machine.old event.now machine.new happened.new.reply) }
     ensures noted { OnOk result (LedgerGoesOn machine.old event.now ledger.old ledger.new) }
-    ensures kept { IfOk result (λ seen. says_unchanged (reply_of seen) ≡ true
+    ensures kept { OnOk result (says_unchanged happened.new.reply ≡ true
         → ledger.new ≡ ledger.old) }
-    ensures seen { IfOk result (SeenBefore machine.old event.now) }
-    ensures passed { IfOk result (λ seen. seen ≡ Passed → detail ≡ Detail.Quiet) }
+    ensures seen { IfOk result (λ passed. passed ≡ false
+        → HappensBefore machine.old event.now happened.new) }
+    ensures passed { IfOk result (λ passed. IsTrue passed
+        → (detail ≡ Detail.Quiet) × (happened.new.reply ≡ Stepped)) }
 {
     if unseen {
-        return see_after(alloc, ledger, machine, event);
+        return see_after(alloc, ledger, machine, event, happened);
     }
-    let moment = Moment::before(machine, event);
-    let step = use_step_of(machine, event, &moment.acting);
-    let reply = machine.apply(event);
-    ledger.note(alloc, step, event, &reply, machine)?;
-    if is_passed(detail, step, &reply) {
-        return Ok(Seen::Passed);
-    }
-    Ok(Seen::Happened(Happened {
-        event: *event,
-        moment,
-        step,
-        reply,
-    }))
+    happened.event = *event;
+    happened.moment = Moment::before(machine, event);
+    happened.step = use_step_of(machine, event, &happened.moment.acting);
+    happened.reply = machine.apply(event);
+    ledger.note(alloc, happened.step, event, &happened.reply, machine)?;
+    Ok(is_passed(detail, happened.step, &happened.reply))
 }
 
 /// The same of a plain step in quiet. Where it steps it is passed over, and the ledger stays as it
@@ -81,28 +83,29 @@ fn see_after(
     ledger: &mut Ledger,
     machine: &mut Checked,
     event: &Event,
-) -> Result<Seen, AllocError>
+    happened: &mut Happened,
+) -> Result<bool, AllocError>
     requires { is_plain machine.old.set machine.old.world event.now ≡ true }
-    ensures applied { IfOk result (λ seen.
-        AppliesWhole machine.old event.now machine.new (reply_of seen)) }
+    ensures applied { OnOk result
+        (AppliesWhole machine.old event.now machine.new happened.new.reply) }
     ensures noted { OnOk result (LedgerGoesOn machine.old event.now ledger.old ledger.new) }
-    ensures kept { IfOk result (λ seen. says_unchanged (reply_of seen) ≡ true
+    ensures kept { OnOk result (says_unchanged happened.new.reply ≡ true
         → ledger.new ≡ ledger.old) }
-    ensures seen { IfOk result (SeenBefore machine.old event.now) }
+    ensures seen { IfOk result (λ passed. passed ≡ false
+        → HappensBefore machine.old event.now happened.new) }
+    ensures passed { IfOk result (λ passed. IsTrue passed → happened.new.reply ≡ Stepped) }
 {
     plain_steps_keep_ledgers();
     plain_steps_step_or_stay();
-    let reply = machine.apply(event);
-    if is_stepped(&reply) {
-        return Ok(Seen::Passed);
+    happened.reply = machine.apply(event);
+    if is_stepped(&happened.reply) {
+        return Ok(true);
     }
-    ledger.note(alloc, UseStep::Nothing, event, &reply, machine)?;
-    Ok(Seen::Happened(Happened {
-        event: *event,
-        moment: Moment::before(machine, event),
-        step: UseStep::Nothing,
-        reply,
-    }))
+    ledger.note(alloc, UseStep::Nothing, event, &happened.reply, machine)?;
+    happened.event = *event;
+    happened.moment = Moment::before(machine, event);
+    happened.step = UseStep::Nothing;
+    Ok(false)
 }
 
 /// Whether a reply says that a step was made.

@@ -154,7 +154,7 @@ fn shown_refusal(alloc: Global, refusal: &Refusal, lines: &mut Lines) -> Result<
     ensures memory { IfErr result (λ fault. fault ≡ Fault.Memory) }
 {
     let end = refuse(refusal, lines)?;
-    let mut text = ToldLines::new(alloc)?;
+    let mut text = ToldLines::new(alloc, 1)?;
     text.add_bytes(lines.bytes())?;
     Ok(Told { text, end })
 }

@@ -1,11 +1,14 @@
 //! Runs that are told in words.
 
-ghost use Rattle.std.specs.Prelude.{◌≡◌, ◌+◌, ◌++◌, ◌∷◌, ◌<◌, ◌≤◌, ◌^◌, ◌||◌, List, ℕ, [], IfOk, IfSome, IsTrue, MatchOption, OnOk, codes, if◌then◌else◌, replicate, true};
+ghost use Rattle.std.specs.Prelude.{◌≡◌, ◌+◌, ◌++◌, ◌∷◌, ◌<◌, ◌≤◌, ◌^◌, ◌||◌, List, ℕ, [], IfOk, IfSome, IsTrue, MatchOption, OnOk, Some, codes, if◌then◌else◌, replicate, true};
 ghost use Rattle.pending_uses.specs.Ledger.{Tells as TellsRun};
 ghost use Rattle.checked.specs.GoingOn.{GoesOn};
 ghost use Rattle.interleave.specs.Listing.{IsWithinLimits};
+ghost use Rattle.model.specs.declared.event.Reply.TheVariants.{Stepped};
 ghost use Rattle.model.specs.Machine.{AppliesWhole, ShowsWhole};
 ghost use Rattle.model.specs.Run.{begun};
+ghost use Rattle.report.specs.Reply.{worded_line};
+ghost use Rattle.report.specs.Word.{word_of};
 ghost use Rattle.run_laws.specs.Waits.{says_unchanged};
 ghost use Rattle.inputs_outputs.specs.Answer.{ended};
 ghost use Rattle.drvhost_parts.specs.Repeats.{awaited};
@@ -13,7 +16,7 @@ ghost use Rattle.drvhost_parts.specs.Seen.{GoesUnseen};
 ghost use Rattle.drvhost_parts.specs.Told.{GoesAlone, HasTold, IsRunTold, IsTold, LedgerGoesOn, ToldAlone, ToldNext, count_left, happens_again, is_left_out, left_again, times_again, told_line};
 
 use crate::follow::{is_last, next_run, rest_of};
-use crate::seeing::{Seen, goes_unseen, see};
+use crate::seeing::{goes_unseen, nothing_seen, see};
 use crate::tell::Detail;
 use audit::findings::Findings;
 use checked::Checked;
@@ -29,13 +32,11 @@ use pending_uses::ledger::Ledger;
 use pending_uses::standing::top_frame;
 use report::event_number::EventNumber;
 use report::lines::Lines;
+use report::word::Word;
 use run_laws::waiting_changes_nothing;
 use std::alloc::{AllocError, Global};
 use told::{Happened, Teller};
 use told_lines::kept::ToldLines;
-
-/// What stands behind the number of a step.
-const STEPPED: &str = " stepped";
 
 /// What stands before the words of the audit.
 const AUDIT: &[u8] = b"\naudit\n";
@@ -87,7 +88,7 @@ pub(crate) fn tell_run(
 {
     let mut teller = Teller::of(alloc, source)?;
     let mut ledger = Ledger::new(alloc, schedule.threads)?;
-    let mut text = ToldLines::new(alloc)?;
+    let mut text = ToldLines::new(alloc, schedule.events.len())?;
     let stopped = tell_events(
         alloc,
         &mut teller,
@@ -143,10 +144,18 @@ fn tell_events(
     let mut number = EventNumber::first();
     let mut upcoming = schedule.events.upcoming();
     let mut rest = None;
+    let mut happened = nothing_seen();
     while let Some(next) = next_event(rest, &mut upcoming) {
         let unseen = goes_unseen(machine, &next.event, detail);
-        let made = go_ahead(
+        let made = go_ahead(teller, machine, &mut number, &next, unseen, detail, text)?;
+        if made > 0 {
+            rest = rest_of(next.event, count_left(&next.rest) + 1 - made);
+            continue;
+        }
+        let left = tell_next(
+            alloc,
             teller,
+            ledger,
             machine,
             &mut number,
             &next,
@@ -154,27 +163,12 @@ fn tell_events(
             detail,
             lines,
             text,
+            &mut happened,
         )?;
-        if made > 0 {
-            rest = rest_of(next.event, count_left(&next.rest) + 1 - made);
-            continue;
-        }
-        let answered = tell_next(
-            alloc,
-            teller,
-            ledger,
-            machine,
-            &mut number,
-            next,
-            unseen,
-            detail,
-            lines,
-            text,
-        )?;
-        if is_last(&answered.reply) {
+        if is_last(&happened.reply) {
             return Ok(true);
         }
-        rest = answered.rest;
+        rest = left;
     }
     Ok(false)
 }
@@ -206,87 +200,81 @@ pub(crate) fn next_event(rest: Option<Repeated>, upcoming: &mut Upcoming<'_>) ->
     })
 }
 
-/// The reply to an event, and what is left to be run of those that are equal to it.
-#[derive(Clone, Copy)]
-struct Answered {
-    reply: Reply,
-    rest: Option<Repeated>,
-}
-
 /// Runs the event that comes next, and adds what is told of it, and of the others of its run where
-/// they do nothing.
+/// they do nothing; what is seen of it is put down. It answers what is left of its run.
 fn tell_next(
     alloc: Global,
     teller: &mut Teller<'_>,
     ledger: &mut Ledger,
     machine: &mut Checked,
     number: &mut EventNumber,
-    next: Next,
+    next: &Next,
     unseen: bool,
     detail: Detail,
     lines: &mut Lines,
     text: &mut ToldLines,
-) -> Result<Answered, AllocError>
-    requires number { number.old + 1 + count_left next.rest < 2 ^ 64 }
-    requires unseen { IsTrue unseen → GoesUnseen detail machine.old next.event }
-    ensures number { IfOk result (λ answered.
-        number.new ≡ number.old + 1 + times_again answered.reply next.rest) }
-    ensures applied { IfOk result (λ answered.
-        AppliesWhole machine.old next.event machine.new answered.reply) }
-    ensures noted { OnOk result (LedgerGoesOn machine.old next.event ledger.old ledger.new) }
-    ensures kept { IfOk result (λ answered. says_unchanged answered.reply ≡ true
+    happened: &mut Happened,
+) -> Result<Option<Repeated>, AllocError>
+    requires number { number.old + 1 + count_left next.now.rest < 2 ^ 64 }
+    requires unseen { IsTrue unseen → GoesUnseen detail machine.old next.now.event }
+    ensures number { OnOk result
+        (number.new ≡ number.old + 1 + times_again happened.new.reply next.now.rest) }
+    ensures applied { OnOk result
+        (AppliesWhole machine.old next.now.event machine.new happened.new.reply) }
+    ensures noted { OnOk result
+        (LedgerGoesOn machine.old next.now.event ledger.old ledger.new) }
+    ensures kept { OnOk result (says_unchanged happened.new.reply ≡ true
         → ledger.new ≡ ledger.old) }
-    ensures rest { IfOk result (λ answered.
-        answered.rest ≡ left_again answered.reply next.rest) }
-    ensures told { IfOk result (λ answered.
-        ToldNext detail number.old answered.reply next.rest text.old text.new) }
+    ensures rest { IfOk result (λ rest.
+        rest ≡ left_again happened.new.reply next.now.rest) }
+    ensures told { OnOk result (ToldNext detail number.old happened.new.reply next.now.rest
+        text.old text.new) }
 {
-    match see(alloc, ledger, machine, &next.event, unseen, detail) {
-        Ok(Seen::Happened(happened)) => tell_happened(
-            teller, machine, number, happened, next.rest, detail, lines, text,
-        ),
-        Ok(Seen::Passed) => {
-            teller.pass(1);
-            number.advance();
-            Ok(Answered {
-                reply: Reply::Stepped,
-                rest: next.rest,
-            })
-        }
-        Err(refused) => Err(refused),
+    if see(
+        alloc,
+        ledger,
+        machine,
+        &next.event,
+        unseen,
+        detail,
+        happened,
+    )? {
+        teller.pass(1);
+        number.advance();
+        return Ok(next.rest);
     }
+    tell_happened(
+        teller, machine, number, happened, next.rest, detail, lines, text,
+    )
 }
 
 /// Adds what is told of an event that happened, and of the others of its run where they do nothing,
-/// by the machine after it.
+/// by the machine after it. It answers what is left of the run.
+#[inline(never)]
 fn tell_happened(
     teller: &mut Teller<'_>,
     machine: &Checked,
     number: &mut EventNumber,
-    happened: Happened,
+    happened: &Happened,
     rest: Option<Repeated>,
     detail: Detail,
     lines: &mut Lines,
     text: &mut ToldLines,
-) -> Result<Answered, AllocError>
+) -> Result<Option<Repeated>, AllocError>
     requires { number.old + 1 + count_left rest < 2 ^ 64 }
     ensures number { OnOk result
-        (number.new ≡ number.old + 1 + times_again happened.reply rest) }
-    ensures answered { IfOk result (λ answered. answered
-        ≡ record { reply = happened.reply; rest = left_again happened.reply rest }) }
+        (number.new ≡ number.old + 1 + times_again happened.now.reply rest) }
+    ensures rest { IfOk result (λ left. left ≡ left_again happened.now.reply rest) }
     ensures told { OnOk result
-        (ToldNext detail number.old happened.reply rest text.old text.new) }
+        (ToldNext detail number.old happened.now.reply rest text.old text.new) }
 {
-    teller.note(&happened, machine)?;
-    add_event(teller, machine, number, &happened, detail, lines, text)?;
+    teller.note(happened, machine)?;
+    add_event(teller, machine, number, happened, detail, lines, text)?;
     let count = times_again(&happened.reply, &rest);
     tell_again(
-        teller, machine, number, &happened, count, detail, lines, text,
+        teller, machine, number, happened, count, detail, lines, text,
     )?;
-    Ok(Answered {
-        reply: happened.reply,
-        rest: left_again(&happened.reply, rest),
-    })
+    Ok(left_again(&happened.reply, rest))
 }
 
 /// How many events are left of a run.
@@ -299,10 +287,9 @@ fn count_left(rest: &Option<Repeated>) -> usize
     }
 }
 
-/// Lets the thread of the step that comes next, and of those equal to it, go on by itself: in quiet
-/// for as many as it can make so, of which nothing is told, and else for the first, of which a line
-/// is told. It answers how many were made; none where another event comes next, or one that needs no
-/// look at it before.
+/// Lets the thread of the step that comes next, and of those equal to it, go on by itself for as many
+/// as it can make so: in quiet nothing is told of them, and else a line of each. It answers how many
+/// were made; none where another event comes next, or one that needs no look at it before.
 fn go_ahead(
     teller: &mut Teller<'_>,
     machine: &mut Checked,
@@ -310,7 +297,6 @@ fn go_ahead(
     next: &Next,
     unseen: bool,
     detail: Detail,
-    lines: &mut Lines,
     text: &mut ToldLines,
 ) -> Result<usize, AllocError>
     requires { number.old + 1 + count_left next.now.rest < 2 ^ 64 }
@@ -329,32 +315,59 @@ fn go_ahead(
     let Event::Step { thread } = next.event else {
         return Ok(0);
     };
+    let most = count_left(&next.rest) + 1;
     match detail {
         Detail::Quiet => {
-            let made = machine.go_on(thread, count_left(&next.rest) + 1);
+            let made = machine.go_on(thread, most);
             number.advance_many(made as u64);
             teller.pass(made as u64);
             Ok(made)
         }
-        Detail::Whole => tell_alone(teller, machine, number, thread, lines, text),
+        Detail::Whole => tell_alone(teller, machine, number, thread, most, text),
     }
 }
 
-/// Lets a thread make a step by itself, and tells it. It answers how many were made: one, or none.
+/// Lets a thread make steps by itself, up to so many, and tells each. It answers how many were made.
 fn tell_alone(
     teller: &mut Teller<'_>,
     machine: &mut Checked,
     number: &mut EventNumber,
     thread: u8,
-    lines: &mut Lines,
+    most: usize,
+    text: &mut ToldLines,
+) -> Result<usize, AllocError>
+    requires { number.old + most < 2 ^ 64 }
+    ensures few { IfOk result (λ made. made ≤ most) }
+    ensures number { IfOk result (λ made. number.new ≡ number.old + made) }
+    ensures goes { IfOk result (λ made. GoesOn thread machine.old made machine.new) }
+    ensures told { IfOk result (λ made.
+        ToldAlone Detail.Whole number.old made text.old text.new) }
+    ensures none { IfOk result (λ made. made ≡ 0
+        → (machine.new ≡ machine.old) × (text.new ≡ text.old)) }
+{
+    for made in 0..most {
+        if tell_step(teller, machine, number, thread, text)? == 0 {
+            return Ok(made);
+        }
+    }
+    Ok(most)
+}
+
+/// Lets a thread make a step by itself, and tells it. It answers how many were made: one, or none.
+#[inline]
+fn tell_step(
+    teller: &mut Teller<'_>,
+    machine: &mut Checked,
+    number: &mut EventNumber,
+    thread: u8,
     text: &mut ToldLines,
 ) -> Result<usize, AllocError>
     requires { number.old + 1 < 2 ^ 64 }
     ensures few { IfOk result (λ made. made ≤ 1) }
     ensures number { IfOk result (λ made. number.new ≡ number.old + made) }
     ensures goes { IfOk result (λ made. GoesOn thread machine.old made machine.new) }
-    ensures told { IfOk result (λ made. 1 ≤ made
-        → ToldAlone Detail.Whole number.old made text.old text.new) }
+    ensures told { IfOk result (λ made. 1 ≤ made → ((words : List ℕ)
+        × (text.new ≡ text.old ++ told_line Detail.Whole number.old Stepped words))) }
     ensures none { IfOk result (λ made. made ≡ 0
         → (machine.new ≡ machine.old) × (text.new ≡ text.old)) }
 {
@@ -364,9 +377,15 @@ fn tell_alone(
     if machine.go_on(thread, 1) == 0 {
         return Ok(0);
     }
-    let head = number.digits().saturating_add(STEPPED.len());
+    let head = number.digits().saturating_add(length_of(Word::Stepped));
     teller.tell_alone(head, thread, place, machine)?;
-    text.add_line(lines, number, &Reply::Stepped, teller.words())?;
+    text.add_line(
+        number,
+        &Reply::Stepped,
+        Word::Stepped,
+        teller.front(),
+        teller.words(),
+    )?;
     Ok(1)
 }
 
@@ -422,7 +441,14 @@ fn tell_again(
         let head = lines.head_length(number, &happened.reply);
         make_words(teller, machine, happened, head)?;
         let some = as_long(number, left);
-        text.add_again(lines, number, &happened.reply, teller.words(), some)?;
+        text.add_again(
+            lines,
+            number,
+            &happened.reply,
+            teller.front(),
+            teller.words(),
+            some,
+        )?;
         left -= some;
     }
     Ok(())
@@ -475,9 +501,71 @@ fn add_event(
         number.advance();
         return Ok(());
     }
-    let head = lines.head_length(number, &happened.reply);
+    match Word::of(&happened.reply) {
+        Some(word) => add_worded(teller, machine, number, happened, word, text),
+        None => add_other(teller, machine, number, happened, lines, text),
+    }
+}
+
+/// Adds the line of an event that replied a word, and goes on to the next number.
+fn add_worded(
+    teller: &mut Teller<'_>,
+    machine: &Checked,
+    number: &mut EventNumber,
+    happened: &Happened,
+    word: Word,
+    text: &mut ToldLines,
+) -> Result<(), AllocError>
+    requires word { word_of happened.now.reply ≡ Some word }
+    requires number { number.old + 1 < 2 ^ 64 }
+    ensures number { OnOk result (number.new ≡ number.old + 1) }
+    ensures told { OnOk result ((words : List ℕ) × (text.new
+        ≡ text.old ++ worded_line number.old happened.now.reply words)) }
+{
+    let head = number.digits().saturating_add(length_of(word));
     teller.tell(head, happened, machine)?;
-    text.add_line(lines, number, &happened.reply, teller.words())?;
+    text.add_line(
+        number,
+        &happened.reply,
+        word,
+        teller.front(),
+        teller.words(),
+    )?;
+    Ok(())
+}
+
+/// How many bytes stand behind the number of an event that replied a word.
+#[inline]
+fn length_of(word: Word) -> usize {
+    match word {
+        Word::Idle => " idle".len(),
+        Word::Waited => " waited".len(),
+        Word::Stepped => " stepped".len(),
+        Word::Refused => " refused".len(),
+        Word::Finished => " finished".len(),
+    }
+}
+
+/// Adds the line of an event that replied more, and goes on to the next number.
+fn add_other(
+    teller: &mut Teller<'_>,
+    machine: &Checked,
+    number: &mut EventNumber,
+    happened: &Happened,
+    lines: &mut Lines,
+    text: &mut ToldLines,
+) -> Result<(), AllocError>
+    requires number { number.old + 1 < 2 ^ 64 }
+    ensures number { OnOk result (number.new ≡ number.old + 1) }
+    ensures told { OnOk result ((words : List ℕ) × (text.new
+        ≡ text.old ++ worded_line number.old happened.now.reply words)) }
+{
+    lines.clear();
+    lines.reply(number, &happened.reply);
+    let head = lines.bytes().len().saturating_sub(1);
+    teller.tell(head, happened, machine)?;
+    text.add_headed(lines.bytes(), teller.front(), teller.words())?;
+    number.advance();
     Ok(())
 }
 

@@ -3,6 +3,7 @@
 use crate::words::add_number;
 use asm_line::{Body, read_line};
 use excerpt::{PlacedLines, add_bytes};
+use model::view::FrameView;
 use std::alloc::{AllocError, Global};
 use text::piece::Piece;
 
@@ -124,6 +125,27 @@ impl<'a> Book<'a> {
         places.get(position as usize).copied()
     }
 
+    /// Where the instruction stands at which a frame does, if it is a routine's.
+    pub(crate) fn line_at(&self, frame: FrameView) -> Option<Place> {
+        match frame {
+            FrameView::Routine {
+                driver,
+                routine,
+                position,
+                device: _,
+            } => self.line_of(driver, routine, position),
+            FrameView::Walk(_) | FrameView::Cancel(_) => None,
+        }
+    }
+
+    /// The routine and the line of that instruction.
+    pub(crate) fn words_of(&self, place: Place) -> &str {
+        self.places
+            .as_str()
+            .get(place.start..place.end)
+            .unwrap_or("")
+    }
+
     /// Adds the routine and the line of that instruction.
     pub(crate) fn add_place(
         &self,
@@ -133,8 +155,7 @@ impl<'a> Book<'a> {
         position: u16,
     ) -> Result<(), AllocError> {
         if let Some(place) = self.line_of(driver, routine, position) {
-            let all = self.places.as_str();
-            return words.push_str(all.get(place.start..place.end).unwrap_or(""));
+            return words.push_str(self.words_of(place));
         }
         self.add_routine(words, driver, routine)?;
         write!(words, " at {position}")

@@ -1,27 +1,25 @@
 //! A column for each thread.
 
-use crate::words::add_number;
 use checked::Checked;
 use model::event::Event;
 use pending_uses::standing::thread_of;
 use std::alloc::AllocError;
 
 /// Adds a column for each thread: its number where the event is about it, else whether it has
-/// frames.
+/// frames. Each is as wide as the number.
 pub(crate) fn add_columns(
-    words: &mut String,
+    columns: &mut Vec<u8>,
     machine: &Checked,
     event: &Event,
 ) -> Result<(), AllocError> {
-    let threads = machine.threads();
     let acts = thread_of(event);
-    for (number, thread) in threads.iter().enumerate() {
+    for (number, thread) in machine.threads().iter().enumerate() {
         if is_number(acts, number) {
-            add_number(words, number as u64)?;
+            add_number(columns, number)?;
         } else {
-            words.push_str(if thread.is_idle() { "." } else { "|" })?;
+            columns.push(if thread.is_idle() { b'.' } else { b'|' })?;
             if number > 9 {
-                words.push_str(" ")?;
+                columns.push(b' ')?;
             }
         }
     }
@@ -34,4 +32,18 @@ fn is_number(thread: Option<u8>, number: usize) -> bool {
         Some(thread) => thread as usize == number,
         None => false,
     }
+}
+
+/// Adds the number of a thread, 0 to 63.
+fn add_number(columns: &mut Vec<u8>, number: usize) -> Result<(), AllocError> {
+    if number > 9 {
+        columns.push(digit(number / 10))?;
+    }
+    columns.push(digit(number))?;
+    Ok(())
+}
+
+/// The last digit of a number.
+fn digit(number: usize) -> u8 {
+    b'0' + (number % 10) as u8
 }

@@ -7,8 +7,10 @@ mod book;
 mod change;
 mod columns;
 mod disagreement;
+mod front;
 mod line;
 mod places;
+mod standing;
 mod teller;
 mod words;
 

@@ -80,30 +80,31 @@ fn packet_before(machine: &Checked, acting: &Acting) -> Option<PacketView> {
     }
 }
 
-/// Adds the columns of an event behind a head of so many bytes, its number and the reply.
+/// How many blanks stand behind a head of so many bytes, its number and the reply.
+pub(crate) fn blanks_behind(head: usize) -> usize {
+    blanks(head, COLUMNS).len()
+}
+
+/// Adds the columns of an event behind so many blanks.
 pub(crate) fn add_front(
-    words: &mut String,
-    head: usize,
+    front: &mut Vec<u8>,
+    blanks: usize,
     event: &Event,
     machine: &Checked,
 ) -> Result<(), AllocError> {
-    pad(words, head, COLUMNS)?;
-    add_columns(words, machine, event)?;
-    words.push_str("  ")
+    front.extend_from_slice(BLANKS.get(..blanks).unwrap_or(BLANKS).as_bytes())?;
+    add_columns(front, machine, event)?;
+    front.extend_from_slice(b"  ")?;
+    Ok(())
 }
 
-/// Adds the columns and the place of an event behind a head of so many bytes; and behind them what
-/// it changed, if these words say anything.
-pub(crate) fn add_event(
+/// Adds the place of an event, and behind it what the event changed, if these words say anything.
+pub(crate) fn add_rest(
     words: &mut String,
-    head: usize,
     book: &Book<'_>,
     happened: &Happened,
-    machine: &Checked,
     change: &str,
 ) -> Result<(), AllocError> {
-    add_front(words, head, &happened.event, machine)?;
-    let start = words.len();
     match happened.moment.acting {
         Some(acting) => add_place(words, book, acting.frame)?,
         None => words.push_str("-")?,
@@ -111,15 +112,15 @@ pub(crate) fn add_event(
     if change.is_empty() {
         return Ok(());
     }
-    let place = words.len().saturating_sub(start);
-    pad(words, place, PLACE)?;
+    let place = words.len();
+    words.push_str(blanks(place, PLACE))?;
     words.push_str(change)
 }
 
-/// Adds blanks behind so many bytes, up to a width, and one at least.
-fn pad(words: &mut String, has: usize, width: usize) -> Result<(), AllocError> {
+/// The blanks behind so many bytes, up to a width, and one at least.
+fn blanks(has: usize, width: usize) -> &'static str {
     let blanks = width.saturating_sub(has).max(1);
-    words.push_str(BLANKS.get(..blanks).unwrap_or(BLANKS))
+    BLANKS.get(..blanks).unwrap_or(BLANKS)
 }
 
 /// Adds where a frame that acts stands: the routine and the line of its instruction, or what the

@@ -1,9 +1,11 @@
 //! What tells a run.
 
 use crate::audited::{Audited, add_audit};
-use crate::book::Book;
+use crate::book::{Book, Place};
 use crate::change::add_change;
-use crate::line::{Happened, add_event, add_front, add_place};
+use crate::front::Fronts;
+use crate::line::{Happened, add_place, add_rest};
+use crate::standing::{KeptWords, Standing};
 use audit::findings::Findings;
 use checked::Checked;
 use model::event::Event;
@@ -20,20 +22,27 @@ struct Ahead {
 }
 
 /// What tells a run: how the text calls things, what is noted for the audit, and the words that were
-/// made last.
+/// made last, in two parts.
 #[derive(Drop)]
 pub struct Teller<'a> {
     book: Book<'a>,
     audited: Audited,
-    words: String,
-    /// How many bytes stand before these words.
+    /// How many bytes stand before the words.
     head: usize,
+    /// The first part: the columns.
+    fronts: Fronts,
+    /// Whose columns stand ready, if they are those of a step that a routine made by itself, and no
+    /// other event came since.
+    ahead: Option<Ahead>,
+    /// The second part, unless it is on the line of an instruction alone.
+    words: String,
+    /// That line.
+    line: Option<Place>,
     /// What the last event changed.
     change: String,
-    /// The columns of the last step that a thread's routine made by itself.
-    front: String,
-    /// Of which step they are; of none, where another event came since.
-    ahead: Option<Ahead>,
+    /// Words that may come again, and what those of the last event hang on, if they are kept.
+    kept: KeptWords,
+    standing: Option<Standing>,
 }
 
 impl<'a> Teller<'a> {
@@ -46,11 +55,14 @@ impl<'a> Teller<'a> {
         Ok(Teller {
             book: Book::of(alloc, text)?,
             audited: Audited::new(alloc),
-            words: String::new(alloc),
             head: 0,
-            change: String::new(alloc),
-            front: String::new(alloc),
+            fronts: Fronts::new(alloc)?,
             ahead: None,
+            words: String::new(alloc),
+            line: None,
+            change: String::new(alloc),
+            kept: KeptWords::new(alloc)?,
+            standing: None,
         })
     }
 
@@ -86,6 +98,23 @@ impl<'a> Teller<'a> {
         happened: &Happened,
         machine: &Checked,
     ) -> Result<(), AllocError> {
+        self.head = head;
+        self.ahead = None;
+        self.fronts.make(head, &happened.event, machine)?;
+        self.line = None;
+        self.standing = Standing::of(happened, machine);
+        let Some(standing) = self.standing else {
+            return self.make_words(happened, machine);
+        };
+        if self.kept.get(standing).is_some() {
+            return Ok(());
+        }
+        self.make_words(happened, machine)?;
+        self.kept.keep(standing, self.words.as_str())
+    }
+
+    /// Makes the second part of the words of an event, by the machine after it.
+    fn make_words(&mut self, happened: &Happened, machine: &Checked) -> Result<(), AllocError> {
         self.change.clear();
         add_change(
             &mut self.change,
@@ -96,9 +125,8 @@ impl<'a> Teller<'a> {
             machine,
         )?;
         self.words.clear();
-        self.head = head;
         let change = self.change.as_str();
-        add_event(&mut self.words, head, &self.book, happened, machine, change)
+        add_rest(&mut self.words, &self.book, happened, change)
     }
 
     /// Makes the words of a step that a thread's routine made by itself, behind a head of so many
@@ -116,16 +144,19 @@ impl<'a> Teller<'a> {
         machine: &Checked,
     ) -> Result<(), AllocError> {
         if !self.is_ahead(head, thread) {
-            self.front.clear();
+            self.head = head;
             self.ahead = None;
-            add_front(&mut self.front, head, &Event::Step { thread }, machine)?;
+            self.fronts.make(head, &Event::Step { thread }, machine)?;
             self.ahead = Some(Ahead { head, thread });
         }
         self.audited.pass(1);
-        self.head = head;
-        self.words.clear();
-        self.words.push_str(self.front.as_str())?;
-        add_place(&mut self.words, &self.book, place)
+        self.standing = None;
+        self.line = self.book.line_at(place);
+        if self.line.is_none() {
+            self.words.clear();
+            add_place(&mut self.words, &self.book, place)?;
+        }
+        Ok(())
     }
 
     /// Whether the columns that were made last are those of a thread behind so many bytes.
@@ -150,6 +181,8 @@ impl<'a> Teller<'a> {
         ledger: &Ledger,
         rights: Option<&Rights>,
     ) -> Result<(), AllocError> {
+        self.line = None;
+        self.standing = None;
         self.words.clear();
         add_audit(
             alloc,
@@ -163,8 +196,19 @@ impl<'a> Teller<'a> {
         )
     }
 
-    /// The words that were made last.
+    /// The first part of the words that were made last: the columns.
+    pub fn front(&self) -> &[u8] {
+        self.fronts.last()
+    }
+
+    /// The second part: the place, and what changed; or the words of the audit.
     pub fn words(&self) -> &[u8] {
-        self.words.as_bytes()
+        if let Some(place) = self.line {
+            return self.book.words_of(place).as_bytes();
+        }
+        match self.standing.and_then(|standing| self.kept.get(standing)) {
+            Some(words) => words.as_bytes(),
+            None => self.words.as_bytes(),
+        }
     }
 }

@@ -70,8 +70,14 @@ pub(crate) fn reason_words(reason: Reason) -> &'static str {
     }
 }
 
+/// The numbers of one digit.
+const DIGITS: [&str; 10] = ["0", "1", "2", "3", "4", "5", "6", "7", "8", "9"];
+
 /// Adds a number.
 pub(crate) fn add_number(words: &mut String, number: u64) -> Result<(), AllocError> {
+    if let Some(digit) = DIGITS.get(number as usize) {
+        return words.push_str(digit);
+    }
     let mut buffer = Buffer::new();
     words.push_str(buffer.format(number))
 }

@@ -1,11 +1,12 @@
 -- How the text of pieces is added behind lines that gather.
-use Rattle.std.proofs.Common.{◌≡◌, ◌∙◌, ◌<◌, ◌≤◌, ℕ, ◌+◌, Bool, true, false, List, [], ◌∷◌, ◌++◌, if◌then◌else◌, Option, Result, Ok, Err, OnErr, OnOk, ap, arith, drop, get_or, length, refl, subst, sym}
+use Rattle.std.proofs.Common.{◌≡◌, ◌∙◌, ◌<◌, ◌≤◌, ℕ, ◌+◌, Bool, true, false, List, [], ◌++◌, if◌then◌else◌, Option, Result, Ok, Err, OnErr, OnOk, ap, arith, drop, get_or, length, refl, subst, sym}
 use Rattle.std.proofs.lemmas.List.{append-nil, at_drop_all, at_drop_more, get_or-drop, get_or-replicate, get_or-take, length-drop, length-replicate, length-take-le}
 use Rattle.report.specs.declared.word.Word.{Word}
 use Rattle.inputs_outputs.specs.Device.{Adds, TakesBeginning, Writes}
 use Rattle.inputs_outputs.proofs.Writing.{Gathered, adds_line, adds_none, gathered_line, gathered_more, gathered_part, writes_behind}
 use Rattle.told_lines.specs.declared.piece.Piece.{Piece}
 use Rattle.told_lines.specs.Lines.{piece_text, run_width, run_words, said_line, said_lines, text_of}
+use Rattle.told_lines.specs.Stored.{StoreState}
 
 -- bytes that were written behind the lines
 pub written_added : {T E : Type 0} (r : Result T E) (b n : Option (List ℕ)) (g l t : List ℕ)
@@ -32,13 +33,12 @@ pub none_gathered : (all : List ℕ) (b : Option (List ℕ)) (g : List ℕ) → 
 none_gathered all b g = record { text = []; whole = refl; adds = adds_none b g }
 
 -- the head of a line is added where there was made room
-pub head_added : (head words : List ℕ) (b m : Option (List ℕ)) (g l k : List ℕ)
-    → Adds b m g l [] → k ≡ l ++ head
-    → Gathered (head ++ (words ++ 10 ∷ [])) (words ++ 10 ∷ []) b m g k
-head_added head words b m g l k a is =
-    let all : List ℕ = head ++ (words ++ 10 ∷ []) in
+pub head_added : (head rest : List ℕ) (b m : Option (List ℕ)) (g l k : List ℕ)
+    → Adds b m g l [] → k ≡ l ++ head → Gathered (head ++ rest) rest b m g k
+head_added head rest b m g l k a is =
+    let all : List ℕ = head ++ rest in
     let begun : Gathered all all b m g l = record { text = []; whole = refl; adds = a } in
-    rw is (gathered_line all all head (words ++ 10 ∷ []) b m g l begun refl)
+    rw is (gathered_line all all head rest b m g l begun refl)
 
 -- the last of some lines
 pub last_added : (all later : List ℕ) (b m n : Option (List ℕ)) (g l k : List ℕ)
@@ -107,29 +107,30 @@ run_within stored true index count line within fits = omega (arith, within, fits
 run_within stored false index count line within fits = omega (arith, within, fits)
 
 -- the line that comes next
-pub next_line : (stored : List (List ℕ)) (said : Option Word) (same : Bool)
+pub next_line : (stored : List (List ℕ)) (word : Word) (same : Bool)
     (index count number line : ℕ) → line < count → index + run_width same count ≤ length stored
-    → said_lines said number (drop line (run_words stored same index count))
-    ≡ said_line said number (get_or stored (if same then index else index + line) [])
-    ++ said_lines said (number + 1) (drop (line + 1) (run_words stored same index count))
-next_line stored said same index count number line within fits =
+    → said_lines word number (drop line (run_words stored same index count))
+    ≡ said_line word number (get_or stored (if same then index else index + line) [])
+    ++ said_lines word (number + 1) (drop (line + 1) (run_words stored same index count))
+next_line stored word same index count number line within fits =
     let all : List (List ℕ) = run_words stored same index count in
     let long : length all ≡ count = run_length stored same index count fits in
-    at_drop_more (said_lines said number) all line [] (omega (arith, long, within))
-    ∙ ap (λ words. said_line said number words ++ said_lines said (number + 1) (drop (line + 1) all))
+    at_drop_more (said_lines word number) all line [] (omega (arith, long, within))
+    ∙ ap (λ words. said_line word number words
+    ++ said_lines word (number + 1) (drop (line + 1) all))
     (run_at stored same index count line within)
 
 -- no line is left
-pub no_line : (stored : List (List ℕ)) (said : Option Word) (same : Bool)
+pub no_line : (stored : List (List ℕ)) (word : Word) (same : Bool)
     (index count number line : ℕ) → count ≤ line → index + run_width same count ≤ length stored
-    → said_lines said number (drop line (run_words stored same index count)) ≡ []
-no_line stored said same index count number line past fits =
+    → said_lines word number (drop line (run_words stored same index count)) ≡ []
+no_line stored word same index count number line past fits =
     let all : List (List ℕ) = run_words stored same index count in
     let long : length all ≡ count = run_length stored same index count fits in
-    at_drop_all (said_lines said number) all line (omega (arith, long, past))
+    at_drop_all (said_lines word number) all line (omega (arith, long, past))
 
 -- the piece that comes next
-pub next_piece : (stored : List (List ℕ)) (pieces : List Piece) (place : ℕ) (d : Piece)
+pub next_piece : (stored : StoreState) (pieces : List Piece) (place : ℕ) (d : Piece)
     → place < length pieces
     → text_of stored (drop place pieces)
     ≡ piece_text stored (get_or pieces place d) ++ text_of stored (drop (place + 1) pieces)

@@ -1,13 +1,14 @@
 //! The text of a run that is told.
 
-ghost use Rattle.std.specs.Prelude.{◌≡◌, ◌+◌, ◌++◌, ◌∷◌, ◌<◌, ◌^◌, [], IfErr, IfOk, None, OnErr, OnOk, Some, replicate};
+ghost use Rattle.std.specs.Prelude.{◌≡◌, ◌+◌, ◌++◌, ◌∷◌, ◌<◌, ◌≤◌, ◌^◌, [], IfErr, IfOk, OnErr, OnOk, Some, replicate};
 ghost use Rattle.inputs_outputs.specs.Device.{CanCount, Writes};
 ghost use Rattle.inputs_outputs.specs.Fault.{writes_failed};
 ghost use Rattle.report.specs.Reply.{worded_line};
-ghost use Rattle.told_lines.specs.Lines.{said_line, said_lines, worded_lines};
+ghost use Rattle.report.specs.Word.{word_of};
+ghost use Rattle.told_lines.specs.Lines.{Covers, headed, said_line, said_lines, worded_lines};
 
-use crate::piece::Piece;
-use crate::stored::StoredWords;
+use crate::piece::{LineRun, Piece};
+use crate::stored::{Place, StoredWords};
 use crate::writing::{add_piece, add_pieces};
 use inputs_outputs::device::Sink;
 use inputs_outputs::fault::Fault;
@@ -19,20 +20,16 @@ use report::word::Word;
 use std::alloc::{AllocError, Global};
 use std::marker::Model;
 
-/// For how many pieces there is room before any is added: memory that grows is copied, and touched
-/// for the first time once more.
-const ROOM_FOR_PIECES: usize = 262_144;
-
-/// The text of a run that is told, kept in memory until it is written: words that come again stand
-/// once, and only lines of events that replied more than a word stand whole.
+/// The text of a run that is told, kept in memory until it is written. Lines of events that replied
+/// a word are spelled then, and their words stand once; others stand as they are.
 #[derive(Drop)]
 pub struct ToldLines {
-    words: StoredWords,
+    stored: StoredWords,
     pieces: Vec<Piece>,
     /// The last piece, which may grow.
     last: Piece,
-    /// The last line that stands whole.
-    scratch: Vec<u8>,
+    /// The index of the words of the last line that was added.
+    index: usize,
 }
 
 impl Model for ToldLines {
@@ -42,25 +39,26 @@ impl Model for ToldLines {
 
     ghost Value = { List ℕ };
 
-    ghost view = { λ t. text_of t.words t.pieces.items ++ piece_text t.words t.last };
+    ghost view = { λ t. text_of t.stored t.pieces.items ++ piece_text t.stored t.last };
 
-    ghost invariant = { λ t. All (Stands t.words) t.pieces.items × Stands t.words t.last };
+    ghost invariant = { λ t. All (Stands t.stored) t.pieces.items × Stands t.stored t.last };
 }
 
 impl ToldLines {
-    /// No text.
+    /// No text, with room for lines of so many events: memory that grows is copied, and touched for
+    /// the first time once more, and memory that nobody touches costs nothing.
     ///
     /// # Errors
     ///
     /// When memory runs out.
-    pub fn new(alloc: Global) -> Result<ToldLines, AllocError>
+    pub fn new(alloc: Global, events: usize) -> Result<ToldLines, AllocError>
         ensures { IfOk result (λ text. text ≡ []) }
     {
         Ok(ToldLines {
-            words: StoredWords::new(alloc)?,
-            pieces: Vec::with_capacity(alloc, ROOM_FOR_PIECES)?,
-            last: Piece::none(),
-            scratch: Vec::new(alloc),
+            stored: StoredWords::new(alloc, events)?,
+            pieces: Vec::with_capacity(alloc, events)?,
+            last: Piece::Plain(Place::of(0, 0)),
+            index: 0,
         })
     }
 
@@ -72,11 +70,12 @@ impl ToldLines {
     pub fn of_bytes(alloc: Global, bytes: Vec<u8>) -> Result<ToldLines, AllocError>
         ensures { IfOk result (λ text. text ≡ bytes.items) }
     {
+        let length = bytes.len();
         Ok(ToldLines {
-            words: StoredWords::of_bytes(alloc, bytes)?,
+            stored: StoredWords::of_bytes(alloc, bytes)?,
             pieces: Vec::new(alloc),
-            last: Piece::again(None, 0, 0, 1),
-            scratch: Vec::new(alloc),
+            last: Piece::Plain(Place::of(0, length)),
+            index: 0,
         })
     }
 
@@ -88,11 +87,29 @@ impl ToldLines {
     pub fn add_bytes(&mut self, bytes: &[u8]) -> Result<(), AllocError>
         ensures { OnOk result (self.new ≡ self.old ++ bytes.now) }
     {
-        self.add_same(None, 0, bytes, 1)
+        let start = self.stored.byte_count();
+        self.stored.append(bytes)?;
+        let end = self.stored.byte_count();
+        cover(&mut self.pieces, &mut self.last, start, end)
     }
 
-    /// Adds the line of the event of a number with words behind what the run answered, and goes on to
-    /// the number behind it. Lines that gathered are forgotten.
+    /// Adds a line, which is ready but for words in two parts that stand before its end.
+    ///
+    /// # Errors
+    ///
+    /// When memory runs out.
+    pub fn add_headed(&mut self, line: &[u8], front: &[u8], words: &[u8]) -> Result<(), AllocError>
+        ensures { OnOk result (self.new ≡ self.old ++ headed line.now (front.now ++ words.now)) }
+    {
+        let head = &line[..line.len().saturating_sub(1)];
+        let start = self.stored.byte_count();
+        self.stored.append_line(head, front, words)?;
+        let end = self.stored.byte_count();
+        cover(&mut self.pieces, &mut self.last, start, end)
+    }
+
+    /// Adds the line of the event of a number that replied a word, with words in two parts behind
+    /// that, and goes on to the next number.
     ///
     /// # Errors
     ///
@@ -100,22 +117,19 @@ impl ToldLines {
     #[inline]
     pub fn add_line(
         &mut self,
-        lines: &mut Lines,
         number: &mut EventNumber,
         reply: &Reply,
+        word: Word,
+        front: &[u8],
         words: &[u8],
     ) -> Result<(), AllocError>
-        requires { number.old + 1 < 2 ^ 64 }
+        requires word { word_of reply.now ≡ Some word }
+        requires number { number.old + 1 < 2 ^ 64 }
         ensures number { OnOk result (number.new ≡ number.old + 1) }
         ensures added { OnOk result
-            (self.new ≡ self.old ++ worded_line number.old reply.now words.now) }
+            (self.new ≡ self.old ++ worded_line number.old reply.now (front.now ++ words.now)) }
     {
-        if let Some(word) = Word::of(reply) {
-            self.add_worded(number.value(), word, words)?;
-            number.advance();
-            return Ok(());
-        }
-        self.add_other(lines, number, reply, words)?;
+        self.add_worded(number.value(), word, front, words)?;
         number.advance();
         Ok(())
     }
@@ -131,86 +145,94 @@ impl ToldLines {
         lines: &mut Lines,
         number: &mut EventNumber,
         reply: &Reply,
+        front: &[u8],
         words: &[u8],
         count: usize,
     ) -> Result<(), AllocError>
         requires { number.old + count < 2 ^ 64 }
         ensures number { OnOk result (number.new ≡ number.old + count) }
-        ensures added { OnOk result
-            (self.new ≡ self.old ++ worded_lines number.old reply.now words.now count) }
+        ensures added { OnOk result (self.new
+            ≡ self.old ++ worded_lines number.old reply.now (front.now ++ words.now) count) }
     {
         if let Some(word) = Word::of(reply) {
-            self.add_same(Some(word), number.value(), words, count)?;
+            self.add_same(word, number.value(), front, words, count)?;
             number.advance_many(count as u64);
             return Ok(());
         }
         for _ in 0..count {
-            self.add_line(lines, number, reply, words)?;
+            lines.clear();
+            lines.reply(number, reply);
+            self.add_headed(lines.bytes(), front, words)?;
+            number.advance();
         }
         Ok(())
     }
 
     /// Adds a line of an event that replied a word: to the lines before it, where it goes on from
     /// them.
-    fn add_worded(&mut self, number: u64, word: Word, words: &[u8]) -> Result<(), AllocError>
+    #[inline]
+    fn add_worded(
+        &mut self,
+        number: u64,
+        word: Word,
+        front: &[u8],
+        words: &[u8],
+    ) -> Result<(), AllocError>
         requires { number + 1 < 2 ^ 64 }
-        ensures { OnOk result (self.new ≡ self.old ++ said_line (Some word) number words.now) }
+        ensures { OnOk result
+            (self.new ≡ self.old ++ said_line word number (front.now ++ words.now)) }
     {
-        let index = self.words.index_of(words)?;
-        if self.last.goes_on(number, word, index) {
-            self.last.count += 1;
-            return Ok(());
+        if let Piece::Said(run) = self.last {
+            if let Some(index) = run.next(word, number) {
+                if self.stored.holds(index, front, words) {
+                    self.index = index;
+                    self.last = Piece::Said(run.longer());
+                    return Ok(());
+                }
+            }
         }
+        self.begin_run(number, word, front, words)
+    }
+
+    /// Adds such a line, with which a run begins.
+    fn begin_run(
+        &mut self,
+        number: u64,
+        word: Word,
+        front: &[u8],
+        words: &[u8],
+    ) -> Result<(), AllocError>
+        requires { number + 1 < 2 ^ 64 }
+        ensures { OnOk result
+            (self.new ≡ self.old ++ said_line word number (front.now ++ words.now)) }
+    {
+        let index = self.stored.index_behind(self.index, front, words)?;
+        self.index = index;
         begin(
             &mut self.pieces,
             &mut self.last,
-            Piece::line(word, number, index),
+            Piece::Said(LineRun::line(word, number, index)),
         )
     }
 
-    /// Adds so many lines of events in a row that replied a word, or of words alone, all with the
-    /// same words.
+    /// Adds so many lines of events in a row that replied a word, all with the same words.
     fn add_same(
         &mut self,
-        said: Option<Word>,
+        word: Word,
         number: u64,
+        front: &[u8],
         words: &[u8],
         count: usize,
     ) -> Result<(), AllocError>
         requires { number + count < 2 ^ 64 }
-        ensures { OnOk result
-            (self.new ≡ self.old ++ said_lines said number (replicate count words.now)) }
+        ensures { OnOk result (self.new
+            ≡ self.old ++ said_lines word number (replicate count (front.now ++ words.now))) }
     {
-        let index = self.words.index_of(words)?;
+        let index = self.stored.index_behind(self.index, front, words)?;
         begin(
             &mut self.pieces,
             &mut self.last,
-            Piece::again(said, number, index, count),
-        )
-    }
-
-    /// Adds a line of an event that replied no word.
-    fn add_other(
-        &mut self,
-        lines: &mut Lines,
-        number: &mut EventNumber,
-        reply: &Reply,
-        words: &[u8],
-    ) -> Result<(), AllocError>
-        ensures number { number.new ≡ number.old }
-        ensures added { OnOk result
-            (self.new ≡ self.old ++ worded_line number.old reply.now words.now) }
-    {
-        lines.clear();
-        lines.reply(number, reply);
-        let line = lines.bytes();
-        let head = &line[..line.len().saturating_sub(1)];
-        make_line(&mut self.scratch, head, words)?;
-        let index = self.words.store(self.scratch.as_slice())?;
-        begin(
-            &mut self.pieces,
-            &mut self.last,
-            Piece::again(None, 0, index, 1),
+            Piece::Said(LineRun::again(word, number, index, count)),
         )
     }
 
@@ -230,26 +252,36 @@ impl ToldLines {
         lines.clear();
         let mut number = EventNumber::first();
         add_pieces(
-            &self.words,
+            &self.stored,
             self.pieces.as_slice(),
             &mut number,
             lines,
             sink,
         )?;
-        add_piece(&self.words, &self.last, &mut number, lines, sink)?;
+        add_piece(&self.stored, &self.last, &mut number, lines, sink)?;
         write_lines(lines, sink)
     }
 }
 
-/// Makes a line of a head, words behind it and its end.
-fn make_line(line: &mut Vec<u8>, head: &[u8], words: &[u8]) -> Result<(), AllocError>
-    ensures { OnOk result (line.new.items ≡ head.now ++ (words.now ++ 10 ∷ [])) }
+/// Covers bytes from a start to an end: by the last piece, where it ended there, or by another.
+fn cover(
+    pieces: &mut Vec<Piece>,
+    last: &mut Piece,
+    start: usize,
+    end: usize,
+) -> Result<(), AllocError>
+    requires { start ≤ end }
+    ensures covered { OnOk result
+        (Covers pieces.old.items last.old start end pieces.new.items last.new) }
+    ensures kept { OnErr result ((pieces.new.items ≡ pieces.old.items) × (last.new ≡ last.old)) }
 {
-    line.clear();
-    line.extend_from_slice(head)?;
-    line.extend_from_slice(words)?;
-    line.push(b'\n')?;
-    Ok(())
+    if let Piece::Plain(place) = *last {
+        if place.is_before(start) {
+            *last = Piece::Plain(place.up_to(end));
+            return Ok(());
+        }
+    }
+    begin(pieces, last, Piece::Plain(Place::of(start, end - start)))
 }
 
 /// Begins another piece behind the last one.

@@ -1,103 +1,101 @@
-//! Lines of a run that is told, one after another.
+//! Parts of a text that is told, one after another.
 
-ghost use Rattle.std.specs.Prelude.{◌≡◌, ◌+◌, ◌<◌, ◌^◌, IsTrue, None, Some, false, if◌then◌else◌, true};
-ghost use Rattle.told_lines.specs.Lines.{run_width};
+ghost use Rattle.std.specs.Prelude.{◌≡◌, ◌+◌, ◌<◌, ◌^◌, IfSome, false, if◌then◌else◌, true};
+ghost use Rattle.told_lines.specs.Lines.{JoinsRun, run_width};
 
+use crate::stored::Place;
 use report::word::Word;
 
-/// Lines of events in a row that all replied the same word, or words alone.
+/// A part of a text.
 #[derive(Clone, Copy)]
-pub(crate) struct Piece {
+pub(crate) enum Piece {
+    /// The bytes of a place.
+    Plain(Place),
+    /// Lines that are spelled as they are written.
+    Said(LineRun),
+}
+
+/// Lines of events in a row that all replied the same word.
+#[derive(Clone, Copy)]
+pub(crate) struct LineRun {
     /// The number of the first event.
     pub(crate) first: u64,
     /// How many lines there are.
     pub(crate) count: usize,
+    /// What each event replied.
+    pub(crate) word: Word,
     /// The index of the words of the first line.
     pub(crate) words: usize,
-    /// Whether each line has the same words, or each the words that were stored behind those of the
+    /// Whether each line has the same words, or each those that were stored behind the words of the
     /// line before it.
     pub(crate) same: bool,
-    /// What each event replied; without it there are words alone, and no line.
-    pub(crate) said: Option<Word>,
 }
 
-impl Piece {
-    /// No lines.
-    pub(crate) fn none() -> Piece
-        ensures { result ≡ record {
-          first = 0;
-          count = 0;
-          words = 0;
-          same = false;
-          said = None;
-        } }
-    {
-        Piece {
-            first: 0,
-            count: 0,
-            words: 0,
-            same: false,
-            said: None,
-        }
-    }
-
+impl LineRun {
     /// A line with the words of an index.
     #[inline]
-    pub(crate) fn line(word: Word, first: u64, words: usize) -> Piece
+    pub(crate) fn line(word: Word, first: u64, words: usize) -> LineRun
         ensures { result ≡ record {
           first = first;
           count = 1;
+          word = word;
           words = words;
           same = false;
-          said = Some word;
         } }
     {
-        Piece {
+        LineRun {
             first,
             count: 1,
+            word,
             words,
             same: false,
-            said: Some(word),
         }
     }
 
-    /// So many lines with the same words, those of an index.
-    pub(crate) fn again(said: Option<Word>, first: u64, words: usize, count: usize) -> Piece
+    /// So many lines, all with the words of an index.
+    pub(crate) fn again(word: Word, first: u64, words: usize, count: usize) -> LineRun
         ensures { result ≡ record {
           first = first;
           count = count;
+          word = word;
           words = words;
           same = true;
-          said = said;
         } }
     {
-        Piece {
+        LineRun {
             first,
             count,
+            word,
             words,
             same: true,
-            said,
         }
     }
 
-    /// Whether a line of an event that has this number and this reply, and words of this index, goes
-    /// on from these lines.
+    /// The same with a line more.
     #[inline]
-    pub(crate) fn goes_on(&self, number: u64, word: Word, index: usize) -> bool
-        ensures said { IsTrue result → self.now.said ≡ Some word }
-        ensures each { IsTrue result → self.now.same ≡ false }
-        ensures number { IsTrue result → self.now.first + self.now.count ≡ number }
-        ensures words { IsTrue result → self.now.words + self.now.count ≡ index }
+    pub(crate) fn longer(self) -> LineRun
+        requires { self.count + 1 < 2 ^ 64 }
+        ensures { result ≡ record self { count = self.count + 1 } }
     {
-        let Some(said) = self.said else {
-            return false;
-        };
-        !self.same
-            && said.is(word)
-            && self.words <= index
-            && index - self.words == self.count
-            && self.first <= number
-            && number - self.first == self.count as u64
+        LineRun {
+            count: self.count + 1,
+            ..self
+        }
+    }
+
+    /// The index that the words of a line have which goes on from these, of an event that has this
+    /// number and this reply: none, where no such line does.
+    #[inline]
+    pub(crate) fn next(&self, word: Word, number: u64) -> Option<usize>
+        ensures { IfSome result (λ index. JoinsRun self.now word number index) }
+    {
+        if self.same || !self.word.is(word) {
+            return None;
+        }
+        if number.checked_sub(self.first)? != self.count as u64 {
+            return None;
+        }
+        self.words.checked_add(self.count)
     }
 
     /// The index of the words of a line.

@@ -1,17 +1,13 @@
-//! Words that stand once.
+//! Bytes that are kept, and words among them that stand once.
 
-ghost use Rattle.std.specs.Prelude.{◌≡◌, ◌++◌, ◌<◌, List, ℕ, [], ◌∷◌, IfOk, IsTrue, get_or, length};
-ghost use Rattle.std.specs.List.{All};
-ghost use Rattle.told_lines.specs.Stored.{IsWithin, words_at, words_of};
+ghost use Rattle.std.specs.Prelude.{◌≡◌, ◌+◌, ◌-◌, ◌++◌, ◌<◌, ◌≤◌, List, ℕ, [], ◌∷◌, IfOk, IsTrue, OnOk, get_or, length};
+ghost use Rattle.told_lines.specs.Stored.{IsWithin, Keeps, store_of, words_at};
 
 use std::alloc::{AllocError, Global};
 use std::marker::Model;
 
-/// For how many bytes and words there is room before any are stored: memory that grows is copied, and
-/// touched for the first time once more.
-const ROOM_FOR_BYTES: usize = 16_777_216;
-
-const ROOM_FOR_PLACES: usize = 262_144;
+/// For how many bytes there is room for each line.
+const ROOM_FOR_LINE: usize = 96;
 
 /// How many marks of words there are.
 const MARKS: usize = 16_384;
@@ -22,155 +18,251 @@ const FACTOR: u64 = 0x9E37_79B9_7F4A_7C15;
 /// Where words stand among the bytes.
 #[derive(Clone, Copy)]
 pub(crate) struct Place {
-    start: usize,
-    length: usize,
+    pub(crate) start: usize,
+    pub(crate) length: usize,
 }
 
-/// Words that were stored, one after another: those that come again are found.
+impl Place {
+    /// That of so many bytes from a start on.
+    pub(crate) fn of(start: usize, length: usize) -> Place
+        ensures { result ≡ record { start = start; length = length } }
+    {
+        Place { start, length }
+    }
+
+    /// Whether it ends where others start.
+    #[inline]
+    pub(crate) fn is_before(self, start: usize) -> bool
+        ensures { IsTrue result → self.start + self.length ≡ start }
+    {
+        self.start <= start && start - self.start == self.length
+    }
+
+    /// The one that starts there and ends here.
+    #[inline]
+    pub(crate) fn up_to(self, end: usize) -> Place
+        requires { self.start ≤ end }
+        ensures { result ≡ record { start = self.start; length = end - self.start } }
+    {
+        Place::of(self.start, end - self.start)
+    }
+}
+
+/// Bytes that are kept one after another, and words that were stored among them: those that come again
+/// are found. A line feed stands behind the words.
 #[derive(Drop)]
 pub(crate) struct StoredWords {
     bytes: Vec<u8>,
     places: Vec<Place>,
     /// Of the words of each mark those that were stored last.
     marked: Vec<u32>,
-    /// Those that come next, if words come again in the order in which they were stored.
-    next: usize,
+    /// The words that came behind those of an index when these came last.
+    behind: Vec<u32>,
 }
 
 impl Model for StoredWords {
-    ghost use Rattle.std.specs.Prelude.{List, ℕ};
     ghost use Rattle.std.specs.List.{All};
-    ghost use Rattle.told_lines.specs.Stored.{IsWithin, words_of};
+    ghost use Rattle.told_lines.specs.Stored.{IsLine, StoreState, store_of};
 
-    ghost Value = { List (List ℕ) };
+    ghost Value = { StoreState };
 
-    ghost view = { λ s. words_of s.bytes.items s.places.items };
+    ghost view = { λ s. store_of s.bytes.items s.places.items };
 
-    ghost invariant = { λ s. All (IsWithin s.bytes.items) s.places.items };
+    ghost invariant = { λ s. All (IsLine s.bytes.items) s.places.items };
 }
 
 impl StoredWords {
-    /// No words.
-    pub(crate) fn new(alloc: Global) -> Result<StoredWords, AllocError>
-        ensures { IfOk result (λ stored. stored ≡ []) }
+    /// Nothing, with room for so many lines.
+    pub(crate) fn new(alloc: Global, lines: usize) -> Result<StoredWords, AllocError>
+        ensures { IfOk result (λ stored. stored ≡ store_of [] []) }
     {
-        let bytes = Vec::with_capacity(alloc, ROOM_FOR_BYTES)?;
-        let places = Vec::with_capacity(alloc, ROOM_FOR_PLACES)?;
-        StoredWords::of(alloc, bytes, places)
+        let bytes = Vec::with_capacity(alloc, lines.saturating_mul(ROOM_FOR_LINE))?;
+        StoredWords::of(alloc, bytes, lines)
     }
 
-    /// Words of all these bytes, and no others.
+    /// These bytes, and no words.
     pub(crate) fn of_bytes(alloc: Global, bytes: Vec<u8>) -> Result<StoredWords, AllocError>
-        ensures { IfOk result (λ stored. stored ≡ bytes.items ∷ []) }
+        ensures { IfOk result (λ stored. stored ≡ store_of bytes.items []) }
     {
-        let length = bytes.len();
-        let places = vec![in alloc; Place { start: 0, length }]?;
-        StoredWords::of(alloc, bytes, places)
+        StoredWords::of(alloc, bytes, 0)
     }
 
-    fn of(alloc: Global, bytes: Vec<u8>, places: Vec<Place>) -> Result<StoredWords, AllocError>
-        requires { All (IsWithin bytes.items) places.items }
-        ensures { IfOk result (λ stored. stored ≡ words_of bytes.items places.items) }
+    /// These bytes, with room for so many words.
+    fn of(alloc: Global, bytes: Vec<u8>, room: usize) -> Result<StoredWords, AllocError>
+        ensures { IfOk result (λ stored. stored ≡ store_of bytes.items []) }
     {
         Ok(StoredWords {
             bytes,
-            places,
+            places: Vec::with_capacity(alloc, room)?,
             marked: zeros(alloc, MARKS)?,
-            next: 0,
+            behind: zeros(alloc, MARKS)?,
         })
     }
 
-    /// How many there are.
+    /// How many bytes there are.
+    #[inline]
+    pub(crate) fn byte_count(&self) -> usize
+        ensures { result ≡ length self.now.bytes }
+    {
+        self.bytes.len()
+    }
+
+    /// How many words there are.
     #[inline]
     pub(crate) fn count(&self) -> usize
-        ensures { result ≡ length self.now }
+        ensures { result ≡ length self.now.words }
     {
         self.places.len()
+    }
+
+    /// The bytes of a place.
+    pub(crate) fn bytes_at(&self, place: Place) -> &[u8]
+        requires { IsWithin self.now.bytes place }
+        ensures { result.now ≡ words_at self.now.bytes place }
+    {
+        words_at(&self.bytes, place)
     }
 
     /// The words of an index.
     #[inline]
     pub(crate) fn get(&self, index: usize) -> &[u8]
-        requires { index < length self.now }
-        ensures { result.now ≡ get_or self.now index [] }
+        requires { index < length self.now.words }
+        ensures { result.now ≡ get_or self.now.words index [] }
     {
         words_at(&self.bytes, self.places[index])
     }
 
-    /// The index of these words, which are stored if they aren't found.
-    pub(crate) fn index_of(&mut self, words: &[u8]) -> Result<usize, AllocError>
-        ensures found { IfOk result (λ index. (index < length self.new)
-            × (get_or self.new index [] ≡ words.now)) }
-        ensures kept { (more : List (List ℕ)) × (self.new ≡ self.old ++ more) }
+    /// The words of an index, and a line feed.
+    #[inline]
+    pub(crate) fn line(&self, index: usize) -> &[u8]
+        requires { index < length self.now.words }
+        ensures { result.now ≡ get_or self.now.words index [] ++ 10 ∷ [] }
     {
-        let index = if self.holds(self.next, words) {
-            self.next
-        } else {
-            self.marked_as(words)?
-        };
-        self.next = index.saturating_add(1);
+        let place = self.places[index];
+        &self.bytes[place.start..place.start + place.length + 1]
+    }
+
+    /// The index of words in two parts, one behind the other, that come behind those of another index;
+    /// they are stored if they aren't found.
+    pub(crate) fn index_behind(
+        &mut self,
+        last: usize,
+        front: &[u8],
+        words: &[u8],
+    ) -> Result<usize, AllocError>
+        ensures found { IfOk result (λ index. (index < length self.new.words)
+            × (get_or self.new.words index [] ≡ front.now ++ words.now)) }
+        ensures kept { Keeps self.old self.new }
+    {
+        let likely = noted(&self.behind, last);
+        if self.holds(likely, front, words) {
+            return Ok(likely);
+        }
+        let index = self.marked_as(front, words)?;
+        note(&mut self.behind, last, index);
         Ok(index)
     }
 
     /// The index of these words, by their mark.
-    fn marked_as(&mut self, words: &[u8]) -> Result<usize, AllocError>
-        ensures found { IfOk result (λ index. (index < length self.new)
-            × (get_or self.new index [] ≡ words.now)) }
-        ensures kept { (more : List (List ℕ)) × (self.new ≡ self.old ++ more) }
+    fn marked_as(&mut self, front: &[u8], words: &[u8]) -> Result<usize, AllocError>
+        ensures found { IfOk result (λ index. (index < length self.new.words)
+            × (get_or self.new.words index [] ≡ front.now ++ words.now)) }
+        ensures kept { Keeps self.old self.new }
     {
-        let mark = mark_of(words);
-        let index = self.last_marked(mark);
-        if self.holds(index, words) {
+        let mark = mark_of(mark_of(0, front), words) as usize;
+        let index = noted(&self.marked, mark);
+        if self.holds(index, front, words) {
             return Ok(index);
         }
-        let index = self.store(words)?;
-        self.note(mark, index);
+        let index = self.store(front, words)?;
+        note(&mut self.marked, mark, index);
         Ok(index)
-    }
-
-    /// The index of the words of a mark that were stored last, if any were.
-    fn last_marked(&self, mark: usize) -> usize {
-        match self.marked.get(mark) {
-            Some(index) => *index as usize,
-            None => 0,
-        }
-    }
-
-    /// Notes the index of words of a mark.
-    fn note(&mut self, mark: usize, index: usize)
-        ensures { self.new ≡ self.old }
-    {
-        if let Ok(index) = u32::try_from(index) {
-            if let Some(last) = self.marked.get_mut(mark) {
-                *last = index;
-            }
-        }
     }
 
     /// Whether these words have this index.
     #[inline]
-    fn holds(&self, index: usize, words: &[u8]) -> bool
-        ensures { IsTrue result → (index < length self.now)
-            × (get_or self.now index [] ≡ words.now) }
+    pub(crate) fn holds(&self, index: usize, front: &[u8], words: &[u8]) -> bool
+        ensures { IsTrue result → (index < length self.now.words)
+            × (get_or self.now.words index [] ≡ front.now ++ words.now) }
     {
-        index < self.count() && self.get(index) == words
+        if index >= self.count() {
+            return false;
+        }
+        is_both(self.get(index), front, words)
     }
 
     /// Stores words behind the others.
-    pub(crate) fn store(&mut self, words: &[u8]) -> Result<usize, AllocError>
-        ensures found { IfOk result (λ index. (index < length self.new)
-            × (get_or self.new index [] ≡ words.now)) }
-        ensures kept { (more : List (List ℕ)) × (self.new ≡ self.old ++ more) }
+    fn store(&mut self, front: &[u8], words: &[u8]) -> Result<usize, AllocError>
+        ensures found { IfOk result (λ index. (index < length self.new.words)
+            × (get_or self.new.words index [] ≡ front.now ++ words.now)) }
+        ensures kept { Keeps self.old self.new }
     {
         let index = self.places.len();
-        let place = Place {
-            start: self.bytes.len(),
-            length: words.len(),
-        };
-        self.bytes.extend_from_slice(words)?;
-        self.places.push(place)?;
+        let start = self.bytes.len();
+        add_line(&mut self.bytes, front, words)?;
+        self.places
+            .push(Place::of(start, front.len() + words.len()))?;
         Ok(index)
     }
+
+    /// Keeps bytes behind all others.
+    #[inline]
+    pub(crate) fn append(&mut self, part: &[u8]) -> Result<(), AllocError>
+        ensures bytes { OnOk result (self.new.bytes ≡ self.old.bytes ++ part.now) }
+        ensures kept { Keeps self.old self.new }
+    {
+        self.bytes.extend_from_slice(part)?;
+        Ok(())
+    }
+
+    /// Keeps a line behind all others: its head, and words in two parts.
+    pub(crate) fn append_line(
+        &mut self,
+        head: &[u8],
+        front: &[u8],
+        words: &[u8],
+    ) -> Result<(), AllocError>
+        ensures bytes { OnOk result (self.new.bytes
+            ≡ self.old.bytes ++ (head.now ++ ((front.now ++ words.now) ++ 10 ∷ []))) }
+        ensures kept { Keeps self.old self.new }
+    {
+        self.append(head)?;
+        add_line(&mut self.bytes, front, words)?;
+        Ok(())
+    }
+}
+
+/// Whether bytes are those of two parts, one behind the other.
+#[inline]
+fn is_both(all: &[u8], front: &[u8], words: &[u8]) -> bool
+    ensures { IsTrue result → all.now ≡ front.now ++ words.now }
+{
+    if all.len() < front.len() {
+        return false;
+    }
+    let (before, behind) = all.split_at(front.len());
+    is_same(before, front) && is_same(behind, words)
+}
+
+/// Whether bytes are equal to others.
+#[inline]
+fn is_same(bytes: &[u8], others: &[u8]) -> bool
+    ensures { IsTrue result → bytes.now ≡ others.now }
+{
+    bytes == others
+}
+
+/// Adds words in two parts, and a line feed.
+#[inline]
+fn add_line(bytes: &mut Vec<u8>, front: &[u8], words: &[u8]) -> Result<(), AllocError>
+    ensures added { OnOk result
+        (bytes.new.items ≡ bytes.old.items ++ ((front.now ++ words.now) ++ 10 ∷ [])) }
+    ensures kept { (more : List ℕ) × (bytes.new.items ≡ bytes.old.items ++ more) }
+{
+    bytes.extend_from_slice(front)?;
+    bytes.extend_from_slice(words)?;
+    bytes.push(b'\n')?;
+    Ok(())
 }
 
 /// The words at a place.
@@ -182,18 +274,43 @@ fn words_at(bytes: &[u8], place: Place) -> &[u8]
     &bytes[place.start..place.start + place.length]
 }
 
-/// A mark of words: words of different marks differ.
-fn mark_of(words: &[u8]) -> usize {
-    let mut mark = words.len() as u64;
+/// What is noted at a place, or of another that shares it.
+#[inline]
+fn noted(notes: &[u32], place: usize) -> usize {
+    match notes.get(place % MARKS) {
+        Some(index) => *index as usize,
+        None => 0,
+    }
+}
+
+/// Notes an index there.
+fn note(notes: &mut [u32], place: usize, index: usize) {
+    if let Ok(index) = u32::try_from(index) {
+        if let Some(last) = notes.get_mut(place % MARKS) {
+            *last = index;
+        }
+    }
+}
+
+/// A mark of words behind others of a mark: words of different marks differ.
+fn mark_of(first: u64, words: &[u8]) -> u64 {
+    let mut mark = first ^ words.len() as u64;
     let mut rest = words;
     while let Some((part, behind)) = rest.split_first_chunk::<8>() {
-        mark = (mark ^ u64::from_le_bytes(*part)).wrapping_mul(FACTOR);
+        mark = mixed(mark, *part);
         rest = behind;
     }
-    if let Some(last) = words.last_chunk::<8>() {
-        mark = (mark ^ u64::from_le_bytes(*last)).wrapping_mul(FACTOR);
+    match words.last_chunk::<8>() {
+        Some(last) => mixed(mark, *last),
+        None => mark,
     }
-    ((mark >> 32) as usize) % MARKS
+}
+
+/// A mark with one part more.
+#[inline]
+fn mixed(mark: u64, part: [u8; 8]) -> u64 {
+    let mark = (mark ^ u64::from_le_bytes(part)).wrapping_mul(FACTOR);
+    mark ^ (mark >> 32)
 }
 
 fn zeros(alloc: Global, count: usize) -> Result<Vec<u32>, AllocError>

@@ -4,9 +4,10 @@ ghost use Rattle.std.specs.Prelude.{◌≡◌, ◌+◌, ◌++◌, IfErr, OnErr, 
 ghost use Rattle.std.specs.List.{All};
 ghost use Rattle.inputs_outputs.specs.Device.{Adds, CanCount, TakesBeginning};
 ghost use Rattle.inputs_outputs.specs.Fault.{writes_failed};
-ghost use Rattle.told_lines.specs.Lines.{Stands, piece_text, said_line, text_of};
+ghost use Rattle.report.specs.Word.{word_head};
+ghost use Rattle.told_lines.specs.Lines.{RunStands, Stands, piece_text, run_text, text_of};
 
-use crate::piece::Piece;
+use crate::piece::{LineRun, Piece};
 use crate::stored::StoredWords;
 use inputs_outputs::device::Sink;
 use inputs_outputs::fault::Fault;
@@ -58,11 +59,34 @@ pub(crate) fn add_piece<K: Sink>(
     ensures fault { IfErr result (λ fault. fault ≡ Fault.Write) }
     ensures writes { K.failures sink.new ≡ K.failures sink.old + writes_failed result }
 {
+    match piece {
+        Piece::Plain(place) => gather(stored.bytes_at(*place), lines, sink),
+        Piece::Said(run) => add_run(stored, run, number, lines, sink),
+    }
+}
+
+/// Adds the lines of a run.
+fn add_run<K: Sink>(
+    stored: &StoredWords,
+    run: &LineRun,
+    number: &mut EventNumber,
+    lines: &mut Lines,
+    sink: &mut K,
+) -> Result<(), Fault>
+    requires stands { RunStands stored.now.words run.now }
+    requires sink { CanCount (K.failures sink.old) }
+    ensures added { OnOk result (Adds (K.contents sink.old) (K.contents sink.new) lines.old lines.new
+        (run_text stored.now.words run.now)) }
+    ensures broken { OnErr result (TakesBeginning (K.contents sink.old) (K.contents sink.new)
+        (lines.old ++ run_text stored.now.words run.now)) }
+    ensures fault { IfErr result (λ fault. fault ≡ Fault.Write) }
+    ensures writes { K.failures sink.new ≡ K.failures sink.old + writes_failed result }
+{
     let _stored = stored.count();
-    reach(number, piece.first);
-    for i in 0..piece.count {
-        let words = stored.get(piece.index(i));
-        add_line(piece.said, number, words, lines, sink)?;
+    reach(number, run.first);
+    for i in 0..run.count {
+        let line = stored.line(run.index(i));
+        add_line(run.word, number, line, lines, sink)?;
         number.advance();
     }
     Ok(())
@@ -75,40 +99,34 @@ fn reach(number: &mut EventNumber, to: u64)
     ensures { number.new ≡ to }
 {
     if number.value() <= to && to - number.value() <= NEAR {
-        for _ in 0..NEAR {
-            if number.value() < to {
-                number.advance();
-            }
+        while number.value() < to {
+            number.advance();
         }
     }
     number.go_to(to);
 }
 
-/// Adds a line of an event that replied a word, or words alone.
+/// Adds a line of an event that replied a word: its head, and words with its end.
 #[inline]
 fn add_line<K: Sink>(
-    said: Option<Word>,
+    word: Word,
     number: &mut EventNumber,
-    words: &[u8],
+    line: &[u8],
     lines: &mut Lines,
     sink: &mut K,
 ) -> Result<(), Fault>
     requires sink { CanCount (K.failures sink.old) }
     ensures number { number.new ≡ number.old }
     ensures added { OnOk result (Adds (K.contents sink.old) (K.contents sink.new) lines.old lines.new
-        (said_line said number.old words.now)) }
+        (word_head word number.old ++ line.now)) }
     ensures broken { OnErr result (TakesBeginning (K.contents sink.old) (K.contents sink.new)
-        (lines.old ++ said_line said number.old words.now)) }
+        (lines.old ++ (word_head word number.old ++ line.now))) }
     ensures fault { IfErr result (λ fault. fault ≡ Fault.Write) }
     ensures writes { K.failures sink.new ≡ K.failures sink.old + writes_failed result }
 {
-    let Some(word) = said else {
-        return gather(words, lines, sink);
-    };
     make_room(lines, sink)?;
     lines.head(number, word);
-    gather(words, lines, sink)?;
-    gather(b"\n", lines, sink)
+    gather(line, lines, sink)
 }
 
 /// Adds bytes behind lines that gather: both are written where there is no room for them.

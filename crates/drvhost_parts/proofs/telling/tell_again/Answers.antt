@@ -35,13 +35,15 @@ loop-left-preserved c =
       few = omega (arith, c.loop-left.invariant.few);
       told =
           lines_told c.args.detail c.args.number.now c.args.count c.loop-left.left
-          c.as_long-some.result c.loop-left.number c.args.happened.now.reply c.words.result.now
+          c.as_long-some.result c.loop-left.number c.args.happened.now.reply
+          (c.front.result.now ++ c.words.result.now)
           c.args.text.now c.loop-left.text _
           (sym c.is_left_out.ensures ∙ c.if-is_left_out.false) c.loop-left.invariant.numbered
           c.loop-left.invariant.few c.as_long-some.ensures.most c.loop-left.invariant.told
           (c.in_ok-add_again.ensures.added
           ∙ ap (λ n. c.loop-left.text
-          ++ worded_lines n c.args.happened.now.reply c.words.result.now c.as_long-some.result)
+          ++ worded_lines n c.args.happened.now.reply (c.front.result.now ++ c.words.result.now)
+          c.as_long-some.result)
           c.head_length-head.ensures.number);
     }
 

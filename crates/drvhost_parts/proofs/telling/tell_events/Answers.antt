@@ -18,53 +18,53 @@ loop-next-init c =
 
 pub returns-then-is_last : goal.returns-then-is_last
 returns-then-is_last c =
-    let told = next_last _ _ _ _ _ _ c.in_ok-answered.ensures.told
+    let told = next_last _ _ _ _ _ _ c.in_ok-left.ensures.told
     (sym c.is_last.ensures ∙ c.if-is_last.true) in
     let zero : c.in_ok-made.made ≡ 0 = omega (arith, c.if-made-gt0.false) in
     told_last _ _ _ _ _ _ _ _ _ _ _ _ _ _ _
     (telling_stays _ _ _ _ _ _ _ _ _ c.in_ok-made.made _ _ _
     (rw c.in-Some.ensures.next at c.loop-next.invariant.telling) zero
     c.in_ok-made.ensures.number c.in_ok-made.ensures.none)
-    c.in_ok-answered.ensures.applied
-    c.in_ok-answered.ensures.noted told.1 (sym c.is_last.ensures ∙ c.if-is_last.true)
+    c.in_ok-left.ensures.applied
+    c.in_ok-left.ensures.noted told.1 (sym c.is_last.ensures ∙ c.if-is_last.true)
 
 pub loop-next-preserved : goal.loop-next-preserved
 loop-next-preserved c =
-    let reply = c.in_ok-answered.answered.reply in
+    let reply = c.tell_next.new.happened.reply in
     let rest = c.in-Some.next.rest in
     let counted = length_on reply (awaited c.loop-next.rest c.loop-next.upcoming)
     c.in-Some.next.event rest c.next_event.new.upcoming c.in-Some.ensures.next in
     let zero : c.in_ok-made.made ≡ 0 = omega (arith, c.if-made-gt0.false) in
     record {
       numbered =
-          rw c.in_ok-answered.ensures.rest (omega (
+          rw c.in_ok-left.ensures.rest (omega (
             arith,
             zero,
             c.in_ok-made.ensures.number,
             c.loop-next.invariant.numbered,
             counted,
-            c.in_ok-answered.ensures.number,
+            c.in_ok-left.ensures.number,
           ));
       some =
-          rw c.in_ok-answered.ensures.rest (left_some reply rest c.in-Some.ensures.some);
+          rw c.in_ok-left.ensures.rest (left_some reply rest c.in-Some.ensures.some);
       telling =
-          rw (c.in_ok-answered.ensures.number, c.in_ok-answered.ensures.rest)
+          rw (c.in_ok-left.ensures.number, c.in_ok-left.ensures.rest)
           (next_on _ _ _ _ _ _ _ _ _ _ _ _ _ _ _
           (telling_stays _ _ _ _ _ _ _ _ _ c.in_ok-made.made _ _ _
           (rw c.in-Some.ensures.next at c.loop-next.invariant.telling) zero
           c.in_ok-made.ensures.number c.in_ok-made.ensures.none)
-          c.in_ok-answered.ensures.applied c.in_ok-answered.ensures.noted
-          c.in_ok-answered.ensures.kept c.waiting_changes_nothing.ensures
+          c.in_ok-left.ensures.applied c.in_ok-left.ensures.noted
+          c.in_ok-left.ensures.kept c.waiting_changes_nothing.ensures
           (sym c.is_last.ensures ∙ c.if-is_last.false)
-          c.in-Some.ensures.equal c.in_ok-answered.ensures.told);
+          c.in-Some.ensures.equal c.in_ok-left.ensures.told);
     }
 
 pub loop-next-smaller : goal.loop-next-smaller
 loop-next-smaller c =
-    let reply = c.in_ok-answered.answered.reply in
+    let reply = c.tell_next.new.happened.reply in
     let counted = length_on reply (awaited c.loop-next.rest c.loop-next.upcoming)
     c.in-Some.next.event c.in-Some.next.rest c.next_event.new.upcoming c.in-Some.ensures.next in
-    rw c.in_ok-answered.ensures.rest (omega (arith, counted))
+    rw c.in_ok-left.ensures.rest (omega (arith, counted))
 
 pub loop-next-preserved-then-made-gt0 : goal.loop-next-preserved-then-made-gt0
 loop-next-preserved-then-made-gt0 c =

@@ -7,5 +7,6 @@ invariant-loop l =
     record {
       numbered : l.number ≡ l.initial.number + l.counter;
       few : l.counter ≤ l.count;
-      added : l.self ≡ l.initial.self ++ worded_lines l.initial.number l.reply l.words l.counter;
+      added : l.self ≡ l.initial.self ++ worded_lines l.initial.number l.reply
+          (l.front ++ l.words) l.counter;
     }

@@ -5,5 +5,5 @@ use Rattle.told_lines.proofs.kept.ToldLines.new.Goals as goal
 
 pub invariant_of-result : goal.invariant_of-result
 invariant_of-result c =
-    rw (c.in_ok-with_capacity.ensures.items, c.none.ensures)
-    (All-nil (Stands c.in_ok-new.field-0), (omega arith, omega arith))
+    rw (c.in_ok-with_capacity.ensures.items, c.of.ensures)
+    (All-nil (Stands c.in_ok-new.field-0), omega arith)

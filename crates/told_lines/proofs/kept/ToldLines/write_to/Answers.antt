@@ -8,8 +8,8 @@ pub returns-in_err-add_piece-clause-written : goal.returns-in_err-add_piece-clau
 returns-in_err-add_piece-clause-written g c =
     let p = err_from_is_err_and c.from_residual-in_err-add_piece.result
     c.from_residual-in_err-add_piece.ensures.1 in
-    let text : List ℕ = text_of c.self.inside.words c.self.inside.pieces.items in
-    let last : List ℕ = piece_text c.self.inside.words c.self.inside.last in
+    let text : List ℕ = text_of c.self.inside.stored c.self.inside.pieces.items in
+    let last : List ℕ = piece_text c.self.inside.stored c.self.inside.last in
     rw (p.1, ← c.self.view_is)
     (begins_clear _ _ c.clear.new.self (text ++ last) c.clear.ensures
     (last_broken (text ++ last) last _ _ _ c.clear.new.self c.add_pieces.new.lines
@@ -19,8 +19,8 @@ returns-in_err-add_piece-clause-written g c =
 
 pub returns-clause-written : goal.returns-clause-written
 returns-clause-written g c =
-    let text : List ℕ = text_of c.self.inside.words c.self.inside.pieces.items in
-    let last : List ℕ = piece_text c.self.inside.words c.self.inside.last in
+    let text : List ℕ = text_of c.self.inside.stored c.self.inside.pieces.items in
+    let last : List ℕ = piece_text c.self.inside.stored c.self.inside.last in
     rw (← c.self.view_is)
     (rest_written c.write_lines.result _ _ _ c.clear.new.self c.add_piece.new.lines (text ++ last)
     c.clear.ensures
