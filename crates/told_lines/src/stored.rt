@@ -10,7 +10,7 @@ use std::marker::Model;
 const ROOM_FOR_LINE: usize = 96;
 
 /// How many marks of words there are.
-const MARKS: usize = 16_384;
+const MARKS: usize = 8_192;
 
 /// What a mark is multiplied by for each part of the words.
 const FACTOR: u64 = 0x9E37_79B9_7F4A_7C15;
@@ -48,6 +48,13 @@ impl Place {
     }
 }
 
+/// An index that was noted, and for which mark or index.
+#[derive(Clone, Copy)]
+struct Entry {
+    key: usize,
+    index: usize,
+}
+
 /// Bytes that are kept one after another, and words that were stored among them: those that come again
 /// are found. A line feed stands behind the words.
 #[derive(Drop)]
@@ -55,9 +62,9 @@ pub(crate) struct StoredWords {
     bytes: Vec<u8>,
     places: Vec<Place>,
     /// Of the words of each mark those that were stored last.
-    marked: Vec<u32>,
+    marked: Vec<Entry>,
     /// The words that came behind those of an index when these came last.
-    behind: Vec<u32>,
+    behind: Vec<Entry>,
 }
 
 impl Model for StoredWords {
@@ -94,8 +101,8 @@ impl StoredWords {
         Ok(StoredWords {
             bytes,
             places: Vec::with_capacity(alloc, room)?,
-            marked: zeros(alloc, MARKS)?,
-            behind: zeros(alloc, MARKS)?,
+            marked: nothing_noted(alloc)?,
+            behind: nothing_noted(alloc)?,
         })
     }
 
@@ -154,9 +161,10 @@ impl StoredWords {
             × (get_or self.new.words index [] ≡ front.now ++ words.now)) }
         ensures kept { Keeps self.old self.new }
     {
-        let likely = noted(&self.behind, last);
-        if self.holds(likely, front, words) {
-            return Ok(likely);
+        if let Some(likely) = noted(&self.behind, last) {
+            if self.holds(likely, front, words) {
+                return Ok(likely);
+            }
         }
         let index = self.marked_as(front, words)?;
         note(&mut self.behind, last, index);
@@ -170,9 +178,10 @@ impl StoredWords {
         ensures kept { Keeps self.old self.new }
     {
         let mark = mark_of(mark_of(0, front), words) as usize;
-        let index = noted(&self.marked, mark);
-        if self.holds(index, front, words) {
-            return Ok(index);
+        if let Some(index) = noted(&self.marked, mark) {
+            if self.holds(index, front, words) {
+                return Ok(index);
+            }
         }
         let index = self.store(front, words)?;
         note(&mut self.marked, mark, index);
@@ -274,21 +283,21 @@ fn words_at(bytes: &[u8], place: Place) -> &[u8]
     &bytes[place.start..place.start + place.length]
 }
 
-/// What is noted at a place, or of another that shares it.
+/// The index that is noted for a key, if one is.
 #[inline]
-fn noted(notes: &[u32], place: usize) -> usize {
-    match notes.get(place % MARKS) {
-        Some(index) => *index as usize,
-        None => 0,
+fn noted(notes: &[Entry], key: usize) -> Option<usize> {
+    let noted = notes.get(key % MARKS)?;
+    if noted.key == key {
+        Some(noted.index)
+    } else {
+        None
     }
 }
 
-/// Notes an index there.
-fn note(notes: &mut [u32], place: usize, index: usize) {
-    if let Ok(index) = u32::try_from(index) {
-        if let Some(last) = notes.get_mut(place % MARKS) {
-            *last = index;
-        }
+/// Notes an index for a key, in place of that for another which shares the place.
+fn note(notes: &mut [Entry], key: usize, index: usize) {
+    if let Some(noted) = notes.get_mut(key % MARKS) {
+        *noted = Entry { key, index };
     }
 }
 
@@ -313,8 +322,10 @@ fn mixed(mark: u64, part: [u8; 8]) -> u64 {
     mark ^ (mark >> 32)
 }
 
-fn zeros(alloc: Global, count: usize) -> Result<Vec<u32>, AllocError>
-    ensures { IfOk result (λ zeros. length zeros.items ≡ count) }
-{
-    vec![in alloc; 0; count]
+/// Room for what is noted. No key is the greatest number.
+fn nothing_noted(alloc: Global) -> Result<Vec<Entry>, AllocError> {
+    vec![in alloc; Entry {
+        key: usize::MAX,
+        index: 0
+    }; MARKS]
 }

@@ -1,5 +1,12 @@
-use Rattle.told_lines.proofs.WordStore.{kept_more}
+use Rattle.told_lines.specs.Stored.{store_of}
+use Rattle.told_lines.proofs.WordStore.{kept_more, kept_same}
 use Rattle.told_lines.proofs.stored.StoredWords.append.Goals as goal
+
+pub returns-in_err-extend_from_slice-clause-kept :
+    goal.returns-in_err-extend_from_slice-clause-kept
+returns-in_err-extend_from_slice-clause-kept c =
+    rw (← c.self.view_is, c.in_err-extend_from_slice.ensures.items)
+    (kept_same (store_of c.self.inside.bytes.items c.self.inside.places.items))
 
 pub returns-clause-kept : goal.returns-clause-kept
 returns-clause-kept c =
