@@ -107,11 +107,26 @@ impl Guarded {
         true
     }
 
-    /// The place of the first entry of a packet, counted from 0: none where it has no entry.
+    /// The place of the first entry of a packet, counted from 0: none where it has no entry. The
+    /// entries stand in memory in two rows, which are searched one after the other: that is quicker
+    /// than to go from one entry to the next.
     fn place(&self, n: u64) -> Option<usize>
         ensures first { result ≡ position (λ entry. nat_eq entry n) self.now }
         ensures within { IfSome result (λ place. place < length self.now) }
     {
-        self.entries.iter().position(|entry| *entry == n)
+        let (front, back) = self.entries.as_slices();
+        if let Some(place) = place_in(front, n) {
+            return Some(place);
+        }
+        let place = place_in(back, n)?;
+        Some(front.len() + place)
     }
+}
+
+/// The place of the first entry of a packet among some, counted from 0.
+fn place_in(entries: &[u64], n: u64) -> Option<usize>
+    ensures first { result ≡ position (λ entry. nat_eq entry n) entries.now }
+    ensures within { IfSome result (λ place. place < length entries.now) }
+{
+    entries.iter().position(|entry| *entry == n)
 }
