@@ -131,19 +131,24 @@ impl Note {
     }
 }
 
-/// The uses of a packet's locations down to the current one.
+/// The uses of a packet's locations down to the current one. Most packets have one location, whose
+/// use needs no memory of its own.
 #[derive(Drop)]
 struct Stack {
-    /// The current one last.
-    numbers: Vec<u64>,
+    /// That of the current location.
+    current: Option<u64>,
+    /// Those of the locations above it, the lowest last.
+    above: Vec<u64>,
 }
 
 impl Model for Stack {
-    ghost use Rattle.std.specs.Prelude.{List, ℕ, reverse};
+    ghost use Rattle.std.specs.Prelude.{List, ℕ, ◌≡◌, ◌++◌, [], None, option_to_list, reverse};
 
     ghost Value = { List ℕ };
 
-    ghost view = { λ s. reverse s.numbers.items };
+    ghost view = { λ s. option_to_list s.current ++ reverse s.above.items };
+
+    ghost invariant = { λ s. s.current ≡ None → s.above.items ≡ [] };
 }
 
 impl Stack {
@@ -152,7 +157,8 @@ impl Stack {
         ensures { result ≡ [] }
     {
         Stack {
-            numbers: Vec::new(alloc),
+            current: None,
+            above: Vec::new(alloc),
         }
     }
 
@@ -160,14 +166,17 @@ impl Stack {
     fn current(&self) -> Option<u64>
         ensures { result ≡ slice_get self.now 0 }
     {
-        self.numbers.last().copied()
+        self.current
     }
 
     /// A location below becomes current.
     fn push(&mut self, number: u64) -> Result<(), AllocError>
         ensures { OnOk result (self.new ≡ number ∷ self.old) }
     {
-        self.numbers.push(number)?;
+        if let Some(last) = self.current {
+            self.above.push(last)?;
+        }
+        self.current = Some(number);
         Ok(())
     }
 
@@ -175,14 +184,15 @@ impl Stack {
     fn pop(&mut self)
         ensures { self.new ≡ drop 1 self.old }
     {
-        let _left = self.numbers.pop();
+        self.current = self.above.pop();
     }
 
     /// There are none.
     fn clear(&mut self)
         ensures { self.new ≡ [] }
     {
-        self.numbers.clear();
+        self.current = None;
+        self.above.clear();
     }
 }
 
