@@ -1,3 +1,4 @@
+pub mod Rows
 pub mod Unlinked
 pub mod Nodes
 pub mod Paths

@@ -1,3 +1,4 @@
 pub mod Lists
 pub mod Rings
 pub mod Linked
+pub mod Rows

@@ -6,6 +6,7 @@ pub mod device_queue;
 pub mod guarded;
 pub mod links;
 mod rings;
+mod row;
 
 pub use device_queue::DeviceQueue;
 pub use guarded::Guarded;
