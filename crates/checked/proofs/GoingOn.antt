@@ -1,7 +1,6 @@
 -- A routine that has gone on by itself has made steps of its thread.
 use Rattle.std.proofs.Common.{◌≡◌, ◌<◌, ℕ, suc, List, [], ◌∷◌, ◌++◌, Option, Some, false, ap, refl, sym, ◌∙◌, subst, length}
 use Rattle.std.specs.Prelude.{slice_get, slice_set}
-use Rattle.std.specs.List.{IsLastAndRest}
 use Rattle.std.proofs.lemmas.List.{get_or-set_same, length-set, set-set}
 use Rattle.std.proofs.lemmas.Option.{slice_get_within, slice_get-get_or}
 use Rattle.model.specs.declared.event.Event.TheVariants.{Step}
@@ -23,7 +22,7 @@ use Rattle.checked.specs.GoingOn.{FrameGoes, GoesAlone, GoesOn, RoutineGoes, Sam
 use Rattle.checked.specs.Step.{State, machine_of, state_now}
 use Rattle.checked.proofs.Compare.{put_back}
 use Rattle.checked.proofs.Runs.{applies, taken_as}
-use Rattle.checked.proofs.Stacks.{finished_more, root_more, with_items, written, written_top}
+use Rattle.checked.proofs.Stacks.{finished_more, root_more, with_items}
 
 -- by its code
 module _ (set : Set) (a : Activation) (code : List Instr)
@@ -44,17 +43,13 @@ module _ (set : Set) (a : Activation) (code : List Instr)
       })
 
 -- what a frame does on top, its thread does
-pub thread_goes : (set : Set) (s : Shared) (n : ℕ) (x : Thread) (below : List Frame) (f g : Frame)
-    (k : ℕ)
-    (split : IsLastAndRest x.frames.items f below) → FrameGoes set f k g
-    → ThreadGoes set x k (with_items x (written set s n x below f split g))
-thread_goes set s n x below f g k split frame_rests =
-    subst (λ (items : List Frame). ThreadGoes set x 0 (with_items x items))
-    (split.0 ∙ sym (written_top set s n x below f split f)) rests
-thread_goes set s n x below f g k split (frame_runs a b j is goes) =
-    subst (λ (items : List Frame). ThreadGoes set x j (with_items x items))
-    (sym (written_top set s n x below f split (Routine b)))
-    (runs below a b j (split.0 ∙ ap (λ (h : Frame). below ++ h ∷ []) is) goes)
+pub thread_goes : (set : Set) (x : Thread) (below : List Frame) (f g : Frame) (k : ℕ)
+    → x.frames.items ≡ below ++ f ∷ [] → FrameGoes set f k g
+    → ThreadGoes set x k (with_items x (below ++ g ∷ []))
+thread_goes set x below f g k split frame_rests =
+    subst (λ (items : List Frame). ThreadGoes set x 0 (with_items x items)) split rests
+thread_goes set x below f g k split (frame_runs a b j is goes) =
+    runs below a b j (split ∙ ap (λ (h : Frame). below ++ h ∷ []) is) goes
 
 -- what is written at a place is found there
 pub found_set : (threads : List Thread) (t : ℕ) (x y : Thread)

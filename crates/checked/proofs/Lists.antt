@@ -1,8 +1,6 @@
 -- Lists that are written, at a place or as a whole.
 use Rattle.std.proofs.Common.{◌≡◌, ◌<◌, ◌-◌, ℕ, List, [], ◌∷◌, ◌++◌, Some, length, take, get_or, ap, sym, ◌∙◌, refl, arith}
 use Rattle.std.specs.Prelude.{slice_get, slice_set}
-use Rattle.std.specs.List.{refill}
-use Rattle.std.proofs.Math.Seq.{take-append_seam}
 use Rattle.std.proofs.lemmas.List.{length_push}
 use Rattle.std.proofs.lemmas.Option.{slice_get-get_or}
 use Rattle.run_laws.proofs.Lists.{before_last, last_split}
@@ -26,11 +24,7 @@ last_set xs x y =
     let last : length (xs ++ x ∷ []) - 1 ≡ length xs = omega (arith, more) in
     rw last (seam_set xs x y)
 
--- as many elements in the place of all
-pub refill_all : {A : Type 0} (xs ys : List A) → length ys ≡ length xs
-    → refill (length xs) xs ys ≡ ys
-refill_all xs ys h = rw (← h) (take-append_seam ys _)
-
+-- the last one is another one
 pub set_last : {A : Type 0} (xs : List A) (x y : A) → slice_get xs (length xs - 1) ≡ Some x →
     slice_set xs (length xs - 1) y ≡ take (length xs - 1) xs ++ y ∷ []
 set_last {A = A} xs x y h = set_split xs (take (length xs - 1) xs) (last_split xs x h)

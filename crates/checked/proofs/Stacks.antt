@@ -1,7 +1,8 @@
 -- A step of a thread's top frame, where it stands.
-use Rattle.std.proofs.Common.{◌≡◌, ◌-◌, ℕ, List, [], ◌∷◌, ◌++◌, Option, None, Some, true, false, length, take, refl, ap, ◌∙◌, length-append, append_assoc, append-nil}
-use Rattle.std.specs.Prelude.{slice_get, slice_set}
-use Rattle.std.specs.List.{IsLastAndRest, refill}
+use Rattle.std.proofs.Common.{◌≡◌, ◌≤◌, ◌-◌, ℕ, List, [], ◌∷◌, ◌++◌, ⊎_elim, Option, None, Some, true, false, length, drop, take, refl, ap, sym, ◌∙◌, arith, length-append, take-take, append_assoc, append-nil}
+use Rattle.std.specs.List.{IsLastAndRest}
+use Rattle.std.proofs.lemmas.Bool.{cases_lt}
+use Rattle.std.proofs.lemmas.List.{drop_all, length-take, take-append-le, take_all}
 use Rattle.model.specs.declared.event.Reply.{Reply}
 use Rattle.model.specs.declared.world.Frame.{Frame}
 use Rattle.model.specs.declared.world.Frame.TheVariants.{Routine, Walk, Cancel}
@@ -15,8 +16,6 @@ use Rattle.model.specs.declared.event.Reply.TheVariants.{Stepped}
 use Rattle.model.specs.declared.status.Status.{Status}
 use Rattle.checked.specs.Step.{Moved, moved_by, runner, thread_now, told_frame}
 use Rattle.checked_parts.specs.Left.{Left, stays, frame_now}
-use Rattle.checked.proofs.Lists.{refill_all, set_last}
-use Rattle.checked_parts.proofs.Lists.{set_back}
 use Rattle.run_laws.proofs.Lists.{before_last, last_of}
 
 -- a thread with frames has not finished, and keeps its level
@@ -29,6 +28,34 @@ pub root_more : (root : Irql) (below : List Frame) (f : Frame) (frames : List Fr
     → root_over root (below ++ f ∷ frames) ≡ root
 root_more root [] f frames = refl
 root_more root (b ∷ below) f frames = refl
+
+-- a place less of those that are taken, and there are no more than before
+pub one_less : (depth : ℕ) (places : List Frame) → let less = length (take depth places) - 1 in
+    take less places ≡ take less (take depth places)
+one_less depth places =
+    let taken = length-take depth places in
+    let less = length (take depth places) - 1 in
+    sym (take-take less depth places (omega arith))
+
+pub less_deep : (depth most : ℕ) (places : List Frame) → depth ≤ most
+    → length (take depth places) - 1 ≤ most
+less_deep depth most places within =
+    let taken = length-take depth places in omega (arith, within)
+
+-- what was written over the taken places stands there
+pub rewritten : (depth : ℕ) (places frames : List Frame)
+    → length frames ≡ length (take depth places)
+    → take depth (frames ++ drop depth places) ≡ frames
+rewritten depth places frames long =
+    let taken = length-take depth places in
+    ⊎_elim
+    (λ fewer. take-append-le depth frames (drop depth places) (omega (arith, long))
+    ∙ take_all depth frames (omega (arith, long)))
+    (λ all. ap (λ (rest : List Frame). take depth (frames ++ rest))
+    (drop_all depth places (omega arith))
+    ∙ ap (λ (fs : List Frame). take depth fs) (append-nil frames)
+    ∙ take_all depth frames (omega (arith, long)))
+    (cases_lt depth (length places))
 
 -- a thread with other frames, of the same level
 abbrev pub with_items : Thread → List Frame → Thread
@@ -44,22 +71,25 @@ module _ (set : Set) (s : Shared) (n : ℕ) (thread : Thread) (below : List Fram
       → moved_by set thread below left ≡ thread_now set s n thread
   moved left same = rw (same, split.0, last_of below f, before_last below f) refl
 
-  -- the frame as written back where it stood
+  -- the frames with another one in the place of the top one
   abbrev pub written : Frame → List Frame
-  written g = refill (length thread.frames.items) thread.frames.items (below ++ g ∷ [])
+  written g = below ++ g ∷ []
 
-  pub written_top : (g : Frame) → written g ≡ below ++ g ∷ []
-  written_top g =
-      refill_all thread.frames.items (below ++ g ∷ []) (length-append below (g ∷ []) ∙ split.1)
+  -- and the places that then are taken
+  pub standing : (depth : ℕ) (places : List Frame) (g : Frame)
+      → thread.frames.items ≡ take depth places
+      → take depth (written g ++ drop depth places) ≡ written g
+  standing depth places g frames =
+      rewritten depth places (written g)
+      (length-append below (g ∷ []) ∙ split.1 ∙ ap (λ (fs : List Frame). length fs) frames)
 
-  pub moved_stays : (after : Shared) (g : Frame) (reply : Reply)
-      → stays after g reply ≡ frame_now set s (runner n thread) below f →
-      moved_as after (with_items thread (written g)) reply ≡ thread_now set s n thread
-  moved_stays after g reply same =
+  pub moved_stays : (after : Shared) (g : Frame) (reply : Reply) (items : List Frame)
+      → items ≡ written g → stays after g reply ≡ frame_now set s (runner n thread) below f →
+      moved_as after (with_items thread items) reply ≡ thread_now set s n thread
+  moved_stays after g reply items is same =
       let now : moved_by set thread below (stays after g reply) ≡ thread_now set s n thread =
       moved (stays after g reply) same in
-      rw (written_top g)
-      (rw (root_more thread.root below g [], finished_more below g [] reply) at now)
+      rw is (rw (root_more thread.root below g [], finished_more below g [] reply) at now)
 
   abbrev pub under : Shared → Frame → Frame → Left
   under after g h =
@@ -79,8 +109,7 @@ module _ (set : Set) (s : Shared) (n : ℕ) (thread : Thread) (below : List Fram
       let now : moved_by set thread below (under after g h) ≡ thread_now set s n thread =
       moved (under after g h) same in
       let whole : items ≡ below ++ g ∷ h ∷ [] =
-      is ∙ ap (λ (xs : List Frame). xs ++ h ∷ []) (written_top g)
-      ∙ append_assoc below (g ∷ []) (h ∷ []) in
+      is ∙ append_assoc below (g ∷ []) (h ∷ []) in
       rw whole (rw (root_more thread.root below g (h ∷ []), finished_more below g (h ∷ []) Stepped)
       at now)
 
@@ -90,7 +119,7 @@ module _ (set : Set) (s : Shared) (n : ℕ) (thread : Thread) (below : List Fram
       record { shared = after; frames = []; reply = reply; taken_below = false; told = told }
 
   pub popped : (g : Frame) → take (length (written g) - 1) (written g) ≡ below
-  popped g = rw (written_top g) (before_last below g)
+  popped g = before_last below g
 
   pub moved_gone : (after : Shared) (reply : Reply) (told : Option Status)
       → gone after reply told ≡ frame_now set s (runner n thread) below f →
@@ -116,11 +145,10 @@ module _ (set : Set) (s : Shared) (n : ℕ) (thread : Thread) (below : List Fram
       rw (append-nil (take (length below - 1) below)) at now
 
 -- the frame on the top is told a status
-pub told_by : (set : Set) (items : List Frame) (status : Status) (f : Frame)
-    → slice_get items (length items - 1) ≡ Some f →
-    slice_set items (length items - 1) (told_frame set status f) ≡ told_top set items status
-    (Some f)
-told_by set items status (Walk n) there = set_back items (length items - 1) (Walk n) there
-told_by set items status (Cancel c) there = set_back items (length items - 1) (Cancel c) there
-told_by set items status (Routine a) there =
-    set_last items (Routine a) (Routine (answered set a status)) there
+pub told_on_top : (set : Set) (below : List Frame) (f : Frame) (status : Status)
+    → below ++ told_frame set status f ∷ [] ≡ told_top set (below ++ f ∷ []) status (Some f)
+told_on_top set below (Walk n) status = refl
+told_on_top set below (Cancel c) status = refl
+told_on_top set below (Routine a) status =
+    ap (λ (fs : List Frame). fs ++ Routine (answered set a status) ∷ [])
+    (sym (before_last below (Routine a)))

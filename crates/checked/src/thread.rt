@@ -1,14 +1,15 @@
 //! A thread: its frames, and their steps.
 
-ghost use Rattle.std.specs.Prelude.{◌≡◌, ◌<◌, ◌≤◌, ◌-◌, ◌∷◌, [], Some, true, length, take};
+ghost use Rattle.std.specs.Prelude.{◌≡◌, ◌<◌, ◌≤◌, ◌-◌, ◌++◌, ◌∷◌, [], Some, true, length, take};
 ghost use Rattle.checked.specs.GoingOn.{ThreadGoes, ThreadGoesNoFurther};
 ghost use Rattle.checked.specs.Step.{thread_now};
+ghost use Rattle.checked_parts.specs.Ran.{frame_over};
+ghost use Rattle.model.specs.declared.limits.TheConstants.{MAX_FRAMES};
 ghost use Rattle.model.specs.Effect.{told_to};
 ghost use Rattle.model.specs.Events.{is_idle, with_stack, finished_or};
 
 use crate::frame;
-use arrayvec::ArrayVec;
-use checked_parts::{Frame, Ran, Runner, Shared};
+use checked_parts::{Frame, Over, Ran, Runner, Shared};
 use driver_set::DriverSet;
 use model::event::Reply;
 use model::limits::MAX_FRAMES;
@@ -18,29 +19,41 @@ use model::world::Irql;
 use std::marker::Model;
 
 /// A thread: its frames, the lowest first, and the level of the lowest. A thread without frames is
-/// idle, at PASSIVE_LEVEL.
+/// idle, at PASSIVE_LEVEL. All places of frames are there from the start: a frame that comes is
+/// written where it will stand, and one that goes costs nothing.
 #[derive(Drop)]
 pub struct Thread {
     root: Irql,
-    frames: ArrayVec<Frame, MAX_FRAMES>,
+    /// How many frames it has.
+    depth: usize,
+    /// The places of its frames. Those behind its frames have what was left there.
+    places: [Frame; MAX_FRAMES],
 }
 
 impl Model for Thread {
+    ghost use Rattle.std.specs.Prelude.{◌≤◌, take};
+    ghost use Rattle.model.specs.declared.limits.TheConstants.{MAX_FRAMES};
     ghost use Rattle.model.specs.declared.world.Thread.{Thread};
 
     ghost Value = { Thread };
 
-    ghost view = { λ t. record { root = t.root; frames = record { items = t.frames.items } } };
+    ghost view = { λ t. record {
+      root = t.root;
+      frames = record { items = take t.depth t.places };
+    } };
+
+    ghost invariant = { λ t. t.depth ≤ MAX_FRAMES };
 }
 
 /// The routine on the top, if one stands there, is told the status that a lower driver returned.
-fn tell(set: &DriverSet, frames: &mut ArrayVec<Frame, MAX_FRAMES>, status: Status)
-    ensures { frames.new.items ≡ told_to set.now frames.old.items (Some status) }
+fn tell(set: &DriverSet, frames: &mut [Frame], status: Status)
+    ensures { frames.new ≡ told_to set.now frames.old (Some status) }
 {
-    let top = frames.len().saturating_sub(1);
-    if let Some(caller) = frames.get_mut(top) {
-        frame::tell(caller, set, status);
-    }
+    let Some((caller, below)) = frames.split_last_mut() else {
+        return;
+    };
+    let _ = below;
+    frame::tell(caller, set, status);
 }
 
 impl Thread {
@@ -53,7 +66,8 @@ impl Thread {
     {
         Thread {
             root: Irql::Passive,
-            frames: ArrayVec::new(),
+            depth: 0,
+            places: Default::default(),
         }
     }
 
@@ -61,20 +75,20 @@ impl Thread {
     pub fn is_idle(&self) -> bool
         ensures { result ≡ is_idle self.now }
     {
-        self.frames.is_empty()
+        self.frames().is_empty()
     }
 
     /// What there is to tell of it.
     pub fn view(&self) -> ThreadView
         ensures { result ≡ thread_view self.now }
     {
-        let top = match self.frames.last() {
+        let top = match self.frames().last() {
             Some(frame) => Some(frame.view()),
             None => None,
         };
         ThreadView {
             root: self.root,
-            frames: self.frames.len(),
+            frames: self.frames().len(),
             top,
         }
     }
@@ -83,7 +97,7 @@ impl Thread {
     pub fn frames(&self) -> &[Frame]
         ensures { result.now ≡ self.now.frames.items }
     {
-        self.frames.as_slice()
+        &self.places[..self.depth]
     }
 
     /// A frame is put on an idle thread, at a level.
@@ -93,7 +107,19 @@ impl Thread {
             ≡ record self.old { root = level; frames = record { items = root ∷ [] } } }
     {
         self.root = level;
-        self.frames.push(root);
+        self.places[0] = root;
+        self.depth = 1;
+    }
+
+    /// A frame is put on the others, where it has a place.
+    #[tactic(auto, using(std::proofs::lemmas::List::take_more_set))]
+    fn push(&mut self, over: Over)
+        requires { length self.old.frames.items < MAX_FRAMES }
+        ensures { let frames = self.old.frames.items ++ frame_over over ∷ [] in
+            self.new ≡ record self.old { frames = record { items = frames } } }
+    {
+        self.places[self.depth].replace(over);
+        self.depth += 1;
     }
 
     /// The top frame goes.
@@ -101,8 +127,15 @@ impl Thread {
         ensures { let below = take (length self.old.frames.items - 1) self.old.frames.items in
             self.new ≡ record self.old { frames = record { items = below } } }
     {
-        let top = self.frames.len().saturating_sub(1);
-        self.frames.truncate(top);
+        self.depth = self.below_top();
+    }
+
+    /// How many frames stand under the top one.
+    #[inline]
+    fn below_top(&self) -> usize
+        ensures { result ≡ length self.now.frames.items - 1 }
+    {
+        self.frames().len().saturating_sub(1)
     }
 
     /// After a step: a thread that it left without frames has finished, and is idle.
@@ -110,7 +143,7 @@ impl Thread {
         ensures thread { self.new ≡ with_stack self.old self.old.frames.items }
         ensures reply { result ≡ finished_or self.old.frames.items reply }
     {
-        if !self.frames.is_empty() {
+        if !self.is_idle() {
             return reply;
         }
         self.root = Irql::Passive;
@@ -127,7 +160,7 @@ impl Thread {
         ensures goes { ThreadGoes set.now self.old result self.new }
         ensures far { result < count → ThreadGoesNoFurther set.now self.new }
     {
-        let Some((top, _below)) = self.frames.as_mut_slice().split_last_mut() else {
+        let Some((top, _below)) = self.places[..self.depth].split_last_mut() else {
             return 0;
         };
         frame::go_on(top, set, count)
@@ -142,17 +175,17 @@ impl Thread {
             thread: number,
             root: self.root,
         };
-        let Some((top, below)) = self.frames.as_mut_slice().split_last_mut() else {
+        let Some((top, below)) = self.places[..self.depth].split_last_mut() else {
             return Reply::Idle;
         };
         match frame::step(top, set, shared, runner, below) {
             Ran::Stays(reply) => reply,
             Ran::Under(over) => {
-                self.frames.push(Frame::over(over));
+                self.push(over);
                 Reply::Stepped
             }
             Ran::Becomes(over) => {
-                *top = Frame::over(over);
+                top.replace(over);
                 Reply::Stepped
             }
             Ran::Gone(reply) => {
@@ -166,7 +199,7 @@ impl Thread {
             }
             Ran::Returned(status) => {
                 self.pop();
-                tell(set, &mut self.frames, status);
+                tell(set, &mut self.places[..self.depth], status);
                 self.finish(Reply::Stepped)
             }
         }

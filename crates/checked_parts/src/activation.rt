@@ -31,6 +31,19 @@ pub fn entered(driver: u8, routine: u8, device: u8, first: Value) -> Activation
     }
 }
 
+/// The same in the place of another one.
+pub(crate) fn enter(a: &mut Activation, driver: u8, routine: u8, device: u8, first: Value)
+    ensures { a.new ≡ entered_of driver routine device first }
+{
+    a.driver = driver;
+    a.routine = routine;
+    a.device = device;
+    a.position = 0;
+    a.loops.clear();
+    a.registers = [Value::Blank; REGISTERS];
+    a.registers[0] = first;
+}
+
 /// The number of the driver of a device.
 pub fn driver_of(set: &DriverSet, device: u8) -> u8
     ensures { result ≡ routine_of_device (slice_get set.now.devices device) }

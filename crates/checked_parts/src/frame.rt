@@ -4,7 +4,7 @@ ghost use Rattle.std.specs.Prelude.{◌≡◌, None, option_map};
 ghost use Rattle.std.specs.Borrow.{sem};
 ghost use Rattle.checked_parts.specs.Ran.{frame_over as frame_over_of, is_last as is_last_over};
 
-use crate::activation::entered;
+use crate::activation::{enter, entered};
 use crate::ran::Over;
 use model::limits::MAX_FRAMES;
 use model::view::FrameView;
@@ -79,6 +79,31 @@ impl Frame {
                 device,
                 packet,
             } => Frame::routine(entered(driver, routine, device, Value::Ref(packet))),
+        }
+    }
+
+    /// Becomes a frame that is put into the place of another one. One of the I/O manager has no use
+    /// for a routine, so what stands there is left.
+    pub fn replace(&mut self, over: Over)
+        ensures { self.new ≡ frame_over_of over }
+    {
+        match over {
+            Over::Manager(managing) => self.manager = Some(managing),
+            Over::Routine {
+                driver,
+                routine,
+                device,
+                packet,
+            } => {
+                self.manager = None;
+                enter(
+                    &mut self.activation,
+                    driver,
+                    routine,
+                    device,
+                    Value::Ref(packet),
+                );
+            }
         }
     }
 

@@ -591,7 +591,7 @@ pub run_told : (detail : Detail) (set : Set) (threads : ℕ) (events : List Even
     → IsRunTold detail set threads events
     (ended (if stopped || amiss then Stopped else Complete)
     (text ++ (codes "\naudit\n" ++ words)))
-run_told detail set threads events after world l stopped amiss text words found h are any =
+run_told detail set threads events shown world l stopped amiss text words found h are any =
     let all = text ++ (codes "\naudit\n" ++ words) in
     let found_in : AreFindings set world l found =
     subst (λ (s : Set). AreFindings s world l found) h.same are in

@@ -5,6 +5,7 @@ ghost use Rattle.drvhost_parts.specs.Seen.{GoesUnseen, HappensBefore, is_stepped
 ghost use Rattle.drvhost_parts.specs.Told.{LedgerGoesOn};
 ghost use Rattle.model.specs.declared.event.Reply.TheVariants.{Stepped};
 ghost use Rattle.model.specs.Machine.{AppliesWhole};
+ghost use Rattle.pending_uses.specs.Acting.{acting_in};
 ghost use Rattle.pending_uses.specs.Plain.{is_plain};
 ghost use Rattle.run_laws.specs.Waits.{says_unchanged};
 
@@ -21,11 +22,7 @@ use told::{Happened, Moment};
 pub(crate) fn nothing_seen() -> Happened {
     Happened {
         event: Event::Interrupt { device: 0 },
-        moment: Moment {
-            acting: None,
-            packet: None,
-            reason: None,
-        },
+        moment: Moment::nothing(),
         step: UseStep::Nothing,
         reply: Reply::Idle,
     }
@@ -68,11 +65,24 @@ pub(crate) fn see(
         return see_after(alloc, ledger, machine, event, happened);
     }
     happened.event = *event;
-    happened.moment = Moment::before(machine, event);
+    look_before(machine, event, detail, &mut happened.moment);
     happened.step = use_step_of(machine, event, &happened.moment.acting);
     happened.reply = machine.apply(event);
     ledger.note(alloc, happened.step, event, &happened.reply, machine)?;
     Ok(is_passed(detail, happened.step, &happened.reply))
+}
+
+/// Looks at what an event is before it: in quiet without the packet, since no words are told there
+/// on a step that leaves its frame where it stands.
+#[inline]
+fn look_before(machine: &Checked, event: &Event, detail: Detail, moment: &mut Moment)
+    ensures { moment.new.acting ≡ acting_in machine.now.set machine.now.world event.now }
+{
+    moment.look(machine, event);
+    match detail {
+        Detail::Whole => moment.look_at_packet(machine),
+        Detail::Quiet => {}
+    }
 }
 
 /// The same of a plain step in quiet. Where it steps it is passed over, and the ledger stays as it
@@ -103,7 +113,7 @@ fn see_after(
     }
     ledger.note(alloc, UseStep::Nothing, event, &happened.reply, machine)?;
     happened.event = *event;
-    happened.moment = Moment::before(machine, event);
+    happened.moment.look(machine, event);
     happened.step = UseStep::Nothing;
     Ok(false)
 }

@@ -11,11 +11,11 @@ ghost use Rattle.report.specs.Reply.{worded_line};
 ghost use Rattle.report.specs.Word.{word_of};
 ghost use Rattle.run_laws.specs.Waits.{says_unchanged};
 ghost use Rattle.inputs_outputs.specs.Answer.{ended};
-ghost use Rattle.drvhost_parts.specs.Repeats.{awaited};
+ghost use Rattle.drvhost_parts.specs.Repeats.{Comes, awaited};
 ghost use Rattle.drvhost_parts.specs.Seen.{GoesUnseen};
 ghost use Rattle.drvhost_parts.specs.Told.{GoesAlone, HasTold, IsRunTold, IsTold, LedgerGoesOn, ToldAlone, ToldNext, count_left, happens_again, is_left_out, left_again, times_again, told_line};
 
-use crate::follow::{is_last, next_run, rest_of};
+use crate::follow::{is_last, next_run, next_single, rest_of};
 use crate::seeing::{goes_unseen, nothing_seen, see};
 use crate::tell::Detail;
 use audit::findings::Findings;
@@ -37,6 +37,9 @@ use run_laws::waiting_changes_nothing;
 use std::alloc::{AllocError, Global};
 use told::{Happened, Teller};
 use told_lines::kept::ToldLines;
+
+/// How often in a row an event happens at most that is told by itself in quiet.
+const FEW: usize = 32;
 
 /// What stands before the words of the audit.
 const AUDIT: &[u8] = b"\naudit\n";
@@ -145,7 +148,32 @@ fn tell_events(
     let mut upcoming = schedule.events.upcoming();
     let mut rest = None;
     let mut happened = nothing_seen();
-    while let Some(next) = next_event(rest, &mut upcoming) {
+    loop {
+        match what_comes(detail, &mut rest, &mut upcoming) {
+            Coming::Others => {}
+            Coming::Ended => return Ok(false),
+            Coming::Single(event) => {
+                tell_single(
+                    alloc,
+                    teller,
+                    ledger,
+                    machine,
+                    &mut number,
+                    &event,
+                    detail,
+                    lines,
+                    text,
+                    &mut happened,
+                )?;
+                if is_last(&happened.reply) {
+                    return Ok(true);
+                }
+                continue;
+            }
+        }
+        let Some(next) = next_event(rest, &mut upcoming) else {
+            return Ok(false);
+        };
         let unseen = goes_unseen(machine, &next.event, detail);
         let made = go_ahead(teller, machine, &mut number, &next, unseen, detail, text)?;
         if made > 0 {
@@ -170,7 +198,52 @@ fn tell_events(
         }
         rest = left;
     }
-    Ok(false)
+}
+
+/// What comes next.
+#[derive(Clone, Copy)]
+pub(crate) enum Coming {
+    /// An event that is told by itself.
+    Single(Event),
+    /// An event, with what is left of its run.
+    Others,
+    /// Nothing.
+    Ended,
+}
+
+/// What comes next: an event is told by itself in quiet, where it doesn't happen many times in a row,
+/// and is taken then. What is left of a run is put down.
+#[inline]
+fn what_comes(detail: Detail, rest: &mut Option<Repeated>, upcoming: &mut Upcoming<'_>) -> Coming
+    requires { IfSome rest.old (λ run. 1 ≤ run.count) }
+    ensures comes { Comes (awaited rest.old upcoming.old) (awaited rest.new upcoming.new) result }
+    ensures some { IfSome rest.new (λ run. 1 ≤ run.count) }
+{
+    match detail {
+        Detail::Quiet => next_of_few(rest, upcoming),
+        Detail::Whole => Coming::Others,
+    }
+}
+
+/// The same in quiet.
+#[inline]
+fn next_of_few(rest: &mut Option<Repeated>, upcoming: &mut Upcoming<'_>) -> Coming
+    requires { IfSome rest.old (λ run. 1 ≤ run.count) }
+    ensures comes { Comes (awaited rest.old upcoming.old) (awaited rest.new upcoming.new) result }
+    ensures some { IfSome rest.new (λ run. 1 ≤ run.count) }
+{
+    if let Some(event) = next_single(rest, upcoming) {
+        return Coming::Single(event);
+    }
+    let Some(run) = next_run(*rest, upcoming) else {
+        return Coming::Ended;
+    };
+    if run.count > FEW {
+        *rest = Some(run);
+        return Coming::Others;
+    }
+    *rest = rest_of(run.event, run.count - 1);
+    Coming::Single(run.event)
 }
 
 /// An event that comes next, and what is left of a run of equal ones behind it.
@@ -248,9 +321,58 @@ fn tell_next(
     )
 }
 
+/// Runs an event, and adds what is told of it; what is seen of it is put down.
+fn tell_single(
+    alloc: Global,
+    teller: &mut Teller<'_>,
+    ledger: &mut Ledger,
+    machine: &mut Checked,
+    number: &mut EventNumber,
+    event: &Event,
+    detail: Detail,
+    lines: &mut Lines,
+    text: &mut ToldLines,
+    happened: &mut Happened,
+) -> Result<(), AllocError>
+    requires { number.old + 1 < 2 ^ 64 }
+    ensures number { OnOk result (number.new ≡ number.old + 1) }
+    ensures applied { OnOk result
+        (AppliesWhole machine.old event.now machine.new happened.new.reply) }
+    ensures noted { OnOk result (LedgerGoesOn machine.old event.now ledger.old ledger.new) }
+    ensures told { OnOk result ((words : List ℕ) × (text.new
+        ≡ text.old ++ told_line detail number.old happened.new.reply words)) }
+{
+    let unseen = goes_unseen(machine, event, detail);
+    if see(alloc, ledger, machine, event, unseen, detail, happened)? {
+        teller.pass(1);
+        number.advance();
+        return Ok(());
+    }
+    tell_seen(teller, machine, number, happened, detail, lines, text)
+}
+
+/// Adds what is told of an event that happened, by the machine after it.
+#[inline(never)]
+fn tell_seen(
+    teller: &mut Teller<'_>,
+    machine: &Checked,
+    number: &mut EventNumber,
+    happened: &Happened,
+    detail: Detail,
+    lines: &mut Lines,
+    text: &mut ToldLines,
+) -> Result<(), AllocError>
+    requires { number.old + 1 < 2 ^ 64 }
+    ensures number { OnOk result (number.new ≡ number.old + 1) }
+    ensures told { OnOk result ((words : List ℕ) × (text.new
+        ≡ text.old ++ told_line detail number.old happened.now.reply words)) }
+{
+    teller.note(happened, machine)?;
+    add_event(teller, machine, number, happened, detail, lines, text)
+}
+
 /// Adds what is told of an event that happened, and of the others of its run where they do nothing,
 /// by the machine after it. It answers what is left of the run.
-#[inline(never)]
 fn tell_happened(
     teller: &mut Teller<'_>,
     machine: &Checked,
@@ -268,8 +390,7 @@ fn tell_happened(
     ensures told { OnOk result
         (ToldNext detail number.old happened.now.reply rest text.old text.new) }
 {
-    teller.note(happened, machine)?;
-    add_event(teller, machine, number, happened, detail, lines, text)?;
+    tell_seen(teller, machine, number, happened, detail, lines, text)?;
     let count = times_again(&happened.reply, &rest);
     tell_again(
         teller, machine, number, happened, count, detail, lines, text,
@@ -289,7 +410,7 @@ fn count_left(rest: &Option<Repeated>) -> usize
 
 /// Lets the thread of the step that comes next, and of those equal to it, go on by itself for as many
 /// as it can make so: in quiet nothing is told of them, and else a line of each. It answers how many
-/// were made; none where another event comes next, or one that needs no look at it before.
+/// were made; none where another event comes next, or in quiet one that needs a look at it before.
 fn go_ahead(
     teller: &mut Teller<'_>,
     machine: &mut Checked,
@@ -309,14 +430,12 @@ fn go_ahead(
     ensures none { IfOk result (λ made. made ≡ 0
         → (machine.new ≡ machine.old) × (text.new ≡ text.old)) }
 {
-    if unseen {
-        return Ok(0);
-    }
     let Event::Step { thread } = next.event else {
         return Ok(0);
     };
     let most = count_left(&next.rest) + 1;
     match detail {
+        Detail::Quiet if !unseen => Ok(0),
         Detail::Quiet => {
             let made = machine.go_on(thread, most);
             number.advance_many(made as u64);

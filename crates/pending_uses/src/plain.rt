@@ -16,30 +16,9 @@ use model::event::Event;
 fn is_plain_at(instr: &Instr) -> bool
     ensures { result ≡ is_plain_at (Some instr.now) }
 {
-    matches!(
+    !matches!(
         instr,
-        Instr::Load(_, _)
-            | Instr::Store(_, _)
-            | Instr::LoadPaged(_, _)
-            | Instr::StorePaged(_, _)
-            | Instr::Get(_, _, _)
-            | Instr::Put(_, _)
-            | Instr::Acquire(_)
-            | Instr::Release(_)
-            | Instr::AcquireCancel
-            | Instr::ReleaseCancel
-            | Instr::Insert(_, _)
-            | Instr::Remove(_, _, _)
-            | Instr::Unlink(_, _)
-            | Instr::Arm(_, _)
-            | Instr::Disarm(_, _)
-            | Instr::IfCancel(_, _)
-            | Instr::Start(_)
-            | Instr::Take(_, _)
-            | Instr::Begin(_)
-            | Instr::Next
-            | Instr::Dequeue(_)
-            | Instr::IfPending(_, _)
+        Instr::Mark(_) | Instr::Pass(_) | Instr::Call(_, _) | Instr::Complete(_, _) | Instr::Ret(_)
     )
 }
 

@@ -35,23 +35,46 @@ pub struct Moment {
 }
 
 impl Moment {
+    /// One before which nothing was looked at.
+    pub fn nothing() -> Moment {
+        Moment {
+            acting: None,
+            packet: None,
+            reason: None,
+        }
+    }
+
     /// The one before an event.
     pub fn before(machine: &Checked, event: &Event) -> Moment
         ensures { result.acting ≡ acting_in machine.now.set machine.now.world event.now }
     {
+        let mut moment = Moment::nothing();
+        moment.look(machine, event);
+        moment.look_at_packet(machine);
+        moment
+    }
+
+    /// Becomes the one before an event, but for the packet.
+    pub fn look(&mut self, machine: &Checked, event: &Event)
+        ensures { self.new.acting ≡ acting_in machine.now.set machine.now.world event.now }
+    {
+        self.acting = acting_in(machine, event);
+        self.packet = None;
         // Where a frame acts there is its thread, and a step needs nothing else.
-        match acting_in(machine, event) {
-            Some(acting) => Moment {
-                acting: Some(acting),
-                packet: packet_before(machine, &acting),
-                reason: None,
-            },
-            None => Moment {
-                acting: None,
-                packet: None,
-                reason: why_refused(machine, event),
-            },
-        }
+        self.reason = match self.acting {
+            Some(_) => None,
+            None => why_refused(machine, event),
+        };
+    }
+
+    /// Looks at the packet too, which words tell of on steps that leave a frame where it stands.
+    pub fn look_at_packet(&mut self, machine: &Checked)
+        ensures { self.new.acting ≡ self.old.acting }
+    {
+        self.packet = match &self.acting {
+            Some(acting) => packet_before(machine, acting),
+            None => None,
+        };
     }
 }
 

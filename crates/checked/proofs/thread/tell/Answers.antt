@@ -1,17 +1,13 @@
-use Rattle.std.proofs.Common.{◌≡◌, ◌-◌, ℕ, List, Some, length, ap, refl, ◌∙◌}
-use Rattle.std.specs.Prelude.{slice_get}
+use Rattle.std.proofs.Common.{◌≡◌, ◌∷◌, [], ◌++◌, List}
+use Rattle.run_laws.proofs.Lists.{last_of}
 use Rattle.model.specs.declared.world.Frame.{Frame}
-use Rattle.checked.proofs.Lists.{found_last}
-use Rattle.checked.proofs.Stacks.{told_by}
+use Rattle.checked.proofs.Stacks.{told_on_top}
 use Rattle.checked.proofs.thread.tell.Goals as goal
 
-pub returns-in-Some : goal.returns-in-Some
-returns-in-Some c =
-    let items : List Frame = c.args.frames.now.items in
+pub returns : goal.returns
+returns c =
+    let below : List Frame = c.in-Some.below.now in
     let f : Frame = c.in-Some.caller.now in
-    let last : c.saturating_sub-top.result ≡ length items - 1 = c.saturating_sub-top.ensures
-    ∙ ap (λ (n : ℕ). n - 1) c.len.ensures.value in
-    let there : slice_get items (length items - 1) ≡ Some f =
-    found_last items c.saturating_sub-top.result f last (c.in-Some.ensures.variant.0 refl)
-    c.in-Some.ensures.value in
-    rw (c.tell.ensures, last, there) (told_by c.args.set.now items c.args.status f there)
+    let items : List Frame = c.args.frames.now in
+    let split : items ≡ below ++ f ∷ [] = c.in-Some.ensures.cases.0 in
+    rw (c.tell.ensures, split, last_of below f) (told_on_top c.args.set.now below f c.args.status)

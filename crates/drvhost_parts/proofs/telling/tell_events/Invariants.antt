@@ -4,8 +4,8 @@ use Rattle.drvhost_parts.specs.Repeats.{awaited}
 use Rattle.drvhost_parts.proofs.ToldRuns.{Telling}
 use Rattle.drvhost_parts.proofs.telling.tell_events.Given as goal
 
-abbrev pub invariant-loop-next : goal.invariant-loop-next
-invariant-loop-next l =
+abbrev pub invariant-loop-event : goal.invariant-loop-event
+invariant-loop-event l =
     record {
       numbered : l.number + length (awaited l.rest l.upcoming) ≡ length l.schedule.events;
       some : IfSome l.rest (λ run. 1 ≤ run.count);
@@ -14,5 +14,5 @@ invariant-loop-next l =
           l.ledger l.number (awaited l.rest l.upcoming) l.text;
     }
 
-abbrev pub decreases-loop-next : goal.decreases-loop-next
-decreases-loop-next l = length (awaited l.rest l.upcoming)
+abbrev pub decreases-loop-event : goal.decreases-loop-event
+decreases-loop-event l = length (awaited l.rest l.upcoming)
