@@ -24,7 +24,7 @@ use Rattle.model.specs.Set.{Set, serving, dpc_of, startio_of}
 use Rattle.model.specs.World.{Shared, World, packet_of, new_packet, entered, start_of, with_start, is_queued, with_dpc}
 
 -- what an event leaves: the world, the actions in order, the reply, and whether it would pass a
--- bound: a 33rd frame on a thread, or a 1,025th entry of a list
+-- bound: a 33rd frame on a thread, or a 4,097th entry of a list
 pub record Change : Type 0 where
   pub world : World
   pub actions : List Action
