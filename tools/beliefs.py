@@ -189,14 +189,22 @@ def sources(crate):
 def name_after(text, at):
     return NAME.search(text, at)[0]
 
+def shown_types(all_sources):
+    """The types and traits that another crate can name."""
+    return {name_after(it.text, item.end()) for it in all_sources for item in ITEM.finditer(it.text)
+            if item[1] == 'pub ' and item[2] in ('struct', 'enum', 'trait', 'type') and it.shows(name_after(it.text, item.end()))}
+
+def type_of(text, item):
+    """The name of the type that a block of functions is of, or of the trait that it is."""
+    if item[2] == 'trait':
+        return name_after(text, item.end())
+    said = IMPL.match(text[item.end() - len('impl'):])
+    return said[2] if said else None
+
 def contracts(crate):
     """The texts of a crate's public contracts, each with the names that it may use and where it stands."""
     found, all_sources = [], sources(crate)
-    types = set()
-    for it in all_sources:
-        for item in ITEM.finditer(it.text):
-            if item[1] == 'pub ' and item[2] in ('struct', 'enum', 'trait', 'type') and it.shows(name_after(it.text, item.end())):
-                types.add(name_after(it.text, item.end()))
+    types = shown_types(all_sources)
     for it in all_sources:
         outside = imports(it.text)
         for item in ITEM.finditer(it.text):

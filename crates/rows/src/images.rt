@@ -39,6 +39,26 @@ const QUEUED_IMAGE: [u8; 16] = [
     0xf6, 0xa6, 0x92, 0x16, 0xb0, 0x17, 0xd9, 0xfc, 0x4e, 0x2d, 0x7c, 0xb0, 0x76, 0x86, 0x23, 0x43,
 ];
 
+/// A driver whose packets can be cancelled while they wait in the device queue.
+const WAITING: &[u8] =
+    b"driver d\ndispatch READ f\nstartio s gone\ndpc g\nroutine f dispatch\nmark r0\nacqc\n\
+      ifcancel r0 was\nstart r0\nrelc\nret PENDING\nwas: relc\ncomplete r0 CANCELLED\nret PENDING\n\
+      endr\nroutine s startio\nbegin r0\nret void\nendr\nroutine g dpc\ntake r0 none\nacqc\nnext\n\
+      relc\ncomplete r0 SUCCESS\nret void\nnone: ret void\nendr\nroutine gone cancel\ndequeue r0\n\
+      relc\ncomplete r0 CANCELLED\nret void\nendr\nendd\ndevice v d 1\n";
+
+/// What its image says of the driver: four routines, no queue, which of them serve what, and last the
+/// cancel routine of the device queue.
+const WAITING_DRIVER: [u8; 8] = [0x04, 0x00, 0x00, 0xff, 0xff, 0x01, 0x02, 0x03];
+
+/// `dequeue r0` there, the first word of the last routine.
+const DEQUEUE: [u8; 8] = [0x25, 0x00, 0x00, 0x00, 0x00, 0x00, 0x00, 0x00];
+
+/// The digest of the whole image, whose bytes were put together by hand.
+const WAITING_IMAGE: [u8; 16] = [
+    0xf4, 0x2e, 0xb1, 0x27, 0x8c, 0xeb, 0xe5, 0x20, 0x67, 0x10, 0x0f, 0x19, 0x15, 0x38, 0x2e, 0xf6,
+];
+
 /// The digest of the numbers of the faults of all changes of one byte, 0 for none: of the byte at
 /// each place, by each value.
 const ONE_READ_FAULTS: [u8; 16] = [
@@ -320,9 +340,9 @@ fn every_change_of_one_byte(rt: HostRuntime) -> Result<(), Fail> {
     Ok(())
 }
 
-/// The image of `QUEUED`.
-fn queued_image(alloc: Global) -> Result<Vec<u8>, Fail> {
-    let set = assemble(alloc, QUEUED).ok().ok_or("the text is a set")?;
+/// The image of the set of a text.
+fn image_of(alloc: Global, text: &[u8]) -> Result<Vec<u8>, Fail> {
+    let set = assemble(alloc, text).ok().ok_or("the text is a set")?;
     let image = encode(alloc, &set).ok().ok_or("out of memory")?;
     Ok(image)
 }
@@ -330,7 +350,7 @@ fn queued_image(alloc: Global) -> Result<Vec<u8>, Fail> {
 #[test]
 fn an_image_of_a_text(rt: HostRuntime) -> Result<(), Fail> {
     let alloc = rt.alloc();
-    let image = queued_image(alloc)?;
+    let image = image_of(alloc, QUEUED)?;
     assert_eq!(rt; image.len(), 258);
     assert!(rt; Md5::digest(image.as_slice()).as_slice() == QUEUED_IMAGE.as_slice());
     assert!(rt; is_image(alloc, image.as_slice()));
@@ -345,8 +365,22 @@ fn an_image_of_a_text(rt: HostRuntime) -> Result<(), Fail> {
 }
 
 #[test]
+fn an_image_with_a_cancelable_device_queue(rt: HostRuntime) -> Result<(), Fail> {
+    let alloc = rt.alloc();
+    let image = image_of(alloc, WAITING)?;
+    assert_eq!(rt; image.len(), 212);
+    let driver = image.get(8..16).ok_or("the image is longer")?;
+    assert!(rt; driver == WAITING_DRIVER.as_slice());
+    let dequeue = image.get(176..184).ok_or("the image is longer")?;
+    assert!(rt; dequeue == DEQUEUE.as_slice());
+    assert!(rt; Md5::digest(image.as_slice()).as_slice() == WAITING_IMAGE.as_slice());
+    assert!(rt; is_image(alloc, image.as_slice()));
+    Ok(())
+}
+
+#[test]
 fn every_change_of_a_larger_image(rt: HostRuntime) -> Result<(), Fail> {
-    let image = queued_image(rt.alloc())?;
+    let image = image_of(rt.alloc(), QUEUED)?;
     assert!(rt; have_faults(rt.alloc(), image.as_slice(), &QUEUED_FAULTS)?);
     Ok(())
 }
