@@ -117,6 +117,11 @@ def cited(files, text, known, own=None):
         it = own.by_name.get(word) if own and word in own.by_name else looked_up(files, *known[word]) if word in known else None
         if it:
             found.append(it)
+    for word, name in re.findall(r"(?<![\w'.])([^\W\d][\w']*)\.([^\W\d][\w']*)", text):
+        module, passed = known.get(word, (None, word))
+        it = looked_up(files, module, name) if passed is None else None
+        if it:
+            found.append(it)
     return found
 
 # public contracts
