@@ -8,6 +8,7 @@ use Rattle.std.proofs.lemmas.Option.{slice_get-get_or, slice_get_past, slice_get
 use Rattle.model.specs.declared.world.Packet.{Packet}
 use Rattle.model.specs.Queues.{is_linked}
 use Rattle.model.specs.World.{place_of}
+use Rattle.slab.specs.Slab.{Slab}
 use Rattle.devqueue.specs.Lists.{Lists, entries_of}
 use Rattle.iomgr.proofs.Places.{found_place, missing_place, number_there, numbered_place}
 use Rattle.iomgr.proofs.Slots.{key_held, key_there, length_in, packet_at as packet_there, some_packet}
@@ -24,13 +25,16 @@ numbered_some (Some p) n has = (p, refl, grind (arith, nat_tests, has))
 
 module _ (live : Slots) (buckets : Lists) (issued : ℕ) (numbered : IsNumbered live buckets issued)
     (ordered : IsOrdered live) (n : ℕ) where
+  abbrev slab : Slab Packet
+  slab = record { slots = live.lying; vacant_key = 0; capacity = 0 }
+
   many : length live.packets ≡ length live.order
-  many = rw ordered.packets (length_in live.lying live.order ordered.held)
+  many = rw ordered.packets (length_in slab live.order ordered.held)
 
   -- the packet that stands where a key does
   stands : (key place : ℕ) → slice_get live.order place ≡ Some key
       → slice_get live.packets place ≡ lies_at live key
-  stands key place at = rw ordered.packets (packet_there live.lying key live.order place ordered.held at)
+  stands key place at = rw ordered.packets (packet_there slab key live.order place ordered.held at)
 
   module _ (slot : ℕ) (has : has_number (lies_at live slot) n ≡ true) where
     abbrev lying : (p : Packet) × (lies_at live slot ≡ Some p) × (p.number ≡ n)
@@ -73,7 +77,7 @@ module _ (live : Slots) (buckets : Lists) (issued : ℕ) (numbered : IsNumbered 
         let at = slice_get-get_or live.order place 0 few in
         let p = packet_at live key in
         let lies : lies_at live key ≡ Some p =
-        some_packet (lies_at live key) (key_held live.lying key live.order place ordered.held at) in
+        some_packet (lies_at live key) (key_held slab key live.order place ordered.held at) in
         let number : slice_get (numbers_of live.packets) place ≡ Some p.number =
         number_there live.packets place p (stands key place at ∙ lies) in
         let same : p.number ≡ n = cc in

@@ -1,9 +1,6 @@
 pub mod Places
 pub mod Slots
 pub mod Order
-pub mod Lying
-pub mod Vacant
-pub mod Sound
 pub mod Used
 pub mod Numbered
 pub mod Found

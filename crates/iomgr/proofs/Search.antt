@@ -42,7 +42,7 @@ once_place (first ∷ slots) (suc place) slot once at =
       | inr e ↦ rw e.0 (ap suc (once_place slots place slot once.1 at))
     ]
 
-pub linked_within : (slots : List ℕ) (slot : ℕ) → is_linked slots slot ≡ true
+linked_within : (slots : List ℕ) (slot : ℕ) → is_linked slots slot ≡ true
     → number_place slots slot < length slots
 linked_within [] slot linked = absurd (cc)
 linked_within (first ∷ slots) slot linked =

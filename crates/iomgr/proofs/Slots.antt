@@ -1,66 +1,36 @@
 -- The packets that slots have under a list of keys, where one slot changes.
-use Rattle.std.proofs.Common.{◌≡◌, ◌≢◌, ◌⊎◌, inl, inr, ◌≤◌, ◌<◌, ◌+◌, ℕ, zero, suc, List, [], ◌∷◌, ◌++◌, Option, Some, None, IsSome, cond, is_some, length, ap, sym, ◌∙◌, refl, arith}
-use Rattle.std.specs.Prelude.{count_by, slice_get, slice_set, remove}
+use Rattle.std.proofs.Common.{◌≡◌, ◌≢◌, ◌⊎◌, inl, inr, ◌≤◌, ◌<◌, ℕ, zero, suc, List, [], ◌∷◌, ◌++◌, Option, Some, None, IsSome, cond, is_some, length, ap, sym, ◌∙◌, refl, arith}
+use Rattle.std.specs.Prelude.{slice_get, slice_set, remove}
 use Rattle.std.specs.List.{cons_option}
-use Rattle.std.proofs.lemmas.Bool.{cases_eq, cases_lt, false≢true}
+use Rattle.std.proofs.lemmas.Bool.{cases_eq, false≢true}
 use Rattle.std.proofs.lemmas.Bool.Decides.{eqb_tells}
-use Rattle.std.proofs.lemmas.List.{get_or_append_left, get_or_past, get_or_push, get_or-set_same, get_or-set_other, length_push}
-use Rattle.std.proofs.lemmas.List.Sums.{sum_by-set, sum_by_push}
+use Rattle.std.proofs.lemmas.List.Sums.{sum_by-set}
 use Rattle.std.proofs.lemmas.Option.{slice_get_past}
 use Rattle.model.specs.declared.world.Packet.{Packet}
-use Rattle.iomgr.proofs.Used.{within}
+use Rattle.slab.specs.Slab.{Slab, ContainsKey, Updates, get, slab_len, with_value}
+use Rattle.slab.proofs.SlabLemmas.{ContainsKey-within}
 use Rattle.iomgr.specs.Numbers.{number_place}
-use Rattle.iomgr.specs.Slots.{Hold, Lacks, packet_or_any, packets_in, under}
-
--- one slot has this then, and every other one what it had
-pub record Updates (old new : List (Option Packet)) (key : ℕ) (slot : Option Packet) : Type 0 where
-  pub changed : under new key ≡ slot
-  pub others : (other : ℕ) → other ≢ key → under new other ≡ under old other
-
-pub updates_set : (old : List (Option Packet)) (key : ℕ) (slot : Option Packet) → key < length old
-    → Updates old (slice_set old key slot) key slot
-updates_set old key slot there =
-    record {
-      changed = get_or-set_same old key slot None there;
-      others = λ other differs. get_or-set_other old key other slot None differs;
-    }
-
-pub updates_added : (old : List (Option Packet)) (slot : Option Packet) (key : ℕ)
-    → key ≡ length old → Updates old (old ++ slot ∷ []) key slot
-updates_added old slot key at =
-    record {
-      changed = get_or_push old slot None key (sym at);
-      others = λ other differs. elim (cases_lt other (length old)) [
-        | inl before ↦ get_or_append_left old (slot ∷ []) None other before
-        | inr past ↦ elim (cases_lt (length old) other) [
-          | inl beyond ↦
-              get_or_past (old ++ slot ∷ []) other None
-              (omega (arith, beyond, length_push old slot))
-              ∙ sym (get_or_past old other None past)
-          | inr low ↦ absurd (differs (omega (arith, past, low, at)))
-        ]
-      ];
-    }
+use Rattle.iomgr.specs.Slots.{Hold, Lacks, packet_or_any, packets_in}
 
 -- a slot that isn't among the keys
-pub packets_kept : (old new : List (Option Packet)) (key : ℕ) (slot : Option Packet)
+pub packets_kept : (old new : Slab Packet) (key : ℕ) (slot : Option Packet)
     → Updates old new key slot → (keys : List ℕ) → Lacks key keys
-    → packets_in new keys ≡ packets_in old keys
+    → packets_in new.slots keys ≡ packets_in old.slots keys
 packets_kept old new key slot u [] l = refl
 packets_kept old new key slot u (other ∷ keys) l =
     let same = u.others other l.0 in
     let rest = packets_kept old new key slot u keys l.1 in
     rw (same, rest) refl
 
-pub hold_kept : (old new : List (Option Packet)) (key : ℕ) (slot : Option Packet)
-    → Updates old new key slot → (keys : List ℕ) → Lacks key keys → Hold old keys → Hold new keys
+pub hold_kept : (old new : Slab Packet) (key : ℕ) (slot : Option Packet)
+    → Updates old new key slot → (keys : List ℕ) → Lacks key keys → Hold old.slots keys → Hold new.slots keys
 hold_kept old new key slot u [] l h = tt
 hold_kept old new key slot u (other ∷ keys) l h =
     (rw (u.others other l.0) h.0, h.1, hold_kept old new key slot u keys l.1 h.2)
 
 -- a key without a packet isn't among them
-pub vacant_lacks : (slots : List (Option Packet)) (key : ℕ) → under slots key ≡ None → (keys : List ℕ)
-    → Hold slots keys → Lacks key keys
+pub vacant_lacks : (slots : Slab Packet) (key : ℕ) → get slots key ≡ None → (keys : List ℕ)
+    → Hold slots.slots keys → Lacks key keys
 vacant_lacks slots key vacant [] h = tt
 vacant_lacks slots key vacant (other ∷ keys) h =
     (λ e. absurd (false≢true (rw (e, vacant) at h.0)), vacant_lacks slots key vacant keys h.2)
@@ -75,8 +45,8 @@ lacks_at key other (first ∷ keys) zero l found =
 lacks_at key other (first ∷ keys) (suc place) l found = lacks_at key other keys place l.1 found
 
 -- a key that is among them has a packet
-pub key_held : (slots : List (Option Packet)) (key : ℕ) (keys : List ℕ) (place : ℕ) → Hold slots keys
-    → slice_get keys place ≡ Some key → IsSome (under slots key)
+pub key_held : (slots : Slab Packet) (key : ℕ) (keys : List ℕ) (place : ℕ) → Hold slots.slots keys
+    → slice_get keys place ≡ Some key → ContainsKey slots key
 key_held slots key [] place h found = absurd (cc)
 key_held slots key (first ∷ keys) zero h found =
     let same : first ≡ key = cc in
@@ -84,75 +54,75 @@ key_held slots key (first ∷ keys) zero h found =
 key_held slots key (first ∷ keys) (suc place) h found = key_held slots key keys place h.2 found
 
 -- how many packets there are
-pub length_in : (slots : List (Option Packet)) (keys : List ℕ) → Hold slots keys
-    → length (packets_in slots keys) ≡ length keys
+pub length_in : (slots : Slab Packet) (keys : List ℕ) → Hold slots.slots keys
+    → length (packets_in slots.slots keys) ≡ length keys
 length_in slots [] h = refl
-length_in slots (key ∷ keys) h = by (under slots key) h.0 (length_in slots keys h.2)
+length_in slots (key ∷ keys) h = by (get slots key) h.0 (length_in slots keys h.2)
   where
-    by : (slot : Option Packet) → IsSome slot → length (packets_in slots keys) ≡ length keys
-        → length (cons_option slot (packets_in slots keys)) ≡ suc (length keys)
+    by : (slot : Option Packet) → IsSome slot → length (packets_in slots.slots keys) ≡ length keys
+        → length (cons_option slot (packets_in slots.slots keys)) ≡ suc (length keys)
     by None some rest = absurd (false≢true some)
     by (Some p) some rest = ap (λ (n : ℕ). suc n) rest
 
 -- the packet at a place, and behind the last
-pub packet_at : (slots : List (Option Packet)) (key : ℕ) (keys : List ℕ) (place : ℕ) → Hold slots keys
+pub packet_at : (slots : Slab Packet) (key : ℕ) (keys : List ℕ) (place : ℕ) → Hold slots.slots keys
     → slice_get keys place ≡ Some key
-    → slice_get (packets_in slots keys) place ≡ under slots key
+    → slice_get (packets_in slots.slots keys) place ≡ get slots key
 packet_at slots key [] place h found = absurd (cc)
-packet_at slots key (first ∷ keys) zero h found = by (under slots first) h.0 refl
+packet_at slots key (first ∷ keys) zero h found = by (get slots first) h.0 refl
   where
-    by : (slot : Option Packet) → IsSome slot → under slots first ≡ slot
-        → slice_get (cons_option slot (packets_in slots keys)) zero ≡ under slots key
+    by : (slot : Option Packet) → IsSome slot → get slots first ≡ slot
+        → slice_get (cons_option slot (packets_in slots.slots keys)) zero ≡ get slots key
     by None some is = absurd (false≢true some)
     by (Some p) some is =
         let same : first ≡ key = cc in
         sym (rw same at is)
 packet_at slots key (first ∷ keys) (suc place) h found =
-    by (under slots first) h.0 (packet_at slots key keys place h.2 found)
+    by (get slots first) h.0 (packet_at slots key keys place h.2 found)
   where
     by : (slot : Option Packet) → IsSome slot
-        → slice_get (packets_in slots keys) place ≡ under slots key
-        → slice_get (cons_option slot (packets_in slots keys)) (suc place) ≡ under slots key
+        → slice_get (packets_in slots.slots keys) place ≡ get slots key
+        → slice_get (cons_option slot (packets_in slots.slots keys)) (suc place) ≡ get slots key
     by None some rest = absurd (false≢true some)
     by (Some p) some rest = rest
 
-pub packet_past : (slots : List (Option Packet)) (keys : List ℕ) (place : ℕ) → Hold slots keys
-    → length keys ≤ place → slice_get (packets_in slots keys) place ≡ None
+pub packet_past : (slots : Slab Packet) (keys : List ℕ) (place : ℕ) → Hold slots.slots keys
+    → length keys ≤ place → slice_get (packets_in slots.slots keys) place ≡ None
 packet_past slots keys place h past =
-    slice_get_past (packets_in slots keys) place (rw (length_in slots keys h) past)
+    slice_get_past (packets_in slots.slots keys) place (rw (length_in slots keys h) past)
 
 -- another packet in the slot of one that is there
-pub packet_set : (old new : List (Option Packet)) (key : ℕ) (p : Packet) → Updates old new key (Some p)
-    → (keys : List ℕ) (place : ℕ) → Hold old keys → slice_get keys place ≡ Some key
-    → packets_in new keys ≡ slice_set (packets_in old keys) place p
+pub packet_set : (old new : Slab Packet) (key : ℕ) (p : Packet) → Updates old new key (Some p)
+    → (keys : List ℕ) (place : ℕ) → Hold old.slots keys → slice_get keys place ≡ Some key
+    → packets_in new.slots keys ≡ slice_set (packets_in old.slots keys) place p
 packet_set old new key p u [] place h found = absurd (cc)
 packet_set old new key p u (first ∷ keys) zero h found =
     let same : first ≡ key = cc in
     let rest = packets_kept old new key (Some p) u keys (rw same at h.1) in
-    rw (same, u.changed, rest) (by (under old key) (rw same at h.0))
+    rw (same, u.changed, rest) (by (get old key) (rw same at h.0))
   where
     by : (slot : Option Packet) → IsSome slot
-        → p ∷ packets_in old keys ≡ slice_set (cons_option slot (packets_in old keys)) zero p
+        → p ∷ packets_in old.slots keys ≡ slice_set (cons_option slot (packets_in old.slots keys)) zero p
     by None some = absurd (false≢true some)
     by (Some q) some = refl
 packet_set old new key p u (first ∷ keys) (suc place) h found =
     let same = u.others first (lacks_at key first keys place h.1 found) in
     let rest = packet_set old new key p u keys place h.2 found in
-    rw (same, rest) (by (under old first) h.0)
+    rw (same, rest) (by (get old first) h.0)
   where
     by : (slot : Option Packet) → IsSome slot
-        → cons_option slot (slice_set (packets_in old keys) place p)
-        ≡ slice_set (cons_option slot (packets_in old keys)) (suc place) p
+        → cons_option slot (slice_set (packets_in old.slots keys) place p)
+        ≡ slice_set (cons_option slot (packets_in old.slots keys)) (suc place) p
     by None some = absurd (false≢true some)
     by (Some q) some = refl
 
-pub hold_set : (old new : List (Option Packet)) (key : ℕ) (p : Packet) → Updates old new key (Some p)
-    → (keys : List ℕ) → Hold old keys → Hold new keys
+pub hold_set : (old new : Slab Packet) (key : ℕ) (p : Packet) → Updates old new key (Some p)
+    → (keys : List ℕ) → Hold old.slots keys → Hold new.slots keys
 hold_set old new key p u [] h = tt
 hold_set old new key p u (first ∷ keys) h =
     (by (cases_eq first key), h.1, hold_set old new key p u keys h.2)
   where
-    by : (first ≡ key) ⊎ (first ≢ key) → IsSome (under new first)
+    by : (first ≡ key) ⊎ (first ≢ key) → ContainsKey new first
     by (inl same) = rw (same, u.changed) refl
     by (inr other) = rw (u.others first other) h.0
 
@@ -164,33 +134,33 @@ lacks_removed key [] (suc place) l = tt
 lacks_removed key (first ∷ keys) zero l = l.1
 lacks_removed key (first ∷ keys) (suc place) l = (l.0, lacks_removed key keys place l.1)
 
-pub packet_removed : (old new : List (Option Packet)) (key : ℕ) → Updates old new key None
-    → (keys : List ℕ) (place : ℕ) → Hold old keys → slice_get keys place ≡ Some key
-    → packets_in new (remove keys place) ≡ remove (packets_in old keys) place
+pub packet_removed : (old new : Slab Packet) (key : ℕ) → Updates old new key None
+    → (keys : List ℕ) (place : ℕ) → Hold old.slots keys → slice_get keys place ≡ Some key
+    → packets_in new.slots (remove keys place) ≡ remove (packets_in old.slots keys) place
 packet_removed old new key u [] place h found = absurd (cc)
 packet_removed old new key u (first ∷ keys) zero h found =
     let same : first ≡ key = cc in
     let rest = packets_kept old new key None u keys (rw same at h.1) in
-    rw rest (by (under old first) h.0)
+    rw rest (by (get old first) h.0)
   where
     by : (slot : Option Packet) → IsSome slot
-        → packets_in old keys ≡ remove (cons_option slot (packets_in old keys)) zero
+        → packets_in old.slots keys ≡ remove (cons_option slot (packets_in old.slots keys)) zero
     by None some = absurd (false≢true some)
     by (Some q) some = refl
 packet_removed old new key u (first ∷ keys) (suc place) h found =
     let same = u.others first (lacks_at key first keys place h.1 found) in
     let rest = packet_removed old new key u keys place h.2 found in
-    rw (same, rest) (by (under old first) h.0)
+    rw (same, rest) (by (get old first) h.0)
   where
     by : (slot : Option Packet) → IsSome slot
-        → cons_option slot (remove (packets_in old keys) place)
-        ≡ remove (cons_option slot (packets_in old keys)) (suc place)
+        → cons_option slot (remove (packets_in old.slots keys) place)
+        ≡ remove (cons_option slot (packets_in old.slots keys)) (suc place)
     by None some = absurd (false≢true some)
     by (Some q) some = refl
 
-pub hold_removed : (old new : List (Option Packet)) (key : ℕ) → Updates old new key None
-    → (keys : List ℕ) (place : ℕ) → Hold old keys → slice_get keys place ≡ Some key
-    → Hold new (remove keys place)
+pub hold_removed : (old new : Slab Packet) (key : ℕ) → Updates old new key None
+    → (keys : List ℕ) (place : ℕ) → Hold old.slots keys → slice_get keys place ≡ Some key
+    → Hold new.slots (remove keys place)
 hold_removed old new key u [] place h found = absurd (cc)
 hold_removed old new key u (first ∷ keys) zero h found =
     let same : first ≡ key = cc in
@@ -202,28 +172,28 @@ hold_removed old new key u (first ∷ keys) (suc place) h found = (
 )
 
 -- a packet more, in a slot that was vacant
-pub lacks_pushed : (key other : ℕ) (keys : List ℕ) → Lacks key keys → other ≢ key
+lacks_pushed : (key other : ℕ) (keys : List ℕ) → Lacks key keys → other ≢ key
     → Lacks key (keys ++ other ∷ [])
 lacks_pushed key other [] l differs = (differs, tt)
 lacks_pushed key other (first ∷ keys) l differs = (l.0, lacks_pushed key other keys l.1 differs)
 
-pub packet_pushed : (old new : List (Option Packet)) (key : ℕ) (p : Packet) → Updates old new key (Some p)
+pub packet_pushed : (old new : Slab Packet) (key : ℕ) (p : Packet) → Updates old new key (Some p)
     → (keys : List ℕ) → Lacks key keys
-    → packets_in new (keys ++ key ∷ []) ≡ packets_in old keys ++ p ∷ []
+    → packets_in new.slots (keys ++ key ∷ []) ≡ packets_in old.slots keys ++ p ∷ []
 packet_pushed old new key p u [] l = rw u.changed refl
 packet_pushed old new key p u (first ∷ keys) l =
     let same = u.others first l.0 in
     let rest = packet_pushed old new key p u keys l.1 in
-    rw (same, rest) (by (under old first))
+    rw (same, rest) (by (get old first))
   where
     by : (slot : Option Packet)
-        → cons_option slot (packets_in old keys ++ p ∷ [])
-        ≡ cons_option slot (packets_in old keys) ++ p ∷ []
+        → cons_option slot (packets_in old.slots keys ++ p ∷ [])
+        ≡ cons_option slot (packets_in old.slots keys) ++ p ∷ []
     by None = refl
     by (Some q) = refl
 
-pub hold_pushed : (old new : List (Option Packet)) (key : ℕ) (p : Packet) → Updates old new key (Some p)
-    → (keys : List ℕ) → Lacks key keys → Hold old keys → Hold new (keys ++ key ∷ [])
+pub hold_pushed : (old new : Slab Packet) (key : ℕ) (p : Packet) → Updates old new key (Some p)
+    → (keys : List ℕ) → Lacks key keys → Hold old.slots keys → Hold new.slots (keys ++ key ∷ [])
 hold_pushed old new key p u [] l h = (rw u.changed refl, tt, tt)
 hold_pushed old new key p u (first ∷ keys) l h = (
   rw (u.others first l.0) h.0,
@@ -231,33 +201,14 @@ hold_pushed old new key p u (first ∷ keys) l h = (
   hold_pushed old new key p u keys l.1 h.2,
 )
 
--- how many slots are in use, where a packet is changed, comes or goes
-module _ (slots : List (Option Packet)) (key : ℕ) where
-  pub counted_set : (p : Packet) → IsSome (under slots key)
-      → count_by is_some (slice_set slots key (Some p)) ≡ count_by is_some slots
-  counted_set p there =
-      let one = λ (slot : Option Packet). cond (is_some slot) 1 0 in
-      let sums = sum_by-set one slots key (Some p) None (within slots key there) in
-      omega (arith, rw there at sums)
-
-  pub counted_filled : (p : Packet) → key < length slots → under slots key ≡ None
-      → count_by is_some (slice_set slots key (Some p)) ≡ count_by is_some slots + 1
-  counted_filled p there vacant =
-      let one = λ (slot : Option Packet). cond (is_some slot) 1 0 in
-      let sums = sum_by-set one slots key (Some p) None there in
-      omega (arith, rw vacant at sums)
-
-  pub counted_freed : IsSome (under slots key)
-      → count_by is_some (slice_set slots key None) + 1 ≡ count_by is_some slots
-  counted_freed there =
-      let one = λ (slot : Option Packet). cond (is_some slot) 1 0 in
-      let sums = sum_by-set one slots key None None (within slots key there) in
-      omega (arith, rw there at sums)
-
-pub counted_added : (slots : List (Option Packet)) (p : Packet)
-    → count_by is_some (slots ++ Some p ∷ []) ≡ count_by is_some slots + 1
-counted_added slots p =
-    sum_by_push (λ (slot : Option Packet). cond (is_some slot) 1 0) slots (Some p)
+-- as many slots are in use where a packet is changed
+pub counted_set : (slots : Slab Packet) (key : ℕ) (p : Packet) → ContainsKey slots key
+    → slab_len (with_value slots key p) ≡ slab_len slots
+counted_set slots key p there =
+    let within = ContainsKey-within slots key there in
+    let one = λ (slot : Option Packet). cond (is_some slot) 1 0 in
+    let sums = sum_by-set one slots.slots key (Some p) None within in
+    omega (arith, rw there at sums)
 
 -- the place of a key that is among them
 pub key_there : (keys : List ℕ) (key : ℕ) → number_place keys key < length keys
@@ -271,7 +222,7 @@ key_there (first ∷ keys) key within =
           rw e.0 (key_there keys key (omega (arith, behind)))
     ]
 
-pub key_place : (slots : List (Option Packet)) (keys : List ℕ) (place key : ℕ) → Hold slots keys
+pub key_place : (slots : Slab Packet) (keys : List ℕ) (place key : ℕ) → Hold slots.slots keys
     → slice_get keys place ≡ Some key → number_place keys key ≡ place
 key_place slots [] place key h found = absurd (cc)
 key_place slots (first ∷ keys) zero key h found =

@@ -1,57 +1,66 @@
 //! A list of packets that don't move.
 
-ghost use Rattle.std.specs.Prelude.{◌≡◌, ◌≤◌, ◌<◌, IfOk, Some, length, option_map, slice_get};
-ghost use Rattle.model.specs.declared.limits.TheConstants.{MAX_LIVE_PACKETS, MAX_STACK};
+ghost use Rattle.std.specs.Prelude.{◌≡◌, ◌≤◌, ◌<◌, [], IfOk, Some, length, option_map, slice_get};
+ghost use Rattle.model.specs.declared.limits.TheConstants.{MAX_LIVE_PACKETS};
 
 use devqueue::Links;
 use irp::Packet;
 use model::limits::MAX_LIVE_PACKETS;
-use model::status::Major;
+use slab::Slab;
 use std::alloc::{AllocError, Global};
 use std::marker::Model;
 
 /// Packets in order, with room for all that may live at once. Each stays in one slot while it is in
 /// the list, and the keys of the slots are linked in that order: so nothing moves where one is
 /// taken from the middle.
-///
-/// A packet that left the list stays in its slot as it was, which contracts don't see, and the next
-/// one that gets the slot is made of it: so no locations are written but those of the two.
 #[derive(Drop)]
 pub struct PacketList {
-    slots: Vec<Packet>,
-    /// The keys of the slots whose packets left, the last one last.
-    free: Vec<usize>,
-    /// One list, of the keys of the others.
+    slots: Slab<Packet>,
+    /// One list, of the keys.
     keys: Links,
 }
 
 impl Model for PacketList {
-    ghost use Rattle.std.specs.Vec.{vec_capacity};
-    ghost use Rattle.iomgr.specs.PacketList.{IsSound, shown};
-    ghost use Rattle.iomgr.specs.Slots.{Slots};
+    ghost use Rattle.devqueue.specs.Lists.{entries_of};
+    ghost use Rattle.iomgr.specs.PacketList.{IsSound};
+    ghost use Rattle.iomgr.specs.Slots.{Slots, packets_in};
 
     ghost Value = { Slots };
 
-    ghost view = { λ l. shown l.slots.items l.keys };
+    ghost view = { λ l. record {
+      lying = l.slots.slots;
+      order = entries_of l.keys 0;
+      packets = packets_in l.slots.slots (entries_of l.keys 0);
+    } };
 
-    ghost invariant = { λ l.
-        IsSound l.slots.items (vec_capacity l.slots) l.free.items (vec_capacity l.free) l.keys };
+    ghost invariant = { λ l. IsSound l.slots l.keys };
+}
+
+/// Free slots, as many as packets that may live at once and no more: a key is below that number, so
+/// that others can keep something for each key.
+fn free_slots(alloc: Global) -> Result<Slab<Packet>, AllocError>
+    ensures { IfOk result (λ slots.
+        (slots.slots ≡ []) × (slots.capacity ≡ MAX_LIVE_PACKETS)) }
+{
+    let slots = Slab::with_capacity(alloc, MAX_LIVE_PACKETS)?;
+    if slots.capacity() > MAX_LIVE_PACKETS {
+        return Err(AllocError);
+    }
+    Ok(slots)
 }
 
 impl PacketList {
     ghost use Rattle.std.specs.Borrow.{sem};
-    ghost use Rattle.model.specs.World.{new_packet};
     ghost use Rattle.iomgr.specs.Lending.{LendsSlot};
     ghost use Rattle.iomgr.specs.Slots.{Holds, IsFilled, IsOrdered, lies_at, no_slots, packet_at, place_at, without_slot};
 
-    /// An empty list. An error where memory for as many packets as may live at once is refused; no
-    /// other call needs any.
+    /// An empty list. An error where memory for just as many packets as may live at once is
+    /// refused; no other call needs any.
     pub fn new(alloc: Global) -> Result<PacketList, AllocError>
         ensures { IfOk result (λ list. list ≡ no_slots) }
     {
         Ok(PacketList {
-            slots: Vec::with_capacity(alloc, MAX_LIVE_PACKETS)?,
-            free: Vec::with_capacity(alloc, MAX_LIVE_PACKETS)?,
+            slots: free_slots(alloc)?,
             keys: Links::new(alloc, MAX_LIVE_PACKETS, 1)?,
         })
     }
@@ -61,56 +70,32 @@ impl PacketList {
         ensures ordered { IsOrdered self.now }
         ensures few { length self.now.lying ≤ MAX_LIVE_PACKETS }
     {
-        let _slots = self.slots.len();
+        let _ = self.slots.capacity();
     }
 
     /// How many packets there are.
     pub fn len(&self) -> usize
         ensures { result ≡ length self.now.packets }
     {
-        self.slots.len() - self.free.len()
+        self.slots.len()
     }
 
-    /// Puts a new packet for a device of this stack size, 1 to 16, at the end, and answers its key:
-    /// a slot that a packet left is taken first.
-    pub fn issue(
-        &mut self,
-        number: u64,
-        device: u8,
-        major: Major,
-        argument: u64,
-        stack: u8,
-    ) -> usize
-        requires room { length self.old.packets < MAX_LIVE_PACKETS }
-        requires stack { stack ≤ MAX_STACK }
-        ensures filled { let packet = new_packet number device major argument stack in
-            IsFilled self.old result packet self.new }
+    /// Puts a packet at the end, and answers its key.
+    pub fn push(&mut self, packet: Packet) -> usize
+        requires { length self.old.packets < MAX_LIVE_PACKETS }
+        ensures filled { IsFilled self.old result packet self.new }
         ensures low { result < MAX_LIVE_PACKETS }
     {
-        match self.free.pop() {
-            Some(key) => {
-                self.slots[key].renew(number, device, major, argument, stack);
-                self.keys.push_back(0, key);
-                key
-            }
-            None => {
-                let key = self.slots.len();
-                let packet = Packet::new(number, device, major, argument, stack);
-                self.slots.push_reserved(packet);
-                self.keys.push_back(0, key);
-                key
-            }
-        }
+        let key = self.slots.insert_reserved(packet);
+        self.keys.push_back(0, key);
+        key
     }
 
     /// The packet in a slot, if it has one.
     pub fn in_slot(&self, slot: usize) -> Option<&Packet>
         ensures { option_map (λ p. p.now) result ≡ lies_at self.now slot }
     {
-        if self.keys.is_free(slot) {
-            return None;
-        }
-        Some(&self.slots[slot])
+        self.slots.get(slot)
     }
 
     /// The packet of a key.
@@ -134,12 +119,12 @@ impl PacketList {
         &mut self.slots[key]
     }
 
-    /// Takes the packet of a key out, and lets it lie; the others keep their order.
+    /// Takes the packet of a key out; the others keep their order.
     pub fn remove(&mut self, key: usize)
         requires { Holds self.old key }
         ensures { self.new ≡ without_slot self.old key }
     {
         let _listed = self.keys.unlink(0, key);
-        self.free.push_reserved(key);
+        let _packet = self.slots.remove(key);
     }
 }

@@ -121,7 +121,9 @@ impl PacketTable {
             table_in self.new ≡ with_issued (table_in self.old) packet }
     {
         let number = self.issued_count;
-        let slot = self.live.issue(number, device, major, argument, stack);
+        let slot = self
+            .live
+            .push(Packet::new(number, device, major, argument, stack));
         self.buckets.push_back(bucket_of(number), slot);
         self.issued_count += 1;
         Key::of(slot)

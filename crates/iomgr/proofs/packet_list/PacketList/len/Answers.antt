@@ -1,10 +1,10 @@
-use Rattle.std.proofs.Common.{rules, ◌≡◌, length, arith}
-use Rattle.iomgr.proofs.Sound.{live_count}
+use Rattle.std.proofs.Common.{arith}
+use Rattle.devqueue.specs.Lists.{entries_of}
+use Rattle.iomgr.proofs.Slots.{length_in}
 use Rattle.iomgr.proofs.packet_list.PacketList.len.Goals as goal
 
 pub returns : goal.returns
 returns c =
-    let live = live_count _ _ _ _ c.self.inside.keys c.self.invariant in
-    let slots : c.len.result ≡ length c.self.inside.slots.items = search rules in
-    let free : c.len-2.result ≡ length c.self.inside.free.items = search rules in
-    rw (← c.self.view_is) (omega (arith, live, slots, free))
+    let slots = c.self.inside.slots in
+    let keys = entries_of c.self.inside.keys 0 in
+    rw (← c.self.view_is) (omega (arith, length_in slots keys c.self.invariant.held))

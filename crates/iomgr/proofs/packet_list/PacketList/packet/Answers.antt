@@ -1,29 +1,21 @@
-use Rattle.std.proofs.Common.{rules, ◌<◌, length, refl}
-use Rattle.iomgr.proofs.Sound.{inside, lies, listed}
+use Rattle.std.proofs.Common.{◌∙◌}
+use Rattle.devqueue.specs.Lists.{entries_of}
+use Rattle.iomgr.proofs.Slots.{key_held, key_there, packet_at}
+use Rattle.iomgr.specs.Numbers.{number_place}
 use Rattle.iomgr.proofs.packet_list.PacketList.packet.Goals as goal
 
 pub index-requires : goal.index-requires
 index-requires c =
-    let here : c.args.key < length c.self.inside.slots.items =
-    inside _ _ _ _ c.self.inside.keys c.self.invariant c.args.key
-    (rw (← c.self.view_is) at c.requires) in
-    search rules
-
-pub returns-clause-packet : goal.returns-clause-packet
-returns-clause-packet c =
-    let holds = rw (← c.self.view_is) at c.requires in
-    let there =
-    lies _ _ _ _ c.self.inside.keys c.self.invariant c.args.key holds _ c.index.ensures in
-    rw (← c.self.view_is, there) refl
-
-pub returns-clause-lies : goal.returns-clause-lies
-returns-clause-lies c =
-    let holds = rw (← c.self.view_is) at c.requires in
-    rw (← c.self.view_is)
-    (lies _ _ _ _ c.self.inside.keys c.self.invariant c.args.key holds _ c.index.ensures)
+    let keys = entries_of c.self.inside.keys 0 in
+    let key = c.args.key in
+    let there = key_there keys key (rw (← c.self.view_is) at c.requires) in
+    key_held c.self.inside.slots key keys (number_place keys key) c.self.invariant.held there
 
 pub returns-clause-listed : goal.returns-clause-listed
 returns-clause-listed c =
-    let holds = rw (← c.self.view_is) at c.requires in
+    let keys = entries_of c.self.inside.keys 0 in
+    let key = c.args.key in
+    let there = key_there keys key (rw (← c.self.view_is) at c.requires) in
     rw (← c.self.view_is)
-    (listed _ _ _ _ c.self.inside.keys c.self.invariant c.args.key holds _ c.index.ensures)
+    (packet_at c.self.inside.slots key keys (number_place keys key) c.self.invariant.held there
+    ∙ c.index.ensures)
