@@ -1,10 +1,8 @@
 //! A live packet, and the calls that change it.
 
-ghost use Rattle.std.specs.Prelude.{◌≡◌, ◌≤◌, ◌<◌, ◌-◌, ◌∷◌, true, false, length, nat_lt, option_map, replicate, slice_get};
+ghost use Rattle.std.specs.Prelude.{◌≡◌, ◌≤◌, ◌<◌, ◌-◌, ◌∷◌, [], true, false, length, nat_lt, option_map, replicate, slice_get};
 ghost use Rattle.model.specs.declared.limits.TheConstants.{MAX_STACK};
 ghost use Rattle.model.specs.World.{unused_location};
-
-mod renewal;
 
 use crate::location::Location;
 use arrayvec::ArrayVec;
@@ -57,14 +55,16 @@ impl Model for Packet {
     ghost invariant = { λ p. length p.stack.items ≤ MAX_STACK };
 }
 
-/// The stack locations of a packet: the first one as given, and the others unused.
-fn stack_of(size: u8, first: Location) -> ArrayVec<Location, MAX_STACK>
-    requires { size ≤ MAX_STACK }
-    ensures { result.items ≡ first ∷ replicate (size - 1) unused_location }
+/// A stack that has no locations gets so many: the first one as given, and the others unused.
+fn fill(stack: &mut ArrayVec<Location, MAX_STACK>, size: u8, first: Location)
+    requires empty { stack.old.items ≡ [] }
+    requires room { size ≤ MAX_STACK }
+    ensures { stack.new.items ≡ first ∷ replicate (size - 1) unused_location }
 {
-    let mut stack = ArrayVec::new();
-    renewal::fill(&mut stack, size, first);
-    stack
+    stack.push(first);
+    for _place in 0..size.saturating_sub(1) {
+        stack.push(Location::unused());
+    }
 }
 
 impl Packet {
@@ -77,17 +77,20 @@ impl Packet {
         requires { stack ≤ MAX_STACK }
         ensures { result ≡ new_packet number device major argument stack }
     {
-        Packet {
+        let mut packet = Packet {
             number,
-            depth: 1,
-            stack: stack_of(stack, Location::asked(major, argument, device)),
-            status: Status::Success,
             info: 0,
+            depth: 1,
+            status: Status::Success,
             completing: false,
             pending_returned: false,
             cancel: false,
             armer: None,
-        }
+            stack: ArrayVec::new(),
+        };
+        let first = Location::asked(major, argument, device);
+        fill(&mut packet.stack, stack, first);
+        packet
     }
 
     /// Its number: packets are numbered in the order of their issue.
