@@ -152,18 +152,33 @@ return_in form n =
 
 -- how many operand bytes an operand takes, the first of which is this
 abbrev pub size_of : Operand → ℕ → ℕ
+size_of ARegister first = 1
+size_of ACell first = 1
+size_of APagedCell first = 1
+size_of ASpinLock first = 1
 size_of AConstant first = 0
 size_of ATurns first = 0
+size_of AField first = 1
+size_of AStatus first = 1
+size_of AQueue first = 1
 size_of ALabel first = 0
+size_of ARoutine first = 1
 size_of AReturn first = if nat_lt first 2 then 2 else 1
-size_of _ first = 1
 
 -- whether it takes the last four bytes
 abbrev pub takes_last : Operand → Bool
+takes_last ARegister = false
+takes_last ACell = false
+takes_last APagedCell = false
+takes_last ASpinLock = false
 takes_last AConstant = true
 takes_last ATurns = true
+takes_last AField = false
+takes_last AStatus = false
+takes_last AQueue = false
 takes_last ALabel = true
-takes_last _ = false
+takes_last ARoutine = false
+takes_last AReturn = false
 
 -- how many operand bytes are used by operands from a place on
 abbrev pub used_from : List Operand → ℕ → Word → ℕ

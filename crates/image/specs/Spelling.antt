@@ -89,10 +89,18 @@ operands_bytes (operand ∷ operands) values =
 
 -- the last four bytes with this operand before others
 abbrev pub last_with : (operand : Operand) → ValueOf operand → ℕ → ℕ
+last_with ARegister r other = other
+last_with ACell c other = other
+last_with APagedCell c other = other
+last_with ASpinLock lock other = other
 last_with AConstant n other = n
 last_with ATurns turns other = turns
+last_with AField field other = other
+last_with AStatus status other = other
+last_with AQueue q other = other
 last_with ALabel label other = label
-last_with _ value other = other
+last_with ARoutine f other = other
+last_with AReturn form other = other
 
 abbrev pub last_of : (operands : List Operand) → Values operands → ℕ
 last_of [] values = 0
