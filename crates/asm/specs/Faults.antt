@@ -48,9 +48,12 @@ gives_again before driver routine label (Handle major name) =
 gives_again before driver routine label (HandleStartIo name cancel) =
     has_any (said startio_on driver)
 gives_again before driver routine label (HandleDpc name) = has_any (said dpc_on driver)
+gives_again before driver routine None (Step instr used) = false
 gives_again before driver routine (Some label) (Step instr used) =
     is_among (labels_on routine) label
-gives_again before driver routine label _ = false
+gives_again before driver routine label Blank = false
+gives_again before driver routine label CloseDriver = false
+gives_again before driver routine label CloseRoutine = false
 
 abbrev pub is_again : List Line → Option (List ℕ) → Body → Bool
 is_again before label body =
@@ -65,7 +68,14 @@ abbrev pub is_out_of_range : Body → Bool
 is_out_of_range (AddDevice name driver stack lower) = not (is_stack_size stack)
 is_out_of_range (AddQueue name guard cancel) = is_none guard
 is_out_of_range (Step instr used) = is_none instr
-is_out_of_range _ = false
+is_out_of_range Blank = false
+is_out_of_range (OpenDriver name) = false
+is_out_of_range CloseDriver = false
+is_out_of_range (Handle major routine) = false
+is_out_of_range (HandleStartIo routine cancel) = false
+is_out_of_range (HandleDpc routine) = false
+is_out_of_range (OpenRoutine name sort) = false
+is_out_of_range CloseRoutine = false
 
 -- there is room for what the line adds
 abbrev pub has_room : List Line → Body → Bool
@@ -78,7 +88,12 @@ has_room before (OpenRoutine name sort) =
     nat_lt (length (said routine_on (up_to opens_driver before))) MAX_ROUTINES
 has_room before (Step instr used) =
     nat_lt (length (said step_on (up_to opens_routine before))) MAX_INSTRUCTIONS
-has_room before _ = true
+has_room before Blank = true
+has_room before CloseDriver = true
+has_room before (Handle major routine) = true
+has_room before (HandleStartIo routine cancel) = true
+has_room before (HandleDpc routine) = true
+has_room before CloseRoutine = true
 
 -- the line's fault behind those lines: the least kind of those that it has
 abbrev pub misfit : List Line → Line → Option AsmKind
@@ -100,7 +115,11 @@ all_known has before labels (AddDevice name driver stack lower) =
     is_among (said driver_on before) driver && is_known (said device_on before) lower
 all_known has before labels (Step instr used) = is_known labels used.label
     && (is_served has Completion used.routine && is_known has.queues used.queue)
-all_known has before labels _ = true
+all_known has before labels Blank = true
+all_known has before labels (OpenDriver name) = true
+all_known has before labels CloseDriver = true
+all_known has before labels (OpenRoutine name sort) = true
+all_known has before labels CloseRoutine = true
 
 -- the first line from number n on that uses a name which nothing has, behind those lines
 abbrev pub unknown_from : List Line → ℕ → List Line → Option ℕ

@@ -42,7 +42,9 @@ shows before raw DuplicateName =
     is_line (λ l. is_again before l.label l.body) (line_of (tokens_of raw))
 shows before raw OutOfRange = is_line (λ l. is_out_of_range l.body) (line_of (tokens_of raw))
 shows before raw OverLimit = is_line (λ l. not (has_room before l.body)) (line_of (tokens_of raw))
-shows before raw _ = false
+shows before raw UnknownName = false
+shows before raw Unclosed = false
+shows before raw Memory = false
 
 -- of the kinds of fault that the line has, this is the least
 pub record IsLeastKind (before : List Line) (raw : List ℕ) (kind : AsmKind) : Type 0 where

@@ -7,7 +7,7 @@ use Rattle.model.specs.declared.set.Sort.{Sort}
 use Rattle.model.specs.declared.status.Major.{Major}
 use Rattle.model.specs.declared.status.Major.TheVariants.{Read, Write, Control}
 use Rattle.asm_line.specs.declared.line.Body.{Body}
-use Rattle.asm_line.specs.declared.line.Body.TheVariants.{OpenDriver, CloseDriver, AddQueue, Handle, HandleStartIo, HandleDpc, OpenRoutine, CloseRoutine, AddDevice, Step}
+use Rattle.asm_line.specs.declared.line.Body.TheVariants.{Blank, OpenDriver, CloseDriver, AddQueue, Handle, HandleStartIo, HandleDpc, OpenRoutine, CloseRoutine, AddDevice, Step}
 use Rattle.asm_line.specs.declared.line.Line.{Line}
 use Rattle.asm.specs.declared.draft.Place.{Place}
 use Rattle.asm.specs.declared.draft.Place.TheVariants.{Outside, InDriver, InRoutine}
@@ -110,7 +110,13 @@ place_next (OpenDriver name) place = InDriver
 place_next CloseDriver place = Outside
 place_next (OpenRoutine name sort) place = InRoutine
 place_next CloseRoutine place = InDriver
-place_next _ place = place
+place_next Blank place = place
+place_next (AddQueue name guard cancel) place = place
+place_next (Handle major routine) place = place
+place_next (HandleStartIo routine cancel) place = place
+place_next (HandleDpc routine) place = place
+place_next (AddDevice name driver stack lower) place = place
+place_next (Step instr used) place = place
 
 -- where the line after these lines stands, of which the last is given first
 abbrev pub place_after : List Line → Place

@@ -3,7 +3,7 @@ use Rattle.std.specs.Prelude.{ℕ, ◌≡◌, ◌+◌, List, [], ◌∷◌, Opti
 use Rattle.text.specs.Cut.{lines_of}
 use Rattle.model.specs.Set.{Set}
 use Rattle.asm.specs.declared.draft.Place.{Place}
-use Rattle.asm.specs.declared.draft.Place.TheVariants.{Outside}
+use Rattle.asm.specs.declared.draft.Place.TheVariants.{Outside, InDriver, InRoutine}
 use Rattle.asm.specs.declared.fault.AsmFault.{AsmFault}
 use Rattle.asm.specs.declared.fault.AsmKind.{AsmKind}
 use Rattle.asm.specs.declared.fault.AsmKind.TheVariants.{Lex, UnknownWord, UnknownName, Unclosed, Memory}
@@ -39,7 +39,8 @@ after_line n (Err kind) rest = Err (record { line = n; kind = kind })
 -- the end of the text, where the next line would have the number n
 abbrev pub ended : List Line → ℕ → Place → Result (List Line) AsmFault
 ended before n Outside = Ok (around before [])
-ended before n _ = Err (record { line = n; kind = Unclosed })
+ended before n InDriver = Err (record { line = n; kind = Unclosed })
+ended before n InRoutine = Err (record { line = n; kind = Unclosed })
 
 -- the lines from number n on, behind those lines: the first fault, or all lines
 abbrev pub reading : List Line → ℕ → List (List ℕ) → Result (List Line) AsmFault

@@ -8,7 +8,7 @@ use Rattle.model.specs.declared.set.Driver.{Driver}
 use Rattle.model.specs.declared.set.Queue.{Queue}
 use Rattle.model.specs.declared.set.Routine.{Routine}
 use Rattle.model.specs.declared.status.Major.TheVariants.{Read, Write, Control}
-use Rattle.forms.specs.InstructionForm.{Operand, ALabel, AQueue, ARoutine, ValueOf, rebuilt}
+use Rattle.forms.specs.InstructionForm.{Operand, ARegister, ACell, APagedCell, ASpinLock, AConstant, ATurns, AField, AStatus, AQueue, ALabel, ARoutine, AReturn, ValueOf, rebuilt}
 use Rattle.asm_line.specs.declared.line.Body.{Body}
 use Rattle.asm_line.specs.declared.line.Body.TheVariants.{OpenDriver, AddQueue, OpenRoutine, AddDevice, Step}
 use Rattle.asm_line.specs.declared.line.Line.{Line}
@@ -19,22 +19,52 @@ use Rattle.asm.specs.Names.{Inventory, inventory, number_in, number_of}
 
 -- the instruction with this label, routine or queue in place of its own, if it has one
 abbrev pub to_label : ℕ → (operand : Operand) → ValueOf operand → ValueOf operand
+to_label label ARegister r = r
+to_label label ACell c = c
+to_label label APagedCell c = c
+to_label label ASpinLock lock = lock
+to_label label AConstant n = n
+to_label label ATurns turns = turns
+to_label label AField field = field
+to_label label AStatus status = status
+to_label label AQueue q = q
 to_label label ALabel old = label
-to_label label _ value = value
+to_label label ARoutine f = f
+to_label label AReturn form = form
 
 abbrev pub with_label : Instr → ℕ → Instr
 with_label i label = rebuilt (to_label label) i
 
 abbrev pub to_routine : Option ℕ → (operand : Operand) → ValueOf operand → ValueOf operand
+to_routine routine ARegister r = r
+to_routine routine ACell c = c
+to_routine routine APagedCell c = c
+to_routine routine ASpinLock lock = lock
+to_routine routine AConstant n = n
+to_routine routine ATurns turns = turns
+to_routine routine AField field = field
+to_routine routine AStatus status = status
+to_routine routine AQueue q = q
+to_routine routine ALabel to = to
 to_routine routine ARoutine old = routine
-to_routine routine _ value = value
+to_routine routine AReturn form = form
 
 abbrev pub with_routine : Instr → Option ℕ → Instr
 with_routine i routine = rebuilt (to_routine routine) i
 
 abbrev pub to_queue : ℕ → (operand : Operand) → ValueOf operand → ValueOf operand
+to_queue queue ARegister r = r
+to_queue queue ACell c = c
+to_queue queue APagedCell c = c
+to_queue queue ASpinLock lock = lock
+to_queue queue AConstant n = n
+to_queue queue ATurns turns = turns
+to_queue queue AField field = field
+to_queue queue AStatus status = status
 to_queue queue AQueue old = queue
-to_queue queue _ value = value
+to_queue queue ALabel to = to
+to_queue queue ARoutine f = f
+to_queue queue AReturn form = form
 
 abbrev pub with_queue : Instr → ℕ → Instr
 with_queue i queue = rebuilt (to_queue queue) i
