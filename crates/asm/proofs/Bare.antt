@@ -7,7 +7,7 @@ use Rattle.model.specs.declared.instr.Instr.TheVariants.{Jump, Insert}
 use Rattle.asm.specs.declared.draft.Linked.{Linked}
 use Rattle.asm.specs.declared.draft.Step.{Step}
 use Rattle.asm.specs.Bare.{bare_link, bare_step, is_bare, is_nameless, AreBare, AreNameless}
-use Rattle.asm.specs.Outline.{Outline, called, earliest, missed_from, resolved, with_label, with_queue, with_routine}
+use Rattle.asm.specs.Outline.{Outline, called, earliest, missed_from, label_resolved, with_label, with_queue, with_routine}
 
 pub one_more_bare : (is : List Instr) (i : Instr) → AreBare is → is_bare i ≡ true
     → AreBare (is ++ i ∷ [])
@@ -64,18 +64,18 @@ names_stay _ routine queue none = cc
 -- what names nothing is linked as it is
 pub bare_resolved : (labels : List (List ℕ)) (positions : List ℕ) (s : Step) → s.label ≡ None
     → s.call ≡ None → s.queue ≡ None → is_bare s.instr ≡ true
-    → bare_link s.instr ≡ resolved labels positions s
+    → bare_link s.instr ≡ label_resolved labels positions s
 bare_resolved labels positions s label call queue bare =
     rw (label, call, queue, label_stays s.instr 0 bare) refl
 
 -- a routine that is closed begins with what named nothing
 bare_linked : (labels : List (List ℕ)) (positions : List ℕ) (is : List Instr)
     (rest : List Step) → AreBare is
-    → map bare_link is ++ map (resolved labels positions) rest
-    ≡ map (resolved labels positions) (map bare_step is ++ rest)
+    → map bare_link is ++ map (label_resolved labels positions) rest
+    ≡ map (label_resolved labels positions) (map bare_step is ++ rest)
 bare_linked labels positions [] rest all = refl
 bare_linked labels positions (i ∷ is) rest all =
-    let first : resolved labels positions (bare_step i) ≡ bare_link i =
+    let first : label_resolved labels positions (bare_step i) ≡ bare_link i =
     ap bare_link (label_stays i 0 all.0) in
     rw (first, bare_linked labels positions is rest all.1) refl
 
@@ -83,8 +83,8 @@ bare_linked labels positions (i ∷ is) rest all =
 pub linked_behind : (labels : List (List ℕ)) (positions : List ℕ) (is done : List Instr)
     (none : List Linked) (rest steps : List Step) → AreBare is → done ≡ is → none ≡ []
     → steps ≡ rest
-    → (map bare_link done ++ none) ++ map (resolved labels positions) steps
-    ≡ map (resolved labels positions) (map bare_step is ++ rest)
+    → (map bare_link done ++ none) ++ map (label_resolved labels positions) steps
+    ≡ map (label_resolved labels positions) (map bare_step is ++ rest)
 linked_behind labels positions is done none rest steps all same empty behind =
     rw (same, empty, behind, append-nil (map bare_link is)) (bare_linked labels positions is rest all)
 

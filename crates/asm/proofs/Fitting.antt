@@ -6,10 +6,10 @@ use Rattle.asm.specs.declared.draft.Place.TheVariants.{Outside, InDriver, InRout
 use Rattle.asm.specs.declared.fault.AsmKind.TheVariants.{UnknownWord, DuplicateName, OutOfRange, OverLimit}
 use Rattle.asm_line.specs.declared.line.Body.{Body}
 use Rattle.asm_line.specs.declared.line.Line.{Line}
-use Rattle.asm.specs.Outline.{Outline, has_room, is_again, is_out_of_range, misfit, stands, IsFitting}
+use Rattle.asm.specs.Outline.{Outline, draft_has_room, draft_is_again, is_out_of_range, draft_misfit, stands, IsFitting}
 
 -- no kind is chosen only where each test passes
-none_chosen : (a b c d : Bool)
+pub none_chosen : (a b c d : Bool)
     → (if not a then Some UnknownWord
     else (if b then Some DuplicateName
     else (if c then Some OutOfRange else (if not d then Some OverLimit else None)))) ≡ None
@@ -20,10 +20,10 @@ none_chosen true false true d h = cc
 none_chosen true false false false h = cc
 none_chosen true false false true h = (refl, refl, refl, refl)
 
-pub fitting : (o : Outline) (l : Line) → misfit o l ≡ None → IsFitting o l
+pub fitting : (o : Outline) (l : Line) → draft_misfit o l ≡ None → IsFitting o l
 fitting o l h =
-    let all = none_chosen (stands o.place l.body) (is_again o l.label l.body)
-    (is_out_of_range l.body) (has_room o l.body) h in
+    let all = none_chosen (stands o.place l.body) (draft_is_again o l.label l.body)
+    (is_out_of_range l.body) (draft_has_room o l.body) h in
     record { standing = all.0; fresh = all.1; in_range = all.2; room = all.3 }
 
 -- a line isn't in a place where it may not stand

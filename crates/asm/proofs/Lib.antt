@@ -1,3 +1,5 @@
+pub mod Scopes
+pub mod Codes
 pub mod Fitting
 pub mod Added
 pub mod Tidy

@@ -5,7 +5,7 @@ use Rattle.model.specs.declared.instr.Instr.{Instr}
 use Rattle.asm_line.specs.Line.{read_line, BodyFits}
 use Rattle.asm_line.specs.Plain.{blank_line, plain_line}
 use Rattle.asm.specs.declared.fault.AsmKind.{AsmKind}
-use Rattle.asm.specs.Outline.{Outline, misfit, noted, IsOrderly}
+use Rattle.asm.specs.Outline.{Outline, draft_misfit, noted, IsOrderly}
 use Rattle.asm.specs.Plain.{IsPlainOn}
 use Rattle.asm.specs.Drafting.{read_on}
 use Rattle.asm.proofs.Fitting.{fitting}
@@ -29,7 +29,7 @@ plain_read o next n raw i line is =
     rw (line, is.fits, plain_noted o next n i is) refl
 
 pub plain_refused : (o : Outline) (n : ℕ) (raw : List ℕ) (i : Instr) (kind : AsmKind)
-    → read_line raw ≡ Ok (plain_line i) → misfit o (plain_line i) ≡ Some kind
+    → read_line raw ≡ Ok (plain_line i) → draft_misfit o (plain_line i) ≡ Some kind
     → read_on o n raw ≡ Err kind
 plain_refused o n raw i kind line misfits = rw (line, misfits) refl
 

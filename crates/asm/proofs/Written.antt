@@ -4,4 +4,4 @@ pub mod Instructions
 pub mod Drivers
 pub mod Devices
 pub mod Lines
-pub mod Law
+pub mod Said

@@ -1,6 +1,6 @@
 -- Instructions of a routine that name nothing: no label, no queue and no routine. They are the same
 -- before labels are known, then, and in the set. Those that name no queue and no routine are the
--- same from where labels are known on.
+-- same from where labels are known on. A step of the proof, and no definition to believe.
 use Rattle.std.specs.Prelude.{◌≡◌, ⊤, Bool, true, false, not, List, [], ◌∷◌, None}
 use Rattle.std.specs.List.{list_any}
 use Rattle.model.specs.declared.instr.Instr.{Instr}

@@ -11,49 +11,50 @@ use Rattle.asm_line.specs.declared.line.Line.{Line}
 use Rattle.asm_line.specs.declared.line.LineFault.{LineFault}
 use Rattle.asm_line.specs.Line.{read_line}
 use Rattle.asm.specs.Reading.{kind_of}
-use Rattle.asm.specs.Outline.{Outline, nothing_read, misfit, noted}
+use Rattle.asm.specs.Outline.{Outline, nothing_read, draft_misfit, noted}
 
 -- a line that has a form, in its context: its fault, or what is read with it
-abbrev pub fitted : Outline → ℕ → Line → Option AsmKind → Result Outline AsmKind
-fitted o n l None = Ok (noted o n l.label l.body)
-fitted o n l (Some kind) = Err kind
+abbrev pub draft_fitted : Outline → ℕ → Line → Option AsmKind → Result Outline AsmKind
+draft_fitted o n l None = Ok (noted o n l.label l.body)
+draft_fitted o n l (Some kind) = Err kind
 
 -- a line that was read by its form, in its context
-abbrev pub placed : Outline → ℕ → Result Line LineFault → Result Outline AsmKind
-placed o n (Ok l) = fitted o n l (misfit o l)
-placed o n (Err fault) = Err (kind_of fault)
+abbrev pub draft_placed : Outline → ℕ → Result Line LineFault → Result Outline AsmKind
+draft_placed o n (Ok l) = draft_fitted o n l (draft_misfit o l)
+draft_placed o n (Err fault) = Err (kind_of fault)
 
 -- one line, whose number is n: its least kind of fault, or what is read with it
 abbrev pub read_on : Outline → ℕ → List ℕ → Result Outline AsmKind
-read_on o n raw = placed o n (read_line raw)
+read_on o n raw = draft_placed o n (read_line raw)
 
 -- the end of the text, where the next line would have the number n
-abbrev pub ended : Outline → ℕ → Place → Result Outline AsmFault
-ended o n Outside = Ok o
-ended o n InDriver = Err (record { line = n; kind = Unclosed })
-ended o n InRoutine = Err (record { line = n; kind = Unclosed })
+abbrev pub draft_ended : Outline → ℕ → Place → Result Outline AsmFault
+draft_ended o n Outside = Ok o
+draft_ended o n InDriver = Err (record { line = n; kind = Unclosed })
+draft_ended o n InRoutine = Err (record { line = n; kind = Unclosed })
 
 -- what follows a line, whose number is n
-abbrev pub after_line : ℕ → Result Outline AsmKind → (Outline → Result Outline AsmFault)
+abbrev pub draft_after_line : ℕ → Result Outline AsmKind → (Outline → Result Outline AsmFault)
     → Result Outline AsmFault
-after_line n (Ok o) rest = rest o
-after_line n (Err kind) rest = Err (record { line = n; kind = kind })
+draft_after_line n (Ok o) rest = rest o
+draft_after_line n (Err kind) rest = Err (record { line = n; kind = kind })
 
 -- the lines from number n on: the first fault, or what is read with all of them
-abbrev pub reading : Outline → ℕ → List (List ℕ) → Result Outline AsmFault
-reading o n [] = ended o n o.place
-reading o n (raw ∷ raws) = after_line n (read_on o n raw) (λ next. reading next (n + 1) raws)
+abbrev pub draft_reading : Outline → ℕ → List (List ℕ) → Result Outline AsmFault
+draft_reading o n [] = draft_ended o n o.place
+draft_reading o n (raw ∷ raws) =
+    draft_after_line n (read_on o n raw) (λ next. draft_reading next (n + 1) raws)
 
 -- the set that was read, unless a line uses an unknown name
-abbrev pub resolved : Outline → Option ℕ → Result Set AsmFault
-resolved o None = Ok (record { drivers = o.drivers; devices = o.devices })
-resolved o (Some line) = Err (record { line = line; kind = UnknownName })
+abbrev pub draft_resolved : Outline → Option ℕ → Result Set AsmFault
+draft_resolved o None = Ok (record { drivers = o.drivers; devices = o.devices })
+draft_resolved o (Some line) = Err (record { line = line; kind = UnknownName })
 
 -- unknown names are sought only where nothing else is wrong
-abbrev pub named : Result Outline AsmFault → Result Set AsmFault
-named (Ok o) = resolved o o.unknown
-named (Err fault) = Err fault
+abbrev pub draft_named : Result Outline AsmFault → Result Set AsmFault
+draft_named (Ok o) = draft_resolved o o.unknown
+draft_named (Err fault) = Err fault
 
 -- the set that a text names, or its first fault
-abbrev pub set_in : List ℕ → Result Set AsmFault
-set_in text = named (reading nothing_read 1 (lines_of text))
+abbrev pub draft_set_in : List ℕ → Result Set AsmFault
+draft_set_in text = draft_named (draft_reading nothing_read 1 (lines_of text))

@@ -1,4 +1,5 @@
--- The faults of a text in other words: which line is at fault, of which kind, and why.
+-- The faults of a text in other words: which line is at fault, of which kind, and why; and that the
+-- set of a text without one is that of its lines.
 use Rattle.std.specs.Prelude.{ℕ, ⊤, ◌≡◌, ◌<◌, ◌+◌, ◌⊎◌, Bool, true, false, not, List, [], ◌∷◌, ◌++◌, length, Option, Some, None, Ok}
 use Rattle.text.specs.Lexical.{is_lexical}
 use Rattle.text.specs.Cut.{lines_of, tokens_of}
@@ -12,6 +13,7 @@ use Rattle.asm_line.specs.Line.{line_of, read_line}
 use Rattle.asm.specs.Parts.{around, place_after}
 use Rattle.asm.specs.Faults.{has_room, is_again, is_out_of_range, misfit, stands, unknown_from}
 use Rattle.asm.specs.Reading.{IsFaultOf, IsNamed}
+use Rattle.asm.specs.Said.{set_of}
 
 -- the number of a kind
 abbrev pub kind_number : AsmKind → ℕ
@@ -106,3 +108,10 @@ FaultIsFirst = (text : List ℕ) (fault : AsmFault) → IsFaultOf text fault →
 -- only a faultless text names a set
 abbrev pub NamedIsFaultless : Type 0
 NamedIsFaultless = (text : List ℕ) (set : Set) → IsNamed text set → IsFaultless text
+
+-- a set that a text names is that of its lines
+abbrev pub IsOfItsLines : List ℕ → Set → Type 0
+IsOfItsLines text set = (all : IsRead text) × (set ≡ set_of all.lines)
+
+abbrev pub SetIsOfItsLines : Type 0
+SetIsOfItsLines = (text : List ℕ) (set : Set) → IsNamed text set → IsOfItsLines text set

@@ -4,9 +4,7 @@ pub mod Said
 pub mod Faults
 pub mod Reading
 pub mod Laws
-pub mod Code
 pub mod Outline
 pub mod Drafting
-pub mod Scopes
 pub mod Bare
 pub mod Plain

@@ -103,47 +103,47 @@ is_known_label labels None = false
 is_known_label labels (Some label) = is_among labels label
 
 -- the line gives a name, a table entry or a label again
-abbrev pub is_again : Outline → Option (List ℕ) → Body → Bool
-is_again o label (OpenDriver name) = is_among o.driver_names name
-is_again o label (AddQueue name guard cancel) = is_among o.queue_names name
-is_again o label (Handle major routine) = is_some (handler_of o major)
-is_again o label (HandleStartIo routine cancel) = is_some o.startio
-is_again o label (HandleDpc routine) = is_some o.dpc
-is_again o label (OpenRoutine name sort) = is_among o.routine_names name
-is_again o label (AddDevice name driver stack lower) = is_among o.device_names name
-is_again o label (Step instr used) = is_known_label o.labels label
-is_again o label Blank = false
-is_again o label CloseDriver = false
-is_again o label CloseRoutine = false
+abbrev pub draft_is_again : Outline → Option (List ℕ) → Body → Bool
+draft_is_again o label (OpenDriver name) = is_among o.driver_names name
+draft_is_again o label (AddQueue name guard cancel) = is_among o.queue_names name
+draft_is_again o label (Handle major routine) = is_some (handler_of o major)
+draft_is_again o label (HandleStartIo routine cancel) = is_some o.startio
+draft_is_again o label (HandleDpc routine) = is_some o.dpc
+draft_is_again o label (OpenRoutine name sort) = is_among o.routine_names name
+draft_is_again o label (AddDevice name driver stack lower) = is_among o.device_names name
+draft_is_again o label (Step instr used) = is_known_label o.labels label
+draft_is_again o label Blank = false
+draft_is_again o label CloseDriver = false
+draft_is_again o label CloseRoutine = false
 
 -- there is room for what the line adds
-abbrev pub has_room : Outline → Body → Bool
-has_room o (OpenDriver name) = nat_lt (length o.driver_names) MAX_DRIVERS
-has_room o (AddDevice name driver stack lower) = nat_lt (length o.device_names) MAX_DEVICES
-has_room o (AddQueue name guard cancel) = nat_lt (length o.queue_names) MAX_QUEUES
-has_room o (OpenRoutine name sort) = nat_lt (length o.routine_names) MAX_ROUTINES
-has_room o (Step instr used) = nat_lt (length o.steps) MAX_INSTRUCTIONS
-has_room o Blank = true
-has_room o CloseDriver = true
-has_room o (Handle major routine) = true
-has_room o (HandleStartIo routine cancel) = true
-has_room o (HandleDpc routine) = true
-has_room o CloseRoutine = true
+abbrev pub draft_has_room : Outline → Body → Bool
+draft_has_room o (OpenDriver name) = nat_lt (length o.driver_names) MAX_DRIVERS
+draft_has_room o (AddDevice name driver stack lower) = nat_lt (length o.device_names) MAX_DEVICES
+draft_has_room o (AddQueue name guard cancel) = nat_lt (length o.queue_names) MAX_QUEUES
+draft_has_room o (OpenRoutine name sort) = nat_lt (length o.routine_names) MAX_ROUTINES
+draft_has_room o (Step instr used) = nat_lt (length o.steps) MAX_INSTRUCTIONS
+draft_has_room o Blank = true
+draft_has_room o CloseDriver = true
+draft_has_room o (Handle major routine) = true
+draft_has_room o (HandleStartIo routine cancel) = true
+draft_has_room o (HandleDpc routine) = true
+draft_has_room o CloseRoutine = true
 
 -- the line's fault in its context: the least kind of those that it has
-abbrev pub misfit : Outline → Line → Option AsmKind
-misfit o l =
+abbrev pub draft_misfit : Outline → Line → Option AsmKind
+draft_misfit o l =
     if not (stands o.place l.body) then Some UnknownWord else
-    (if is_again o l.label l.body then Some DuplicateName else
+    (if draft_is_again o l.label l.body then Some DuplicateName else
     (if is_out_of_range l.body then Some OutOfRange else
-    (if not (has_room o l.body) then Some OverLimit else None)))
+    (if not (draft_has_room o l.body) then Some OverLimit else None)))
 
 -- a line without a fault in its context
 pub record IsFitting (o : Outline) (l : Line) : Type 0 where
   pub standing : stands o.place l.body ≡ true
-  pub fresh : is_again o l.label l.body ≡ false
+  pub fresh : draft_is_again o l.label l.body ≡ false
   pub in_range : is_out_of_range l.body ≡ false
-  pub room : has_room o l.body ≡ true
+  pub room : draft_has_room o l.body ≡ true
 
 -- the line of a use of a name, where the name isn't among these
 abbrev pub missed : List (List ℕ) → Option Use → Option ℕ
@@ -345,8 +345,8 @@ target_position labels positions None = 0
 target_position labels positions (Some u) = unwrap_or (position_of labels positions u.name) 0
 
 -- an instruction with the position of its label
-abbrev pub resolved : List (List ℕ) → List ℕ → StepOf → Linked
-resolved labels positions s = record {
+abbrev pub label_resolved : List (List ℕ) → List ℕ → StepOf → Linked
+label_resolved labels positions s = record {
   instr = with_label s.instr (target_position labels positions s.label);
   call = s.call;
   queue = s.queue;
@@ -364,7 +364,7 @@ routine_closed o = record o {
   place = InDriver;
   routines = o.routines ++ record {
     sort = o.sort;
-    code = map (resolved o.labels o.positions) o.steps;
+    code = map (label_resolved o.labels o.positions) o.steps;
   } ∷ [];
   labels = [];
   positions = [];

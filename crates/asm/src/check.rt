@@ -1,7 +1,7 @@
 //! A line in its context: what is wrong with it.
 
 ghost use Rattle.std.specs.Prelude.{◌≡◌};
-ghost use Rattle.asm.specs.Outline.{handler_of, has_room, is_again, is_out_of_range, is_stack_size, misfit, stands};
+ghost use Rattle.asm.specs.Outline.{handler_of, draft_has_room, draft_is_again, is_out_of_range, is_stack_size, draft_misfit, stands};
 
 use crate::draft::{Draft, Place, Use};
 use crate::fault::AsmKind;
@@ -15,7 +15,7 @@ use model::status::Major;
 impl<'a> Draft<'a> {
     /// The least kind of fault that the line has where it stands.
     pub fn misfit(&self, line: &Line<'a>) -> Option<AsmKind>
-        ensures { result ≡ misfit self.now line.now }
+        ensures { result ≡ draft_misfit self.now line.now }
     {
         if !stands(self.place, &line.body) {
             return Some(AsmKind::UnknownWord);
@@ -34,7 +34,7 @@ impl<'a> Draft<'a> {
 
     /// Whether the line gives a name, a table entry or a label again.
     fn is_again(&self, line: &Line<'a>) -> bool
-        ensures { result ≡ is_again self.now line.now.label line.now.body }
+        ensures { result ≡ draft_is_again self.now line.now.label line.now.body }
     {
         match &line.body {
             Body::OpenDriver(name) => is_among(&self.driver_names, name),
@@ -62,7 +62,7 @@ impl<'a> Draft<'a> {
 
     /// Whether there is room for what the line adds.
     fn has_room(&self, body: &Body<'a>) -> bool
-        ensures { result ≡ has_room self.now body.now }
+        ensures { result ≡ draft_has_room self.now body.now }
     {
         match body {
             Body::OpenDriver(_) => self.driver_names.len() < MAX_DRIVERS,

@@ -4,7 +4,7 @@
 
 ghost use Rattle.std.specs.Prelude.{◌≡◌, ◌++◌, [], ◌∷◌, length, map, IfOk, OnOk};
 ghost use Rattle.asm.specs.Bare.{bare_step, is_bare, is_nameless};
-ghost use Rattle.asm.specs.Outline.{missed_from, resolved};
+ghost use Rattle.asm.specs.Outline.{missed_from, label_resolved};
 
 use crate::draft::{Linked, Step};
 use crate::link::linked;
@@ -134,7 +134,7 @@ impl<'a> OpenCode<'a> {
         found: Option<u64>,
     ) -> Result<Closed, AllocError>
         ensures linked { IfOk result
-            (λ closed. closed.code ≡ map (resolved labels.now.keys positions.now) self.old) }
+            (λ closed. closed.code ≡ map (label_resolved labels.now.keys positions.now) self.old) }
         ensures missed { IfOk result
             (λ closed. closed.missed ≡ missed_from labels.now.keys found self.old) }
         ensures taken { OnOk result (self.new ≡ []) }

@@ -1,8 +1,7 @@
 //! Laws of what a text names, in the words of a text's reader. Nothing runs here: each law is the
 //! contract of a function that does nothing.
 
-ghost use Rattle.asm.specs.Code.{CodeIsOfItsLines};
-ghost use Rattle.asm.specs.Laws.{FaultIsFirst, NamedIsFaultless};
+ghost use Rattle.asm.specs.Laws.{FaultIsFirst, NamedIsFaultless, SetIsOfItsLines};
 
 /// The fault that is given is that of the first line that has one, with the least kind that it has,
 /// or that the text ends too early; and only where there is none of these, the first use of a name
@@ -17,11 +16,9 @@ pub fn named_is_faultless()
     ensures { NamedIsFaultless }
 {}
 
-/// A routine of a set that a text names has the instructions on its lines, in order. Each of them
-/// that jumps has the position of the instruction on the line of its label, each `call` has the
-/// number of the routine that it names, and one that touches a queue has the number of the queue
-/// that it names.
-#[tactic(auto, using(crate::proofs::Written::Law::code_is_of_its_lines))]
-pub fn code_is_of_its_lines()
-    ensures { CodeIsOfItsLines }
+/// The set that a text names is that of its lines: each routine has the instructions on its lines,
+/// in order, with the numbers of what they name.
+#[tactic(auto, using(crate::proofs::Declared::First::set_is_of_its_lines))]
+pub fn set_is_of_its_lines()
+    ensures { SetIsOfItsLines }
 {}

@@ -1,7 +1,7 @@
 //! The labels of a routine put in place of their names, once all of them are known.
 
 ghost use Rattle.std.specs.Prelude.{◌≡◌, ◌++◌, [], ◌∷◌, IfOk, OnOk, map, Some};
-ghost use Rattle.asm.specs.Outline.{earliest, missed, missed_from, resolved, target_position, with_label};
+ghost use Rattle.asm.specs.Outline.{earliest, missed, missed_from, label_resolved, target_position, with_label};
 
 use crate::code::{Closed, ClosedCode, is_bare};
 use crate::draft::{Step, Use};
@@ -22,7 +22,7 @@ pub fn linked(
     steps: &[Step<'_>],
 ) -> Result<Closed, AllocError>
     ensures code { IfOk result (λ closed. closed.code
-        ≡ before ++ map (resolved labels.now.keys positions.now) steps.now) }
+        ≡ before ++ map (label_resolved labels.now.keys positions.now) steps.now) }
     ensures missed { IfOk result
         (λ closed. closed.missed ≡ missed_from labels.now.keys found steps.now) }
 {
@@ -46,7 +46,7 @@ fn link(
     found: &mut Option<u64>,
 ) -> Result<(), AllocError>
     ensures code { OnOk result
-        (code.new ≡ code.old ++ resolved labels.now.keys positions.now step.now ∷ []) }
+        (code.new ≡ code.old ++ label_resolved labels.now.keys positions.now step.now ∷ []) }
     ensures missed { OnOk result
         (found.new ≡ earliest found.old (missed labels.now.keys step.now.label)) }
 {

@@ -2,10 +2,10 @@
 
 ghost use Rattle.std.specs.Prelude.{◌≡◌, ◌⊎◌, ◌<◌, ◌^◌, ℕ, length, IfOk, MatchResult, OnOk, Ok, Err, Some};
 ghost use Rattle.asm_line.specs.Plain.{plain_line};
-ghost use Rattle.asm.specs.Outline.{misfit, nothing_read, IsOrderly};
+ghost use Rattle.asm.specs.Outline.{draft_misfit, nothing_read, IsOrderly};
 ghost use Rattle.asm.specs.declared.draft.Place.{Place};
 ghost use Rattle.asm.specs.Plain.{IsPlainOn};
-ghost use Rattle.asm.specs.Drafting.{read_on, reading, resolved};
+ghost use Rattle.asm.specs.Drafting.{read_on, draft_reading, draft_resolved};
 ghost use Rattle.asm.specs.Reading.{kind_of, memory, set_in, IsFaultOf, IsNamed};
 
 use crate::draft::{Draft, Place};
@@ -58,8 +58,8 @@ impl<'a> Draft<'a> {
         requires orderly { IsOrderly self.old }
         requires few { length left < 2 ^ 63 }
         ensures read { IfOk result
-            (λ answer. MatchResult answer (λ _. reading self.old 1 left.entry ≡ Ok self.new)
-            (λ fault. reading self.old 1 left.entry ≡ Err fault)) }
+            (λ answer. MatchResult answer (λ _. draft_reading self.old 1 left.entry ≡ Ok self.new)
+            (λ fault. draft_reading self.old 1 left.entry ≡ Err fault)) }
         ensures closed { IfOk result (λ answer. OnOk answer (self.new.place ≡ Place.Outside)) }
         ensures orderly { IfOk result (λ answer. OnOk answer (IsOrderly self.new)) }
     {
@@ -126,7 +126,7 @@ impl<'a> Draft<'a> {
     /// and what they say goes where it stays at once.
     fn read_plain(&mut self, instr: Instr) -> Result<Result<(), AsmKind>, AllocError>
         ensures { IfOk result (λ answer. MatchResult answer (λ _. IsPlainOn self.old instr self.new)
-            (λ kind. misfit self.old (plain_line instr) ≡ Some kind)) }
+            (λ kind. draft_misfit self.old (plain_line instr) ≡ Some kind)) }
     {
         if !matches!(self.place, Place::InRoutine) {
             return Ok(Err(AsmKind::UnknownWord));
@@ -167,7 +167,7 @@ impl<'a> Draft<'a> {
     fn resolved(self) -> Result<DriverSet, AsmFault>
         requires orderly { IsOrderly self }
         requires closed { self.place ≡ Place.Outside }
-        ensures { result ≡ resolved self.entry self.entry.unknown }
+        ensures { result ≡ draft_resolved self.entry self.entry.unknown }
     {
         let Draft {
             drivers,

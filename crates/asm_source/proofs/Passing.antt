@@ -1,5 +1,5 @@
 -- A line that begins and ends no driver and no routine leaves what is sought as it was.
-use Rattle.std.proofs.Common.{◌≡◌, ◌+◌, ℕ, zero, suc, List, ◌∷◌, Option, false, refl}
+use Rattle.std.proofs.Common.{◌≡◌, ◌+◌, ℕ, List, ◌∷◌, Option, false, refl}
 use Rattle.model.specs.declared.instr.Instr.{Instr}
 use Rattle.model.specs.declared.status.Major.{Major}
 use Rattle.asm_line.specs.declared.line.Body.{Body}
@@ -33,20 +33,14 @@ of_others P blank handle startio dpc step (Step instr used) e = step instr used
 
 in_driver : (routine before : ℕ) (b : Body) → outlines b ≡ false
     → past routine (InDriver before) b ≡ InDriver before
-in_driver routine zero b e =
-    of_others (λ b. past routine (InDriver zero) b ≡ InDriver zero) refl (λ major handler. refl)
+in_driver routine before b e =
+    of_others (λ b. past routine (InDriver before) b ≡ InDriver before) refl (λ major handler. refl)
     (λ handler cancel. refl) (λ handler. refl) (λ instr used. refl) b e
-in_driver routine (suc before) b e =
-    of_others (λ b. past routine (InDriver (suc before)) b ≡ InDriver (suc before)) refl
-    (λ major handler. refl) (λ handler cancel. refl) (λ handler. refl) (λ instr used. refl) b e
 
 in_routine : (routine before : ℕ) (b : Body) → outlines b ≡ false
     → past routine (InRoutine before) b ≡ InRoutine before
-in_routine routine zero b e =
-    of_others (λ b. past routine (InRoutine zero) b ≡ InRoutine zero) refl (λ major handler. refl)
-    (λ handler cancel. refl) (λ handler. refl) (λ instr used. refl) b e
-in_routine routine (suc before) b e =
-    of_others (λ b. past routine (InRoutine (suc before)) b ≡ InRoutine (suc before)) refl
+in_routine routine before b e =
+    of_others (λ b. past routine (InRoutine before) b ≡ InRoutine before) refl
     (λ major handler. refl) (λ handler cancel. refl) (λ handler. refl) (λ instr used. refl) b e
 
 same_sought : (routine : ℕ) (sought : Sought) (b : Body) → seeks_end sought ≡ false

@@ -1,219 +1,270 @@
--- The lines of a routine's instructions are those on which they stand: of the lines of a text, those
--- that are passed on the way to the routine and those that its code is made of are the same.
-use Rattle.std.proofs.Common.{◌≡◌, ◌∙◌, ◌+◌, ◌-◌, ◌++◌, ℕ, zero, suc, Bool, true, false, List, [], ◌∷◌, Option, Some, None, Ok, length, ap, arith, refl, subst, sym}
-use Rattle.std.specs.Prelude.{not, if◌then◌else◌, option_map, slice_get}
-use Rattle.std.proofs.lemmas.List.{append_assoc, length-append}
-use Rattle.std.proofs.lemmas.Option.{slice_get-map}
+-- The lines of a routine's instructions are those on which they stand. The lines of a text are
+-- walked once: up to the line of the driver, in it up to that of the routine, and to its end.
+use Rattle.std.proofs.Common.{◌≡◌, ◌∙◌, ◌+◌, ℕ, zero, suc, true, List, [], ◌∷◌, Option, Some, None, length, ap, arith, refl, subst, sym}
+use Rattle.std.specs.Prelude.{slice_get}
 use Rattle.text.specs.Cut.{lines_of}
-use Rattle.model.specs.declared.instr.Instr.{Instr}
 use Rattle.model.specs.declared.set.Driver.{Driver}
 use Rattle.model.specs.declared.set.Routine.{Routine}
+use Rattle.model.specs.Set.{Set}
 use Rattle.asm_line.specs.declared.line.Body.{Body}
-use Rattle.asm_line.specs.declared.line.Body.TheVariants.{Blank, OpenDriver, CloseDriver, AddQueue, Handle, HandleStartIo, HandleDpc, OpenRoutine, CloseRoutine, AddDevice, Step}
+use Rattle.asm_line.specs.declared.line.Body.TheVariants.{Blank, OpenDriver, CloseDriver, OpenRoutine, CloseRoutine, Step}
 use Rattle.asm_line.specs.declared.line.Line.{Line}
-use Rattle.asm_line.specs.Line.{read_line}
-use Rattle.asm.specs.declared.fault.AsmKind.TheVariants.{UnknownWord, DuplicateName, OutOfRange, OverLimit}
-use Rattle.asm.specs.Code.{CodeIsOfItsLines, Inventory, all_codes, codes_from, codes_of, driver_code, driver_codes, drivers_from, instruction_on, instructions_on, inventory, routine_code, routine_codes, routine_lines, unless_end}
-use Rattle.asm.specs.Faults.{has_room, is_again, misfit, stands}
-use Rattle.asm.specs.Laws.{AreFine}
-use Rattle.asm.specs.Parts.{place_after}
+use Rattle.asm.specs.declared.draft.Place.{Place}
+use Rattle.asm.specs.declared.draft.Place.TheVariants.{Outside, InRoutine as OfRoutine}
+use Rattle.asm.specs.Faults.{has_room, is_again, is_out_of_range, misfit, stands}
+use Rattle.asm.specs.Laws.{AreFine, SetIsOfItsLines}
+use Rattle.asm.specs.Names.{Inventory, inventory}
+use Rattle.asm.specs.Parts.{around, closes_driver, closes_routine, driver_around, driver_on, opens_driver, opens_routine, place_after, routine_around, routine_on, said, step_on, up_to}
+use Rattle.asm.specs.Said.{driver_of, drivers_on, instruction_on, routines_on}
+use Rattle.asm.proofs.Fitting.{none_chosen, only_outside}
 use Rattle.asm_source.specs.declared.source.Sought.TheVariants.{Driver as InDriver, Routine as InRoutine, End, Nothing}
 use Rattle.asm_source.specs.Source.{counted, instruction_lines, lines_from, past}
-use Rattle.asm_source.specs.Standing.{AreLinesOf, StandOn, StandsOn}
+use Rattle.asm_source.specs.Standing.{AreLinesOf, StandOn}
 
--- these are the lines of a text from the one of this number on
-record Behind (text : List ℕ) (n : ℕ) (raws : List (List ℕ)) : Type 0 where
-  before : List (List ℕ)
-  whole : lines_of text ≡ before ++ raws
+abbrev line : Option (List ℕ) → Body → Line
+line label body = record { label = label; body = body }
+
+-- a line without a fault may stand where it is
+stood : (before : List Line) (l : Line) → misfit before l ≡ None
+    → stands (place_after before) l.body ≡ true
+stood before l fits =
+    (none_chosen (stands (place_after before) l.body) (is_again before l.label l.body)
+    (is_out_of_range l.body) (has_room before l.body) fits).0
+
+-- where nothing is sought no line is counted
+none_left : (routine n : ℕ) (raws : List (List ℕ)) → lines_from routine Nothing n raws ≡ []
+none_left routine n [] = refl
+none_left routine n (raw ∷ raws) = none_left routine (n + 1) raws
+
+-- these are the lines from the one of this number on, behind those lines
+record Reached (all before : List Line) (n : ℕ) (ls : List Line) : Type 0 where
+  whole : all ≡ around before ls
   count : length before + 1 ≡ n
 
-next_behind : (text : List ℕ) (n : ℕ) (raw : List ℕ) (raws : List (List ℕ))
-    → Behind text n (raw ∷ raws) → Behind text (n + 1) raws
-next_behind text n raw raws b = record {
-  before = b.before ++ raw ∷ [];
-  whole = b.whole ∙ sym (append_assoc b.before (raw ∷ []) raws);
-  count = omega (arith, b.count, length-append b.before (raw ∷ []));
-}
+next_reached : (all before : List Line) (n : ℕ) (l : Line) (ls : List Line)
+    → Reached all before n (l ∷ ls) → Reached all (l ∷ before) (n + 1) ls
+next_reached all before n l ls h =
+    record { whole = h.whole; count = let count = h.count in omega (arith, count) }
 
-seam : (before : List (List ℕ)) (raw : List ℕ) (raws : List (List ℕ))
-    → slice_get (before ++ raw ∷ raws) (length before) ≡ Some raw
-seam [] raw raws = refl
-seam (b ∷ before) raw raws = seam before raw raws
+module _ (all : List Line) (driver routine : ℕ) where
+  -- ---- in the routine, up to its end
 
--- an operand that is out of range is a fault
-unfit : (here again room : Bool)
-    → (if not here then Some UnknownWord else
-    (if again then Some DuplicateName else
-    (if true then Some OutOfRange else
-    (if not room then Some OverLimit else None)))) ≡ None → ⊥
-unfit false again room e = cc
-unfit true true room e = cc
-unfit true false room e = cc
+  record IsWithin (has : Inventory) (code before ls : List Line) : Type 0 where
+    place : place_after before ≡ OfRoutine
+    in_driver : length (said driver_on before) ≡ driver + 1
+    in_routine : length (said routine_on (up_to opens_driver before)) ≡ routine + 1
+    has_these : inventory (driver_around before ls) ≡ has
+    has_code : routine_around before ls ≡ code
 
-module _ (text : List ℕ) (number : ℕ) where
-  -- where nothing is sought no line is counted
-  none_left : (n : ℕ) (raws : List (List ℕ)) → lines_from number Nothing n raws ≡ []
-  none_left n [] = refl
-  none_left n (raw ∷ raws) = none_left (n + 1) raws
+  module _ (has : Inventory) (code before : List Line) (label : Option (List ℕ)) (n position : ℕ)
+      (raws : List (List ℕ)) (ls : List Line) where
+    abbrev StandLater : Body → Type 0
+    StandLater body = (next : ℕ) → IsWithin has code (line label body ∷ before) ls
+        → length (said step_on (up_to opens_routine (line label body ∷ before))) ≡ next
+        → StandOn all driver routine next (said (instruction_on has code) (up_to closes_routine ls))
+        (lines_from routine End (n + 1) raws)
 
-  -- up to the end of a routine
-  module _ (has : Inventory) (routine : List Line) (n : ℕ) (raw : List ℕ) (raws : List (List ℕ))
-      (l : Line) (ls before : List Line) (behind : Behind text n (raw ∷ raws))
-      (read : read_line raw ≡ Ok l) (fits : misfit before l ≡ None)
-      (later : StandOn text (instructions_on has routine (routine_lines ls))
-      (lines_from number End (n + 1) raws)) where
-    standing : (i : Instr) → instruction_on has routine l.body ≡ Some i → StandsOn text i n
-    standing i says =
-        let place : n - 1 ≡ length behind.before = omega (arith, behind.count) in
-        record {
-          raw = raw;
-          line = l;
-          there = rw (place, behind.whole) (seam behind.before raw raws);
-          read = read;
-          has = has;
-          routine = routine;
-          says = says;
-        }
+    line_to_end : (body : Body) → misfit before (line label body) ≡ None
+        → Reached all before n (line label body ∷ ls)
+        → IsWithin has code before (line label body ∷ ls)
+        → length (said step_on (up_to opens_routine before)) ≡ position → StandLater body
+        → StandOn all driver routine position
+        (said (instruction_on has code) (up_to closes_routine (line label body ∷ ls)))
+        (counted End body n (lines_from routine (past routine End body) (n + 1) raws))
+    line_to_end Blank fits reached h order later = later position (record {
+      place = h.place;
+      in_driver = h.in_driver;
+      in_routine = h.in_routine;
+      has_these = h.has_these;
+      has_code = h.has_code;
+    }) order
+    line_to_end (Step (Some i) used) fits reached h order later = (
+      record {
+        before = before;
+        line = line label (Step (Some i) used);
+        after = ls;
+        split = reached.whole;
+        numbered = reached.count;
+        in_driver = h.in_driver;
+        in_routine = h.in_routine;
+        in_order = order;
+        says =
+            ap (λ (x : Inventory). instruction_on x
+            (routine_around before (line label (Step (Some i) used) ∷ ls)) (Step (Some i) used))
+            h.has_these
+            ∙ ap (λ (x : List Line). instruction_on has x (Step (Some i) used)) h.has_code;
+      },
+      later (suc position) (record {
+        place = h.place;
+        in_driver = h.in_driver;
+        in_routine = h.in_routine;
+        has_these = h.has_these;
+        has_code = h.has_code;
+      }) (ap suc order),
+    )
+    line_to_end (Step None used) fits reached h order later =
+        let all = none_chosen (stands (place_after before) (Step None used))
+        (is_again before label (Step None used)) true (has_room before (Step None used)) fits in
+        let bad = all.2 in cc
+    line_to_end CloseRoutine fits reached h order later =
+        subst (λ (numbers : List ℕ). StandOn all driver routine position [] numbers)
+        (sym (none_left routine (n + 1) raws)) tt
+    line_to_end body fits reached h order later =
+        let here : stands OfRoutine body ≡ true =
+        subst (λ (p : Place). stands p body ≡ true) h.place (stood before (line label body) fits) in
+        cc
 
-    line_to_end : (b : Body) → l.body ≡ b
-        → StandOn text (instructions_on has routine (unless_end l b (routine_lines ls)))
-        (counted End b n (lines_from number (past number End b) (n + 1) raws))
-    line_to_end Blank e = rw e later
-    line_to_end (OpenDriver other) e = rw e later
-    line_to_end CloseDriver e = rw e later
-    line_to_end (AddQueue other guard cancel) e = rw e later
-    line_to_end (Handle major handler) e = rw e later
-    line_to_end (HandleStartIo handler cancel) e = rw e later
-    line_to_end (HandleDpc handler) e = rw e later
-    line_to_end (OpenRoutine other sort) e = rw e later
-    line_to_end CloseRoutine e = rw (none_left (n + 1) raws) tt
-    line_to_end (AddDevice other driver stack lower) e = rw e later
-    line_to_end (Step (Some i) used) e =
-        let says = ap (λ (b : Body). instruction_on has routine b) e in rw e (standing _ says, later)
-    line_to_end (Step None used) e =
-        let b : Body = Step None used in
-        absurd (unfit (stands (place_after before) b) (is_again before l.label b)
-        (has_room before b) (rw e at fits))
+  stand_to_end : (has : Inventory) (code before : List Line) (n position : ℕ)
+      (raws : List (List ℕ)) (ls : List Line) → AreFine before raws ls → Reached all before n ls
+      → IsWithin has code before ls → length (said step_on (up_to opens_routine before)) ≡ position
+      → StandOn all driver routine position
+      (said (instruction_on has code) (up_to closes_routine ls)) (lines_from routine End n raws)
+  stand_to_end has code before n position [] [] fine reached h order = tt
+  stand_to_end has code before n position [] (l ∷ ls) fine reached h order = absurd fine
+  stand_to_end has code before n position (raw ∷ raws) [] fine reached h order = absurd fine
+  stand_to_end has code before n position (raw ∷ raws) (l ∷ ls) fine reached h order =
+      rw fine.0 (line_to_end has code before l.label n position raws ls l.body fine.1.0 reached h
+      order (λ next. stand_to_end has code (l ∷ before) (n + 1) next raws ls fine.1.1
+      (next_reached all before n l ls reached)))
 
-  stand_to_end : (has : Inventory) (routine before : List Line) (n : ℕ)
-      (raws : List (List ℕ)) (ls : List Line) → AreFine before raws ls → Behind text n raws
-      → StandOn text (instructions_on has routine (routine_lines ls)) (lines_from number End n raws)
-  stand_to_end has routine before n [] [] h b = tt
-  stand_to_end has routine before n [] (l ∷ ls) h b = absurd h
-  stand_to_end has routine before n (raw ∷ raws) [] h b = absurd h
-  stand_to_end has routine before n (raw ∷ raws) (l ∷ ls) h b =
-      rw h.0 (line_to_end has routine n raw raws l ls before b h.0 h.1.0
-      (stand_to_end has routine (l ∷ before) (n + 1) raws ls h.1.1 (next_behind text n raw raws b))
-      l.body refl)
+  -- ---- in the driver, up to the line of the routine
 
-  -- up to the line of a routine
-  module _ (has : Inventory) (code : List Instr) (n : ℕ) (raws : List (List ℕ)) (ls : List Line)
-      (here : StandOn text (routine_code has ls) (lines_from number End (n + 1) raws))
-      (later : (r : ℕ) → slice_get (routine_codes has ls) r ≡ Some code
-      → StandOn text code (lines_from number (InRoutine r) (n + 1) raws)) where
-    line_to_routine : (r : ℕ) (b : Body)
-        → slice_get (codes_from b (routine_code has ls) (routine_codes has ls)) r ≡ Some code
-        → StandOn text code (lines_from number (past number (InRoutine r) b) (n + 1) raws)
-    line_to_routine zero Blank at = later zero at
-    line_to_routine zero (OpenDriver other) at = later zero at
-    line_to_routine zero CloseDriver at = cc
-    line_to_routine zero (AddQueue other guard cancel) at = later zero at
-    line_to_routine zero (Handle major handler) at = later zero at
-    line_to_routine zero (HandleStartIo handler cancel) at = later zero at
-    line_to_routine zero (HandleDpc handler) at = later zero at
-    line_to_routine zero (OpenRoutine other sort) at =
-        let same : routine_code has ls ≡ code = cc in
-        subst (λ (c : List Instr). StandOn text c (lines_from number End (n + 1) raws)) same here
-    line_to_routine zero CloseRoutine at = later zero at
-    line_to_routine zero (AddDevice other driver stack lower) at = later zero at
-    line_to_routine zero (Step i used) at = later zero at
-    line_to_routine (suc r) Blank at = later (suc r) at
-    line_to_routine (suc r) (OpenDriver other) at = later (suc r) at
-    line_to_routine (suc r) CloseDriver at = cc
-    line_to_routine (suc r) (AddQueue other guard cancel) at = later (suc r) at
-    line_to_routine (suc r) (Handle major handler) at = later (suc r) at
-    line_to_routine (suc r) (HandleStartIo handler cancel) at = later (suc r) at
-    line_to_routine (suc r) (HandleDpc handler) at = later (suc r) at
-    line_to_routine (suc r) (OpenRoutine other sort) at = later r at
-    line_to_routine (suc r) CloseRoutine at = later (suc r) at
-    line_to_routine (suc r) (AddDevice other driver stack lower) at = later (suc r) at
-    line_to_routine (suc r) (Step i used) at = later (suc r) at
+  record IsInside (inside before ls : List Line) : Type 0 where
+    place : place_after before ≡ Outside → ⊥
+    in_driver : length (said driver_on before) ≡ driver + 1
+    has_lines : driver_around before ls ≡ inside
 
-  stand_in_routine : (has : Inventory) (code : List Instr) (before : List Line) (n : ℕ)
-      (raws : List (List ℕ)) (ls : List Line) → AreFine before raws ls → Behind text n raws
-      → (r : ℕ) → slice_get (routine_codes has ls) r ≡ Some code
-      → StandOn text code (lines_from number (InRoutine r) n raws)
-  stand_in_routine has code before n [] [] h b r at = cc
-  stand_in_routine has code before n [] (l ∷ ls) h b r at = absurd h
-  stand_in_routine has code before n (raw ∷ raws) [] h b r at = absurd h
-  stand_in_routine has code before n (raw ∷ raws) (l ∷ ls) h b r at =
-      let behind = next_behind text n raw raws b in
-      rw h.0 (line_to_routine has code n raws ls
-      (stand_to_end has (routine_lines ls) (l ∷ before) (n + 1) raws ls h.1.1 behind)
-      (stand_in_routine has code (l ∷ before) (n + 1) raws ls h.1.1 behind) r l.body at)
+  module _ (inside before : List Line) (label : Option (List ℕ)) (n : ℕ) (raws : List (List ℕ))
+      (ls : List Line) (r : Routine) where
+    abbrev StandHere : Body → Type 0
+    StandHere body =
+        IsWithin (inventory inside) (up_to closes_routine ls) (line label body ∷ before) ls
+        → length (said step_on (up_to opens_routine (line label body ∷ before))) ≡ 0
+        → StandOn all driver routine 0
+        (said (instruction_on (inventory inside) (up_to closes_routine ls))
+        (up_to closes_routine ls)) (lines_from routine End (n + 1) raws)
 
-  -- up to the line of a driver
-  module _ (codes : List (List Instr)) (code : List Instr) (n : ℕ) (raws : List (List ℕ))
-      (ls : List Line) (at : slice_get codes number ≡ Some code)
-      (here : slice_get (driver_code ls) number ≡ Some code
-      → StandOn text code (lines_from number (InRoutine number) (n + 1) raws))
-      (later : (d : ℕ) → slice_get (driver_codes ls) d ≡ Some codes
-      → StandOn text code (lines_from number (InDriver d) (n + 1) raws)) where
-    line_to_driver : (d : ℕ) (b : Body)
-        → slice_get (drivers_from b (driver_code ls) (driver_codes ls)) d ≡ Some codes
-        → StandOn text code (lines_from number (past number (InDriver d) b) (n + 1) raws)
-    line_to_driver zero Blank its = later zero its
-    line_to_driver zero (OpenDriver other) its =
-        let same : driver_code ls ≡ codes = cc in
-        here (ap (λ (cs : List (List Instr)). slice_get cs number) same ∙ at)
-    line_to_driver zero CloseDriver its = later zero its
-    line_to_driver zero (AddQueue other guard cancel) its = later zero its
-    line_to_driver zero (Handle major handler) its = later zero its
-    line_to_driver zero (HandleStartIo handler cancel) its = later zero its
-    line_to_driver zero (HandleDpc handler) its = later zero its
-    line_to_driver zero (OpenRoutine other sort) its = later zero its
-    line_to_driver zero CloseRoutine its = later zero its
-    line_to_driver zero (AddDevice other driver stack lower) its = later zero its
-    line_to_driver zero (Step i used) its = later zero its
-    line_to_driver (suc d) Blank its = later (suc d) its
-    line_to_driver (suc d) (OpenDriver other) its = later d its
-    line_to_driver (suc d) CloseDriver its = later (suc d) its
-    line_to_driver (suc d) (AddQueue other guard cancel) its = later (suc d) its
-    line_to_driver (suc d) (Handle major handler) its = later (suc d) its
-    line_to_driver (suc d) (HandleStartIo handler cancel) its = later (suc d) its
-    line_to_driver (suc d) (HandleDpc handler) its = later (suc d) its
-    line_to_driver (suc d) (OpenRoutine other sort) its = later (suc d) its
-    line_to_driver (suc d) CloseRoutine its = later (suc d) its
-    line_to_driver (suc d) (AddDevice other driver stack lower) its = later (suc d) its
-    line_to_driver (suc d) (Step i used) its = later (suc d) its
+    abbrev StandBehind : Body → Type 0
+    StandBehind body = (k : ℕ) → IsInside inside (line label body ∷ before) ls
+        → length (said routine_on (up_to opens_driver (line label body ∷ before))) + k ≡ routine
+        → slice_get (routines_on (inventory inside) ls) k ≡ Some r
+        → StandOn all driver routine 0 r.code (lines_from routine (InRoutine k) (n + 1) raws)
 
-  stand_in_driver : (codes : List (List Instr)) (code : List Instr) (before : List Line) (n : ℕ)
-      (raws : List (List ℕ)) (ls : List Line) → AreFine before raws ls → Behind text n raws
-      → slice_get codes number ≡ Some code → (d : ℕ) → slice_get (driver_codes ls) d ≡ Some codes
-      → StandOn text code (lines_from number (InDriver d) n raws)
-  stand_in_driver codes code before n [] [] h b at d its = cc
-  stand_in_driver codes code before n [] (l ∷ ls) h b at d its = absurd h
-  stand_in_driver codes code before n (raw ∷ raws) [] h b at d its = absurd h
-  stand_in_driver codes code before n (raw ∷ raws) (l ∷ ls) h b at d its =
-      let behind = next_behind text n raw raws b in
-      rw h.0 (line_to_driver codes code n raws ls at
-      (stand_in_routine (inventory ls) code (l ∷ before) (n + 1) raws ls h.1.1 behind number)
-      (stand_in_driver codes code (l ∷ before) (n + 1) raws ls h.1.1 behind at) d l.body its)
+    line_to_routine : (k : ℕ) (body : Body) → misfit before (line label body) ≡ None
+        → IsInside inside before (line label body ∷ ls)
+        → length (said routine_on (up_to opens_driver before)) + k ≡ routine
+        → slice_get (routines_on (inventory inside) (line label body ∷ ls)) k ≡ Some r
+        → StandHere body → StandBehind body
+        → StandOn all driver routine 0 r.code
+        (lines_from routine (past routine (InRoutine k) body) (n + 1) raws)
+    line_to_routine k (OpenDriver name) fits h count at here later =
+        absurd (h.place (only_outside (place_after before) (OpenDriver name) refl refl
+        (stood before (line label (OpenDriver name)) fits)))
+    line_to_routine k CloseDriver fits h count at here later = cc
+    line_to_routine zero (OpenRoutine name sort) fits h count at here later =
+        let code = said (instruction_on (inventory inside) (up_to closes_routine ls))
+        (up_to closes_routine ls) in
+        let opened : Routine = record { sort = sort; code = code } in
+        let same : opened ≡ r = cc in
+        subst (λ (r : Routine). StandOn all driver routine 0 r.code
+        (lines_from routine End (n + 1) raws)) same (here (record {
+          place = refl;
+          in_driver = h.in_driver;
+          in_routine = omega (arith, count);
+          has_these = ap inventory h.has_lines;
+          has_code = refl;
+        }) refl)
+    line_to_routine (suc k) (OpenRoutine name sort) fits h count at here later =
+        later k (record {
+          place = λ is. cc;
+          in_driver = h.in_driver;
+          has_lines = h.has_lines;
+        }) (omega (arith, count)) at
+    line_to_routine k CloseRoutine fits h count at here later =
+        later k (record {
+          place = λ is. cc;
+          in_driver = h.in_driver;
+          has_lines = h.has_lines;
+        }) count at
+    line_to_routine k body fits h count at here later =
+        later k (record {
+          place = h.place;
+          in_driver = h.in_driver;
+          has_lines = h.has_lines;
+        }) count at
+
+  stand_in_routine : (inside before : List Line) (n : ℕ) (raws : List (List ℕ)) (ls : List Line)
+      (r : Routine) → AreFine before raws ls → Reached all before n ls → (k : ℕ)
+      → IsInside inside before ls
+      → length (said routine_on (up_to opens_driver before)) + k ≡ routine
+      → slice_get (routines_on (inventory inside) ls) k ≡ Some r
+      → StandOn all driver routine 0 r.code (lines_from routine (InRoutine k) n raws)
+  stand_in_routine inside before n [] [] r fine reached k h count at = cc
+  stand_in_routine inside before n [] (l ∷ ls) r fine reached k h count at = absurd fine
+  stand_in_routine inside before n (raw ∷ raws) [] r fine reached k h count at = absurd fine
+  stand_in_routine inside before n (raw ∷ raws) (l ∷ ls) r fine reached k h count at =
+      let next = next_reached all before n l ls reached in
+      rw fine.0 (line_to_routine inside before l.label n raws ls r k l.body fine.1.0 h count at
+      (stand_to_end (inventory inside) (up_to closes_routine ls) (l ∷ before) (n + 1) 0 raws ls
+      fine.1.1 next)
+      (stand_in_routine inside (l ∷ before) (n + 1) raws ls r fine.1.1 next))
+
+  -- ---- up to the line of the driver
+
+  module _ (before : List Line) (label : Option (List ℕ)) (n : ℕ) (raws : List (List ℕ))
+      (ls : List Line) (d : Driver) (r : Routine) where
+    abbrev StandInside : Body → Type 0
+    StandInside body = IsInside (up_to closes_driver ls) (line label body ∷ before) ls
+        → length (said routine_on (up_to opens_driver (line label body ∷ before))) + routine
+        ≡ routine
+        → slice_get (routines_on (inventory (up_to closes_driver ls)) ls) routine ≡ Some r
+        → StandOn all driver routine 0 r.code (lines_from routine (InRoutine routine) (n + 1) raws)
+
+    abbrev StandBeyond : Body → Type 0
+    StandBeyond body = (k : ℕ) → length (said driver_on (line label body ∷ before)) + k ≡ driver
+        → slice_get (drivers_on ls) k ≡ Some d
+        → StandOn all driver routine 0 r.code (lines_from routine (InDriver k) (n + 1) raws)
+
+    line_to_driver : (k : ℕ) (body : Body) → length (said driver_on before) + k ≡ driver
+        → slice_get (drivers_on (line label body ∷ ls)) k ≡ Some d
+        → slice_get d.routines routine ≡ Some r → StandInside body → StandBeyond body
+        → StandOn all driver routine 0 r.code
+        (lines_from routine (past routine (InDriver k) body) (n + 1) raws)
+    line_to_driver zero (OpenDriver name) count at routine_there here later =
+        let inside = up_to closes_driver ls in
+        let same : driver_of (inventory inside) inside ls ≡ d = cc in
+        here (record { place = λ is. cc; in_driver = omega (arith, count); has_lines = refl })
+        (omega arith)
+        (ap (λ (d : Driver). slice_get d.routines routine) same ∙ routine_there)
+    line_to_driver (suc k) (OpenDriver name) count at routine_there here later =
+        later k (omega (arith, count)) at
+    line_to_driver k body count at routine_there here later = later k count at
+
+  stand_in_driver : (before : List Line) (n : ℕ) (raws : List (List ℕ)) (ls : List Line)
+      (d : Driver) (r : Routine) → AreFine before raws ls → Reached all before n ls → (k : ℕ)
+      → length (said driver_on before) + k ≡ driver → slice_get (drivers_on ls) k ≡ Some d
+      → slice_get d.routines routine ≡ Some r
+      → StandOn all driver routine 0 r.code (lines_from routine (InDriver k) n raws)
+  stand_in_driver before n [] [] d r fine reached k count at there = cc
+  stand_in_driver before n [] (l ∷ ls) d r fine reached k count at there = absurd fine
+  stand_in_driver before n (raw ∷ raws) [] d r fine reached k count at there = absurd fine
+  stand_in_driver before n (raw ∷ raws) (l ∷ ls) d r fine reached k count at there =
+      let next = next_reached all before n l ls reached in
+      rw fine.0 (line_to_driver before l.label n raws ls d r k l.body count at there
+      (stand_in_routine (up_to closes_driver ls) (l ∷ before) (n + 1) raws ls r fine.1.1 next
+      routine)
+      (λ k count at. stand_in_driver (l ∷ before) (n + 1) raws ls d r fine.1.1 next k count at
+      there))
 
 -- the lines that were found are those of the routine
-pub are_lines_of : CodeIsOfItsLines → (text : List ℕ) (driver routine : ℕ)
+pub are_lines_of : SetIsOfItsLines → (text : List ℕ) (driver routine : ℕ)
     → AreLinesOf text driver routine (instruction_lines driver routine text)
-are_lines_of law text driver routine set d r named at_driver at_routine =
+are_lines_of law text driver routine set d r named driver_there routine_there =
     let its = law text set named in
-    let codes = codes_of d.routines in
-    let code_there : slice_get codes routine ≡ Some r.code =
-    slice_get-map (λ (r : Routine). r.code) d.routines routine
-    ∙ ap (λ (o : Option Routine). option_map (λ (r : Routine). r.code) o) at_routine in
-    let codes_there : slice_get (all_codes set.drivers) driver ≡ Some codes =
-    slice_get-map (λ (d : Driver). codes_of d.routines) set.drivers driver
-    ∙ ap (λ (o : Option Driver). option_map (λ (d : Driver). codes_of d.routines) o) at_driver in
-    let opened : slice_get (driver_codes its.0.lines) driver ≡ Some codes =
-    ap (λ (all : List (List (List Instr))). slice_get all driver) (sym its.1) ∙ codes_there in
-    stand_in_driver text routine codes r.code [] 1 (lines_of text)
-    its.0.lines its.0.read (record { before = []; whole = refl; count = refl }) code_there driver
-    opened
+    let all = its.0.lines in
+    let there : slice_get (drivers_on all) driver ≡ Some d =
+    ap (λ (set : Set). slice_get set.drivers driver) (sym its.1) ∙ driver_there in (
+      its.0,
+      stand_in_driver all driver routine [] 1 (lines_of text) all d r its.0.read
+          (record { whole = refl; count = refl }) driver (omega arith) there routine_there,
+    )

@@ -2,7 +2,7 @@
 use Rattle.std.specs.Prelude.{ℕ, zero, suc, ◌+◌, Bool, true, false, List, [], ◌∷◌, Result, Ok, Err}
 use Rattle.text.specs.Cut.{lines_of}
 use Rattle.asm_line.specs.declared.line.Body.{Body}
-use Rattle.asm_line.specs.declared.line.Body.TheVariants.{Blank, OpenDriver, CloseDriver, OpenRoutine, CloseRoutine, Step}
+use Rattle.asm_line.specs.declared.line.Body.TheVariants.{Blank, OpenDriver, CloseDriver, AddQueue, Handle, HandleStartIo, HandleDpc, OpenRoutine, CloseRoutine, AddDevice, Step}
 use Rattle.asm_line.specs.declared.line.Line.{Line}
 use Rattle.asm_line.specs.declared.line.LineFault.{LineFault}
 use Rattle.asm_line.specs.Line.{read_line}
@@ -17,22 +17,55 @@ body_in (Err fault) = Blank
 abbrev pub body_on : List ℕ → Body
 body_on raw = body_in (read_line raw)
 
--- after a line what is sought is the next driver but so many, in it the next routine but so many,
--- and in that its end
+-- after the line of a driver what is sought is the next one but so many, or in it the routine but
+-- so many, and after the line of a routine the next one but so many, or its end
+abbrev pub next_driver : ℕ → ℕ → Sought
+next_driver routine zero = Routine routine
+next_driver routine (suc before) = Driver before
+
+abbrev pub next_routine : ℕ → Sought
+next_routine zero = End
+next_routine (suc before) = Routine before
+
+-- what is sought after a line where a driver is sought, a routine, and the end of the routine
 abbrev pub past_driver : ℕ → ℕ → Body → Sought
-past_driver routine zero (OpenDriver name) = Routine routine
-past_driver routine (suc driver) (OpenDriver name) = Driver driver
-past_driver routine driver _ = Driver driver
+past_driver routine before Blank = Driver before
+past_driver routine before (OpenDriver name) = next_driver routine before
+past_driver routine before CloseDriver = Driver before
+past_driver routine before (AddQueue name guard cancel) = Driver before
+past_driver routine before (Handle major handler) = Driver before
+past_driver routine before (HandleStartIo handler cancel) = Driver before
+past_driver routine before (HandleDpc handler) = Driver before
+past_driver routine before (OpenRoutine name sort) = Driver before
+past_driver routine before CloseRoutine = Driver before
+past_driver routine before (AddDevice name driver stack lower) = Driver before
+past_driver routine before (Step instr used) = Driver before
 
 abbrev pub past_routine : ℕ → Body → Sought
-past_routine zero (OpenRoutine name sort) = End
-past_routine (suc routine) (OpenRoutine name sort) = Routine routine
-past_routine routine CloseDriver = Nothing
-past_routine routine _ = Routine routine
+past_routine before Blank = Routine before
+past_routine before (OpenDriver name) = Routine before
+past_routine before CloseDriver = Nothing
+past_routine before (AddQueue name guard cancel) = Routine before
+past_routine before (Handle major handler) = Routine before
+past_routine before (HandleStartIo handler cancel) = Routine before
+past_routine before (HandleDpc handler) = Routine before
+past_routine before (OpenRoutine name sort) = next_routine before
+past_routine before CloseRoutine = Routine before
+past_routine before (AddDevice name driver stack lower) = Routine before
+past_routine before (Step instr used) = Routine before
 
 abbrev pub past_step : Body → Sought
+past_step Blank = End
+past_step (OpenDriver name) = End
+past_step CloseDriver = End
+past_step (AddQueue name guard cancel) = End
+past_step (Handle major handler) = End
+past_step (HandleStartIo handler cancel) = End
+past_step (HandleDpc handler) = End
+past_step (OpenRoutine name sort) = End
 past_step CloseRoutine = Nothing
-past_step _ = End
+past_step (AddDevice name driver stack lower) = End
+past_step (Step instr used) = End
 
 abbrev pub past : ℕ → Sought → Body → Sought
 past routine (Driver driver) body = past_driver routine driver body

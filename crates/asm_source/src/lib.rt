@@ -2,6 +2,7 @@
 //! reading the text once more, line after line. Most lines are passed by their first word.
 #![tactic(auto)]
 
+pub mod laws;
 mod outlining;
 mod source;
 

@@ -3,11 +3,11 @@
 ghost use Rattle.std.specs.Prelude.{◌≡◌, All, IfOk, false, true};
 ghost use Rattle.asm_source.specs.Outline.{outline_lines, outlines};
 ghost use Rattle.asm_source.specs.Source.{body_on, instruction_lines, past, seeks_end};
-ghost use Rattle.asm_source.specs.Standing.{AreLinesOf};
+ghost use Rattle.asm_source.specs.Standing.{AreLinesOf, Rises};
 ghost use Rattle.excerpt.specs.Places.{IsIn, numbers};
 
 use crate::outlining::{body_on, may_outline, outlines};
-use asm::laws::code_is_of_its_lines;
+use asm::laws::set_is_of_its_lines;
 use asm_line::Body;
 use excerpt::{PlacedLines, Spots};
 use std::alloc::{AllocError, Global};
@@ -71,7 +71,8 @@ pub struct RoutineSource {
 
 /// Where the instructions of a routine stand in a text: of the routine of a number in the driver of
 /// a number, both counted from 0 in the order of the text. In the set that the text names, each
-/// instruction of that routine is what its line says. The outline of the text is found on the way.
+/// instruction of that routine stands on a line of its own, the one of its position in the routine,
+/// and is what that says. The outline of the text is found on the way.
 ///
 /// # Errors
 ///
@@ -86,11 +87,12 @@ pub fn routine_source(
         (λ source. numbers source.lines ≡ instruction_lines driver routine text.now) }
     ensures stand { IfOk result
         (λ source. AreLinesOf text.now driver routine (numbers source.lines)) }
+    ensures rise { IfOk result (λ source. Rises (numbers source.lines)) }
     ensures outline { IfOk result (λ source. numbers source.outline ≡ outline_lines text.now) }
     ensures there { IfOk result (λ source. All (IsIn 0 text.now) source.lines
         × All (IsIn 0 text.now) source.outline) }
 {
-    code_is_of_its_lines();
+    set_is_of_its_lines();
     let mut left = PlacedLines::of(text);
     let mut sought = Sought::Driver(driver);
     let mut lines = Spots::new(alloc);
@@ -112,7 +114,8 @@ pub fn routine_source(
 
 /// The numbers of the lines, from 1, on which the instructions of a routine stand, in order: those
 /// of the routine of a number in the driver of a number, both counted from 0 in the order of the
-/// text. In the set that the text names, each instruction of that routine is what its line says.
+/// text. In the set that the text names, each instruction of that routine stands on a line of its
+/// own, the one of its position in the routine, and is what that says.
 ///
 /// # Errors
 ///
@@ -126,6 +129,7 @@ pub fn instruction_lines(
     ensures lines { IfOk result
         (λ lines. lines.items ≡ instruction_lines driver routine text.now) }
     ensures stand { IfOk result (λ lines. AreLinesOf text.now driver routine lines.items) }
+    ensures rise { IfOk result (λ lines. Rises lines.items) }
 {
     let source = routine_source(alloc, text, driver, routine)?;
     source.lines.numbers(alloc)

@@ -11,10 +11,9 @@ use Rattle.asm_line.specs.declared.line.Line.{Line}
 use Rattle.asm_line.specs.declared.line.LineFault.{LineFault}
 use Rattle.asm_line.specs.declared.line.LineFault.TheVariants.{Lex, UnknownWord}
 use Rattle.asm_line.specs.Line.{read_line}
-use Rattle.asm.specs.Outline as outline
-use Rattle.asm.specs.Outline.{Outline, noted, nothing_read}
-use Rattle.asm.specs.Drafting as drafted
-use Rattle.asm.specs.Scopes.{Reads, nothing_named}
+use Rattle.asm.specs.Outline.{Outline, noted, nothing_read, draft_misfit}
+use Rattle.asm.specs.Drafting.{draft_after_line, draft_ended, draft_fitted, draft_named, draft_placed, draft_reading, draft_resolved, draft_set_in}
+use Rattle.asm.proofs.Scopes.{Reads, nothing_named}
 use Rattle.asm.specs.Parts.{around}
 use Rattle.asm.specs.Faults.{unknown_from}
 use Rattle.asm.specs.Said.{set_of}
@@ -43,7 +42,7 @@ Agree o before n raws (Err fault) (Err other) = fault ≡ other
 Agree o before n raws _ _ = ⊥
 
 ended_agree : (o : Outline) (before : List Line) (n : ℕ) (p : Place) → o.place ≡ p
-    → Agree o before n [] (drafted.ended o n p) (ended before n p)
+    → Agree o before n [] (draft_ended o n p) (ended before n p)
 ended_agree o before n Outside at =
     record { lines = []; all = refl; read = refl; closed = at }
 ended_agree o before n InDriver at = refl
@@ -51,7 +50,7 @@ ended_agree o before n InRoutine at = refl
 
 more_agree : (o next : Outline) (before : List Line) (n : ℕ) (raw : List ℕ) (raws : List (List ℕ))
     (l : Line) (a : Result Outline AsmFault) (b : Result (List Line) AsmFault)
-    → read_line raw ≡ Ok l → outline.misfit o l ≡ None → noted o n l.label l.body ≡ next
+    → read_line raw ≡ Ok l → draft_misfit o l ≡ None → noted o n l.label l.body ≡ next
     → Agree next (l ∷ before) (n + 1) raws a b → Agree o before n (raw ∷ raws) a b
 more_agree o next before n raw raws l (Ok end) (Ok ls) form fits is h = record {
   lines = l ∷ h.lines;
@@ -66,38 +65,38 @@ more_agree o next before n raw raws l (Err fault) (Ok ls) form fits is h = absur
 -- one line
 abbrev Later : List Line → ℕ → List (List ℕ) → Outline → Line → Type 0
 Later before n raws next l = Agree next (l ∷ before) (n + 1) raws
-    (drafted.reading next (n + 1) raws) (reading (l ∷ before) (n + 1) raws)
+    (draft_reading next (n + 1) raws) (reading (l ∷ before) (n + 1) raws)
 
 fitted_agree : (o : Outline) (before : List Line) (n : ℕ) (raw : List ℕ) (raws : List (List ℕ))
-    (l : Line) (m : Option AsmKind) → read_line raw ≡ Ok l → outline.misfit o l ≡ m
-    → (outline.misfit o l ≡ None → Later before n raws (noted o n l.label l.body) l)
+    (l : Line) (m : Option AsmKind) → read_line raw ≡ Ok l → draft_misfit o l ≡ m
+    → (draft_misfit o l ≡ None → Later before n raws (noted o n l.label l.body) l)
     → Agree o before n (raw ∷ raws)
-    (drafted.after_line n (drafted.fitted o n l m) (λ next. drafted.reading next (n + 1) raws))
+    (draft_after_line n (draft_fitted o n l m) (λ next. draft_reading next (n + 1) raws))
     (after_line n (fitted l m) (λ l. reading (l ∷ before) (n + 1) raws))
 fitted_agree o before n raw raws l None form fits later =
     let next = noted o n l.label l.body in
-    more_agree o next before n raw raws l (drafted.reading next (n + 1) raws)
+    more_agree o next before n raw raws l (draft_reading next (n + 1) raws)
     (reading (l ∷ before) (n + 1) raws) form fits refl (later fits)
 fitted_agree o before n raw raws l (Some kind) form fits later = refl
 
 placed_agree : (o : Outline) (before : List Line) (n : ℕ) (raw : List ℕ) (raws : List (List ℕ))
     (r : Result Line LineFault) → read_line raw ≡ r → IsBehind o before
-    → ((l : Line) → outline.misfit o l ≡ None
+    → ((l : Line) → draft_misfit o l ≡ None
     → Later before n raws (noted o n l.label l.body) l)
     → Agree o before n (raw ∷ raws)
-    (drafted.after_line n (drafted.placed o n r) (λ next. drafted.reading next (n + 1) raws))
+    (draft_after_line n (draft_placed o n r) (λ next. draft_reading next (n + 1) raws))
     (after_line n (placed before r) (λ l. reading (l ∷ before) (n + 1) raws))
 placed_agree o before n raw raws (Ok l) form h later =
     rw (← misfit_same o before l h)
-    (fitted_agree o before n raw raws l (outline.misfit o l) form refl (later l))
+    (fitted_agree o before n raw raws l (draft_misfit o l) form refl (later l))
 placed_agree o before n raw raws (Err Lex) form h later = refl
 placed_agree o before n raw raws (Err UnknownWord) form h later = refl
 
 pub reading_agree : (o : Outline) (before : List Line) (n : ℕ) (raws : List (List ℕ))
     → IsBehind o before → IsTidy o
-    → Agree o before n raws (drafted.reading o n raws) (reading before n raws)
+    → Agree o before n raws (draft_reading o n raws) (reading before n raws)
 reading_agree o before n [] h tidy =
-    subst (λ (p : Place). Agree o before n [] (drafted.ended o n o.place) (ended before n p))
+    subst (λ (p : Place). Agree o before n [] (draft_ended o n o.place) (ended before n p))
     h.place (ended_agree o before n o.place refl)
 reading_agree o before n (raw ∷ raws) h tidy =
     placed_agree o before n raw raws (read_line raw) refl h (λ l fits.
@@ -124,13 +123,13 @@ unknown_read raws ls end read closed =
 
 resolved_same : (end : Outline) (ls : List Line) (unknown : Option ℕ)
     → record { drivers = end.drivers; devices = end.devices } ≡ set_of ls
-    → drafted.resolved end unknown ≡ resolved ls unknown
+    → draft_resolved end unknown ≡ resolved ls unknown
 resolved_same end ls None h = ap (λ (set : Set). Ok set) h
 resolved_same end ls (Some line) h = refl
 
 answer_same : (raws : List (List ℕ)) (a : Result Outline AsmFault)
     (b : Result (List Line) AsmFault) → Agree nothing_read [] 1 raws a b
-    → drafted.named a ≡ named b
+    → draft_named a ≡ named b
 answer_same raws (Ok end) (Ok ls) h =
     rw (h.all, ← unknown_read raws h.lines end h.read h.closed)
     (resolved_same end h.lines end.unknown (lines_set raws h.lines end h.read h.closed))
@@ -139,18 +138,18 @@ answer_same raws (Ok end) (Err other) h = absurd h
 answer_same raws (Err fault) (Ok ls) h = absurd h
 
 -- both give the same answer
-pub set_same : (text : List ℕ) → drafted.set_in text ≡ set_in text
+pub set_same : (text : List ℕ) → draft_set_in text ≡ set_in text
 set_same text =
-    answer_same (lines_of text) (drafted.reading nothing_read 1 (lines_of text))
+    answer_same (lines_of text) (draft_reading nothing_read 1 (lines_of text))
     (reading [] 1 (lines_of text))
     (reading_agree nothing_read [] 1 (lines_of text) nothing_behind nothing_tidy)
 
 -- a draft that was read to its end has the answer, and so has a fault
 pub draft_read : (text : List ℕ) (end : Outline)
-    → drafted.reading nothing_read 1 (lines_of text) ≡ Ok end
-    → set_in text ≡ drafted.resolved end end.unknown
-draft_read text end h = sym (set_same text) ∙ ap drafted.named h
+    → draft_reading nothing_read 1 (lines_of text) ≡ Ok end
+    → set_in text ≡ draft_resolved end end.unknown
+draft_read text end h = sym (set_same text) ∙ ap draft_named h
 
 pub draft_refused : (text : List ℕ) (fault : AsmFault)
-    → drafted.reading nothing_read 1 (lines_of text) ≡ Err fault → set_in text ≡ Err fault
-draft_refused text fault h = sym (set_same text) ∙ ap drafted.named h
+    → draft_reading nothing_read 1 (lines_of text) ≡ Err fault → set_in text ≡ Err fault
+draft_refused text fault h = sym (set_same text) ∙ ap draft_named h

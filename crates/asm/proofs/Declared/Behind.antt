@@ -18,7 +18,7 @@ use Rattle.asm.specs.declared.draft.Step.{Step}
 use Rattle.asm.specs.declared.draft.Use.{Use}
 use Rattle.asm.specs.declared.fault.AsmKind.TheVariants.{UnknownWord, DuplicateName, OutOfRange, OverLimit}
 use Rattle.asm.specs.Outline as outline
-use Rattle.asm.specs.Outline.{Outline, nothing_read, noted, handled, stepped, used_at}
+use Rattle.asm.specs.Outline.{Outline, nothing_read, noted, handled, stepped, used_at, draft_has_room, draft_is_again, draft_misfit}
 use Rattle.asm.specs.Names.{is_among}
 use Rattle.asm.specs.Parts.{device_on, dpc_on, driver_on, handler_on, labels_on, opens_driver, opens_routine, place_after, queue_on, routine_on, said, startio_on, step_on, up_to}
 use Rattle.asm.specs.Faults.{has_any, has_room, is_again, is_out_of_range, misfit, stands}
@@ -328,7 +328,7 @@ behind_on o n label (TakeStep None used) before stood range tidy h = cc
 -- a line that may stand there gives a name again after either, or has no room
 again_same : (o : Outline) (label : Option (List ℕ)) (body : Body) (before : List Line)
     → stands o.place body ≡ true → IsBehind o before
-    → outline.is_again o label body ≡ is_again before label body
+    → draft_is_again o label body ≡ is_again before label body
 again_same o label (OpenDriver name) before stood h = h.drivers.among name
 again_same o label (AddQueue name guard cancel) before stood h =
     (h.driver (never_in Outside o.place (AddQueue name guard cancel) refl stood)).queues.among name
@@ -354,7 +354,7 @@ again_same o label CloseRoutine before stood h = refl
 
 room_same : (o : Outline) (body : Body) (before : List Line)
     → stands o.place body ≡ true → IsBehind o before
-    → outline.has_room o body ≡ has_room before body
+    → draft_has_room o body ≡ has_room before body
 room_same o (OpenDriver name) before stood h =
     ap (λ (n : ℕ). nat_lt n MAX_DRIVERS) h.drivers.count
 room_same o (AddDevice name driver stack lower) before stood h =
@@ -381,9 +381,9 @@ chosen_alike false b c d again room same like = refl
 chosen_alike true b c d again room same like = rw (same refl, like refl) refl
 
 pub misfit_same : (o : Outline) (before : List Line) (l : Line) → IsBehind o before
-    → outline.misfit o l ≡ misfit before l
+    → draft_misfit o l ≡ misfit before l
 misfit_same o before l h =
-    rw (← h.place) (chosen_alike (stands o.place l.body) (outline.is_again o l.label l.body)
-    (is_out_of_range l.body) (outline.has_room o l.body) (is_again before l.label l.body)
+    rw (← h.place) (chosen_alike (stands o.place l.body) (draft_is_again o l.label l.body)
+    (is_out_of_range l.body) (draft_has_room o l.body) (is_again before l.label l.body)
     (has_room before l.body) (λ stood. again_same o l.label l.body before stood h)
     (λ stood. room_same o l.body before stood h))

@@ -14,7 +14,8 @@ use Rattle.asm_line.specs.Line.{read_line}
 use Rattle.asm.specs.Parts.{around, place_after}
 use Rattle.asm.specs.Faults.{misfit, unknown_from}
 use Rattle.asm.specs.Reading.{after_line, ended, fitted, named, placed, reading, resolved}
-use Rattle.asm.specs.Laws.{shows, AreFine, FaultIsFirst, IsEndFault, IsFaultless, IsFirst, IsLineFault, IsRead, NamedIsFaultless}
+use Rattle.asm.specs.Laws.{shows, AreFine, FaultIsFirst, IsEndFault, IsFaultless, IsFirst, IsLineFault, IsOfItsLines, IsRead, NamedIsFaultless, SetIsOfItsLines}
+use Rattle.asm.specs.Said.{set_of}
 use Rattle.asm.proofs.Declared.Least.{least_kind}
 
 -- a line without a fault
@@ -169,6 +170,22 @@ named_read text set (Err fault) is h = cc
 
 pub named_is_faultless : NamedIsFaultless
 named_is_faultless text set h = named_read text set (reading [] 1 (lines_of text)) refl h
+
+-- and the set is that of its lines
+resolved_lines : (text : List ℕ) (set : Set) (ls : List Line) (unknown : Option ℕ)
+    → reading [] 1 (lines_of text) ≡ Ok ls → resolved ls unknown ≡ Ok set → IsOfItsLines text set
+resolved_lines text set ls None is h =
+    let all = all_read text ls is in
+    let same : set_of ls ≡ set = cc in (all.0, sym same ∙ ap set_of (sym all.1))
+resolved_lines text set ls (Some line) is h = cc
+
+lines_named : (text : List ℕ) (set : Set) (r : Result (List Line) AsmFault)
+    → reading [] 1 (lines_of text) ≡ r → named r ≡ Ok set → IsOfItsLines text set
+lines_named text set (Ok ls) is h = resolved_lines text set ls (unknown_from [] 1 ls) is h
+lines_named text set (Err fault) is h = cc
+
+pub set_is_of_its_lines : SetIsOfItsLines
+set_is_of_its_lines text set h = lines_named text set (reading [] 1 (lines_of text)) refl h
 
 -- no line has the kind of an unknown name in the first reading
 never_unknown : (behind : List Line) (n : ℕ) (raws : List (List ℕ)) (fault : AsmFault)

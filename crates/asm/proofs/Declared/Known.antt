@@ -10,8 +10,8 @@ use Rattle.asm.specs.declared.draft.Place.TheVariants.{Outside, InRoutine}
 use Rattle.asm.specs.declared.routines.Role.{Role}
 use Rattle.asm.specs.declared.routines.Role.TheVariants.{Completion, StartIo, Cancel}
 use Rattle.asm.specs.Outline.{Outline, noted}
-use Rattle.asm.specs.Scopes as laws
-use Rattle.asm.specs.Scopes.{Reads, Scope, labelled_ahead, labels_ahead, named_ahead, nothing_named, queued_ahead, queues_ahead, routines_ahead, scope_after, sorted_ahead, sorts_ahead}
+use Rattle.asm.proofs.Scopes as laws
+use Rattle.asm.proofs.Scopes.{Reads, Scope, labelled_ahead, labels_ahead, named_ahead, nothing_named, queued_ahead, queues_ahead, routines_ahead, scope_after, sorted_ahead, sorts_ahead}
 use Rattle.asm.specs.Names.{Inventory, inventory, is_among, is_known, is_served}
 use Rattle.asm.specs.Parts.{closes_driver, closes_routine, device_on, driver_around, driver_on, labels_on, place_after, queue_on, routine_around, routine_on, said, sort_on, up_to}
 use Rattle.asm.specs.Faults.{all_known, stands, unknown_from}

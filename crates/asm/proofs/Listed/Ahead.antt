@@ -13,7 +13,7 @@ use Rattle.model.specs.declared.status.Major.{Major}
 use Rattle.model.specs.declared.status.Major.TheVariants.{Read, Write, Control}
 use Rattle.asm_line.specs.declared.line.Line.{Line}
 use Rattle.asm.specs.Outline.{is_among}
-use Rattle.asm.specs.Scopes.{labels_ahead, queues_ahead, routines_ahead, sorts_ahead}
+use Rattle.asm.proofs.Scopes.{labels_ahead, queues_ahead, routines_ahead, sorts_ahead}
 use Rattle.asm_listing.specs.declared.entry.Entry.{Entry}
 use Rattle.asm_listing.specs.declared.entry.Entry.TheVariants as line
 use Rattle.asm_listing.specs.Words.{label, numbered}

@@ -20,7 +20,7 @@ use Rattle.asm.specs.declared.routines.Role.{Role}
 use Rattle.asm.specs.declared.routines.Role.TheVariants.{Completion}
 use Rattle.asm.specs.Names.{number_in, routine_named, Inventory}
 use Rattle.asm.specs.Said.{instruction_on, is_labelled, jump_place, label_place, queue_number, with_label, with_queue, with_routine}
-use Rattle.asm.specs.Code.{all_codes, codes_of, driver_code, driver_codes, instructions_on, inventory, routine_code, routine_codes, routine_lines as code_lines}
+use Rattle.asm.proofs.Codes.{all_codes, codes_of, driver_code, driver_codes, instructions_on, inventory_ahead, routine_code, routine_codes, routine_lines as code_lines}
 use Rattle.asm_listing.specs.declared.entry.Entry.{Entry}
 use Rattle.asm_listing.specs.declared.entry.Entry.TheVariants as line
 use Rattle.asm_listing.specs.Words.{label, queue, routine}
@@ -211,7 +211,8 @@ codes_found d k (r ∷ rs) rest routines queues fits calls uses =
     ∙ codes_found d (k + 1) rs rest routines queues (All-tail RoutineFits r rs fits)
     (All-tail (CallsFit d.routines) r rs calls) (All-tail (QueuesFit (length d.queues)) r rs uses))
 
-has_there : (d : Driver) (rest : List Line) → inventory (before (driver_rest d) rest) ≡ has_of d
+has_there : (d : Driver) (rest : List Line)
+    → inventory_ahead (before (driver_rest d) rest) ≡ has_of d
 has_there d rest =
     let a = routines_there d rest in
     let b = sorts_there d rest in

@@ -16,7 +16,7 @@ use Rattle.asm_line.specs.declared.line.Line.{Line}
 use Rattle.asm.specs.declared.routines.Role.{Role}
 use Rattle.asm.specs.declared.routines.Role.TheVariants.{Handler, Completion, StartIo, Dpc, Cancel}
 use Rattle.asm.specs.Outline.{is_among}
-use Rattle.asm.specs.Scopes.{all_known as names_known, is_known, is_served, labels_ahead, nothing_named, scope_after, unknown_at, unknown_from, Scope}
+use Rattle.asm.proofs.Scopes.{all_known as names_known, is_known, is_served, labels_ahead, nothing_named, scope_after, unknown_at, unknown_from, Scope}
 use Rattle.asm_listing.specs.declared.entry.Entry.{Entry}
 use Rattle.asm_listing.specs.declared.entry.Entry.TheVariants as line
 use Rattle.asm_listing.specs.Words.{device, label, numbered, queue, routine}

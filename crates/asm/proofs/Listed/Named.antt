@@ -15,10 +15,10 @@ use Rattle.model.specs.Sound.{completion_named, queue_named, CallsFit, CancelFit
 use Rattle.asm_line.specs.declared.line.Line.{Line}
 use Rattle.asm.specs.declared.draft.Place.TheVariants.{Outside}
 use Rattle.asm.specs.Outline.{noted, nothing_read, Outline}
-use Rattle.asm.specs.Drafting.{after_line, ended, fitted, named, placed, read_on, reading, resolved}
+use Rattle.asm.specs.Drafting.{draft_after_line, draft_ended, draft_fitted, draft_named, draft_placed, read_on, draft_reading, draft_resolved}
 use Rattle.asm.specs.Reading.{IsNamed}
-use Rattle.asm.specs.Scopes.{Reads}
-use Rattle.asm.specs.Code.{all_codes, codes_of}
+use Rattle.asm.proofs.Scopes.{Reads}
+use Rattle.asm.proofs.Codes.{all_codes, codes_of}
 use Rattle.asm_listing.specs.declared.entry.Entry.{Entry}
 use Rattle.asm_listing.specs.declared.entry.Entry.TheVariants as line
 use Rattle.asm_listing.specs.Words.{joined, words_of}
@@ -29,7 +29,7 @@ use Rattle.asm_listing.proofs.Meaning.{meant, EntryFits, InstrFits}
 use Rattle.asm.proofs.Tidy.{nothing_tidy}
 use Rattle.asm.proofs.Unknown.Lines.{unknown_is}
 use Rattle.asm.proofs.Declared.Answer.{set_same}
-use Rattle.asm.proofs.Written.Law.{drivers_said}
+use Rattle.asm.proofs.Written.Said.{drivers_said}
 use Rattle.asm.proofs.Written.Lines.{drivers_read}
 use Rattle.asm.proofs.Listed.Codes.{listed_codes}
 use Rattle.asm.proofs.Listed.Known.{none_unknown}
@@ -263,17 +263,17 @@ same_drivers (d ∷ ds) (e ∷ es) h g =
 
 -- what is read without a fault is read
 read_through : (o : Outline) (n : ℕ) (raws : List (List ℕ)) (ls : List Line) (end : Outline)
-    → Reads o n raws ls end → end.place ≡ Outside → reading o n raws ≡ Ok end
+    → Reads o n raws ls end → end.place ≡ Outside → draft_reading o n raws ≡ Ok end
 read_through o n [] [] end h closed =
     let at : o.place ≡ Outside = ap (λ (x : Outline). x.place) h ∙ closed in
-    ap (λ p. ended o n p) at ∙ ap (λ (x : Outline). Ok x) h
+    ap (λ p. draft_ended o n p) at ∙ ap (λ (x : Outline). Ok x) h
 read_through o n [] (l ∷ ls) end h closed = absurd h
 read_through o n (raw ∷ raws) [] end h closed = absurd h
 read_through o n (raw ∷ raws) (l ∷ ls) end h closed =
     let next = noted o n l.label l.body in
     let one : read_on o n raw ≡ Ok next =
-    ap (λ r. placed o n r) h.0 ∙ ap (λ m. fitted o n l m) h.1.0 in
-    ap (λ r. after_line n r (λ next. reading next (n + 1) raws)) one
+    ap (λ r. draft_placed o n r) h.0 ∙ ap (λ m. draft_fitted o n l m) h.1.0 in
+    ap (λ r. draft_after_line n r (λ next. draft_reading next (n + 1) raws)) one
     ∙ read_through next (n + 1) raws ls end h.1.1 closed
 
 -- the listing of a set names the set
@@ -298,8 +298,8 @@ listing_named set h =
     let devices : end.devices ≡ set.devices = walked.at.devices.same in
     let through = read_through nothing_read 1 raws ls end read closed in
     sym (set_same (listing set))
-    ∙ ap (λ raws. named (reading nothing_read 1 raws)) (lines_back es fits)
-    ∙ ap (λ r. named r) through
-    ∙ ap (λ o. resolved end o) unknown
+    ∙ ap (λ raws. draft_named (draft_reading nothing_read 1 raws)) (lines_back es fits)
+    ∙ ap (λ r. draft_named r) through
+    ∙ ap (λ o. draft_resolved end o) unknown
     ∙ ap (λ ds. Ok (set_with ds end.devices)) drivers
     ∙ ap (λ ds. Ok (set_with set.drivers ds)) devices

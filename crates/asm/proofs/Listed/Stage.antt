@@ -12,8 +12,8 @@ use Rattle.asm.specs.declared.draft.Place.TheVariants.{Outside, InDriver, InRout
 use Rattle.asm.specs.declared.draft.QueueLine.{QueueLine}
 use Rattle.asm.specs.declared.draft.Step.{Step as StepOf}
 use Rattle.asm.specs.declared.draft.Use.{Use}
-use Rattle.asm.specs.Outline.{Outline, has_room, is_again, is_among, is_out_of_range, misfit, noted, stands, startio_named, waiting_named}
-use Rattle.asm.specs.Scopes.{Reads}
+use Rattle.asm.specs.Outline.{Outline, draft_has_room, draft_is_again, is_among, is_out_of_range, draft_misfit, noted, stands, startio_named, waiting_named}
+use Rattle.asm.proofs.Scopes.{Reads}
 use Rattle.asm_listing.specs.declared.entry.Entry.{Entry}
 use Rattle.asm_listing.specs.Words.{joined, label, routine, words_of}
 use Rattle.asm_listing.proofs.Back.{entry_back, AllFit}
@@ -159,7 +159,7 @@ pub record IsAt (s : Stage) (o : Outline) : Type 0 where
 -- these lines are read without a fault, up to an outline and a line number
 abbrev pub Passes : Outline → ℕ → List Entry → Outline → ℕ → Type 0
 Passes o n [] end m = (o ≡ end) × (n ≡ m)
-Passes o n (e ∷ es) end m = (misfit o (meant e) ≡ None)
+Passes o n (e ∷ es) end m = (draft_misfit o (meant e) ≡ None)
     × Passes (noted o n (label_meant e) (body_meant e)) (n + 1) es end m
 
 passes_on : (o : Outline) (n : ℕ) (es ds : List Entry) (mid : Outline) (k : ℕ) (end : Outline)
@@ -191,7 +191,7 @@ then_reaches o n es ds s t first later =
     }
 
 -- one line
-pub one_reaches : (o : Outline) (n : ℕ) (e : Entry) (s : Stage) → misfit o (meant e) ≡ None
+pub one_reaches : (o : Outline) (n : ℕ) (e : Entry) (s : Stage) → draft_misfit o (meant e) ≡ None
     → IsAt s (noted o n (label_meant e) (body_meant e)) → Reaches o n (e ∷ []) s
 one_reaches o n e s fits at = record {
   end = noted o n (label_meant e) (body_meant e);
@@ -218,6 +218,7 @@ passes_read o n (e ∷ es) end m fits h = (
 
 -- a line without a fault
 pub no_misfit : (o : Outline) (e : Entry) → stands o.place (body_meant e) ≡ true
-    → is_again o (label_meant e) (body_meant e) ≡ false → is_out_of_range (body_meant e) ≡ false
-    → has_room o (body_meant e) ≡ true → misfit o (meant e) ≡ None
+    → draft_is_again o (label_meant e) (body_meant e) ≡ false
+    → is_out_of_range (body_meant e) ≡ false
+    → draft_has_room o (body_meant e) ≡ true → draft_misfit o (meant e) ≡ None
 no_misfit o e a b c d = rw (a, b, c, d) refl

@@ -14,7 +14,7 @@ use Rattle.asm.specs.declared.draft.QueueLine.{QueueLine}
 use Rattle.asm.specs.declared.draft.StartIoLine.{StartIoLine}
 use Rattle.asm.specs.declared.draft.Use.{Use}
 use Rattle.model.specs.declared.instr.Instr.{Instr}
-use Rattle.asm.specs.Outline.{Outline, is_among, is_known_label, resolved, startio_named, used_at, waiting_named}
+use Rattle.asm.specs.Outline.{Outline, is_among, is_known_label, label_resolved, startio_named, used_at, waiting_named}
 use Rattle.asm_listing.specs.declared.entry.Entry.TheVariants as line
 use Rattle.asm_listing.specs.Words.{label, numbered, routine}
 use Rattle.asm_listing.proofs.Digits.{IsSmall}
@@ -324,7 +324,7 @@ pub end_routine_turn : (o : Outline) (n : ℕ) (s : Stage) → IsAt s o → s.pl
 end_routine_turn o n s h inside =
     let e = line.EndRoutine in
     let r : ClosedRoutine =
-    record { sort = o.sort; code = map (resolved o.labels o.positions) o.steps } in
+    record { sort = o.sort; code = map (label_resolved o.labels o.positions) o.steps } in
     one_reaches o n e
     (record s { place = InDriver; closed = s.closed ++ s.sort ∷ []; sort = Dispatch; position = 0 })
     (no_misfit o e (rw (h.place, inside) refl) refl refl refl)

@@ -10,7 +10,7 @@ use Rattle.model.specs.declared.instr.Instr.TheVariants.{Jump}
 use Rattle.asm.specs.declared.draft.ClosedRoutine.{ClosedRoutine}
 use Rattle.asm.specs.declared.draft.Linked.{Linked}
 use Rattle.asm.specs.declared.draft.Use.{Use}
-use Rattle.asm.specs.Outline.{Outline, with_label, resolved, target_position, number_of, ClosedFits, IsOrderly, IsUse, QueueUsed}
+use Rattle.asm.specs.Outline.{Outline, with_label, label_resolved, target_position, number_of, ClosedFits, IsOrderly, IsUse, QueueUsed}
 
 -- a label's position, or 0, is below a count that is above the positions of all labels
 number_fits : (count : ℕ) (positions : List ℕ) → 0 < count → All (λ p. p < count) positions
@@ -51,28 +51,28 @@ queue_labelled label _ = refl
 -- so a routine that is closed fits
 pub closed_fits : (o : Outline) → IsOrderly o
     → ClosedFits (length o.queue_uses)
-    (record { sort = o.sort; code = map (resolved o.labels o.positions) o.steps })
+    (record { sort = o.sort; code = map (label_resolved o.labels o.positions) o.steps })
 closed_fits o h =
-    let same = length-map o.steps (resolved o.labels o.positions) in
-    let count = length (map (resolved o.labels o.positions) o.steps) in
+    let same = length-map o.steps (label_resolved o.labels o.positions) in
+    let count = length (map (label_resolved o.labels o.positions) o.steps) in
     record {
       few = omega (arith, same, h.few_steps);
       labels = All-map (λ (step : Linked). LabelFits count step.instr)
-          (resolved o.labels o.positions) o.steps (λ i d inside.
+          (label_resolved o.labels o.positions) o.steps (λ i d inside.
           let step = get_or o.steps i d in
           let some : 0 < length o.steps = omega (arith, inside) in
           let below = target_fits (length o.steps) o.labels o.positions some h.positions_fit
           step.label in
           label_fits count (target_position o.labels o.positions step.label) step.instr
           (omega (arith, same, below)));
-      operands = All-map (λ (step : Linked). OperandFits step.instr) (resolved o.labels o.positions)
-          o.steps (λ i d inside.
+      operands = All-map (λ (step : Linked). OperandFits step.instr)
+          (label_resolved o.labels o.positions) o.steps (λ i d inside.
           let step = get_or o.steps i d in
           operands_labelled (target_position o.labels o.positions step.label) step.instr
           (h.operands_fit i d inside));
       queues =
           All-map (λ (step : Linked). QueueUsed (length o.queue_uses) step.instr step.queue)
-          (resolved o.labels o.positions) o.steps (λ i d inside.
+          (label_resolved o.labels o.positions) o.steps (λ i d inside.
           let step = get_or o.steps i d in
           subst (λ (named : Option ℕ). IsUse (length o.queue_uses) named step.queue)
           (sym (queue_labelled (target_position o.labels o.positions step.label) step.instr))

@@ -22,7 +22,7 @@ use Rattle.asm_line.specs.declared.line.Body.TheVariants.{Blank, OpenDriver, Clo
 use Rattle.asm_line.specs.declared.line.Line.{Line}
 use Rattle.asm_line.specs.declared.line.UsedNames.{UsedNames}
 use Rattle.asm_line.specs.Line.{BodyFits, IsNoted, QueueNoted}
-use Rattle.asm.specs.Outline.{Outline, label_added, use_place, resolved, used_at, stands, is_out_of_range, is_stack_size, has_room, noted, finished_driver, missed, missed_in_driver, missed_queue, missed_routine, queue_added, earliest, driver_opened, driver_closed, handled, routine_opened, routine_closed, open_drivers, open_routines, open_sort, device_added, stepped, ClosedFits, IsFitting, IsOrderly, IsUse, QueueUsed}
+use Rattle.asm.specs.Outline.{Outline, label_added, use_place, label_resolved, used_at, stands, is_out_of_range, is_stack_size, draft_has_room, noted, finished_driver, missed, missed_in_driver, missed_queue, missed_routine, queue_added, earliest, driver_opened, driver_closed, handled, routine_opened, routine_closed, open_drivers, open_routines, open_sort, device_added, stepped, ClosedFits, IsFitting, IsOrderly, IsUse, QueueUsed}
 use Rattle.asm.proofs.Fitting.{only_outside, only_in_driver, only_in_routine}
 use Rattle.asm.proofs.Added.{with_entries, added_step}
 use Rattle.asm.proofs.Orderly.Names.{neither, none_before}
@@ -216,7 +216,7 @@ routine_closed_orderly o place h =
     (only_in_routine o.place CloseRoutine refl refl place) in
     let open_one : open_sort o.place o.sort ≡ o.sort ∷ [] = p.2 in
     let closed : ClosedRoutine =
-    record { sort = o.sort; code = map (resolved o.labels o.positions) o.steps } in
+    record { sort = o.sort; code = map (label_resolved o.labels o.positions) o.steps } in
     let more = length_push o.routines closed in
     record {
       few_drivers = h.few_drivers;
@@ -346,7 +346,7 @@ stepped_orderly o n label instr used place room operand noting h =
     }
 
 orderly_with : (o : Outline) (n : ℕ) (label : Option (List ℕ)) (body : Body)
-    → stands o.place body ≡ true → is_out_of_range body ≡ false → has_room o body ≡ true
+    → stands o.place body ≡ true → is_out_of_range body ≡ false → draft_has_room o body ≡ true
     → BodyFits body
     → IsOrderly o → IsOrderly (noted o n label body)
 orderly_with o n label Blank place size room operand h = h

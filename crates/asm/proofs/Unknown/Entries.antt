@@ -11,7 +11,7 @@ use Rattle.asm_line.specs.declared.line.Body.TheVariants.{AddQueue, Handle, Hand
 use Rattle.asm_line.specs.declared.line.Line.{Line}
 use Rattle.asm.specs.declared.routines.Role.TheVariants.{Handler, StartIo, Dpc, Cancel}
 use Rattle.asm.specs.Outline.{Outline, dpc_handled, earliest, handled, handler_of, has_routine, missed_cancels, missed_entry, missed_handler, missed_server, missed_startio, missed_use, queue_added, startio_handled, used_at}
-use Rattle.asm.specs.Scopes.{is_served, unknown_from}
+use Rattle.asm.proofs.Scopes.{is_served, unknown_from}
 use Rattle.asm.proofs.Unknown.Earliest.{earliest_none, earliest_assoc, earliest_comm, earliest_swap, both_count, use_counts}
 use Rattle.asm.proofs.Unknown.Missed.{calling, queueing, pending, jumping, cancels_push, routine_missed}
 use Rattle.asm.proofs.Unknown.Turn.{rest_later, Names, names_of, Around, scope_of, left, Turn}

@@ -7,7 +7,7 @@ use Rattle.asm_line.specs.declared.line.UsedNames.{UsedNames}
 use Rattle.model.specs.declared.instr.Instr.{Instr}
 use Rattle.asm.specs.declared.routines.Role.TheVariants.{Completion}
 use Rattle.asm.specs.Outline.{Outline, earliest, missed, missed_entry, missed_server, stands, stepped, used_at}
-use Rattle.asm.specs.Scopes.{Scope, is_known, is_served, unknown_at, unknown_from}
+use Rattle.asm.proofs.Scopes.{Scope, is_known, is_served, unknown_at, unknown_from}
 use Rattle.asm.proofs.Added.{added_step}
 use Rattle.asm.proofs.Unknown.Earliest.{three_count, weighed_all}
 use Rattle.asm.proofs.Unknown.Missed.{calling, queueing, jumping, missed_push, calls_added, uses_added, name_missed, routine_missed}

@@ -7,8 +7,8 @@ use Rattle.asm.specs.declared.draft.Place.TheVariants.{Outside, InRoutine}
 use Rattle.asm_line.specs.declared.line.Body.{Body}
 use Rattle.asm_line.specs.declared.line.Body.TheVariants.{Blank, OpenDriver, CloseDriver, AddQueue, Handle, HandleStartIo, HandleDpc, OpenRoutine, CloseRoutine, AddDevice, Step as TakeStep}
 use Rattle.asm_line.specs.declared.line.Line.{Line}
-use Rattle.asm.specs.Outline.{Outline, nothing_read, device_added, driver_closed, driver_opened, earliest, is_again, is_among, is_out_of_range, missed, noted, routine_closed, routine_opened, stands, used_at}
-use Rattle.asm.specs.Scopes.{nothing_named, is_known, labels_ahead, unknown_from, Reads}
+use Rattle.asm.specs.Outline.{Outline, nothing_read, device_added, driver_closed, driver_opened, earliest, draft_is_again, is_among, is_out_of_range, missed, noted, routine_closed, routine_opened, stands, used_at}
+use Rattle.asm.proofs.Scopes.{nothing_named, is_known, labels_ahead, unknown_from, Reads}
 use Rattle.asm.proofs.Unknown.Earliest.{earliest_none, earliest_assoc, earliest_swap, used_now, both_count}
 use Rattle.asm.proofs.Unknown.Missed.{pending, jumping, missed_split, name_missed}
 use Rattle.asm.proofs.Unknown.Turn.{pending_none, rest_later, Names, names_of, Around, scope_of, ahead_of, ahead_with, around_next, left, Turn}
@@ -156,8 +156,8 @@ device_added_turn o name driver stack lower here ahead n ls empty idle h =
     }
 
 turn : (o : Outline) (n : ℕ) (label : Option (List ℕ)) (body : Body) (ls : List Line) (here : Names)
-    → stands o.place body ≡ true → is_again o label body ≡ false → is_out_of_range body ≡ false
-    → IsTidy o → Around o.place (names_of o) here (ahead_with label body (ahead_of ls))
+    → stands o.place body ≡ true → draft_is_again o label body ≡ false
+    → is_out_of_range body ≡ false → IsTidy o → Around o.place (names_of o) here (ahead_with label body (ahead_of ls))
     → Turn o (noted o n label body) here (around_next here body ls) (ahead_of ls) n body ls
 turn o n label Blank ls here stood fresh range tidy h = record { around = h; same = refl }
 turn o n label (OpenDriver name) ls here stood fresh range tidy h =

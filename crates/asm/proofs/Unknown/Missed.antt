@@ -8,7 +8,7 @@ use Rattle.asm.specs.declared.draft.Use.{Use}
 use Rattle.asm.specs.declared.routines.Role.{Role}
 use Rattle.asm.specs.declared.routines.Role.TheVariants.{Completion, Cancel}
 use Rattle.asm.specs.Outline.{Outline, earliest, missed, missed_calls, missed_cancels, missed_entry, missed_from, missed_server, missed_use, missed_uses, used_at}
-use Rattle.asm.specs.Scopes.{Scope, is_known, is_served}
+use Rattle.asm.proofs.Scopes.{Scope, is_known, is_served}
 use Rattle.asm.proofs.Unknown.Earliest.{earliest_none, earliest_assoc}
 
 -- the first call of these that sets a routine which isn't among these

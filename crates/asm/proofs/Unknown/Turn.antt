@@ -8,7 +8,7 @@ use Rattle.asm_line.specs.declared.line.Body.TheVariants.{AddQueue, Handle, Hand
 use Rattle.asm_line.specs.declared.line.Line.{Line}
 use Rattle.asm.specs.declared.routines.Role.TheVariants.{Handler, StartIo, Dpc, Cancel}
 use Rattle.asm.specs.Outline.{Outline, earliest, has_routine, is_among}
-use Rattle.asm.specs.Scopes.{Scope, all_known, scope_after, drivers_after, devices_after, is_known, is_served, labelled_ahead, labels_ahead, labels_around, named_ahead, routines_ahead, routines_around, sorted_ahead, sorts_ahead, sorts_around, queued_ahead, queues_ahead, queues_around, unknown_at, unknown_from}
+use Rattle.asm.proofs.Scopes.{Scope, all_known, scope_after, drivers_after, devices_after, is_known, is_served, labelled_ahead, labels_ahead, labels_around, named_ahead, routines_ahead, routines_around, sorted_ahead, sorts_ahead, sorts_around, queued_ahead, queues_ahead, queues_around, unknown_at, unknown_from}
 use Rattle.asm.proofs.Tidy.{IsEmpty}
 use Rattle.asm.proofs.Unknown.Earliest.{next_later, chosen_line, weaken}
 use Rattle.asm.proofs.Unknown.Missed.{pending, jumping}

@@ -16,7 +16,7 @@ use Rattle.asm.specs.declared.draft.Place.{Place}
 use Rattle.asm.specs.declared.draft.Place.TheVariants.{Outside, InDriver, InRoutine}
 use Rattle.asm.specs.declared.draft.QueueLine.{QueueLine}
 use Rattle.asm.specs.declared.draft.Use.{Use}
-use Rattle.asm.specs.Outline.{Outline, entry_in, resolved, startio_named, waiting_named}
+use Rattle.asm.specs.Outline.{Outline, entry_in, label_resolved, startio_named, waiting_named}
 use Rattle.asm.specs.Names.{number_of, routine_named, Inventory}
 use Rattle.asm.specs.Parts.{closes_driver, closes_routine, dpc_on, handler_on, place_next, queue_on, routine_on, said, sort_on, startio_on, up_to, waiting_on}
 use Rattle.asm.specs.Said.{added_queue, drivers_on, first_in, routines_on, with_queue, with_routine}
@@ -101,8 +101,8 @@ names_used (Some u) = u.name ∷ []
 abbrev pub open_code : Outline → Whole → List Line → List Instr
 open_code o w ls =
     map (finish w)
-    (map (resolved (o.labels ++ labels_in ls) (o.positions ++ positions_in (length o.steps) ls))
-    o.steps)
+    (map (label_resolved (o.labels ++ labels_in ls)
+    (o.positions ++ positions_in (length o.steps) ls)) o.steps)
     ++ linked_lines w.has (o.labels ++ labels_in ls)
     (o.positions ++ positions_in (length o.steps) ls) ls
 

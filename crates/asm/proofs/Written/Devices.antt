@@ -9,14 +9,14 @@ use Rattle.asm_line.specs.declared.line.Body.TheVariants.{OpenDriver, AddQueue, 
 use Rattle.asm_line.specs.declared.line.Line.{Line}
 use Rattle.asm.specs.Outline.{Outline, device_of, noted, used_at}
 use Rattle.asm.specs.Faults.{is_out_of_range}
-use Rattle.asm.specs.Scopes.{Reads}
+use Rattle.asm.proofs.Scopes.{Reads}
 use Rattle.asm.specs.Names.{number_of}
 use Rattle.asm.specs.Parts.{around, device_on, driver_on, said}
 use Rattle.asm.specs.Said.{added_device, devices_on}
 use Rattle.asm.proofs.Fitting.{fitting}
 
 -- lines before and after a place, in order
-around_split : (before after : List Line) → around before after ≡ around before [] ++ after
+pub around_split : (before after : List Line) → around before after ≡ around before [] ++ after
 around_split [] after = refl
 around_split (l ∷ before) after =
     around_split before (l ∷ after)

@@ -12,7 +12,7 @@ use Rattle.asm.specs.declared.routines.Role.TheVariants.{Completion}
 use Rattle.asm.specs.declared.draft.ClosedRoutine.{ClosedRoutine}
 use Rattle.asm.specs.declared.draft.Place.TheVariants.{InDriver, InRoutine}
 use Rattle.asm.specs.declared.draft.Use.{Use}
-use Rattle.asm.specs.Outline.{Outline, resolved, routine_closed, routine_opened, stepped, target_position, use_place, used_at}
+use Rattle.asm.specs.Outline.{Outline, label_resolved, routine_closed, routine_opened, stepped, target_position, use_place, used_at}
 use Rattle.asm.specs.Names.{number_in, number_of, routine_named, Inventory}
 use Rattle.asm.specs.Parts.{closes_driver, closes_routine, routine_on, said, sort_on, up_to}
 use Rattle.asm.specs.Said.{instruction_on, queue_number, routines_on, with_label, with_queue, with_routine}
@@ -38,10 +38,10 @@ whole_opened o name sort label ls =
 
 -- a routine that is closed
 closed_code : (o : Outline) (w : Whole)
-    → open_code o w [] ≡ map (finish w) (map (resolved o.labels o.positions) o.steps)
+    → open_code o w [] ≡ map (finish w) (map (label_resolved o.labels o.positions) o.steps)
 closed_code o w =
     rw (append-nil o.labels, append-nil o.positions)
-    (append-nil (map (finish w) (map (resolved o.labels o.positions) o.steps)))
+    (append-nil (map (finish w) (map (label_resolved o.labels o.positions) o.steps)))
 
 -- the name in the place of the next call
 next_name : (calls : List Use) (name : List ℕ) (after : List (List ℕ))
@@ -111,7 +111,7 @@ finished_same : (w : Whole) (labels : List (List ℕ)) (positions : List ℕ) (i
     (used : UsedNames) (call queue : Option ℕ)
     → number_called w call ≡ number_in w.has Completion used.routine
     → number_touched w queue ≡ queue_number w.has used.queue
-    → finish w (resolved labels positions
+    → finish w (label_resolved labels positions
     (record { instr = i; label = used_at n used.label; call = call; queue = queue }))
     ≡ with_queue (with_routine (with_label i (jump_to labels positions used.label))
     (number_in w.has Completion used.routine)) (queue_number w.has used.queue)
@@ -140,11 +140,11 @@ step_code o w n label i used ls called touched =
       length-append o.steps (step ∷ []),
       append_assoc o.labels (option_to_list label) (labels_in ls),
       append_assoc o.positions new (positions_in (length o.steps + 1) ls),
-      map_push (resolved labels positions) o.steps step,
-      map_push (finish w) (map (resolved labels positions) o.steps)
-          (resolved labels positions step),
-      append_assoc (map (finish w) (map (resolved labels positions) o.steps))
-          (finish w (resolved labels positions step) ∷ []) rest,
+      map_push (label_resolved labels positions) o.steps step,
+      map_push (finish w) (map (label_resolved labels positions) o.steps)
+          (label_resolved labels positions step),
+      append_assoc (map (finish w) (map (label_resolved labels positions) o.steps))
+          (finish w (label_resolved labels positions step) ∷ []) rest,
       finished_same w labels positions i n used (use_place (length o.calls) used.routine)
           (use_place (length o.queue_uses) used.queue) called touched,
     ) refl
@@ -174,7 +174,7 @@ routine_closed_turn o label ls =
     let inside = up_to closes_driver ls in
     let w = whole o inside in
     let last : ClosedRoutine =
-    record { sort = o.sort; code = map (resolved o.labels o.positions) o.steps } in
+    record { sort = o.sort; code = map (label_resolved o.labels o.positions) o.steps } in
     let after = routines_on w.has ls in
     let pushed : map (closed w) (o.routines ++ last ∷ []) ≡ map (closed w) o.routines
     ++ closed w last ∷ [] = map_push (closed w) o.routines last in

@@ -5,9 +5,9 @@ use Rattle.asm_line.specs.declared.line.Body.TheVariants.{Blank, OpenDriver, Clo
 use Rattle.asm_line.specs.declared.line.Line.{Line}
 use Rattle.asm.specs.declared.draft.Place.{Place}
 use Rattle.asm.specs.declared.draft.Place.TheVariants.{Outside, InDriver, InRoutine}
-use Rattle.asm.specs.Outline.{Outline, is_again, noted}
+use Rattle.asm.specs.Outline.{Outline, draft_is_again, noted}
 use Rattle.asm.specs.Faults.{is_out_of_range, stands}
-use Rattle.asm.specs.Scopes.{Reads}
+use Rattle.asm.proofs.Scopes.{Reads}
 use Rattle.asm.specs.Parts.{place_next}
 use Rattle.asm.proofs.Written.Codes.{left, Turn}
 use Rattle.asm.proofs.Tidy.{IsTidy, tidy_on}
@@ -22,7 +22,7 @@ blank_same o InDriver label ls = refl
 blank_same o InRoutine label ls = refl
 
 turn : (o : Outline) (n : ℕ) (p : Place) (label : Option (List ℕ)) (body : Body) (ls : List Line)
-    → o.place ≡ p → stands p body ≡ true → is_again o label body ≡ false
+    → o.place ≡ p → stands p body ≡ true → draft_is_again o label body ≡ false
     → is_out_of_range body ≡ false → IsTidy o
     → Turn o (noted o n label body) p label body ls
 turn o n p label Blank ls at stood fresh range h =

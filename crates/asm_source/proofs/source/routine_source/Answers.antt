@@ -5,8 +5,9 @@ use Rattle.std.proofs.lemmas.List.Elements.{All-push}
 use Rattle.excerpt.specs.Places.{IsIn, numbers}
 use Rattle.asm_source.specs.Outline.{outline_from}
 use Rattle.asm_source.specs.Source.{instruction_lines, lines_from}
-use Rattle.asm_source.specs.Standing.{AreLinesOf}
+use Rattle.asm_source.specs.Standing.{AreLinesOf, Rises}
 use Rattle.asm_source.proofs.Passing.{moved, passed, unlisted}
+use Rattle.asm_source.proofs.Rising.{rise}
 use Rattle.asm_source.proofs.Standing.{are_lines_of}
 use Rattle.asm_source.proofs.source.routine_source.Goals as goal
 use Rattle.asm_source.proofs.source.routine_source.Goals.{in-End-Step+in_ok-push, in-End+in-Blank-1, in-Driver-1, then-outlines+in_ok-push-2, else-outlines}
@@ -113,12 +114,24 @@ loop-raw-preserved c =
       outline_there = c.loop-raw.invariant.outline_there;
     }
 
+-- the lines that were found are all of them
+pub all_found : (numbers lines : List ℕ) → numbers ++ [] ≡ lines → numbers ≡ lines
+all_found numbers lines h = sym (append-nil numbers) ∙ h
+
 pub returns-clause-stand : goal.returns-clause-stand
 returns-clause-stand c =
     let text = c.args.text.now in
     let lines = numbers c.loop-raw.lines in
     let all : lines ≡ instruction_lines c.args.driver c.args.routine text =
-    sym (append-nil lines) ∙ (rw c.in_default.ensures.0 at c.loop-raw.invariant.same) in
+    all_found lines _ (rw c.in_default.ensures.0 at c.loop-raw.invariant.same) in
     let Are : List ℕ → Type 0 = AreLinesOf text c.args.driver c.args.routine in
     subst Are (sym all)
-    (are_lines_of c.code_is_of_its_lines.ensures text c.args.driver c.args.routine)
+    (are_lines_of c.set_is_of_its_lines.ensures text c.args.driver c.args.routine)
+
+pub returns-clause-rise : goal.returns-clause-rise
+returns-clause-rise c =
+    let text = c.args.text.now in
+    let lines = numbers c.loop-raw.lines in
+    let all : lines ≡ instruction_lines c.args.driver c.args.routine text =
+    all_found lines _ (rw c.in_default.ensures.0 at c.loop-raw.invariant.same) in
+    subst Rises (sym all) (rise c.args.driver c.args.routine text)

@@ -1,21 +1,14 @@
--- The instructions of a set that a text names are those on its lines.
-use Rattle.std.proofs.Common.{◌≡◌, ℕ, List, [], ◌∷◌, ◌++◌, Option, Some, None, refl, ap, sym, ◌∙◌}
-use Rattle.std.specs.Prelude.{Result, Ok, Err, option_to_list}
+-- The instructions that a text says are those ahead of its lines.
+use Rattle.std.proofs.Common.{◌≡◌, ℕ, List, [], ◌∷◌, ◌++◌, Option, Some, None, refl, ap, ◌∙◌}
+use Rattle.std.specs.Prelude.{option_to_list}
 use Rattle.std.specs.List.{cons_option}
-use Rattle.text.specs.Cut.{lines_of}
-use Rattle.model.specs.Set.{Set}
 use Rattle.asm_line.specs.declared.line.Body.{Body}
 use Rattle.asm_line.specs.declared.line.Body.TheVariants.{OpenDriver, CloseDriver, OpenRoutine, CloseRoutine}
 use Rattle.asm_line.specs.declared.line.Line.{Line}
-use Rattle.asm.specs.declared.fault.AsmFault.{AsmFault}
-use Rattle.asm.specs.Reading.{named, reading, resolved}
-use Rattle.asm.specs.Faults.{unknown_from}
-use Rattle.asm.specs.Code as code
-use Rattle.asm.specs.Code.{all_codes, codes_from, codes_of, driver_code, driver_codes, drivers_from, instructions_on, routine_code, routine_codes, routine_lines, unless_end, CodeIsOfItsLines, IsOfItsLines}
+use Rattle.asm.proofs.Codes.{all_codes, codes_from, codes_of, driver_code, driver_codes, drivers_from, instructions_on, inventory_ahead, routine_code, routine_codes, routine_lines, unless_end}
 use Rattle.asm.specs.Names.{inventory, Inventory}
 use Rattle.asm.specs.Parts.{closes_driver, closes_routine, said, up_to}
-use Rattle.asm.specs.Said.{drivers_on, instruction_on, routines_on, set_of}
-use Rattle.asm.proofs.Declared.First.{all_read}
+use Rattle.asm.specs.Said.{drivers_on, instruction_on, routines_on}
 use Rattle.asm.proofs.Declared.Known.{queues_said, routines_said, sorts_said}
 
 one_more : {A : Type 0} (x : Option A) (xs ys : List A) → xs ≡ ys
@@ -66,7 +59,7 @@ driver_said : (label : Option (List ℕ)) (body : Body) (ls : List Line)
     → all_codes (drivers_on (record { label = label; body = body } ∷ ls))
     ≡ drivers_from body (driver_code ls) (driver_codes ls)
 driver_said label (OpenDriver name) ls h =
-    let same : inventory (up_to closes_driver ls) ≡ code.inventory ls =
+    let same : inventory (up_to closes_driver ls) ≡ inventory_ahead ls =
     rw (routines_said ls, sorts_said ls, queues_said ls) refl in
     rw (codes_said (inventory (up_to closes_driver ls)) ls, same, h) refl
 driver_said label _ ls h = h
@@ -74,23 +67,3 @@ driver_said label _ ls h = h
 pub drivers_said : (ls : List Line) → all_codes (drivers_on ls) ≡ driver_codes ls
 drivers_said [] = refl
 drivers_said (l ∷ ls) = driver_said l.label l.body ls (drivers_said ls)
-
-resolved_lines : (text : List ℕ) (set : Set) (ls : List Line) (unknown : Option ℕ)
-    → reading [] 1 (lines_of text) ≡ Ok ls → resolved ls unknown ≡ Ok set
-    → IsOfItsLines text set
-resolved_lines text set ls None is h =
-    let all = all_read text ls is in
-    let same : set_of ls ≡ set = cc in (
-      all.0,
-      ap (λ (s : Set). all_codes s.drivers) (sym same) ∙ drivers_said ls
-          ∙ ap driver_codes (sym all.1),
-    )
-resolved_lines text set ls (Some line) is h = cc
-
-named_lines : (text : List ℕ) (set : Set) (r : Result (List Line) AsmFault)
-    → reading [] 1 (lines_of text) ≡ r → named r ≡ Ok set → IsOfItsLines text set
-named_lines text set (Ok ls) is h = resolved_lines text set ls (unknown_from [] 1 ls) is h
-named_lines text set (Err fault) is h = cc
-
-pub code_is_of_its_lines : CodeIsOfItsLines
-code_is_of_its_lines text set h = named_lines text set (reading [] 1 (lines_of text)) refl h

@@ -1,23 +1,18 @@
--- The instructions of a text in other words: those of a routine are on its lines, in order, a label
--- names the position of the instruction on its line, a `call` has the number of the routine that it
--- names, and an instruction that touches a queue has the number of the queue that it names.
-use Rattle.std.specs.Prelude.{ℕ, ◌≡◌, List, [], ◌∷◌, ◌++◌, map, option_to_list}
+-- The instructions of a text, by what its lines have ahead of them.
+use Rattle.std.specs.Prelude.{List, [], ◌∷◌, ◌++◌, map, option_to_list}
 use Rattle.model.specs.declared.instr.Instr.{Instr}
 use Rattle.model.specs.declared.set.Driver.{Driver}
 use Rattle.model.specs.declared.set.Routine.{Routine}
-use Rattle.model.specs.Set.{Set}
 use Rattle.asm_line.specs.declared.line.Body.{Body}
 use Rattle.asm_line.specs.declared.line.Body.TheVariants.{Blank, OpenDriver, CloseDriver, AddQueue, Handle, HandleStartIo, HandleDpc, OpenRoutine, CloseRoutine, AddDevice, Step}
 use Rattle.asm_line.specs.declared.line.Line.{Line}
-pub use Rattle.asm.specs.Names.{Inventory}
-pub use Rattle.asm.specs.Said.{instruction_on}
-use Rattle.asm.specs.Reading.{IsNamed}
-use Rattle.asm.specs.Scopes.{queues_ahead, routines_ahead, sorts_ahead}
-use Rattle.asm.specs.Laws.{IsRead}
+use Rattle.asm.specs.Names.{Inventory}
+use Rattle.asm.specs.Said.{instruction_on}
+use Rattle.asm.proofs.Scopes.{queues_ahead, routines_ahead, sorts_ahead}
 
 -- what the driver has whose lines begin here
-abbrev pub inventory : List Line → Inventory
-inventory ls =
+abbrev pub inventory_ahead : List Line → Inventory
+inventory_ahead ls =
     record { routines = routines_ahead ls; sorts = sorts_ahead ls; queues = queues_ahead ls }
 
 -- the instructions on some of the lines of a routine
@@ -72,7 +67,7 @@ routine_codes has (l ∷ ls) =
 
 -- the codes of the routines of the driver whose lines begin here
 abbrev pub driver_code : List Line → List (List Instr)
-driver_code ls = routine_codes (inventory ls) ls
+driver_code ls = routine_codes (inventory_ahead ls) ls
 
 -- the codes of the drivers from a line on: that of the driver which it opens, and those after it
 abbrev pub drivers_from : Body → List (List Instr) → List (List (List Instr))
@@ -101,11 +96,3 @@ codes_of routines = map (λ r. r.code) routines
 -- the codes of the routines of drivers
 abbrev pub all_codes : List Driver → List (List (List Instr))
 all_codes drivers = map (λ d. codes_of d.routines) drivers
-
--- each routine of the set has the instructions of its lines in the text
-abbrev pub IsOfItsLines : List ℕ → Set → Type 0
-IsOfItsLines text set = (all : IsRead text) × (all_codes set.drivers ≡ driver_codes all.lines)
-
--- a set that a text names is of its lines
-abbrev pub CodeIsOfItsLines : Type 0
-CodeIsOfItsLines = (text : List ℕ) (set : Set) → IsNamed text set → IsOfItsLines text set

@@ -1,5 +1,5 @@
--- Steps of the proof, and no definitions to believe: the lines of a text with the outline behind
--- them, and the names that a line may use, as lines are read one after another.
+-- The lines of a text with the outline behind them, and the names that a line may use, as lines are
+-- read one after another.
 use Rattle.std.specs.Prelude.{ℕ, ◌≡◌, ◌+◌, Bool, true, ◌&&◌, List, [], ◌∷◌, ◌++◌, Option, Some, None, option_to_list, Ok, if◌then◌else◌}
 use Rattle.model.specs.declared.set.Sort.{Sort}
 use Rattle.asm_line.specs.declared.line.Body.{Body}
@@ -11,14 +11,14 @@ use Rattle.asm.specs.declared.routines.Role.{Role}
 use Rattle.asm.specs.declared.routines.Role.TheVariants.{Handler, Completion, StartIo, Dpc, Cancel}
 pub use Rattle.asm.specs.Names.{is_known}
 use Rattle.asm.specs.Names.{is_among}
-use Rattle.asm.specs.Outline.{Outline, has_routine, misfit, noted}
+use Rattle.asm.specs.Outline.{Outline, has_routine, draft_misfit, noted}
 
 -- these are the lines from number n on, each without a fault, and the outline at their end
 abbrev pub Reads : Outline → ℕ → List (List ℕ) → List Line → Outline → Type 0
 Reads o n [] [] end = o ≡ end
 Reads o n (raw ∷ raws) (l ∷ ls) end =
     (read_line raw ≡ Ok l)
-    × ((misfit o l ≡ None) × Reads (noted o n l.label l.body) (n + 1) raws ls end)
+    × ((draft_misfit o l ≡ None) × Reads (noted o n l.label l.body) (n + 1) raws ls end)
 Reads o n _ _ end = ⊥
 
 -- the names of the routines from a line to the end of the driver, after which there are these
