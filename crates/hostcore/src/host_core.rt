@@ -178,6 +178,16 @@ impl Core {
         }
     }
 
+    /// How many entries were made with a seat.
+    pub fn counted(&self, seat: &Seat) -> u64
+        ensures { result ≡ count_of (slice_get self.now.seats seat.now) }
+    {
+        match self.seats.get(seat.thread() as usize).copied() {
+            Some(seat) => seat.unwrap_or(0),
+            None => 0,
+        }
+    }
+
     /// Takes a seat back, and answers how many entries were made with it.
     pub fn give_back(&mut self, seat: Seat) -> u64
         ensures counted { result ≡ count_of (slice_get self.old.seats seat) }

@@ -1,4 +1,5 @@
 pub mod Ends
+pub mod Finding
 pub mod Kept
 pub mod Lists
 pub mod Rule

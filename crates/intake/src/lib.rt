@@ -2,6 +2,7 @@
 //! threads.
 #![tactic(auto)]
 
+pub mod closing;
 pub mod left;
 pub mod limits;
 mod rule;
@@ -9,7 +10,8 @@ pub mod shared;
 pub mod submitter;
 pub mod taker;
 
+pub use closing::{Closed, Drained};
 pub use left::Left;
 pub use shared::Intake;
 pub use submitter::Submitter;
-pub use taker::Taker;
+pub use taker::{Found, Taker};

@@ -1,6 +1,6 @@
 //! The queue that submitters and takers share.
 
-ghost use Rattle.std.specs.Prelude.{◌≡◌, ◌<◌, ◌≤◌, ◌+◌, ◌-◌, ℕ, IfOk, OnOk, length};
+ghost use Rattle.std.specs.Prelude.{◌≡◌, ◌<◌, ◌≤◌, ◌+◌, ◌-◌, ℕ, IfOk, IfSome, OnOk, length};
 ghost use Rattle.std.specs.Vec.{vec_capacity};
 ghost use Rattle.crossbeam_queue.specs.Passes.{IsPassOf};
 ghost use Rattle.model.specs.History.{NamedCommand};
@@ -13,6 +13,7 @@ ghost use Rattle.intake.specs.Kept.{known, queue_of};
 ghost use Rattle.intake.specs.Lists.{AreAmong, weigh};
 ghost use Rattle.intake.specs.Rule.{first_after};
 
+use crate::closing::{Closed, Flag};
 use crate::left::{Left, with_submitters, with_takers};
 use crate::rule::{Cut, Known, Line};
 use crate::submitter::Submitter;
@@ -20,13 +21,12 @@ use crate::taker::Taker;
 use model::memory::OutOfMemory;
 use std::alloc::{AllocError, Global};
 use std::marker::Model;
-use std::sync::atomic::{AtomicBool, Ordering};
 
 /// A bounded queue of commands, which submitters and takers share. Contracts see which queue it is.
 #[derive(Drop)]
 pub struct Intake {
     pub(crate) line: Line,
-    is_closed: AtomicBool,
+    flag: Flag,
 }
 
 impl Model for Intake {
@@ -112,20 +112,29 @@ impl Intake {
         }
         let intake = Intake {
             line,
-            is_closed: AtomicBool::new(false),
+            flag: Flag::open(),
         };
         Ok((intake, submitting, taking))
     }
 
     /// Closes the queue: from now on a submitter gets its command back. One that is at it may still
     /// put. Takers go on.
-    pub fn close(&self) {
-        self.is_closed.store(true, Ordering::SeqCst);
+    pub fn close(&self) -> Closed
+        ensures { result ≡ self.now }
+    {
+        self.flag.close(&self.line)
     }
 
     /// Whether it was closed.
     pub fn closed(&self) -> bool {
-        self.is_closed.load(Ordering::SeqCst)
+        self.closing().is_some()
+    }
+
+    /// What shows that it was closed, if it was.
+    pub fn closing(&self) -> Option<Closed>
+        ensures { IfSome result (λ closed. closed ≡ self.now) }
+    {
+        self.flag.closing(&self.line)
     }
 
     /// The queue once all its submitters and takers have left it, in any order: with their shares,
@@ -148,7 +157,7 @@ impl Intake {
         let Some(first) = submitters.pop() else {
             unreachable!()
         };
-        let Intake { line, is_closed: _ } = self;
+        let Intake { line, flag: _ } = self;
         let pass = with_submitters(&line, first.into_pass(), submitters);
         let pass = with_takers(&line, pass, takers);
         Left::of(line, pass)

@@ -1,15 +1,27 @@
 //! Those that take commands.
 
 ghost use Rattle.std.specs.Prelude.{◌≡◌, ◌++◌, ◌∷◌, [], IfNone, IfSome};
+ghost use Rattle.intake.specs.Finding.{Finds};
 ghost use Rattle.intake.specs.Kept.{IsAtHome, known};
 ghost use Rattle.intake.specs.Lists.{IsInOrder};
 ghost use Rattle.intake.specs.Rule.{IsUnused};
 
+use crate::closing::{Closed, Drained};
 use crate::rule::{Known, Takes};
 use crate::shared::Intake;
 use hostcore::Taken;
 use std::marker::Model;
 use std::sync::Wait;
+
+/// What a taker finds at the front of a queue.
+pub enum Found {
+    /// A command, which it took.
+    Command(Taken),
+    /// The queue was empty at a moment.
+    Nothing,
+    /// The queue was empty at a moment after it was closed.
+    End(Drained),
+}
 
 /// Takes commands from one queue. Contracts see which queue it is, the share of it, and the
 /// commands that it took, in order, each with its name.
@@ -70,5 +82,21 @@ impl Taker {
     {
         let queued = intake.line.pop_as::<Takes, R>(rt, &mut self.pass)?;
         Some(queued.taken())
+    }
+    /// Takes the command at the front of the queue, as `take`. Where there was none after the queue
+    /// was closed, that is what is found.
+    pub fn take_or_end<R: Wait>(&mut self, rt: &R, intake: &Intake, closed: Option<Closed>) -> Found
+        requires queue { self.old.queue ≡ intake.now }
+        requires closed { IfSome closed (λ closed. closed ≡ intake.now) }
+        ensures found { Finds self.old self.new result }
+        ensures order { IsInOrder self.new.taken }
+    {
+        let Some(taken) = self.take(rt, intake) else {
+            return match closed {
+                Some(closed) => Found::End(Drained::after(closed)),
+                None => Found::Nothing,
+            };
+        };
+        Found::Command(taken)
     }
 }
