@@ -1,6 +1,5 @@
 -- What a taker finds at the front of a queue.
 use Rattle.std.specs.Prelude.{◌≡◌, ◌++◌, [], ◌∷◌}
-use Rattle.atomic_table.specs.Seated.{TableId}
 use Rattle.intake.specs.Ends.{TakerState}
 use Rattle.intake.specs.declared.taker.Found.{Found}
 use Rattle.intake.specs.declared.taker.Found.TheVariants.{Command, End, Nothing}
