@@ -71,6 +71,7 @@ pub(crate) fn serve_all<G: Gate + Sync, R: Threads + Wait + Abort + Sync>(
         counts,
         held,
         started,
+        ends: _,
         full,
     } = served;
     let count = takers.len();

@@ -18,9 +18,16 @@ use Rattle.workers.proofs.Counting.{count_here, count_there, counted_here, taken
 
 module _ (began : CoreState) (takers : List TakerState) (s : Station) (i : ℕ) (b a : TakerState)
     (kept : Keeps began takers s) (some : slice_get takers i ≡ Some b)
-    (at : slice_get s.takers i ≡ Some a) (going : s.full ≡ false) where
+    (at : slice_get s.takers i ≡ Some a) (there : i < s.started) (going : s.full ≡ false) where
   within : i < length takers
   within = slice_get_within takers i b some
+
+  -- the taker of a worker that was started changed, and no other
+  untaken_at : (after : TakerState) (j : ℕ) → s.started ≤ j
+      → slice_get (slice_set s.takers i after) j ≡ slice_get takers j
+  untaken_at after j past =
+      set_other s.takers i j after (λ same. absurd (omega (arith, past, same, there)))
+      ∙ kept.untaken j past
 
   -- nothing is held yet
   nothing : s.held ≡ None
@@ -88,7 +95,7 @@ module _ (began : CoreState) (takers : List TakerState) (s : Station) (i : ℕ) 
         ]
 
     pub entered : Keeps began takers
-        (station (with_entry s.core e) s.seats (slice_set s.takers i after) s.held s.full)
+        (station (with_entry s.core e) s.seats (slice_set s.takers i after) s.started s.held s.full)
     entered =
         let took_more : count_taken (slice_set s.takers i after) ≡ count_taken s.takers + n = taken_at s.takers i a after n at more in
         let before = kept.taken in
@@ -102,9 +109,11 @@ module _ (began : CoreState) (takers : List TakerState) (s : Station) (i : ℕ) 
           seats = kept.seats;
           seated = seated_at;
           unseated = unseated_at;
-          workers = All-push (λ (x : Entry). x.thread < length takers) kept.new e kept.workers
-              (rw here within);
+          started = kept.started;
+          workers = All-push (λ (x : Entry). x.thread < s.started) kept.new e kept.workers
+              (rw here there);
           count = length-set s.takers i after ∙ kept.count;
+          untaken = untaken_at after;
           each = each_at;
           taken = omega arith;
           holder = kept.holder;
@@ -114,7 +123,7 @@ module _ (began : CoreState) (takers : List TakerState) (s : Station) (i : ℕ) 
 
   -- the history is full, and no command was taken
   pub met_full : length s.core.history ≡ s.core.log
-      → Keeps began takers (station s.core s.seats s.takers s.held true)
+      → Keeps began takers (station s.core s.seats s.takers s.started s.held true)
   met_full full =
       record {
         new = kept.new;
@@ -125,8 +134,10 @@ module _ (began : CoreState) (takers : List TakerState) (s : Station) (i : ℕ) 
         seats = kept.seats;
         seated = kept.seated;
         unseated = kept.unseated;
+        started = kept.started;
         workers = kept.workers;
         count = kept.count;
+        untaken = kept.untaken;
         each = kept.each;
         taken = kept.taken;
         holder = kept.holder;
@@ -157,7 +168,7 @@ module _ (began : CoreState) (takers : List TakerState) (s : Station) (i : ℕ) 
         ]
 
     pub kept_command : length s.core.history ≡ s.core.log → Keeps began takers
-        (station s.core s.seats (slice_set s.takers i (took a asked))
+        (station s.core s.seats (slice_set s.takers i (took a asked)) s.started
         (Some (record { worker = i; taken = asked })) true)
     kept_command full =
         let long : length (took a asked).taken ≡ length a.taken + 1 = length-append a.taken (asked ∷ []) in
@@ -173,11 +184,38 @@ module _ (began : CoreState) (takers : List TakerState) (s : Station) (i : ℕ) 
           seats = kept.seats;
           seated = kept.seated;
           unseated = kept.unseated;
+          started = kept.started;
           workers = kept.workers;
           count = length-set s.takers i (took a asked) ∙ kept.count;
+          untaken = untaken_at (took a asked);
           each = each_held;
           taken = omega arith;
           holder = within;
           holds = λ no. cc;
           full = λ _. full;
         }
+
+-- one worker more is started
+pub one_started : (began : CoreState) (takers : List TakerState) (s : Station)
+    → Keeps began takers s → s.started < length takers
+    → Keeps began takers (station s.core s.seats s.takers (s.started + 1) s.held s.full)
+one_started began takers s kept few =
+    record {
+      new = kept.new;
+      set = kept.set;
+      threads = kept.threads;
+      log = kept.log;
+      history = kept.history;
+      seats = kept.seats;
+      seated = kept.seated;
+      unseated = kept.unseated;
+      started = omega (arith, few);
+      workers = λ i d within. let before = kept.workers i d within in omega (arith, before);
+      count = kept.count;
+      untaken = λ i past. kept.untaken i (omega (arith, past));
+      each = kept.each;
+      taken = kept.taken;
+      holder = kept.holder;
+      holds = kept.holds;
+      full = kept.full;
+    }

@@ -20,7 +20,7 @@ idle before t a = record {
 
 pub opened : (began core : CoreState) (takers : List TakerState) (seats : List ℕ)
     → AreGiven (length takers) began core → seats ≡ range_with_len 0 (length takers)
-    → Keeps began takers (station core seats takers None false)
+    → Keeps began takers (station core seats takers 0 None false)
 opened began core takers seats are in_order = record {
   new = [];
   set = ap (λ (c : CoreState). c.set) are.same;
@@ -30,8 +30,10 @@ opened began core takers seats are in_order = record {
   seats = in_order;
   seated = are.given;
   unseated = are.others;
+  started = omega arith;
   workers = λ i d few. absurd (omega (arith, few));
   count = refl;
+  untaken = λ i past. refl;
   each = λ i b a first last.
       let same : b ≡ a = cc in
       subst (λ (x : TakerState). Worked began.history [] i b x []) same (idle began.history i b);

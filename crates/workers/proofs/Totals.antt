@@ -1,5 +1,5 @@
 -- What the counts of all threads add up to, and what all workers keep.
-use Rattle.std.proofs.Common.{◌≡◌, ◌≢◌, ℕ, zero, suc, ◌+◌, ◌<◌, ◌≤◌, inl, inr, Bool, List, [], ◌∷◌, Option, None, Some, cond, length, map, replicate, refl, ap, arith}
+use Rattle.std.proofs.Common.{◌≡◌, ◌≢◌, ℕ, zero, suc, ◌+◌, ◌<◌, ◌≤◌, inl, inr, Bool, List, [], ◌∷◌, Option, None, Some, cond, length, map, replicate, refl, ap, ◌∙◌, arith}
 use Rattle.std.specs.Prelude.{All, IfSome, nat_eq, slice_get, sum}
 use Rattle.std.specs.List.{range_with_len}
 use Rattle.std.proofs.lemmas.Bool.{ne_eqb}
@@ -120,3 +120,31 @@ pub get_replicate : {A : Type 0} (x : A) (n i : ℕ) → i < n → slice_get (re
 get_replicate x zero i few = absurd (omega (arith, few))
 get_replicate x (suc n) zero few = refl
 get_replicate x (suc n) (suc i) few = get_replicate x n i (omega (arith, few))
+
+-- a thread that no entry is of has no count
+none_of : (m t : ℕ) (new : List Entry) → m ≤ t → All (λ (e : Entry). e.thread < m) new
+    → count_of_thread t new ≡ 0
+none_of m t [] past all = refl
+none_of m t (e ∷ new) past all =
+    let few : e.thread < m = all 0 e (omega arith) in
+    let apart : e.thread ≢ t = λ same. absurd (omega (arith, few, past, same)) in
+    let first = sum_by-cons (λ (x : Entry). cond (nat_eq x.thread t) 1 0) e new in
+    let here : at_thread e.thread t ≡ 0 = ap (λ (b : Bool). cond b 1 0) (ne_eqb e.thread t apart) in
+    let rest = none_of m t new past (λ k d within. all (suc k) d (omega (arith, within))) in
+    omega arith
+
+get_counts : (f : ℕ → ℕ) (from n i : ℕ) → i < n
+    → slice_get (map f (range_with_len from n)) i ≡ Some (f (from + i))
+get_counts f from zero i few = absurd (omega (arith, few))
+get_counts f from (suc n) zero few = ap (λ (k : ℕ). Some (f k)) (let same : from ≡ from + 0 = omega arith in same)
+get_counts f from (suc n) (suc i) few =
+    get_counts f (from + 1) n i (omega (arith, few))
+    ∙ ap (λ (k : ℕ). Some (f k)) (let same : from + 1 + i ≡ from + suc i = omega arith in same)
+
+-- the counts of threads that no entry is of
+pub count_none : (n m : ℕ) (new : List Entry) → All (λ (e : Entry). e.thread < m) new
+    → (i : ℕ) → m ≤ i → i < n
+    → slice_get (map (λ t. count_of_thread t new) (range_with_len 0 n)) i ≡ Some 0
+count_none n m new all i past few =
+    get_counts (λ t. count_of_thread t new) 0 n i few
+    ∙ ap Some (none_of m (0 + i) new (omega (arith, past)) all)

@@ -8,30 +8,42 @@ use Rattle.intake.specs.Ends.{TakerState}
 use Rattle.workers.specs.declared.locked.Held.{Held}
 use Rattle.workers.specs.Worked.{Worked, count_named, count_of_thread, count_taken}
 
--- a core beside the seats and takers of its workers, the command that met a full history, and
--- whether the history was met full
+-- a core beside the seats and takers of its workers, how many of these were started, the command
+-- that met a full history, and whether the history was met full
 pub record Station : Type 0 where
   pub core : CoreState
   pub seats : List ℕ
   pub takers : List TakerState
+  pub started : ℕ
   pub held : Option Held
   pub full : Bool
 
-abbrev pub station : CoreState → List ℕ → List TakerState → Option Held → Bool → Station
-station core seats takers held full =
-    record { core = core; seats = seats; takers = takers; held = held; full = full }
+abbrev pub station : CoreState → List ℕ → List TakerState → ℕ → Option Held → Bool → Station
+station core seats takers started held full = record {
+  core = core;
+  seats = seats;
+  takers = takers;
+  started = started;
+  held = held;
+  full = full;
+}
 
 -- the commands that a worker keeps
 abbrev pub kept_by : Option Held → ℕ → List NamedCommand
 kept_by None i = []
 kept_by (Some held) i = if nat_eq held.worker i then held.taken ∷ [] else []
 
+-- what is held of a worker that met a full history
+abbrev pub held_by : ℕ → Option NamedCommand → Option Held
+held_by i None = None
+held_by i (Some asked) = Some (record { worker = i; taken = asked })
+
 abbrev pub kept_of : Option Held → List NamedCommand
 kept_of None = []
 kept_of (Some held) = held.taken ∷ []
 
 -- the core is the one that began, with new entries, which the seats of the workers have counted.
--- Each worker has performed what its taker took
+-- Each worker has performed what its taker took. Those that were not started did nothing
 pub record Keeps (began : CoreState) (takers : List TakerState) (s : Station) : Type 0 where
   pub new : List Entry
   pub set : s.core.set ≡ began.set
@@ -43,8 +55,10 @@ pub record Keeps (began : CoreState) (takers : List TakerState) (s : Station) : 
       → slice_get s.core.seats i ≡ Some (Some (count_of_thread i new))
   pub unseated : (i : ℕ) → length takers ≤ i
       → slice_get s.core.seats i ≡ slice_get began.seats i
-  pub workers : All (λ (e : Entry). e.thread < length takers) new
+  pub started : s.started ≤ length takers
+  pub workers : All (λ (e : Entry). e.thread < s.started) new
   pub count : length s.takers ≡ length takers
+  pub untaken : (i : ℕ) → s.started ≤ i → slice_get s.takers i ≡ slice_get takers i
   pub each : (i : ℕ) (b a : TakerState) → slice_get takers i ≡ Some b
       → slice_get s.takers i ≡ Some a → Worked began.history new i b a (kept_by s.held i)
   pub taken : count_named new + length (kept_of s.held) + count_taken takers

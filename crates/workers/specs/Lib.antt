@@ -1,4 +1,5 @@
 pub mod Worked
+pub mod Ended
 pub mod Turned
 pub mod Kept
 pub mod Serves

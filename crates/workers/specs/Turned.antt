@@ -1,5 +1,5 @@
 -- One turn of a worker.
-use Rattle.std.specs.Prelude.{ℕ, ◌≡◌, ◌⊎◌, ◌<◌, ◌+◌, ◌++◌, Bool, [], ◌∷◌, Option, None, Some, MatchBool, length, if◌then◌else◌}
+use Rattle.std.specs.Prelude.{ℕ, ◌≡◌, ◌⊎◌, ◌<◌, ◌+◌, ◌++◌, Bool, [], ◌∷◌, Option, None, Some, MatchBool, length, slice_get, if◌then◌else◌}
 use Rattle.model.specs.declared.event.Event.{Event}
 use Rattle.model.specs.declared.event.Event.TheVariants.{Dpc, StartIo, Step}
 use Rattle.model.specs.declared.limits.TheConstants.{MAX_DEVICES}
@@ -41,6 +41,11 @@ pub record Goes (t : ℕ) (before after : CoreState) : Type 0 where
 abbrev pub took : TakerState → NamedCommand → TakerState
 took taker asked = record taker { taken = taker.taken ++ asked ∷ [] }
 
+-- it took one, or none
+abbrev pub with_taken : TakerState → Option NamedCommand → TakerState
+with_taken taker None = taker
+with_taken taker (Some asked) = took taker asked
+
 -- a turn takes a command and enters it, where the thread has nothing to do of itself
 pub record TakesOne (t : ℕ) (before after : CoreState) (taker taker' : TakerState) : Type 0 where
   pub asked : NamedCommand
@@ -55,15 +60,22 @@ abbrev pub Turned : ℕ → CoreState → CoreState → TakerState → TakerStat
 Turned t before after taker taker' Entered =
     (Goes t before after × (taker' ≡ taker)) ⊎ TakesOne t before after taker taker'
 Turned t before after taker taker' Waits = (after ≡ before) × (taker' ≡ taker)
-Turned t before after taker taker' Ended =
-    IsNext (world_of before) t None × (after ≡ before) × (taker' ≡ taker)
-Turned t before after taker taker' (Full None) =
-    (length before.history ≡ before.log) × (after ≡ before) × (taker' ≡ taker)
-Turned t before after taker taker' (Full (Some asked)) =
-    (length before.history ≡ before.log) × (after ≡ before) × (taker' ≡ took taker asked)
+Turned t before after taker taker' (Ended end) =
+    IsNext (world_of before) t None × (after ≡ before) × (taker' ≡ taker) × (end ≡ t)
+Turned t before after taker taker' (Full taken) =
+    (length before.history ≡ before.log) × (after ≡ before) × (taker' ≡ with_taken taker taken)
 
--- what a turn came to, for its worker: an entry is one entry more, and else nothing is entered
-abbrev pub Progressed : CoreState → CoreState → Progress → Type 0
-Progressed before after Advanced = length after.history ≡ length before.history + 1
-Progressed before after Stalled = after ≡ before
-Progressed before after Over = after ≡ before
+-- what the turn of a worker came to, for that worker: an entry is one entry more, which its seat has
+-- counted, and else nothing is entered. An end is the worker's own
+abbrev pub Progressed : ℕ → CoreState → CoreState → Progress → Type 0
+Progressed t before after (Advanced count) =
+    (length after.history ≡ length before.history + 1)
+    × (slice_get after.seats t ≡ Some (Some count))
+Progressed t before after Stalled = after ≡ before
+Progressed t before after (Over end) = (after ≡ before) × (end ≡ t)
+
+-- an end that a turn came to is that of the worker of a thread
+abbrev pub EndsFor : ℕ → Progress → Type 0
+EndsFor t (Advanced count) = Unit {0}
+EndsFor t Stalled = Unit {0}
+EndsFor t (Over end) = end ≡ t

@@ -2,12 +2,17 @@
 //! that it takes from a queue.
 #![tactic(auto)]
 
+pub mod ending;
 mod locked;
 mod seating;
 pub mod served;
 pub mod serving;
+mod starting;
 mod turns;
 mod waiting;
+pub mod working;
 
+pub use ending::Ends;
 pub use served::Served;
-pub use serving::{Gate, serve};
+pub use serving::serve;
+pub use working::Gate;

@@ -4,6 +4,7 @@ ghost use Rattle.std.specs.Prelude.{◌≡◌, ◌≤◌, [], length, replicate}
 ghost use Rattle.hostcore.specs.Core.{CoreState};
 ghost use Rattle.intake.specs.declared.limits.TheConstants.{MAX_TAKERS};
 
+use crate::ending::Ends;
 use arrayvec::ArrayVec;
 use hostcore::{Core, Taken};
 use intake::Taker;
@@ -17,8 +18,11 @@ pub struct Served {
     pub counts: ArrayVec<u64, 64>,
     /// Commands that were taken and met the full history.
     pub held: Vec<Taken>,
-    /// How many workers could be started.
+    /// How many workers were started: the first ones, up to one that the system refused. The others
+    /// took nothing.
     pub started: usize,
+    /// The ends of those that were started.
+    pub ends: Ends,
     /// Whether a worker met the full history.
     pub full: bool,
 }

@@ -6,96 +6,19 @@ ghost use Rattle.intake.specs.Ends.{AreTakersOf};
 ghost use Rattle.intake.specs.declared.limits.TheConstants.{MAX_TAKERS};
 ghost use Rattle.workers.specs.Serves.{Serves};
 
-use crate::locked::{Beginning, Progress, Service};
+use crate::ending::Ends;
+use crate::locked::{Beginning, Service};
 use crate::seating::give_out;
 use crate::served::{Served, no_counts};
-use crate::waiting::{lock_when_free, pause};
+use crate::starting::{Joined, run_all};
+use crate::working::Gate;
 use hostcore::{Core, Seat, Taken};
-use intake::limits::MAX_TAKERS;
 use intake::{Intake, Taker};
 use std::alloc::Global;
 use std::marker::Brand;
+use std::sync::ledger::Blank;
 use std::sync::{Mutex, Wait};
-use std::thread;
 use std::thread::Threads;
-
-/// Says before each turn of a worker whether it may go on.
-pub trait Gate {
-    /// Whether the worker of this number, which has counted so many entries, takes its turn now.
-    fn before(&self, worker: u32, count: u64) -> bool;
-}
-
-/// A turn of a worker under the lock: the one place where it is taken.
-fn locked_turn<B: Beginning, R: Wait>(
-    rt: &R,
-    service: &Mutex<Service<B>>,
-    intake: &Intake,
-    number: usize,
-) -> Progress
-    requires number { number < length B.takers }
-    requires takers { AreTakersOf intake.now B.takers }
-{
-    lock_when_free(rt, service).turn(rt, intake, number)
-}
-
-/// The work of the worker of a number.
-fn work<B: Beginning, G: Gate, R: Wait>(
-    rt: &R,
-    service: &Mutex<Service<B>>,
-    intake: &Intake,
-    gate: &G,
-    number: usize,
-)
-    requires number { number < length B.takers }
-    requires few { length B.takers ≤ MAX_TAKERS }
-    requires takers { AreTakersOf intake.now B.takers }
-{
-    let mut count: u64 = 0;
-    let mut stalled: u32 = 0;
-    for _ in rt.forever() {
-        if !gate.before(number as u32, count) {
-            continue;
-        }
-        match locked_turn(rt, service, intake, number) {
-            Progress::Advanced => {
-                count = count.saturating_add(1);
-                stalled = 0;
-            }
-            Progress::Stalled => {
-                stalled = stalled.saturating_add(1);
-                pause(stalled);
-            }
-            Progress::Over => break,
-        }
-    }
-}
-
-/// All workers' work, each in a thread of its own.
-fn run_all<B: Beginning + Send + Sync, G: Gate + Sync, R: Threads + Wait + Sync>(
-    rt: &R,
-    service: Service<B>,
-    intake: &Intake,
-    gate: &G,
-    count: usize,
-) -> Service<B>
-    requires count { count ≡ length B.takers }
-    requires few { length B.takers ≤ MAX_TAKERS }
-    requires takers { AreTakersOf intake.now B.takers }
-{
-    let service = Mutex::new(service);
-    let mut places = [0u8; MAX_TAKERS as usize];
-    let shared = &service;
-    thread::for_each_mut(
-        rt,
-        &mut places[..count],
-        count.max(1),
-        &|number: usize, _place: &mut u8|
-            requires { (number < length B.takers) × (length B.takers ≤ MAX_TAKERS)
-                × AreTakersOf intake.now B.takers }
-        { work(rt, shared, intake, gate, number) },
-    );
-    service.into_inner()
-}
 
 /// Nothing is done: all that was handed in comes back.
 fn unserved(core: Core, takers: Vec<Taker>, held: Vec<Taken>) -> Served
@@ -110,38 +33,50 @@ fn unserved(core: Core, takers: Vec<Taker>, held: Vec<Taken>) -> Served
         counts,
         held,
         started: 0,
+        ends: Ends::of(0),
         full: false,
     }
 }
 
-/// Serves with memory for the seats and for what is held.
+/// Memory for the seats of workers, and for what is held.
+struct Room {
+    seats: Vec<Seat>,
+    held: Vec<Taken>,
+}
+
+/// Serves with memory for the seats and for what is held, and a blank ledger of one part.
 fn serve_from<B: Beginning + Send + Sync, G: Gate + Sync, R: Threads + Wait + Sync>(
     rt: &R,
     mut core: Core,
     intake: &Intake,
     takers: Vec<Taker>,
     gate: &G,
-    mut seats: Vec<Seat>,
-    held: Vec<Taken>,
+    room: Room,
+    blank: Blank,
 ) -> Served
     requires began { (core ≡ B.core) × (takers.items ≡ B.takers) }
+    requires ledger { (blank.name ≡ B.name) × (blank.parts ≡ B.parts) × (blank.parts ≡ 1) }
     requires few { length B.takers ≤ MAX_TAKERS }
     requires free { (i : ℕ) → i < length B.takers → slice_get B.core.seats i ≡ Some None }
     requires takers { AreTakersOf intake.now B.takers }
-    requires seats { (seats.items ≡ []) × (length B.takers ≤ vec_capacity seats) }
-    requires held { (held.items ≡ []) × (0 < vec_capacity held) }
+    requires seats { (room.seats.items ≡ []) × (length B.takers ≤ vec_capacity room.seats) }
+    requires held { (room.held.items ≡ []) × (0 < vec_capacity room.held) }
     ensures { Serves B.core B.takers result }
 {
+    let Room { mut seats, held } = room;
     let count = takers.len();
     give_out(&mut core, &mut seats, count);
-    let service = Service::<B>::open(core, seats, takers);
-    run_all(rt, service, intake, gate, count).close(held)
+    let (book, all) = blank.open::<B>();
+    let service = Mutex::new(Service::<B>::open(core, seats, takers, book));
+    let Joined { ends, started } = run_all(rt, &service, intake, gate, count, all);
+    service.into_inner().close(started, ends, held)
 }
 
 /// Serves a queue by a worker for each taker: worker i has the i-th taker and the seat of thread i.
 /// Before each turn a worker asks the gate. It steps its thread, if that is busy; else it starts
 /// what is due; else it takes a command and performs it. A worker ends when the queue is closed and
-/// empty and its thread has nothing to do, and all end when one meets the full history. Where
+/// empty and its thread has nothing to do, and all end when one meets the full history. Workers are
+/// started in order, each in a thread of its own, up to one whose thread the system refuses. Where
 /// memory is refused nothing is done; no memory is taken once the first worker is started.
 pub fn serve<G: Gate + Sync, R: Threads + Wait + Sync>(
     rt: &R,
@@ -164,5 +99,6 @@ pub fn serve<G: Gate + Sync, R: Threads + Wait + Sync>(
     let Ok(seats) = Vec::with_capacity(alloc, takers.len()) else {
         return unserved(core, takers, held);
     };
-    serve_from::<Brand, G, R>(rt, core, intake, takers, gate, seats, held)
+    let room = Room { seats, held };
+    serve_from::<Brand, G, R>(rt, core, intake, takers, gate, room, Blank::new(1))
 }

@@ -6,8 +6,9 @@ ghost use Rattle.hostcore.specs.Core.{world_of};
 ghost use Rattle.intake.specs.Ends.{TakerState};
 ghost use Rattle.workers.specs.Turned.{IsFirstDue, IsNext, Turned, start_of, took};
 
+use crate::ending::End;
 use hostcore::{Core, Seat, Stepped, Taken};
-use intake::{Intake, Taker};
+use intake::{Found, Intake, Taker};
 use model::event::{Event, Reply};
 use model::limits::MAX_DEVICES;
 use std::sync::Wait;
@@ -19,7 +20,7 @@ pub enum Turn {
     /// The thread waits, or there was nothing to do: nothing changed.
     Waits,
     /// There is nothing left to do: nothing changed.
-    Ended,
+    Ended(End),
     /// The history is full: nothing was entered. A command that was taken comes with it.
     Full(Option<Taken>),
 }
@@ -110,10 +111,10 @@ fn idle_turn<R: Wait>(
     if let Some(event) = first_due(core, seat.thread()) {
         return go(core, seat, event);
     }
-    let closed = intake.closed();
-    match taker.take(rt, intake) {
-        Some(taken) => perform(core, seat, taken),
-        None if closed => Turn::Ended,
-        None => Turn::Waits,
+    let closed = intake.closing();
+    match taker.take_or_end(rt, intake, closed) {
+        Found::Command(taken) => perform(core, seat, taken),
+        Found::Nothing => Turn::Waits,
+        Found::End(drained) => Turn::Ended(End::drained(core, seat, intake, drained)),
     }
 }
