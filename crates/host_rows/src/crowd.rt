@@ -34,7 +34,7 @@ fn put_all<R: Wait + Abort>(
 }
 
 /// A submitter puts a command, once there is room for it.
-fn put_one<R: Wait + Abort>(
+pub(crate) fn put_one<R: Wait + Abort>(
     rt: &R,
     core: &Core,
     intake: &Intake,
@@ -99,7 +99,11 @@ fn name_of<R: Abort>(rt: &R, taken: Taken) -> Name {
 }
 
 /// The last of the submitters.
-fn last_submitter<R: Abort>(rt: &R, intake: &Intake, submitters: &mut Vec<Submitter>) -> Submitter
+pub(crate) fn last_submitter<R: Abort>(
+    rt: &R,
+    intake: &Intake,
+    submitters: &mut Vec<Submitter>,
+) -> Submitter
     requires all { AreSubmittersOf intake.now submitters.old.items }
     ensures all { AreSubmittersOf intake.now submitters.new.items }
     ensures queue { result.queue ≡ intake.now }

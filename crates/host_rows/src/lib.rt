@@ -19,3 +19,5 @@ mod served;
 mod serving;
 #[cfg(test)]
 mod sets;
+#[cfg(test)]
+mod waiting;

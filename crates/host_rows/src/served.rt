@@ -90,6 +90,40 @@ pub(crate) fn serve_all<G: Gate + Sync, R: Threads + Wait + Abort + Sync>(
     }
 }
 
+/// Serves a queue to which others submit. Nothing is told of its commands, nor of what is left.
+pub(crate) fn serve_beside<G: Gate + Sync, R: Threads + Wait + Abort + Sync>(
+    rt: &R,
+    alloc: Global,
+    core: Core,
+    intake: &Intake,
+    takers: Vec<Taker>,
+    gate: &G,
+) -> Account
+    requires two { length takers.items ≡ 2 }
+    requires threads { core.threads ≡ 2 }
+    requires free { core.seats ≡ replicate core.threads None }
+    requires takers { AreTakersOf intake.now takers.items }
+{
+    let Served {
+        core,
+        takers,
+        counts,
+        held,
+        started,
+        full,
+    } = serve_it(rt, alloc, core, intake, takers, gate);
+    Account {
+        core,
+        told: Vec::new(alloc),
+        takers: takers.len(),
+        counts,
+        started,
+        full,
+        held: names_held(rt, alloc, held),
+        left: Vec::new(alloc),
+    }
+}
+
 /// Serves a queue. The takers that come back are those of the queue.
 fn serve_it<G: Gate + Sync, R: Threads + Wait + Sync>(
     rt: &R,

@@ -3,7 +3,7 @@
 ghost use Rattle.std.specs.Prelude.{◌≤◌};
 ghost use Rattle.model.specs.declared.limits.TheConstants.{MAX_THREADS};
 
-use crate::pace::{Pace, TOGETHER};
+use crate::pace::{Pace, TOGETHER, Watch};
 use crate::served::{Account, Told, serve_all};
 use crate::sets::{COMPLETES, QUEUES, READ, core_of};
 use model::event::Reply;
@@ -13,6 +13,7 @@ use std::alloc::Global;
 use std::process::Abort;
 use std::sync::Wait;
 use std::thread::Threads;
+use std::time::Clock;
 use workers::Gate;
 
 /// Many commands are 100 requests, 50 cancels of every other of these, and 100 interrupts.
@@ -65,7 +66,7 @@ fn check_both<R: Abort>(rt: &R, account: &Account) {
 }
 
 /// Whether so many workers were started and performed all commands, and all takers came back.
-fn is_finished(account: &Account, workers: usize) -> bool {
+pub(crate) fn is_finished(account: &Account, workers: usize) -> bool {
     account.started == workers
         && account.takers == workers
         && account.counts.len() == workers
@@ -104,7 +105,9 @@ fn serve_many<R: Threads + Wait + Abort + Sync>(
     requires few { workers ≤ MAX_THREADS }
 {
     let core = core_of(rt, alloc, QUEUES, workers, 1_000_000);
-    let account = serve_all(rt, alloc, core, workers, commands, &Open);
+    let watch = Watch::new();
+    let account = serve_all(rt, alloc, core, workers, commands, &watch);
+    assert!(rt; watch.ended_with(account.counts.as_slice()));
     check_served(rt, alloc, &account, workers);
 }
 
@@ -281,22 +284,40 @@ fn check_full<R: Abort>(rt: &R, alloc: Global, account: &Account) {
     check_names(rt, alloc, account);
 }
 
-/// Two workers perform requests side by side.
+/// Workers perform 200 requests side by side: two of them the first 100 entries of each, and all
+/// entries; and 64 the first three requests of each.
 #[test]
 fn workers_overlap(rt: HostRuntime) {
     let alloc = rt.alloc();
-    let core = core_of(&rt, alloc, COMPLETES, 2, 1_000_000);
-    let commands = vec![in alloc; READ; 200].ok().expect(&rt, "memory");
-    let clock = rt.clone().ok().expect(&rt, "a clock");
-    let pace = Pace::new(clock);
-    let account = serve_all(&rt, alloc, core, 2, commands.as_slice(), &pace);
-    assert!(rt; pace.held());
-    check_overlap(&rt, &account);
+    for (workers, bound) in [(2, TOGETHER), (2, 400), (64u8, 12)] {
+        let clock = rt.clone().ok().expect(&rt, "a clock");
+        let pace = Pace::new(clock, workers as usize, bound);
+        serve_together(&rt, alloc, workers, &pace);
+    }
 }
 
-/// Two workers performed all of 200 requests, and each made as many entries as the gate asks for.
-fn check_overlap<R: Abort>(rt: &R, account: &Account) {
-    assert!(rt; account.counts.iter().all(|count| *count >= TOGETHER));
+/// So many workers serve 200 requests at a gate that makes them overlap.
+fn serve_together<R: Threads + Wait + Abort + Sync, C: Clock + Sync>(
+    rt: &R,
+    alloc: Global,
+    workers: u8,
+    pace: &Pace<C>,
+)
+    requires some { 1 ≤ workers }
+    requires few { workers ≤ MAX_THREADS }
+{
+    let core = core_of(rt, alloc, COMPLETES, workers, 1_000_000);
+    let commands = vec![in alloc; READ; 200].ok().expect(rt, "memory");
+    let account = serve_all(rt, alloc, core, workers, commands.as_slice(), pace);
+    check_overlap(rt, &account, workers, pace);
+}
+
+/// The workers performed all of 200 requests, and each told the gate of the entries that it made.
+fn check_overlap<R: Abort, C: Clock>(rt: &R, account: &Account, workers: u8, pace: &Pace<C>) {
+    let counts = account.counts.as_slice();
+    assert!(rt; pace.held(), "with {workers} workers");
+    assert!(rt; pace.watch().ended_with(counts));
+    assert!(rt; counts.iter().all(|count| *count >= pace.bound()));
     assert_eq!(rt; account.core.history().len(), 800);
-    assert!(rt; is_finished(account, 2));
+    assert!(rt; is_finished(account, workers as usize));
 }

@@ -17,6 +17,11 @@ pub(crate) const COMPLETES: &[u8] =
     b"driver d\ndispatch READ f\nroutine f dispatch\ncomplete r0 SUCCESS\nret SUCCESS\nendr\nendd\n\
       device v d 1\n";
 
+/// A driver that completes each read at once, after it had a lock.
+pub(crate) const LOCKS: &[u8] =
+    b"driver d\ndispatch READ f\nroutine f dispatch\nacquire l0\nrelease l0\n\
+      complete r0 SUCCESS\nret SUCCESS\nendr\nendd\ndevice v d 1\n";
+
 /// A driver with a queue whose packets may be cancelled. Its DPC routine completes them.
 pub(crate) const QUEUES: &[u8] =
     b"driver d\nqueue q l0 gone\ndispatch READ f\ndpc g\nroutine f dispatch\nmark r0\nacquire l0\n\
