@@ -18,6 +18,8 @@ mod evidences;
 #[cfg(test)]
 mod failures;
 #[cfg(test)]
+mod hosted;
+#[cfg(test)]
 mod images;
 #[cfg(test)]
 mod in_memory;
