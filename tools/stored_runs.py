@@ -27,6 +27,7 @@ RUNS, DATA = os.path.join(CRATE, 'runs'), os.path.join(CRATE, 'data')
 LIST, STDOUT = 'data/runs.txt', 'stdout'
 COPIED = 'driver.drv', 'events.sched', 'mended.drv'
 END = re.compile(r'^status [0-9]+, opened [0-9]+(, failed reads [1-9][0-9]*)?$')
+ENDLESS = 'did not end within the time limit'
 TEXT = re.compile(r'\.(drv|image|sched|script)$')
 
 class Run:
@@ -199,14 +200,15 @@ def show(group):
                 print(read(os.path.join(DATA, name)).decode(errors='backslashreplace'))
         print('\n'.join(part.lines()))
 
-def tried(crate, seconds='600'):
-    """What the program of a crate stored_runs writes before any proof, or None."""
+def tried(crate, seconds='600', endless=False):
+    """What the program of a crate stored_runs writes before any proof, or None. Where it may be endless, that is what it
+    writes up to then."""
     data = os.path.join(crate, 'data')
     names = [os.path.relpath(os.path.join(at, name), data) for at, _, files in os.walk(data) for name in files]
     words = [word for name in sorted(names) for word in ('--data', '%s=data/%s' % (name, name))]
     done = subprocess.run(['rt', 'try', '--seconds', seconds, *words], cwd=crate, stdin=subprocess.DEVNULL, capture_output=True,
                           text=True, errors='replace')
-    if 'run=ended' not in done.stderr:
+    if 'run=ended' not in done.stderr and not (endless and ENDLESS in done.stderr):
         print(done.stderr[-2000:])
         return None
     return done.stdout

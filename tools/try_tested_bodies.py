@@ -35,7 +35,7 @@ def failed(folder, tests):
 def differing(folder):
     """The groups of the stored runs of which the program writes anything else than what is stored."""
     crate = os.path.join(folder, 'crates', RUNS)
-    out = tried(crate)
+    out = tried(crate, '100', endless=True)
     wanted, written = (by_group(text) for text in (open(os.path.join(crate, 'stdout')).read(), out or ''))
     return {name for name in wanted if written.get(name) != wanted[name]} if out is not None else set()
 
