@@ -1,15 +1,16 @@
 #!/usr/bin/env python3
 """unseen_words.py [--all]: the texts of explain, told, fault_words and drawn_parts that no stored answer has.
 
-It reads the string literals of these crates' sources, but for comments and clauses, and looks for each in the answers of the
-stored runs (crates/stored_runs/runs, and the groups that tools/stored_runs.py makes) to the commands that tell it: the
-constant parts of a form in their order, with anything of the same line between them. What a longer text of the same crate has
-in common with it doesn't count, nor do lines that are quoted from a set. A word of the language, which stands in a table of
-its own, is looked for where a text asks whether it is meant. Literals without three letters in a row are left out.
+It reads the string literals of these crates' sources, but for comments and clauses, and looks for each in the answers of
+the stored runs (crates/stored_runs/runs, and the groups that tools/stored_runs.py makes) to the commands that tell it: the
+constant parts of a form in their order, with anything of the same line between them. What a longer text of the same crate
+has in common with it doesn't count, nor do lines that are quoted from a set. A word of the language, which stands in a
+table of its own, is looked for where a text asks whether it is meant. Literals without three letters in a row are left out.
 
 Each text that is in no answer is printed with its place, and 1 is the exit status then; those that no set can give, or none
-that is small, stand below with the reason. One that stands there and is told all the same is printed too. With --all it prints how often each text is told."""
-import collections, os, re, sys
+that is small, stand below with the reason. One that stands there and is told all the same is printed too. With --all it
+prints of each text how often it is told."""
+import os, re, sys
 
 import stored_runs
 
@@ -23,7 +24,7 @@ CRATES = {
 TABLES = {'fault_words/src/line_form.rt', 'fault_words/src/operand.rt'}
 
 # Texts that no stored run gives, and why not.
-UNREACHABLE = {
+LEFT_OUT = {
     # Memory runs out in no stored run.
     'memory ran out before there was a verdict',
     'try again with more memory',
@@ -33,8 +34,8 @@ UNREACHABLE = {
     # lower driver's status is owed; that a register hasn't it is told by another rule, which comes first.
     "a lower driver's status is returned for a packet that wasn't sent down",
     'return the status that the packet is completed with',
-    # What a hold routine didn't mark stands in a register when it stops the completion, since it may not complete or send it
-    # down: that it would be lost comes first. In a `propagate` routine `ret stop` is of the wrong sort, which comes first too.
+    # What a hold routine didn't mark stands in a register when it stops the completion, since it may not complete it or send
+    # it down: that it would be lost comes first. In a `propagate` routine `ret stop` is of the wrong sort, which does too.
     "the routine keeps a packet that it didn't mark",
     '`mark` it before `ret stop`',
     # The devices that a run names are those of the set, each of which has a line in the set's text or listing.
@@ -84,7 +85,8 @@ def without_clauses(source):
 
 def is_pattern(source, found):
     """Whether a literal is one that something is compared with."""
-    return re.search(r'(\||==|matches!\(word,)\s*$', source[:found.start()]) or re.match(r'\s*(=>|\|[^|])', source[found.end():])
+    before, behind = source[:found.start()], source[found.end():]
+    return re.search(r'(\||==|matches!\(word,)\s*$', before[-40:]) or re.match(r'\s*(=>|\|[^|])', behind[:40])
 
 def texts_of(crate):
     """The texts of a crate."""
@@ -128,11 +130,11 @@ def main():
     for crate in CRATES:
         for text, times in counted(groups, crate):
             count += 1
-            missing = (times > 0) == (text.literal in UNREACHABLE)
+            missing = (times > 0) == (text.literal in LEFT_OUT)
             unseen += missing
             if missing or '--all' in sys.argv:
                 print('%s: %d: %s' % (text.place(), times, text.literal.replace('\n', '\\n')))
-    print('%d texts, %d in no stored answer, or in one against what is said here; %d are left out' % (count, unseen, len(UNREACHABLE)))
+    print('%d texts, %d in no stored answer or against what is said here, %d left out' % (count, unseen, len(LEFT_OUT)))
     return 1 if unseen else 0
 
 if __name__ == '__main__':
