@@ -1,5 +1,7 @@
 //! Parts of a text, quoted.
 
+ghost use Rattle.std.specs.Prelude.{◌≡◌, ◌-◌, max};
+
 use crate::spot::{Spot, line_at, lines_round};
 use std::alloc::AllocError;
 
@@ -27,6 +29,13 @@ pub fn add_line(prose: &mut String, text: &[u8], spot: Spot) -> Result<(), Alloc
     }
 }
 
+/// The number of the first line that is quoted round one: that of the second line before it, or 1.
+fn first_number(spot: Spot) -> u64
+    ensures { result ≡ max (spot.number - 2) 1 }
+{
+    spot.number.saturating_sub(2).max(1)
+}
+
 /// Adds a line and two lines round it, with their numbers; the line itself is marked.
 ///
 /// # Errors
@@ -34,8 +43,7 @@ pub fn add_line(prose: &mut String, text: &[u8], spot: Spot) -> Result<(), Alloc
 /// When memory runs out.
 pub fn add_excerpt(prose: &mut String, text: &[u8], spot: Spot) -> Result<(), AllocError> {
     let mut left = lines_round(text, spot);
-    let first = spot.number.saturating_sub(2).max(1);
-    for number in first..spot.number.saturating_add(3) {
+    for number in first_number(spot)..spot.number.saturating_add(3) {
         let Some(line) = left.next() else {
             return Ok(());
         };
