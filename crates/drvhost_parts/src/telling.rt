@@ -11,6 +11,7 @@ ghost use Rattle.report.specs.Reply.{worded_line};
 ghost use Rattle.report.specs.Word.{word_of};
 ghost use Rattle.run_laws.specs.Waits.{says_unchanged};
 ghost use Rattle.inputs_outputs.specs.Answer.{ended};
+ghost use Rattle.told.specs.Noted.{noted};
 ghost use Rattle.drvhost_parts.specs.Repeats.{Comes, awaited};
 ghost use Rattle.drvhost_parts.specs.Seen.{GoesUnseen};
 ghost use Rattle.drvhost_parts.specs.Told.{GoesAlone, HasTold, IsRunTold, IsTold, LedgerGoesOn, ToldAlone, ToldNext, count_left, happens_again, is_left_out, left_again, times_again, told_line};
@@ -312,7 +313,6 @@ fn tell_next(
         detail,
         happened,
     )? {
-        teller.pass(1);
         number.advance();
         return Ok(next.rest);
     }
@@ -344,7 +344,6 @@ fn tell_single(
 {
     let unseen = goes_unseen(machine, event, detail);
     if see(alloc, ledger, machine, event, unseen, detail, happened)? {
-        teller.pass(1);
         number.advance();
         return Ok(());
     }
@@ -364,10 +363,12 @@ fn tell_seen(
 ) -> Result<(), AllocError>
     requires { number.old + 1 < 2 ^ 64 }
     ensures number { OnOk result (number.new ≡ number.old + 1) }
+    ensures refused { OnOk result
+        (teller.new ≡ noted teller.old number.old happened.now.reply) }
     ensures told { OnOk result ((words : List ℕ) × (text.new
         ≡ text.old ++ told_line detail number.old happened.now.reply words)) }
 {
-    teller.note(happened, machine)?;
+    teller.note(number.value(), happened, machine)?;
     add_event(teller, machine, number, happened, detail, lines, text)
 }
 
@@ -439,7 +440,6 @@ fn go_ahead(
         Detail::Quiet => {
             let made = machine.go_on(thread, most);
             number.advance_many(made as u64);
-            teller.pass(made as u64);
             Ok(made)
         }
         Detail::Whole => tell_alone(teller, machine, number, thread, most, text),
@@ -550,7 +550,6 @@ fn tell_again(
     ensures told { OnOk result ((added : List ℕ) × (text.new ≡ text.old ++ added)
         × IsTold detail number.old (replicate count happened.now.reply) added) }
 {
-    teller.pass(count as u64);
     if is_left_out(detail, &happened.reply) {
         number.advance_many(count as u64);
         return Ok(());
@@ -612,6 +611,7 @@ fn add_event(
     text: &mut ToldLines,
 ) -> Result<(), AllocError>
     requires { number.old + 1 < 2 ^ 64 }
+    ensures kept { OnOk result (teller.new ≡ teller.old) }
     ensures number { OnOk result (number.new ≡ number.old + 1) }
     ensures told { OnOk result ((words : List ℕ) × (text.new
         ≡ text.old ++ told_line detail number.old happened.now.reply words)) }
@@ -637,6 +637,7 @@ fn add_worded(
 ) -> Result<(), AllocError>
     requires word { word_of happened.now.reply ≡ Some word }
     requires number { number.old + 1 < 2 ^ 64 }
+    ensures kept { OnOk result (teller.new ≡ teller.old) }
     ensures number { OnOk result (number.new ≡ number.old + 1) }
     ensures told { OnOk result ((words : List ℕ) × (text.new
         ≡ text.old ++ worded_line number.old happened.now.reply words)) }
@@ -675,6 +676,7 @@ fn add_other(
     text: &mut ToldLines,
 ) -> Result<(), AllocError>
     requires number { number.old + 1 < 2 ^ 64 }
+    ensures kept { OnOk result (teller.new ≡ teller.old) }
     ensures number { OnOk result (number.new ≡ number.old + 1) }
     ensures told { OnOk result ((words : List ℕ) × (text.new
         ≡ text.old ++ worded_line number.old happened.now.reply words)) }

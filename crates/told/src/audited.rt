@@ -1,5 +1,8 @@
 //! What the audit of a run says, in words.
 
+ghost use Rattle.std.specs.Prelude.{◌≡◌, [], OnOk};
+ghost use Rattle.told.specs.Noted.{noted};
+
 use crate::book::Book;
 use crate::disagreement::{Place, add_note, add_place, opened_place};
 use crate::line::Happened;
@@ -16,43 +19,50 @@ use packet_holders::Rights;
 use pending_uses::acts::UseStep;
 use pending_uses::ledger::Ledger;
 use std::alloc::{AllocError, Global};
+use std::marker::Model;
 
 /// An event that was refused.
 #[derive(Clone, Copy)]
-struct Refused {
+struct RefusedEvent {
     number: u64,
     reason: Option<Reason>,
 }
 
 /// What is noted of a run while it goes: packets that topped out, and events that were refused.
+/// Contracts see the numbers of the latter, in order.
 #[derive(Drop)]
 pub(crate) struct Audited {
-    /// How many events there were.
-    events: u64,
     topped: Vec<TopOut>,
-    refused: Vec<Refused>,
+    refused: Vec<RefusedEvent>,
     /// The locations of which uses were opened, by the numbers of the uses.
     opened: Vec<Option<Place>>,
 }
 
+impl Model for Audited {
+    ghost use Rattle.std.specs.Prelude.{List, ℕ};
+    ghost use Rattle.told.specs.Noted.{numbers};
+
+    ghost Value = { List ℕ };
+
+    ghost view = { λ a. numbers a.refused.items };
+}
+
 impl Audited {
     /// Of a run without events.
-    pub(crate) fn new(alloc: Global) -> Audited {
+    pub(crate) fn new(alloc: Global) -> Audited
+        ensures { result ≡ [] }
+    {
         Audited {
-            events: 0,
             topped: Vec::new(alloc),
             refused: Vec::new(alloc),
             opened: Vec::new(alloc),
         }
     }
 
-    /// Passes so many events.
-    pub(crate) fn pass(&mut self, events: u64) {
-        self.events = self.events.wrapping_add(events);
-    }
-
     /// Notes the location of which the next event opens a use, if it does.
-    fn note_opened(&mut self, happened: &Happened, machine: &Checked) -> Result<(), AllocError> {
+    fn note_opened(&mut self, happened: &Happened, machine: &Checked) -> Result<(), AllocError>
+        ensures { OnOk result (self.new ≡ self.old) }
+    {
         if matches!(happened.step, UseStep::Issue(_) | UseStep::Call(_))
             && !matches!(happened.reply, Reply::Waited | Reply::Idle | Reply::Refused)
         {
@@ -61,15 +71,16 @@ impl Audited {
         Ok(())
     }
 
-    /// Notes the next event.
+    /// Notes the event of a number.
     pub(crate) fn note(
         &mut self,
+        number: u64,
         happened: &Happened,
         machine: &Checked,
-    ) -> Result<(), AllocError> {
+    ) -> Result<(), AllocError>
+        ensures { OnOk result (self.new ≡ noted self.old number happened.now.reply) }
+    {
         self.note_opened(happened, machine)?;
-        let number = self.events;
-        self.events = number.wrapping_add(1);
         match happened.reply {
             Reply::Topped {
                 packet,
@@ -80,7 +91,7 @@ impl Audited {
                 status,
                 info,
             })?,
-            Reply::Refused => self.refused.push(Refused {
+            Reply::Refused => self.refused.push(RefusedEvent {
                 number,
                 reason: happened.moment.reason,
             })?,

@@ -1,5 +1,6 @@
 //! A run told event by event: which frame acts, where it stands in the text, and in words what its
-//! step changed. What acts is by contract; the words are plain code round it.
+//! step changed. What acts, and the numbers of the events that were refused, are by contract; the
+//! words are plain code round it.
 #![tactic(auto)]
 
 mod audited;

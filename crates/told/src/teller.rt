@@ -1,5 +1,8 @@
 //! What tells a run.
 
+ghost use Rattle.std.specs.Prelude.{◌≡◌, [], IfOk, OnOk};
+ghost use Rattle.told.specs.Noted.{noted};
+
 use crate::audited::{Audited, add_audit};
 use crate::book::{Book, Place};
 use crate::change::add_change;
@@ -13,6 +16,7 @@ use model::view::FrameView;
 use packet_holders::Rights;
 use pending_uses::ledger::Ledger;
 use std::alloc::{AllocError, Global};
+use std::marker::Model;
 
 /// Whose columns stand ready: those of a thread's step, behind so many bytes.
 #[derive(Clone, Copy)]
@@ -22,7 +26,7 @@ struct Ahead {
 }
 
 /// What tells a run: how the text calls things, what is noted for the audit, and the words that were
-/// made last, in two parts.
+/// made last, in two parts. Contracts see the numbers of the events that were refused, in order.
 #[derive(Drop)]
 pub struct Teller<'a> {
     book: Book<'a>,
@@ -45,13 +49,23 @@ pub struct Teller<'a> {
     standing: Option<Standing>,
 }
 
+impl<'a> Model for Teller<'a> {
+    ghost use Rattle.std.specs.Prelude.{List, ℕ};
+
+    ghost Value = { List ℕ };
+
+    ghost view = { λ t. t.audited };
+}
+
 impl<'a> Teller<'a> {
     /// That of a run before the first event, with the names and the lines of the text of its set.
     ///
     /// # Errors
     ///
     /// When memory runs out.
-    pub fn of(alloc: Global, text: &'a [u8]) -> Result<Teller<'a>, AllocError> {
+    pub fn of(alloc: Global, text: &'a [u8]) -> Result<Teller<'a>, AllocError>
+        ensures { IfOk result (λ teller. teller ≡ []) }
+    {
         Ok(Teller {
             book: Book::of(alloc, text)?,
             audited: Audited::new(alloc),
@@ -66,19 +80,21 @@ impl<'a> Teller<'a> {
         })
     }
 
-    /// Notes the next event, by the machine after it.
+    /// Notes the event of a number, by the machine after it.
     ///
     /// # Errors
     ///
     /// When memory runs out.
-    pub fn note(&mut self, happened: &Happened, machine: &Checked) -> Result<(), AllocError> {
+    pub fn note(
+        &mut self,
+        number: u64,
+        happened: &Happened,
+        machine: &Checked,
+    ) -> Result<(), AllocError>
+        ensures { OnOk result (self.new ≡ noted self.old number happened.now.reply) }
+    {
         self.ahead = None;
-        self.audited.note(happened, machine)
-    }
-
-    /// Notes so many events more, of which there is nothing to note.
-    pub fn pass(&mut self, events: u64) {
-        self.audited.pass(events);
+        self.audited.note(number, happened, machine)
     }
 
     /// Whether the words that were made last stand behind so many bytes.
@@ -97,7 +113,9 @@ impl<'a> Teller<'a> {
         head: usize,
         happened: &Happened,
         machine: &Checked,
-    ) -> Result<(), AllocError> {
+    ) -> Result<(), AllocError>
+        ensures { OnOk result (self.new ≡ self.old) }
+    {
         self.head = head;
         self.ahead = None;
         self.fronts.make(head, &happened.event, machine)?;
@@ -114,7 +132,9 @@ impl<'a> Teller<'a> {
     }
 
     /// Makes the second part of the words of an event, by the machine after it.
-    fn make_words(&mut self, happened: &Happened, machine: &Checked) -> Result<(), AllocError> {
+    fn make_words(&mut self, happened: &Happened, machine: &Checked) -> Result<(), AllocError>
+        ensures { OnOk result (self.new ≡ self.old) }
+    {
         self.change.clear();
         add_change(
             &mut self.change,
@@ -142,14 +162,15 @@ impl<'a> Teller<'a> {
         thread: u8,
         place: FrameView,
         machine: &Checked,
-    ) -> Result<(), AllocError> {
+    ) -> Result<(), AllocError>
+        ensures { OnOk result (self.new ≡ self.old) }
+    {
         if !self.is_ahead(head, thread) {
             self.head = head;
             self.ahead = None;
             self.fronts.make(head, &Event::Step { thread }, machine)?;
             self.ahead = Some(Ahead { head, thread });
         }
-        self.audited.pass(1);
         self.standing = None;
         self.line = self.book.line_at(place);
         if self.line.is_none() {
