@@ -110,6 +110,7 @@ pub(crate) fn serve_beside<G: Gate + Sync, R: Threads + Wait + Abort + Sync>(
         counts,
         held,
         started,
+        ends: _,
         full,
     } = serve_it(rt, alloc, core, intake, takers, gate);
     Account {
