@@ -1,6 +1,6 @@
 -- What the commands of a script came to, where threads served them.
 use Rattle.std.proofs.Common.{◌≡◌, ◌<◌, ◌≤◌, ◌+◌, ◌++◌, ◌⊎◌, inl, inr, ⊎_elim, ℕ, zero, suc, true, List, [], ◌∷◌, Option, None, Some, get_or, length, take, refl, sym, subst, ap, ◌∙◌, arith}
-use Rattle.std.specs.Prelude.{slice_get}
+use Rattle.std.specs.Prelude.{All, slice_get}
 use Rattle.std.proofs.lemmas.List.Sums.{get_or-le-sum_by}
 use Rattle.std.proofs.lemmas.Option.{get_or_from_slice_get, slice_get-get_or, slice_get_within}
 use Rattle.run_laws.proofs.Lists.{all_at}
@@ -12,9 +12,11 @@ use Rattle.hostcore.specs.Core.{CoreState}
 use Rattle.intake.specs.Ends.{TakerState, weigh_taken}
 use Rattle.intake.specs.Lists.{weigh}
 use Rattle.workers.specs.declared.served.Served.{Served}
+use Rattle.workers.specs.Ended.{EndsState, HaveEnded}
 use Rattle.workers.specs.Serves.{Serves}
 use Rattle.workers.specs.Worked.{IsCommand, IsOwn, Worked}
-use Rattle.hosting.specs.Served.{Accounts, IsLeft, IsOfScript, StandsOnce, command_name, named_at, named_from}
+use Rattle.workers.proofs.Closing.{fewer}
+use Rattle.hosting.specs.Served.{Accounts, AreStarted, IsLeft, IsOfScript, StandsOnce, command_name, named_at, named_from}
 use Rattle.hosting.proofs.Membership.{IsWeighed, is_among, some_passes}
 use Rattle.hosting.proofs.NumberedCommands.{at_number, few_taken, get_take, get_within, name_number, none_above, none_found, once_at_most}
 use Rattle.hosting.proofs.TakerLists.{AreOfPut}
@@ -79,6 +81,9 @@ module _ (began : CoreState) (takers : List TakerState) (ended : Served) (comman
       ap (λ (c : CoreState). c.history) s.core
       ∙ ap (λ (xs : List Entry). xs ++ s.new) fresh
 
+  workers : All (λ (e : Entry). e.thread < length takers) s.new
+  workers = fewer ended.started (length takers) s.new s.started s.workers
+
   -- what all took weighs no more than what was put
   taken_put : (h : NamedCommand → ℕ)
       → weigh_taken h ended.takers.items ≤ weigh h (named_from 0 (take m commands))
@@ -111,7 +116,7 @@ module _ (began : CoreState) (takers : List TakerState) (ended : Served) (comman
   named_most n =
       omega (
         arith,
-        over_threads n (length takers) s.new s.workers,
+        over_threads n (length takers) s.new workers,
         ap (over (count_at n s.new) 0) s.count,
         over_takers (count_at n s.new) (command_of n) 0 ended.takers.items (entries_taken_at n),
         taken_put (command_of n),
@@ -162,7 +167,7 @@ module _ (began : CoreState) (takers : List TakerState) (ended : Served) (comman
   told : (i : ℕ) (e : Entry) → slice_get s.new i ≡ Some e
       → IsOwn e.thread e ⊎ IsItsCommand commands s.new e
   told i e at =
-      let few = all_at (λ (d : Entry). d.thread < length takers) s.new i e s.workers at in
+      let few = all_at (λ (d : Entry). d.thread < length takers) s.new i e workers at in
       let its = get_within ended.takers.items e.thread (omega (arith, few, s.count)) in
       let w = work e.thread its.0 its.1 in
       ⊎_elim (λ own. inl own)
@@ -186,7 +191,7 @@ module _ (began : CoreState) (takers : List TakerState) (ended : Served) (comman
   accounts : Accounts (length takers) commands s.new
   accounts =
       record {
-        seated = s.workers;
+        seated = workers;
         each = λ k c at. each_once k c at (count_entries (command_name k) s.new) refl;
         others = λ i d within. of_script commands s.new (get_or s.new i d)
             (told i (get_or s.new i d) (slice_get-get_or s.new i d within));
@@ -196,6 +201,20 @@ module _ (began : CoreState) (takers : List TakerState) (ended : Served) (comman
   -- put there, each command stands once in the history or was left
   pub accounted : Accounts (length takers) commands ended.core.history
   accounted = subst (Accounts (length takers) commands) (sym history) accounts
+
+  -- the workers that were started have ended, and each entry is of one of them
+  pub are_started : 1 ≤ ended.ends.started
+      → AreStarted (length takers) ended.core.history ended.ends
+  are_started some =
+      let same : ended.started ≡ ended.ends.started = ap (λ (e : EndsState). e.started) (sym s.ends) in
+      record {
+        ended = subst (λ (n : ℕ). HaveEnded n ended.ends) same s.ends;
+        some = some;
+        few = omega (arith, same, s.started);
+        seated = subst (λ (n : ℕ). All (λ (e : Entry). e.thread < n) ended.core.history) same
+            (subst (λ (xs : List Entry). All (λ (e : Entry). e.thread < ended.started) xs) (sym history)
+            s.workers);
+      }
 
   -- a command that wasn't put into the queue was left
   pub left_unput : (k : ℕ) → m ≤ k → entry_named ended.core.history (command_name k) ≡ None

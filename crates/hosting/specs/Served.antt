@@ -7,6 +7,7 @@ use Rattle.model.specs.declared.limits.TheConstants.{MAX_HISTORY}
 use Rattle.model.specs.History.{IsLegal, NamedCommand, entry_named, has_name}
 use Rattle.model.specs.Set.{Set}
 use Rattle.intake.specs.Lists.{name_of}
+use Rattle.workers.specs.Ended.{EndsState, HaveEnded}
 use Rattle.workers.specs.Worked.{IsCommand, IsOwn}
 
 -- the name of the k-th command of a script, which has one submitter
@@ -48,6 +49,14 @@ pub record Accounts (threads : ℕ) (commands : List Command) (history : List En
   pub each : (k : ℕ) (c : Command) → slice_get commands k ≡ Some c
       → StandsOnce history (named_at k c) ⊎ IsLeft history (named_at k c)
   pub others : All (λ (e : Entry). IsOwn e.thread e ⊎ IsOfScript commands e) history
+
+-- of so many workers the first ones were started, at least one. Each of these has ended, and each
+-- entry of the history is of the thread of one of them
+pub record AreStarted (workers : ℕ) (history : List Entry) (ends : EndsState) : Type 0 where
+  pub ended : HaveEnded ends.started ends
+  pub some : 1 ≤ ends.started
+  pub few : ends.started ≤ workers
+  pub seated : All (λ (e : Entry). e.thread < ends.started) history
 
 -- a legal history of a set in which so many threads served the commands of a script
 pub record HasServed (set : Set) (threads : ℕ) (commands : List Command) (history : List Entry)

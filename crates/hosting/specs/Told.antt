@@ -13,7 +13,7 @@ use Rattle.model.specs.History.{entry_named, outcome_named}
 use Rattle.model.specs.Set.{Set}
 use Rattle.hostcore.specs.Core.{CoreState}
 use Rattle.hosting.specs.declared.hosted.Hosted.{Hosted}
-use Rattle.hosting.specs.Served.{HasServed, command_name}
+use Rattle.hosting.specs.Served.{AreStarted, HasServed, command_name}
 
 -- how the packet of a request topped out, or else the reply
 abbrev pub shown_as : Reply → Option TopOut → Reply
@@ -61,6 +61,7 @@ pub record Hosts (set : Set) (threads : ℕ) (commands : List Command) (hosted :
   where
     pub history : List Entry
     pub served : HasServed set threads commands history
+    pub started : AreStarted threads history hosted.ends
     pub told : hosted.told.items ≡ all_told history (length commands)
     pub entries : hosted.entries ≡ length history
     pub agrees : hosted.agrees ≡ true

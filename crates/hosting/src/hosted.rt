@@ -9,7 +9,7 @@ ghost use Rattle.model.specs.declared.limits.TheConstants.{MAX_THREADS};
 ghost use Rattle.model.specs.History.{NamedCommand};
 ghost use Rattle.model.specs.Machine.{ShowsWhole};
 ghost use Rattle.run_laws.specs.Rules.{KeepsTheRules};
-ghost use Rattle.hosting.specs.Served.{Accounts};
+ghost use Rattle.hosting.specs.Served.{Accounts, AreStarted};
 ghost use Rattle.hosting.specs.Told.{Hosts, all_told, new_core};
 
 use crate::collecting::{none_told, tell_all};
@@ -18,7 +18,7 @@ use crate::submitting::submit_all;
 use checked::Checked;
 use hostcore::{Core, Taken, Ticket};
 use intake::limits::MAX_CAPACITY;
-use intake::{Intake, Submitter};
+use intake::{Closed, Intake, Submitter};
 use model::event::Reply;
 use model::history::Command;
 use model::limits::MAX_HISTORY;
@@ -28,7 +28,7 @@ use std::alloc::Global;
 use std::sync::Wait;
 use std::thread::Threads;
 use verifier::Accepted;
-use workers::{Gate, Served, serve};
+use workers::{Ends, Gate, Served, serve};
 
 /// What came of the commands of a script.
 #[derive(Drop)]
@@ -38,6 +38,8 @@ pub struct Hosted {
     pub told: Vec<Option<Reply>>,
     /// How many entries the history has.
     pub entries: usize,
+    /// The ends of the workers that were started, of which there is at least one.
+    pub ends: Ends,
     /// Whether the reference machine answers the events of the history as the history tells.
     pub agrees: bool,
 }
@@ -47,6 +49,13 @@ pub struct Hosted {
 struct Told {
     core: Core,
     told: Vec<Option<Reply>>,
+    ends: Ends,
+}
+
+/// A core whose workers have left the queue that they served, and their ends.
+struct Settled {
+    core: Core,
+    ends: Ends,
 }
 
 /// Submits the commands of a script to a queue, closes it, and has it served over a core of an
@@ -55,7 +64,7 @@ struct Told {
 ///
 /// # Errors
 ///
-/// When memory runs out.
+/// When memory runs out, or no worker can be started.
 pub fn serve_script<G: Gate + Sync, R: Threads + Wait + Sync>(
     rt: &R,
     alloc: Global,
@@ -70,13 +79,14 @@ pub fn serve_script<G: Gate + Sync, R: Threads + Wait + Sync>(
 {
     let mut machine = reference(alloc, &accepted, workers)?;
     let core = core_of(alloc, accepted, workers)?;
-    let Told { core, told } = serve_all(rt, alloc, core, workers, commands, gate)?;
+    let Told { core, told, ends } = serve_all(rt, alloc, core, workers, commands, gate)?;
     let history = core.history();
     let entries = history.len();
     let agrees = agrees(&mut machine, history);
     Ok(Hosted {
         told,
         entries,
+        ends,
         agrees,
     })
 }
@@ -127,6 +137,7 @@ fn serve_all<G: Gate + Sync, R: Threads + Wait + Sync>(
     ensures log { IfOk result (λ ended. ended.core.log ≡ core.log) }
     ensures accounts { IfOk result
         (λ ended. Accounts workers commands.now ended.core.history) }
+    ensures started { IfOk result (λ ended. AreStarted workers ended.core.history ended.ends) }
     ensures told { IfOk result (λ ended. ended.told.items
         ≡ all_told ended.core.history (length commands.now)) }
 {
@@ -135,26 +146,27 @@ fn serve_all<G: Gate + Sync, R: Threads + Wait + Sync>(
     let Ok(mut tickets) = Vec::with_capacity(alloc, commands.len()) else {
         return Err(OutOfMemory);
     };
-    submit_all(rt, &intake, &mut submitters[0], commands, &mut tickets);
-    intake.close();
+    let _back = submit_all(rt, &intake, &mut submitters[0], commands, &mut tickets);
+    let closed = intake.close();
     let served = serve(rt, alloc, core, &intake, takers, gate);
-    let started = served.started;
-    let core = settle(intake, submitters, served);
+    let Settled { core, ends } = settle(intake, closed, submitters, served);
     tell_all(&core, tickets, &mut told);
-    if started == 0 {
+    if ends.started() == 0 {
         return Err(OutOfMemory);
     }
-    Ok(Told { core, told })
+    Ok(Told { core, told, ends })
 }
 
-/// Those who served a queue leave it, and what they held is given up.
-fn settle(intake: Intake, submitters: Vec<Submitter>, served: Served) -> Core
+/// Those who served a queue that was closed leave it, and what they held is given up.
+fn settle(intake: Intake, _closed: Closed, submitters: Vec<Submitter>, served: Served) -> Settled
+    requires closed { _closed ≡ intake }
     requires some { 0 < length submitters.items }
     requires submitters { AreSubmittersOf intake submitters.items }
     requires takers { AreTakersOf intake served.takers.items }
     requires shares { submitter_shares submitters.items + taker_shares served.takers.items
         ≡ SHARES }
-    ensures core { result ≡ served.core }
+    ensures core { result.core ≡ served.core }
+    ensures ends { result.ends ≡ served.ends }
     ensures among { (rest : List NamedCommand) × ((h : NamedCommand → ℕ)
         → weigh_put h submitters.items ≡ weigh_taken h served.takers.items + weigh h rest) }
 {
@@ -164,11 +176,12 @@ fn settle(intake: Intake, submitters: Vec<Submitter>, served: Served) -> Core
         counts: _,
         held,
         started: _,
+        ends,
         full: _,
     } = served;
     give_up_all(held);
     let _left = intake.left(submitters, takers);
-    core
+    Settled { core, ends }
 }
 
 /// Gives commands up.

@@ -2,6 +2,7 @@
 //! the history that they made is that of the reference machine.
 #![tactic(auto)]
 
+mod back;
 mod collecting;
 pub mod hosted;
 mod replay;

@@ -32,6 +32,7 @@ returns g c =
             omega (arith, room, log, most);
         accounts = served.accounts;
       };
+      started = served.started;
       told = served.told;
       entries = ap length c.history-history.ensures.entries;
       agrees = (c.agrees-agrees.ensures c.args.workers c.in_ok-machine.ensures.begun).all

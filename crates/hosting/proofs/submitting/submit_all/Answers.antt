@@ -1,5 +1,7 @@
-use Rattle.std.proofs.Common.{◌∙◌, ap, arith, map, rules, sym, take}
+use Rattle.std.proofs.Common.{◌∙◌, Some, ap, arith, map, rules, sym, take}
+use Rattle.std.specs.Prelude.{slice_get}
 use Rattle.std.specs.List.{range_with_len}
+use Rattle.std.proofs.lemmas.Option.{slice_get-get_or}
 use Rattle.hosting.specs.Served.{command_name, named_from}
 use Rattle.hosting.proofs.TicketLists.{submitted_more}
 use Rattle.hosting.proofs.submitting.submit_all.Goals as goal
@@ -58,3 +60,16 @@ returns-clause-tickets g c =
     c.loop-command.invariant.submitted.numbered
     ∙ ap (λ n. map command_name (range_with_len 0 n))
     (sym c.loop-command.invariant.submitted.count)
+
+pub returns-in-Err-clause-back : goal.returns-in-Err-clause-back
+returns-in-Err-clause-back g c =
+    ap (slice_get c.args.commands.now) c.loop-command.invariant.submitted.count
+    ∙ slice_get-get_or c.args.commands.now c.loop-command.command-index c.loop-command.command
+    c.loop-command-test.true
+    ∙ ap Some (sym (c.in-Err.ensures.back).0)
+
+pub returns-clause-all : goal.returns-clause-all
+returns-clause-all g c =
+    let count = c.loop-command.invariant.submitted.count in
+    let few = c.loop-command.auto.command-index-end in
+    omega (arith, count, few)
