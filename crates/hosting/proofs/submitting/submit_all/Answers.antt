@@ -64,7 +64,7 @@ returns-clause-tickets g c =
 pub returns-in-Err-clause-back : goal.returns-in-Err-clause-back
 returns-in-Err-clause-back g c =
     ap (slice_get c.args.commands.now) c.loop-command.invariant.submitted.count
-    ∙ slice_get-get_or c.args.commands.now c.loop-command.command-index c.loop-command.command
+    ∙ slice_get-get_or c.args.commands.now c.loop-command.command-index _
     c.loop-command-test.true
     ∙ ap Some (sym (c.in-Err.ensures.back).0)
 
