@@ -3,7 +3,7 @@ use Rattle.std.specs.Prelude.{ℕ, ◌||◌, zero, suc, Bool, false, Option, Non
 use Rattle.model.specs.declared.event.Lock.{Lock}
 use Rattle.model.specs.declared.event.Lock.TheVariants.{SystemCancel}
 use Rattle.model.specs.declared.instr.Instr.{Instr}
-use Rattle.model.specs.declared.instr.Instr.TheVariants.{Acquire, AcquireCancel}
+use Rattle.model.specs.declared.instr.Instr.TheVariants.{Acquire, AcquireCancel, Add, Arm, Begin, Call, Clear, Complete, Const, Dequeue, Disarm, End, Get, IfCancel, IfPending, Insert, Jump, JumpIfLess, JumpIfZero, Load, LoadPaged, Loop, Mark, Move, Next, Pass, Put, Release, ReleaseCancel, Remove, Ret, Start, Store, StorePaged, Subtract, Take, Unlink}
 use Rattle.model.specs.declared.limits.TheConstants.{MAX_THREADS}
 use Rattle.model.specs.declared.world.Activation.{Activation}
 use Rattle.model.specs.declared.world.CancelStep.{CancelStep}
@@ -15,12 +15,46 @@ use Rattle.model.specs.Run.{frames_on}
 use Rattle.model.specs.Set.{Set, instruction_at}
 use Rattle.model.specs.World.{World, owner_of}
 
--- the lock that an instruction acquires
+-- the lock that an instruction acquires: each is named, so that a new one says whether it may wait
 abbrev pub acquired_by : Activation → Option Instr → Option Lock
 acquired_by a None = None
+acquired_by a (Some (Const r n)) = None
+acquired_by a (Some (Move r s)) = None
+acquired_by a (Some (Clear r)) = None
+acquired_by a (Some (Add r s)) = None
+acquired_by a (Some (Subtract r s)) = None
+acquired_by a (Some (JumpIfZero r label)) = None
+acquired_by a (Some (JumpIfLess r s label)) = None
+acquired_by a (Some (Jump label)) = None
+acquired_by a (Some (Loop turns)) = None
+acquired_by a (Some End) = None
+acquired_by a (Some (Load r c)) = None
+acquired_by a (Some (Store c r)) = None
+acquired_by a (Some (LoadPaged r c)) = None
+acquired_by a (Some (StorePaged c r)) = None
+acquired_by a (Some (Get r s field)) = None
+acquired_by a (Some (Put s r)) = None
+acquired_by a (Some (Mark r)) = None
 acquired_by a (Some (Acquire l)) = Some (spin_lock a l)
+acquired_by a (Some (Release l)) = None
 acquired_by a (Some AcquireCancel) = Some SystemCancel
-acquired_by a (Some i) = None
+acquired_by a (Some ReleaseCancel) = None
+acquired_by a (Some (Insert r q)) = None
+acquired_by a (Some (Remove r q label)) = None
+acquired_by a (Some (Unlink r q)) = None
+acquired_by a (Some (Arm r q)) = None
+acquired_by a (Some (Disarm r label)) = None
+acquired_by a (Some (IfCancel r label)) = None
+acquired_by a (Some (Start r)) = None
+acquired_by a (Some (Take r label)) = None
+acquired_by a (Some (Begin r)) = None
+acquired_by a (Some Next) = None
+acquired_by a (Some (Dequeue r)) = None
+acquired_by a (Some (Pass r)) = None
+acquired_by a (Some (Call r routine)) = None
+acquired_by a (Some (Complete r status)) = None
+acquired_by a (Some (IfPending r label)) = None
+acquired_by a (Some (Ret form)) = None
 
 -- and a step of IoCancelIrp
 abbrev pub acquired_in : CancelStep → Option Lock
