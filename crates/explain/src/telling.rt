@@ -1,6 +1,9 @@
 //! Refusals explained, and the routines of an accepted set by name.
 
-ghost use Rattle.std.specs.Prelude.{◌≡◌, ◌⊎◌};
+ghost use Rattle.std.specs.Prelude.{◌≡◌, ◌++◌, ◌⊎◌, IfOk, IsSome, OnOk, Some, option_map, option_to_list, slice_get};
+ghost use Rattle.evidence.specs.Path.{member_of};
+ghost use Rattle.explain.specs.Faults.{AddsFaults, AreFaults, IsFound, own_fault, refusals};
+ghost use Rattle.model.specs.Sound.{DriverFits};
 ghost use Rattle.model.specs.Typable.{IsFirstFault, IsFirstFaultOf, at_start};
 
 use crate::devices::add_devices;
@@ -72,7 +75,20 @@ pub fn explanations(
     alloc: Global,
     origin: Origin<'_>,
     set: &DriverSet,
-) -> Result<Vec<Told>, AllocError> {
+) -> Result<Vec<Told>, AllocError>
+    ensures { IfOk result (λ all. AreFaults set.now (refusals all.items)) }
+{
+    let mut all = own_fault(alloc, set)?;
+    for (number, driver) in set.drivers().iter().enumerate() {
+        add_faults(alloc, &mut all, origin, set, number as u8, driver)?;
+    }
+    Ok(all)
+}
+
+/// The fault of a set without devices.
+fn own_fault(alloc: Global, set: &DriverSet) -> Result<Vec<Told>, AllocError>
+    ensures { IfOk result (λ all. refusals all.items ≡ own_fault set.now) }
+{
     let mut all = Vec::new(alloc);
     if set.devices().is_empty() {
         let mut words = String::new(alloc);
@@ -82,16 +98,13 @@ pub fn explanations(
             words,
         })?;
     }
-    let mut number: u8 = 0;
-    for driver in set.drivers() {
-        add_faults(alloc, &mut all, origin, set, number, driver)?;
-        number = number.saturating_add(1);
-    }
     Ok(all)
 }
 
 /// The refusal of a set that isn't about one of its routines.
-fn at_start(rule: Rule) -> Refusal {
+fn at_start(rule: Rule) -> Refusal
+    ensures { result ≡ at_start rule }
+{
     Refusal {
         driver: 0,
         routine: 0,
@@ -108,24 +121,57 @@ fn add_faults(
     set: &DriverSet,
     number: u8,
     driver: &Driver,
-) -> Result<(), AllocError> {
-    let mut place: u8 = 0;
-    for routine in driver.routines.as_slice() {
-        if let Some(subject) = Subject::of(set, number, place) {
-            if let Some(fault) = subject.first_fault(alloc)? {
-                let refusal = Refusal {
-                    driver: number,
-                    routine: place,
-                    at: fault.at,
-                    rule: fault.rule,
-                };
-                let words = fault_words(alloc, origin, set, subject, routine, &refusal)?;
-                all.push(Told { refusal, words })?;
-            }
-        }
-        place = place.saturating_add(1);
+) -> Result<(), AllocError>
+    requires driver { slice_get set.now.drivers number ≡ Some driver.now }
+    requires fits { DriverFits driver.now }
+    ensures { OnOk result (AddsFaults set.now number (Some driver.now) all.old.items all.new.items) }
+{
+    let routines = driver.routines.as_slice();
+    for (place, routine) in routines.iter().enumerate() {
+        let found = fault_told(alloc, origin, set, number, place as u8, routine)?;
+        add_told(all, found)?;
     }
     Ok(())
+}
+
+/// Adds what is told of a fault, if there is one.
+fn add_told(all: &mut Vec<Told>, found: Option<Told>) -> Result<(), AllocError>
+    ensures { OnOk result (refusals all.new.items ≡ refusals all.old.items
+        ++ option_to_list (option_map (λ told. told.refusal) found)) }
+{
+    if let Some(told) = found {
+        all.push(told)?;
+    }
+    Ok(())
+}
+
+/// The first fault of the routine of a number, of the driver of a number, if it has one.
+fn fault_told(
+    alloc: Global,
+    origin: Origin<'_>,
+    set: &DriverSet,
+    number: u8,
+    place: u8,
+    routine: &Routine,
+) -> Result<Option<Told>, AllocError>
+    requires { IsSome (member_of set.now number place) }
+    ensures { IfOk result (λ found. IsFound (member_of set.now number place) number place
+        (option_map (λ told. told.refusal) found)) }
+{
+    let Some(subject) = Subject::of(set, number, place) else {
+        unreachable!()
+    };
+    let Some(fault) = subject.first_fault(alloc)? else {
+        return Ok(None);
+    };
+    let refusal = Refusal {
+        driver: number,
+        routine: place,
+        at: fault.at,
+        rule: fault.rule,
+    };
+    let words = fault_words(alloc, origin, set, subject, routine, &refusal)?;
+    Ok(Some(Told { refusal, words }))
 }
 
 /// The first fault of a routine in words.
