@@ -20,6 +20,55 @@ const TWICE: &[u8] =
 
 const REFUSED: &[u8] = b"refused V5 DoubleCompletion driver 0 routine 0 at 1\n";
 
+/// A driver with two routines, of which each is at fault.
+const FAULTS: &[u8] = b"driver d\n\
+      dispatch READ f\n\
+      routine f dispatch\n\
+      ret SUCCESS\n\
+      endr\n\
+      routine g dpc\n\
+      relc\n\
+      ret void\n\
+      endr\n\
+      endd\n\
+      device v d 1\n";
+
+/// What is told of the first of them.
+const FIRST_TOLD: &[u8] = b"refused V13 Dropped driver 0 routine 0 at 0\n\
+      \n\
+      in driver d, routine f (dispatch), position 0, line 4:\n\
+      \x20   2  dispatch READ f\n\
+      \x20   3  routine f dispatch\n\
+      \x20 > 4  ret SUCCESS\n\
+      \x20   5  endr\n\
+      \x20   6  routine g dpc\n\
+      a path there:\n\
+      \x20    at 0, line 4: ret SUCCESS\n\
+      what is known where it arrives:\n\
+      \x20 r0: the packet as it was handed in\n\
+      \x20 owed: the packet that was handed in, with which nothing was done\n\
+      why: the routine returns while a register still has a packet, which would be lost\n\
+      see: the Driver Kit on dispatch routines\n\
+      mend it: complete the packet, pass it on, or mark it and put it into a queue\n";
+
+/// What is told of the other one, behind that.
+const OTHER_TOLD: &[u8] = b"\n\
+      refused V7 CancelSpinLock driver 0 routine 1 at 0\n\
+      \n\
+      in driver d, routine g (dpc), position 0, line 7:\n\
+      \x20   5  endr\n\
+      \x20   6  routine g dpc\n\
+      \x20 > 7  relc\n\
+      \x20   8  ret void\n\
+      \x20   9  endr\n\
+      a path there:\n\
+      \x20    at 0, line 7: relc\n\
+      what is known where it arrives:\n\
+      \x20 nothing: each register is blank, and no lock is held\n\
+      why: the lock isn't held where it is released\n\
+      see: Static Driver Verifier, SpinLock and CancelSpinLock; bug checks 0x0F and 0x10\n\
+      mend it: acquire it first, or leave it alone\n";
+
 const ONE_READ: &[u8] = b"threads 1\nissue 0 0 READ 7\nstep 0 3\n";
 
 /// The exit status and all bytes of an answer.
@@ -78,6 +127,17 @@ fn words_in_memory(rt: HostRuntime) {
     assert!(rt; begins(explain(alloc, Extent::First, TWICE), 1, REFUSED));
     assert!(rt; begins(explain(alloc, Extent::Each, TWICE), 1, REFUSED));
     assert!(rt; begins(explain_rule(alloc, Rule::Guard), 0, b"V11 Guard"));
+}
+
+#[test]
+fn words_on_two_faults_in_memory(rt: HostRuntime) {
+    let alloc = rt.alloc();
+    assert!(rt; is_told(explain(alloc, Extent::First, FAULTS), 1, FIRST_TOLD, b""));
+    let each = explain(alloc, Extent::Each, FAULTS)
+        .ok()
+        .expect(&rt, "words");
+    assert_eq!(rt; each.status(), 1);
+    assert!(rt; each.output().strip_prefix(FIRST_TOLD) == Some(OTHER_TOLD));
 }
 
 #[test]

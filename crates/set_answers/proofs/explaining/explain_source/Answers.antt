@@ -1,7 +1,7 @@
 use Rattle.std.proofs.Common.{List, ℕ, arith, subst, sym}
 use Rattle.inputs_outputs.specs.Device.{Bytes, Holds}
-use Rattle.inputs_outputs.specs.Ends.{IsExplainedOf}
 use Rattle.inputs_outputs.specs.Fault.{failed_reads, failed_writes, fault_told}
+use Rattle.set_answers.specs.Explained.{IsExplainedOf}
 use Rattle.set_answers.proofs.Explained.{ends_rightly, explained_held, none_written, unnamed_ends}
 use Rattle.inputs_outputs.proofs.Jobs.{bytes_unread}
 use Rattle.set_answers.proofs.explaining.explain_source.Goals as goal
@@ -20,8 +20,8 @@ returns-in-Ok g c =
       reads_are = omega (arith, its.reads_are, c.in-Ok.ensures.reads);
       writes_are = its.writes_are;
       tells = its.tells;
-      ends = ends_rightly (IsExplainedOf (Bytes bytes)) (IsExplainedOf held) its.reads its.writes _ _
-          _ its.told (explained_held held bytes holds) its.ends;
+      ends = ends_rightly (IsExplainedOf c.args.extent (Bytes bytes)) (IsExplainedOf c.args.extent held) its.reads its.writes _ _
+          _ its.told (explained_held c.args.extent held bytes holds) its.ends;
     }
 
 pub returns-in-Err : goal.returns-in-Err
@@ -37,5 +37,5 @@ returns-in-Err g c =
       writes_are = omega (arith, none_written held fault unread);
       tells = c.finish.ensures.told;
       ends = rw c.finish.ensures.status
-          (unnamed_ends held _ fault unread);
+          (unnamed_ends c.args.extent held _ fault unread);
     }
