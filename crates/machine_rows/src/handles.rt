@@ -90,6 +90,6 @@ fn a_closed_world_gives_its_memory_back(rt: HostRuntime) {
     let after = pages(&rt);
     // A world has more than 300 pages of 4 KB, and a hundred that weren't freed more than 30,000.
     if let (Some(before), Some(after)) = (before, after) {
-        assert!(rt; after < before + 10_000);
+        assert!(rt; after < before.saturating_add(10_000));
     }
 }
