@@ -145,7 +145,7 @@ fn entries_told(told: &str) -> Option<u64> {
     let mut entries = None;
     for line in told.lines() {
         if number < COMMANDS && packets.take_in(reply_of(line, number)?, number) {
-            number += 1;
+            number = number.saturating_add(1);
         } else if number == COMMANDS && entries.is_none() {
             entries = Some(entries_of(line)?);
         } else {
