@@ -34,6 +34,7 @@ use Rattle.inputs_outputs.specs.declared.fault.Fault.{Fault}
 use Rattle.inputs_outputs.specs.declared.fault.Fault.TheVariants.{Read, Write, Memory, Text, Image, Schedule as OfSchedule, Script as OfScript}
 use Rattle.drvhost_parts.specs.declared.show.Showing.{Showing}
 use Rattle.drvhost_parts.specs.declared.tell.Detail.{Detail}
+use Rattle.drvhost_parts.specs.declared.tell.Detail.TheVariants.{Quiet}
 use Rattle.drvhost_parts.specs.declared.telling.Told.{Told}
 use Rattle.inputs_outputs.specs.Answer.{Answer, IsRefused, IsToRun, ended, faulty, is_last, replies}
 use Rattle.inputs_outputs.specs.Device.{Supply, TakesBeginning}
@@ -482,6 +483,21 @@ none_left detail (suc count) number reply out =
     let nothing : [] ≡ told_line detail number reply [] ++ [] =
     ap (λ (b : Bool). (if b then [] else worded_line number reply []) ++ []) (sym out) in
     ([], ([], nothing, none_left detail count (number + 1) reply out))
+
+-- a step that is passed over in quiet is told by nothing
+pub passed_over : (detail : Detail) (number : ℕ) (reply : Reply) (rest : Option Repeated)
+    (text : List ℕ) → detail ≡ Quiet → reply ≡ Stepped
+    → ToldNext detail number reply rest text text
+passed_over detail number reply rest text quiet stepped =
+    let here : ToldNext Quiet number Stepped rest text text =
+    record {
+      words = [];
+      added = [];
+      whole = sym (append-nil text) ∙ sym (append-nil (text ++ []));
+      again = refl;
+    } in
+    subst (λ (d : Detail). ToldNext d number reply rest text text) (sym quiet)
+    (subst (λ (r : Reply). ToldNext Quiet number r rest text text) (sym stepped) here)
 
 -- a reply that ends the run isn't told again
 pub last_once : (reply : Reply) → is_last reply ≡ true → happens_again reply ≡ false
