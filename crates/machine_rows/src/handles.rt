@@ -8,6 +8,8 @@ use pafteis_values::verdict::Verdict;
 use pafteis_world::admitting::judge;
 use pafteis_world::driving::{apply, close, due, open, packet, steps, thread};
 use pafteis_world::handle::Handle;
+use std::alloc::Global;
+use std::fs;
 use std::test::Fail;
 
 /// A driver that completes each read twice.
@@ -58,4 +60,36 @@ fn a_refused_set_has_no_world(rt: HostRuntime) {
     assert!(rt; !close(alloc, &mut handle));
     assert_eq!(rt; judge(alloc, b"DVB1").value().image_fault, 2);
     assert_eq!(rt; judge(alloc, b"driver d\n").value().line, 2);
+}
+
+/// Opens so many worlds, closes each, and answers whether all could be.
+fn open_and_close(alloc: Global, count: u32) -> bool {
+    let mut handle = Handle::empty();
+    for _ in 0..count {
+        let opened = open(alloc, COMPLETES, 1, &mut handle);
+        if !matches!(opened, Verdict::Accepted) || !close(alloc, &mut handle) {
+            return false;
+        }
+    }
+    true
+}
+
+/// How many pages of memory this process has, where the system tells.
+fn pages(rt: &HostRuntime) -> Option<u64> {
+    let told = fs::read_to_string(rt, "/proc/self/statm").ok()?;
+    told.as_str().split(' ').next()?.parse().ok()
+}
+
+#[test]
+fn a_closed_world_gives_its_memory_back(rt: HostRuntime) {
+    let alloc = rt.alloc();
+    // An allocator that looks for errors may keep some hundred megabytes before it gives any again.
+    assert!(rt; open_and_close(alloc, 400));
+    let before = pages(&rt);
+    assert!(rt; open_and_close(alloc, 100));
+    let after = pages(&rt);
+    // A world has more than 300 pages of 4 KB, and a hundred that weren't freed more than 30,000.
+    if let (Some(before), Some(after)) = (before, after) {
+        assert!(rt; after < before + 10_000);
+    }
 }
