@@ -1,6 +1,6 @@
 //! What the program answers.
 
-ghost use Rattle.std.specs.Prelude.{◌≡◌, ◌+◌, ◌<◌, ◌^◌, ◌⊎◌, ℕ, List, Option, drop, map, string_bytes};
+ghost use Rattle.std.specs.Prelude.{◌≡◌, ◌+◌, ◌<◌, ◌^◌, ◌⊎◌, ℕ, List, Option, drop, map, string_bytes, true};
 ghost use Rattle.command_line.specs.Program.{IsAnswerTo, IsAnswerToLost, IsJobOf, IsOfNamed, IsProgram, IsRunBy, Opens, OpensFor, OpensToTrace, IsQuietly, JobStores, ProgramOpens, ProgramStores, RewritesFile, WordsStore, verification_of};
 ghost use Rattle.inputs_outputs.specs.Device.{CanCount, Says};
 ghost use Rattle.inputs_outputs.specs.Ends.{Answers, HoldsRun, IsCheckOf, IsExplainedOf, IsListOf, IsRewriteOf};
@@ -341,7 +341,9 @@ pub(crate) enum Way {
 struct Open;
 
 impl Gate for Open {
-    fn before(&self, _worker: u32, _count: u64) -> bool {
+    fn before(&self, _worker: u32, _count: u64) -> bool
+        ensures { result ≡ true }
+    {
         true
     }
 }
