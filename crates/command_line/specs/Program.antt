@@ -13,7 +13,7 @@ use Rattle.inputs_outputs.specs.Ends.{HoldsRun, IsCheckOf, IsExplainedOf, IsList
 use Rattle.drvhost_parts.specs.Served.{IsHostOf}
 use Rattle.drvhost_parts.specs.Told.{IsDrawOf, IsTellOf}
 use Rattle.command_line.specs.declared.answer.Way.{Way}
-use Rattle.command_line.specs.declared.answer.Way.TheVariants.{BySchedule, InWords, AsPicture, ByWorkers}
+use Rattle.command_line.specs.declared.answer.Way.TheVariants.{BySchedule, InWords, AsPicture}
 use Rattle.command_line.specs.declared.job.Job.{Job}
 use Rattle.command_line.specs.declared.job.Job.TheVariants.{Check, Explain, ExplainRule, List as ListJob, Rewrite, Version, Trace, Tell, Draw, Host}
 use Rattle.command_line.specs.CommandLine.{Names, program, usage}
@@ -25,14 +25,12 @@ IsRunBy (BySchedule verification) set schedule answer = IsTraceOf verification s
 IsRunBy (InWords verification detail) set schedule answer =
     IsTellOf verification detail set schedule answer
 IsRunBy (AsPicture verification) set schedule answer = IsDrawOf verification set schedule answer
-IsRunBy (ByWorkers workers) set script answer = IsHostOf workers set script answer
 
 -- whether the set has to be accepted
 abbrev pub verification_of : Way → Verification
 verification_of (BySchedule verification) = verification
 verification_of (InWords verification detail) = verification
 verification_of (AsPicture verification) = verification
-verification_of (ByWorkers workers) = Required
 
 -- what is right for what the file of a name has, or where it can't be opened: its name is told
 abbrev pub IsOfNamed : (Supply → Answer → Type 0) → (List ℕ → Supply) → List ℕ → Answer → Type 0

@@ -4,6 +4,7 @@ ghost use Rattle.std.specs.Prelude.{◌≡◌, ◌+◌, ◌<◌, ◌^◌, ◌⊎
 ghost use Rattle.command_line.specs.Program.{IsAnswerTo, IsAnswerToLost, IsJobOf, IsOfNamed, IsProgram, IsRunBy, Opens, OpensFor, OpensToTrace, IsQuietly, JobStores, ProgramOpens, ProgramStores, RewritesFile, WordsStore, verification_of};
 ghost use Rattle.inputs_outputs.specs.Device.{CanCount, Says};
 ghost use Rattle.inputs_outputs.specs.Ends.{Answers, HoldsRun, IsCheckOf, IsExplainedOf, IsListOf, IsRewriteOf};
+ghost use Rattle.drvhost_parts.specs.Served.{IsHostOf};
 
 use crate::files::{Files, Later, Pending};
 use crate::job::{Job, JobFault, Workers, refuse_unknown_words, refuse_words};
@@ -119,7 +120,8 @@ fn answer_words<F: Files, O: Sink, E: Sink, R: Threads + Wait + Sync>(
     }
 }
 
-/// Does a job with the files that it names.
+/// Does a job with the files that it names. Only what does `host` is given the runtime: nothing else
+/// starts a thread, or waits.
 fn perform<F: Files, O: Sink, E: Sink, R: Threads + Wait + Sync>(
     rt: &R,
     alloc: Global,
@@ -158,7 +160,7 @@ fn perform<F: Files, O: Sink, E: Sink, R: Threads + Wait + Sync>(
             verification,
         } => {
             let way = Way::BySchedule(verification);
-            run_files(rt, alloc, set, schedule, way, files, out, err)
+            run_files(alloc, set, schedule, way, files, out, err)
         }
         Job::Tell {
             set,
@@ -167,7 +169,7 @@ fn perform<F: Files, O: Sink, E: Sink, R: Threads + Wait + Sync>(
             detail,
         } => {
             let way = Way::InWords(verification, detail);
-            run_files(rt, alloc, set, schedule, way, files, out, err)
+            run_files(alloc, set, schedule, way, files, out, err)
         }
         Job::Draw {
             set,
@@ -175,22 +177,13 @@ fn perform<F: Files, O: Sink, E: Sink, R: Threads + Wait + Sync>(
             verification,
         } => {
             let way = Way::AsPicture(verification);
-            run_files(rt, alloc, set, schedule, way, files, out, err)
+            run_files(alloc, set, schedule, way, files, out, err)
         }
         Job::Host {
             set,
             script,
             workers,
-        } => run_files(
-            rt,
-            alloc,
-            set,
-            script,
-            Way::ByWorkers(workers),
-            files,
-            out,
-            err,
-        ),
+        } => host_files(rt, alloc, set, script, workers, files, out, err),
     }
 }
 
@@ -332,25 +325,10 @@ pub(crate) enum Way {
     InWords(Verification, Detail),
     /// By the events of a schedule, and it is drawn.
     AsPicture(Verification),
-    /// By workers that serve the commands of a script.
-    ByWorkers(Workers),
-}
-
-/// A gate that is always open.
-#[derive(Drop)]
-struct Open;
-
-impl Gate for Open {
-    fn before(&self, _worker: u32, _count: u64) -> bool
-        ensures { result ≡ true }
-    {
-        true
-    }
 }
 
 /// Runs the set of a file by the input of another one, which is opened for a run alone.
-fn run_files<F: Files, O: Sink, E: Sink, R: Threads + Wait + Sync>(
-    rt: &R,
+fn run_files<F: Files, O: Sink, E: Sink>(
     alloc: Global,
     set: &str,
     input: &str,
@@ -378,7 +356,7 @@ fn run_files<F: Files, O: Sink, E: Sink, R: Threads + Wait + Sync>(
 {
     let mut file = files.open(set);
     let mut later = Later::new(files, input);
-    let status = run(rt, alloc, &mut file, &mut later, way, out, err);
+    let status = run(alloc, &mut file, &mut later, way, out, err);
     let inputs = later.into_file();
     files.close(file);
     if let Some(inputs) = inputs {
@@ -388,8 +366,7 @@ fn run_files<F: Files, O: Sink, E: Sink, R: Threads + Wait + Sync>(
 }
 
 /// Runs the set of a source by the input of another one.
-fn run<S: Source, P: Source, O: Sink, E: Sink, R: Threads + Wait + Sync>(
-    rt: &R,
+fn run<S: Source, P: Source, O: Sink, E: Sink>(
     alloc: Global,
     set: &mut S,
     input: &mut P,
@@ -415,9 +392,58 @@ fn run<S: Source, P: Source, O: Sink, E: Sink, R: Threads + Wait + Sync>(
             tell(alloc, set, input, verification, detail, out, err)
         }
         Way::AsPicture(verification) => draw(alloc, set, input, verification, out, err),
-        Way::ByWorkers(workers) => {
-            let count = workers.count();
-            host(rt, alloc, set, input, count, &Open, out, err)
-        }
     }
+}
+
+/// A gate that is always open.
+#[derive(Drop)]
+struct Open;
+
+impl Gate for Open {
+    fn before(&self, _worker: u32, _count: u64) -> bool
+        ensures { result ≡ true }
+    {
+        true
+    }
+}
+
+/// Has workers serve the script of a file on the set of another one. That of the script is opened
+/// for a set that is accepted.
+fn host_files<F: Files, O: Sink, E: Sink, R: Threads + Wait + Sync>(
+    rt: &R,
+    alloc: Global,
+    set: &str,
+    script: &str,
+    workers: Workers,
+    files: &mut F,
+    out: &mut O,
+    err: &mut E,
+) -> u8
+    requires opened { F.opened files.old + 2 < 2 ^ 64 }
+    requires files { CanCount (F.failures files.old) }
+    requires out { CanCount (O.failures out.old) }
+    requires err { CanCount (E.failures err.old) }
+    ensures answers { Answers (IsHostOf workers (F.supply files.old set.now)
+        (F.supply files.old script.now))
+        (F.failures files.old) (F.failures files.new) (O.failures out.old) (O.failures out.new)
+        (O.contents out.old) (O.contents out.new)
+        (Says (E.failures err.old) (E.failures err.new) (E.contents err.old) (E.contents err.new))
+        result }
+    ensures opened { (count : ℕ)
+        × OpensToTrace Verification.Required (F.supply files.old set.now) count
+        × (F.opened files.new ≡ F.opened files.old + count) }
+    ensures supply { F.supply files.new ≡ F.supply files.old }
+    ensures created { F.created files.new ≡ F.created files.old }
+    ensures unwritten { F.unwritten files.new ≡ F.unwritten files.old }
+{
+    let count = workers.count();
+    let mut file = files.open(set);
+    let mut later = Later::new(files, script);
+    let status = host(rt, alloc, &mut file, &mut later, count, &Open, out, err);
+    let commands = later.into_file();
+    files.close(file);
+    if let Some(commands) = commands {
+        files.close(commands);
+    }
+    status
 }

@@ -103,12 +103,12 @@ returns-in-Draw-clause-opened g c = rw c.in-Draw.is c.run_files-in-Draw.ensures.
 pub returns-in-Host-clause-answers : goal.returns-in-Host-clause-answers
 returns-in-Host-clause-answers g c =
     rw c.in-Host.is
-    (answers_beside _ _ _ _ _ _ _ _ _ _ _ c.run_files-in-Host.ensures.answers c.run_files-in-Host.ensures.unwritten)
+    (answers_beside _ _ _ _ _ _ _ _ _ _ _ c.host_files.ensures.answers c.host_files.ensures.unwritten)
 
 pub returns-in-Host-clause-stores : goal.returns-in-Host-clause-stores
 returns-in-Host-clause-stores g c =
     rw c.in-Host.is
-    (record { supply = c.run_files-in-Host.ensures.supply; none = c.run_files-in-Host.ensures.created })
+    (record { supply = c.host_files.ensures.supply; none = c.host_files.ensures.created })
 
 pub returns-in-Host-clause-opened : goal.returns-in-Host-clause-opened
-returns-in-Host-clause-opened g c = rw c.in-Host.is c.run_files-in-Host.ensures.opened
+returns-in-Host-clause-opened g c = rw c.in-Host.is c.host_files.ensures.opened
