@@ -1,30 +1,29 @@
--- The words that are lent of a thread, and the packet that is told of a slot.
-use Rattle.std.proofs.Common.{◌≡◌, ◌<◌, ℕ, List, Option, None, Some, is_some, map, refl, sym, ◌∙◌, ap, subst}
-use Rattle.std.specs.Prelude.{option_map, slice_get, slice_index_or}
+-- The words that are lent of a thread, and the slots that are told of.
+use Rattle.std.proofs.Common.{◌≡◌, ◌<◌, ℕ, List, Option, None, Some, map, refl, sym, ◌∙◌, subst}
+use Rattle.std.specs.Prelude.{slice_get, slice_index_or}
 use Rattle.model.specs.declared.event.Event.{Event}
 use Rattle.model.specs.declared.world.Activation.{Activation}
-use Rattle.model.specs.declared.world.Packet.{Packet}
 use Rattle.model.specs.declared.world.Value.{Value}
 use Rattle.model.specs.declared.world.Value.TheVariants.{Blank, Num, Ref, Status as StatusValue}
 use Rattle.model.specs.Machine.{Shows}
 use Rattle.model.specs.Run.{run}
 use Rattle.model.specs.Set.{Set}
-use Rattle.model.specs.Shown.{Reads, Shown, ShownRegister}
+use Rattle.model.specs.Shown.{Reads, Shown}
 use Rattle.model.specs.Sound.{IsSound}
 use Rattle.model.specs.Typable.{IsTypable}
 use Rattle.model.specs.World.{Shared, World, register}
 use Rattle.machine.proofs.LiveRegisters.{live_at}
-use Rattle.machine.proofs.Registers.{StandsOn, named_by, number_of, registers_shown, shown_at, stands_on, status_is, threads_none, unmapped}
+use Rattle.machine.proofs.Slots.{are_slots, live_here, named_here}
+use Rattle.machine.proofs.Registers.{StandsOn, registers_shown, stands_on, status_is, threads_none, unmapped}
 use Rattle.machine.proofs.Whole.{run_shown}
-use Rattle.machine.specs.Registers.{IsLive, LendsWords, Names, TellsOfSlot, WordIs, WordsOfRoutine, routine_at}
-use Rattle.machine.specs.Runs.{IsMeant}
-use Rattle.run_laws.proofs.Past.LivePackets.{find_place}
-use Rattle.run_laws.proofs.Past.Packets.{found_lt}
+use Rattle.machine.specs.Registers.{LendsWords, WordIs, WordsOfRoutine, routine_at}
+use Rattle.machine.specs.Runs.{IsMeant, IsShown}
+use Rattle.machine.specs.Slots.{HasSlots, IsLive, number_at}
 use Rattle.run_laws.specs.Rules.{AcceptedRunsKeepTheRules}
-use Rattle.slot_laws.proofs.Keys.{Found, Keyed, found_used}
+use Rattle.slot_laws.proofs.Keys.{Keyed}
 use Rattle.slot_laws.proofs.Laws.{keyed_before}
 use Rattle.slot_laws.specs.Rep.{named}
-use Rattle.slot_laws.specs.Slots.{SlotShared, packet_at}
+use Rattle.slot_laws.specs.Slots.{SlotShared}
 use Rattle.word_laws.specs.Reads.{WordsMean}
 use Rattle.word_laws.specs.ShownWords.{TellsRegisters, WordsMeanWhatTheyShow, WordsShowWhatTheyMean, WordsTellRegisters, shown_word, shown_words, words_at}
 use Rattle.word_laws.specs.Words.{WordWorld}
@@ -32,7 +31,8 @@ use Rattle.word_laws.specs.Words.{WordWorld}
 -- a word by what is shown of it
 word_is : (name : ℕ → ℕ) (m : Shown) (s : Shared) (word : ℕ) (v : Value)
     → Reads (shown_word name word) v
-    → ((n : ℕ) → v ≡ Ref n → name word ≡ n → Names m word n × IsLive s n) → WordIs m s word v
+    → ((n : ℕ) → v ≡ Ref n → name word ≡ n → (number_at m word ≡ Some n) × IsLive s n)
+    → WordIs m s word v
 word_is name m s word Blank reads packet = tt
 word_is name m s word (Num n) reads packet = let same : word ≡ n = cc in same
 word_is name m s word (StatusValue status) reads packet = status_is word status reads
@@ -72,25 +72,15 @@ module _ (same : WordsMeanWhatTheyShow) (show : WordsShowWhatTheyMean) (set : Se
           is = told.is;
           all = told.all;
           tells = λ r less may.
-              let shown = shown_at name told.found r
-              (subst (λ (n : ℕ). r < n) (sym told.all) less) in
               word_is name m world.shared (slice_index_or told.found r 0) (register a r)
               (told.tells r less may)
-              (λ n refers names. (
-                record {
-                  thread = t;
-                  registers = map (shown_word name) told.found;
-                  at =
-                      registers_shown set w t
-                      ∙ ap (option_map (map (shown_word name))) told.is;
-                  r = r;
-                  word = ap (λ (x : ShownRegister). x.number) shown;
-                  packet =
-                      ap (λ (x : ShownRegister). x.packet) shown
-                      ∙ ap (λ (n : ℕ). Some n) names;
-                },
-                live_at set threads events (rules set typable sound threads events).kinds t
-                    on.thread a on.there on.top r n may refers,
+              (λ n refers names.
+              let live : IsLive world.shared n =
+              live_at set threads events (rules set typable sound threads events).kinds t
+              on.thread a on.there on.top r n may refers in (
+                named_here set w (slice_index_or told.found r 0) n names
+                    (subst (λ (i : ℕ). n < i) (sym shows.issued) live.0),
+                live,
               ));
         }
 
@@ -104,40 +94,23 @@ module _ (same : WordsMeanWhatTheyShow) (show : WordsShowWhatTheyMean) (set : Se
             (routine_at (run set threads events).world t) refl;
       }
 
-  module _ (threads : ℕ) (events : List Event) (shows : Shows m threads events) where
-    abbrev s : Shared
-    s = (run set threads events).world.shared
+  keyed : (threads : ℕ) (events : List Event) → Shows m threads events
+      → Keyed name w.shared (run set threads events).world.shared
+  keyed threads events shows =
+      let its : WordsMean set w (run set threads events).world = mean threads events shows in
+      subst (λ (v : SlotShared). Keyed (named v) v (run set threads events).world.shared)
+      (sym its.reads.shared)
+      (keyed_before set typable sound threads events its.slots its.means)
 
-    live_in : (v : SlotShared) → Keyed (named v) v s → (slot n : ℕ) (o : Option Packet)
-        → packet_at v slot ≡ o → option_map (λ p. p.number) o ≡ Some n → IsLive s n
-    live_in v keyed slot n None at h = cc
-    live_in v keyed slot n (Some p) at h =
-        let number : p.number ≡ n = cc in
-        let found : Found v s slot n =
-        subst (λ (i : ℕ). Found v s slot i) number (found_used (named v) v s keyed slot p at) in (
-          found_lt s n found.packet keyed.rises (sym (find_place s.packets n) ∙ found.of),
-          ap is_some found.of,
-        )
-
-    live_told : (slot n : ℕ) → option_map (λ p. p.number) (packet_at w.shared slot) ≡ Some n
-        → IsLive s n
-    live_told slot n h =
-        let its : WordsMean set w (run set threads events).world = mean threads events shows in
-        live_in its.slots.shared
-        (keyed_before set typable sound threads events its.slots its.means) slot n
-        (packet_at its.slots.shared slot) refl
-        (subst (λ (v : SlotShared). option_map (λ p. p.number) (packet_at v slot) ≡ Some n)
-        its.reads.shared h)
-
-  pub slot_told : (slot : ℕ)
-      → TellsOfSlot m slot (option_map (λ p. p.number) (packet_at w.shared slot))
-  slot_told slot =
+  pub has_slots : HasSlots m
+  has_slots =
+      let shown : IsShown m = run_shown show set w is in
       record {
-        shown = run_shown show set w is;
-        live = λ n h threads events shows. live_told threads events shows slot n h;
-        named = λ n names low.
-            number_of w.shared.issued n (packet_at w.shared slot)
-            (named_by name (words_at w names.thread) names.registers
-            (sym (registers_shown set w names.thread) ∙ names.at) names.r slot n names.word
-            names.packet) low;
+        shown = shown;
+        slots =
+            are_slots set w (run set shown.threads shown.events).world.shared
+            (keyed shown.threads shown.events shown.shows) shown.shows.packets;
+        live = λ slot n h threads events shows.
+            live_here set w (run set threads events).world.shared
+            (keyed threads events shows) slot n h;
       }

@@ -3,6 +3,7 @@ pub mod Walking
 pub mod Telling
 pub mod TellingWords
 pub mod LiveRegisters
+pub mod Slots
 pub mod Registers
 pub mod Lending
 pub mod Applying

@@ -18,7 +18,7 @@ use Rattle.model.specs.Run.{frames_on, run}
 use Rattle.model.specs.Set.{Set}
 use Rattle.model.specs.Shown.{MayBeTaken}
 use Rattle.model.specs.World.{Shared, World, register}
-use Rattle.machine.specs.Registers.{IsLive}
+use Rattle.machine.specs.Slots.{IsLive}
 use Rattle.run_laws.specs.KindsAgree.{IsOfKind, NamesLive, RegistersAreOfTheirKinds}
 
 live_named : (s : Shared) (n : ℕ) → NamesLive s (Ref n) → IsLive s n

@@ -1,6 +1,6 @@
 -- The words of a routine on the top of a thread, by what is shown of its registers.
-use Rattle.std.proofs.Common.{◌≡◌, ◌<◌, ◌-◌, ℕ, zero, suc, List, [], ◌∷◌, Option, None, Some, length, map, refl, sym, ◌∙◌, ap, subst, arith, inl, inr}
-use Rattle.std.specs.Prelude.{nat_eq, option_map, slice_get, slice_index_or, if◌then◌else◌}
+use Rattle.std.proofs.Common.{◌≡◌, ◌-◌, ℕ, zero, suc, List, [], ◌∷◌, Option, None, Some, length, map, refl, sym, ◌∙◌, ap, arith, inl, inr}
+use Rattle.std.specs.Prelude.{nat_eq, option_map, slice_get, if◌then◌else◌}
 use Rattle.std.proofs.lemmas.Bool.Decides.{eqb_tells}
 use Rattle.std.proofs.lemmas.List.{length-map}
 use Rattle.model.specs.declared.status.Status.{Status}
@@ -8,20 +8,34 @@ use Rattle.model.specs.declared.status.Status.TheVariants.{Success, Pending, Bus
 use Rattle.model.specs.declared.world.Activation.{Activation}
 use Rattle.model.specs.declared.world.Frame.{Frame}
 use Rattle.model.specs.declared.world.Frame.TheVariants.{Routine, Walk, Cancel as CancelFrame}
-use Rattle.model.specs.declared.world.Packet.{Packet}
 use Rattle.model.specs.declared.world.Thread.{Thread}
 use Rattle.model.specs.Effect.{top_of}
 use Rattle.model.specs.Set.{Set}
-use Rattle.model.specs.Shown.{ShowsFrame, ShowsFrames, ShowsThreads, ShownCancel, ShownFrame, ShownRegister, ShownRoutine, ShownThread, ShownWalk, blank_register}
+use Rattle.model.specs.Shown.{Shown, ShowsFrame, ShowsFrames, ShowsThreads, ShownCancel, ShownFrame, ShownRegister, ShownRoutine, ShownThread, ShownWalk}
 use Rattle.model.specs.Status.{status_code}
 use Rattle.model.specs.World.{Shared, World}
 use Rattle.machine.proofs.Walking.{top_above}
-use Rattle.machine.specs.Registers.{registers_at, registers_of_frame, registers_of_thread, routine_of_frame, routine_of_thread}
+use Rattle.machine.specs.Registers.{routine_of_frame, routine_of_thread}
 use Rattle.slot_laws.proofs.Words.{map_get}
-use Rattle.slot_laws.specs.Rep.{named, number_in_slot}
+use Rattle.slot_laws.specs.Rep.{named}
 use Rattle.word_laws.specs.ShownWords.{shown_frame, shown_thread, shown_word, shown_words, words_at, words_of_frame, words_of_thread}
 use Rattle.word_laws.specs.Words.{WordCancel, WordFrame, WordRoutine, WordThread, WordWalk, WordWorld, coded_status}
 use Rattle.word_laws.specs.WordStep.{top_frame}
+
+-- the registers that are shown of the routine on the top of a thread, if one stands there
+abbrev pub registers_of_frame : Option ShownFrame → Option (List ShownRegister)
+registers_of_frame None = None
+registers_of_frame (Some (ShownRoutine a)) = Some a.registers
+registers_of_frame (Some (ShownWalk n)) = None
+registers_of_frame (Some (ShownCancel c)) = None
+
+abbrev pub registers_of_thread : Option ShownThread → Option (List ShownRegister)
+registers_of_thread None = None
+registers_of_thread (Some thread) =
+    registers_of_frame (slice_get thread.frames (length thread.frames - 1))
+
+abbrev pub registers_at : Shown → ℕ → Option (List ShownRegister)
+registers_at m t = registers_of_thread (slice_get m.threads t)
 
 -- a word that is read as a status is its 32-bit value
 coded_or : (n : ℕ) (one : Status) (others : Option Status) (status : Status)
@@ -59,38 +73,6 @@ unmapped f None h = refl
 unmapped f (Some x) h = cc
 
 module _ (name : ℕ → ℕ) where
-  -- what is shown of a word at a place
-  pub shown_at : (words : List ℕ) (r : ℕ) → r < length words
-      → slice_index_or (map (shown_word name) words) r blank_register
-      ≡ shown_word name (slice_index_or words r 0)
-  shown_at [] r less = absurd (omega (arith, less))
-  shown_at (n ∷ words) zero less = refl
-  shown_at (n ∷ words) (suc r) less =
-      let fewer : r < length words = omega (arith, less) in shown_at words r fewer
-
-  -- a place that shows a word and a packet is that of a key
-  named_at : (words : List ℕ) (r word n : ℕ)
-      → (slice_index_or (map (shown_word name) words) r blank_register).number ≡ Some word
-      → (slice_index_or (map (shown_word name) words) r blank_register).packet ≡ Some n
-      → name word ≡ n
-  named_at [] r word n number packet = cc
-  named_at (m ∷ words) zero word n number packet =
-      let same : m ≡ word = cc in let is : name m ≡ n = cc in ap name (sym same) ∙ is
-  named_at (m ∷ words) (suc r) word n number packet = named_at words r word n number packet
-
-  pub named_by : (o : Option (List ℕ)) (registers : List ShownRegister)
-      → option_map (map (shown_word name)) o ≡ Some registers → (r word n : ℕ)
-      → (slice_index_or registers r blank_register).number ≡ Some word
-      → (slice_index_or registers r blank_register).packet ≡ Some n → name word ≡ n
-  named_by None registers h r word n number packet = cc
-  named_by (Some words) registers h r word n number packet =
-      let same : map (shown_word name) words ≡ registers = cc in
-      named_at words r word n
-      (subst (λ (xs : List ShownRegister). (slice_index_or xs r blank_register).number ≡ Some word)
-      (sym same) number)
-      (subst (λ (xs : List ShownRegister). (slice_index_or xs r blank_register).packet ≡ Some n)
-      (sym same) packet)
-
   frame_registers : (o : Option WordFrame)
       → registers_of_frame (option_map (shown_frame name) o)
       ≡ option_map (map (shown_word name)) (words_of_frame o)
@@ -172,9 +154,3 @@ pub stands_on : (w : World) (t : ℕ) (o : Option Thread) (a : Activation)
 stands_on w t None a there h = cc
 stands_on w t (Some thread) a there h =
     record { thread = thread; there = there; top = routine_is (top_of thread.frames.items) a h }
-
--- a slot that names a packet which was issued has that one
-pub number_of : (issued n : ℕ) (o : Option Packet) → number_in_slot issued o ≡ n → n < issued
-    → option_map (λ p. p.number) o ≡ Some n
-number_of issued n None is low = absurd (omega (arith, is, low))
-number_of issued n (Some p) is low = ap (λ (m : ℕ). Some m) is

@@ -9,7 +9,7 @@ use Rattle.model.specs.declared.event.Reply.TheVariants.{Stepped}
 use Rattle.model.specs.Machine.{Applies, Shows, reply_to}
 use Rattle.model.specs.Set.{Set}
 use Rattle.model.specs.Shown.{Shown}
-use Rattle.machine.specs.Runs.{GoesOn, StepsThreads}
+use Rattle.machine.specs.Runs.{StepsThreads}
 use Rattle.machine.specs.Steps.{MakesSteps, Stepping, steps_of}
 
 pub none_made : (m : Shown) (t : ℕ) → Stepping m t 0 m

@@ -1,7 +1,7 @@
--- The words that a machine lends of a routine's registers, and the packets of its slots. A word
--- doesn't say what it is. Where something may be taken from its register, the run does: a number, a
--- status by its 32-bit value, or a packet by the slot in which it stands.
-use Rattle.std.specs.Prelude.{ℕ, ◌≡◌, ◌<◌, ◌-◌, ⊤, true, List, length, Option, None, Some, is_some, slice_get, slice_index_or}
+-- The words that a machine lends of a routine's registers. A word doesn't say what it is. Where
+-- something may be taken from its register, the run does: a number, a status by its 32-bit value, or
+-- a packet by the slot in which it stands.
+use Rattle.std.specs.Prelude.{ℕ, ◌≡◌, ◌<◌, ⊤, List, length, Option, None, Some, slice_get, slice_index_or}
 use Rattle.model.specs.declared.event.Event.{Event}
 use Rattle.model.specs.declared.limits.TheConstants.{REGISTERS}
 use Rattle.model.specs.declared.world.Activation.{Activation}
@@ -13,46 +13,18 @@ use Rattle.model.specs.declared.world.Value.TheVariants.{Blank, Num, Ref, Status
 use Rattle.model.specs.Effect.{top_of}
 use Rattle.model.specs.Machine.{Shows}
 use Rattle.model.specs.Run.{run}
-use Rattle.model.specs.Shown.{MayBeTaken, Shown, ShownCancel, ShownFrame, ShownRegister, ShownRoutine, ShownThread, ShownWalk, blank_register}
+use Rattle.model.specs.Shown.{MayBeTaken, Shown}
 use Rattle.model.specs.Status.{status_code}
-use Rattle.model.specs.World.{Shared, World, packet_of, register}
+use Rattle.model.specs.World.{Shared, World, register}
 use Rattle.machine.specs.Runs.{IsShown}
-
--- the registers that are shown of the routine on the top of a thread, if one stands there
-abbrev pub registers_of_frame : Option ShownFrame → Option (List ShownRegister)
-registers_of_frame None = None
-registers_of_frame (Some (ShownRoutine a)) = Some a.registers
-registers_of_frame (Some (ShownWalk n)) = None
-registers_of_frame (Some (ShownCancel c)) = None
-
-abbrev pub registers_of_thread : Option ShownThread → Option (List ShownRegister)
-registers_of_thread None = None
-registers_of_thread (Some thread) =
-    registers_of_frame (slice_get thread.frames (length thread.frames - 1))
-
-abbrev pub registers_at : Shown → ℕ → Option (List ShownRegister)
-registers_at m t = registers_of_thread (slice_get m.threads t)
-
--- a slot names a packet: a register of a routine on the top of a thread has the slot for its word,
--- and shows the packet
-pub record Names (m : Shown) (slot n : ℕ) : Type 0 where
-  pub thread : ℕ
-  pub registers : List ShownRegister
-  pub at : registers_at m thread ≡ Some registers
-  pub r : ℕ
-  pub word : (slice_index_or registers r blank_register).number ≡ Some slot
-  pub packet : (slice_index_or registers r blank_register).packet ≡ Some n
-
--- a packet was issued, and is live
-abbrev pub IsLive : Shared → ℕ → Type 0
-IsLive s n = (n < s.issued) × (is_some (packet_of s n) ≡ true)
+use Rattle.machine.specs.Slots.{IsLive, number_at}
 
 -- what a register has, by its word: nothing may be any word
 abbrev pub WordIs : Shown → Shared → ℕ → Value → Type 0
 WordIs m s word Blank = ⊤
 WordIs m s word (Num n) = word ≡ n
 WordIs m s word (StatusValue status) = word ≡ status_code status
-WordIs m s word (Ref n) = Names m word n × IsLive s n
+WordIs m s word (Ref n) = (number_at m word ≡ Some n) × IsLive s n
 
 -- the routine on the top of a thread of a run's world, if one stands there
 abbrev pub routine_of_frame : Option Frame → Option Activation
@@ -90,11 +62,3 @@ pub record LendsWords (m : Shown) (t : ℕ) (words : Option (List ℕ)) : Type 0
   pub tells : (threads : ℕ) (events : List Event) → Shows m threads events
       → WordsOfRoutine m (run m.set threads events).world.shared
       (routine_at (run m.set threads events).world t) words
-
--- it shows some run, and in whatever run it shows, this packet of a slot is live, if there is one;
--- and it is the one that the slot names, if a packet of that number was issued
-pub record TellsOfSlot (m : Shown) (slot : ℕ) (number : Option ℕ) : Type 0 where
-  pub shown : IsShown m
-  pub live : (n : ℕ) → number ≡ Some n → (threads : ℕ) (events : List Event)
-      → Shows m threads events → IsLive (run m.set threads events).world.shared n
-  pub named : (n : ℕ) → Names m slot n → n < m.issued → number ≡ Some n

@@ -1,8 +1,9 @@
 //! The world of an accepted driver set.
 
 ghost use Rattle.std.specs.Prelude.{◌≡◌, ◌≢◌, ◌≤◌, ◌<◌, List, [], IfOk, IfErr, option_map};
-ghost use Rattle.machine.specs.Registers.{LendsWords, TellsOfSlot};
+ghost use Rattle.machine.specs.Registers.{LendsWords};
 ghost use Rattle.machine.specs.Runs.{GoesOn, RulesKept, StepsThreads, TellsOf};
+ghost use Rattle.machine.specs.Slots.{HasSlots, number_at};
 ghost use Rattle.machine.specs.Steps.{MakesSteps, Stepping};
 ghost use Rattle.model.specs.declared.event.Event.{Event};
 ghost use Rattle.model.specs.declared.event.Event.TheVariants.{Step};
@@ -177,9 +178,11 @@ impl World {
         self.slots.words(thread)
     }
 
-    /// The number of the live packet in a slot. None where the slot has none.
+    /// The number of the live packet in a slot. None where the slot has none. Each live packet stands
+    /// in one slot, whoever has it, and in no other.
     pub fn number(&self, slot: u64) -> Option<u64>
-        ensures { TellsOfSlot self.now slot result }
+        ensures number { result ≡ number_at self.now slot }
+        ensures slots { HasSlots self.now }
     {
         words_show_what_they_mean();
         words_mean_what_they_show();

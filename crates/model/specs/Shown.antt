@@ -64,12 +64,14 @@ pub record ShownPacket : Type 0 where
   pub cancel : Bool
   pub armer : Option Armer
 
--- a machine: its set, its threads, its live packets in the order of their numbers, how many were
--- issued, and the rest of what threads share
+-- a machine: its set, its threads, its live packets in the order of their numbers, in a row its slots,
+-- each with the number of the packet that stands in it or none, how many packets were issued, and the
+-- rest of what threads share
 pub record Shown : Type 0 where
   pub set : Set
   pub threads : List ShownThread
   pub packets : List ShownPacket
+  pub slots : List (Option ℕ)
   pub issued : ℕ
   pub locks : Locks
   pub cells : List Cells
@@ -162,7 +164,7 @@ ShowsThreads set s (x ∷ shown) [] = ⊥
 ShowsThreads set s (x ∷ shown) (thread ∷ threads) =
     ShowsThread set s x thread × ShowsThreads set s shown threads
 
--- a machine shows a world
+-- a machine shows a world. Where its packets stand is its own affair
 pub record ShowsWorld (m : Shown) (w : World) : Type 0 where
   pub threads : ShowsThreads m.set w.shared m.threads w.threads
   pub packets : m.packets ≡ map shown_packet w.shared.packets
@@ -173,7 +175,7 @@ pub record ShowsWorld (m : Shown) (w : World) : Type 0 where
   pub starts : m.starts ≡ w.shared.starts
   pub dpcs : m.dpcs ≡ w.shared.dpcs
 
--- what a machine shows that keeps a world whole
+-- what a machine shows that keeps a world whole, each live packet in a slot in the order of numbers
 abbrev pub whole_register : Value → ShownRegister
 whole_register Blank = blank_register
 whole_register (Num n) = record blank_register { number = Some n }
@@ -203,6 +205,7 @@ whole set w =
       set = set;
       threads = map whole_thread w.threads;
       packets = map shown_packet w.shared.packets;
+      slots = map (λ (p : Packet). Some p.number) w.shared.packets;
       issued = w.shared.issued;
       locks = w.shared.locks;
       cells = w.shared.cells;

@@ -8,6 +8,7 @@ blank =
       set = record { drivers = []; devices = [] };
       threads = [];
       packets = [];
+      slots = [];
       issued = 0;
       locks = record { system_cancel = None; spin = [] };
       cells = [];

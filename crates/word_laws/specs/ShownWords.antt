@@ -1,10 +1,11 @@
 -- What a world of words shows: a word may be read as a number, as the status of which it is the
 -- value, and as the packet of the slot of which it is the key.
-use Rattle.std.specs.Prelude.{ℕ, ◌≡◌, ◌<◌, List, [], length, Option, None, Some, map, slice_get, slice_index_or}
+use Rattle.std.specs.Prelude.{ℕ, ◌≡◌, ◌<◌, List, [], length, Option, None, Some, map, option_map, slice_get, slice_index_or}
 use Rattle.model.specs.declared.event.Event.{Event}
 use Rattle.model.specs.declared.limits.TheConstants.{REGISTERS}
 use Rattle.model.specs.declared.world.Activation.{Activation}
 use Rattle.model.specs.declared.world.Frame.TheVariants.{Routine}
+use Rattle.model.specs.declared.world.Packet.{Packet}
 use Rattle.model.specs.declared.world.Thread.{Thread}
 use Rattle.model.specs.Effect.{top_of}
 use Rattle.model.specs.Run.{run}
@@ -45,11 +46,16 @@ abbrev pub shown_thread : (ℕ → ℕ) → WordThread → ShownThread
 shown_thread name thread =
     record { root = thread.root; frames = map (shown_frame name) thread.frames }
 
--- what threads share is shown as slots show it
+-- what is shown of a slot: the number of the packet in it, if it has one
+abbrev pub shown_slot : Option Packet → Option ℕ
+shown_slot o = option_map (λ packet. packet.number) o
+
+-- what threads share is shown as slots show it, with the row of the slots themselves
 abbrev pub shown_words : Set → WordWorld → Shown
 shown_words set w =
     record (shown_slots set (record { threads = []; shared = w.shared })) {
       threads = map (shown_thread (named w.shared)) w.threads;
+      slots = map shown_slot w.shared.slots;
     }
 
 -- it shows each world that it means

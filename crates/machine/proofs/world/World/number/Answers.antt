@@ -1,16 +1,19 @@
-use Rattle.std.proofs.Common.{ℕ, Option, subst, sym}
+use Rattle.std.proofs.Common.{◌∙◌, ap, subst, sym}
 use Rattle.model.specs.Shown.{Shown}
-use Rattle.machine.proofs.Lending.{slot_told}
-use Rattle.machine.specs.Registers.{TellsOfSlot}
-use Rattle.word_laws.specs.ShownWords.{shown_words}
+use Rattle.machine.proofs.Lending.{has_slots}
+use Rattle.machine.proofs.Slots.{number_is}
+use Rattle.machine.specs.Slots.{HasSlots, number_at}
 use Rattle.machine.proofs.world.World.number.Goals as goal
 
-pub returns : goal.returns
-returns c =
-    subst (λ (m : Shown). TellsOfSlot m c.args.slot c.number.result) c.self.view_is
-    (subst (λ (number : Option ℕ). TellsOfSlot
-    (shown_words c.self.inside.accepted c.self.inside.slots) c.args.slot number)
-    (sym c.number.ensures)
-    (slot_told c.words_mean_what_they_show.ensures c.words_show_what_they_mean.ensures
+pub returns-clause-number : goal.returns-clause-number
+returns-clause-number c =
+    c.number.ensures
+    ∙ sym (number_is c.self.inside.accepted c.self.inside.slots c.args.slot)
+    ∙ ap (λ (m : Shown). number_at m c.args.slot) c.self.view_is
+
+pub returns-clause-slots : goal.returns-clause-slots
+returns-clause-slots c =
+    subst (λ (m : Shown). HasSlots m) c.self.view_is
+    (has_slots c.words_mean_what_they_show.ensures c.words_show_what_they_mean.ensures
     c.self.inside.accepted c.self.invariant.0 c.self.invariant.1.0 c.self.inside.slots
-    c.self.invariant.1.1 c.args.slot))
+    c.self.invariant.1.1)
