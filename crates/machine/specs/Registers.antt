@@ -1,6 +1,6 @@
 -- The words that a machine lends of a routine's registers. A word doesn't say what it is. Where
--- something may be taken from its register, the run does: a number, a status by its 32-bit value, or
--- a packet by the slot in which it stands.
+-- something may be taken from its register, the run does: a number, a status by its 32-bit value,
+-- or a packet by the slot in which it stands.
 use Rattle.std.specs.Prelude.{ℕ, ◌≡◌, ◌<◌, ⊤, List, length, Option, None, Some, slice_get, slice_index_or}
 use Rattle.model.specs.declared.event.Event.{Event}
 use Rattle.model.specs.declared.limits.TheConstants.{REGISTERS}

@@ -1,5 +1,5 @@
--- The slots of a machine: in each stands one live packet or none, and each live packet stands in one,
--- whoever has it: a register, a queue, a current slot, or nobody but the I/O manager.
+-- The slots of a machine: in each stands one live packet or none, and each live packet stands in
+-- one, whoever has it: a register, a queue, a current slot, or nobody but the I/O manager.
 use Rattle.std.specs.Prelude.{ℕ, ◌≡◌, ◌<◌, true, List, Option, None, Some, is_some, slice_get, slice_index_or}
 use Rattle.model.specs.declared.event.Event.{Event}
 use Rattle.model.specs.Machine.{Shows}
@@ -30,8 +30,8 @@ pub record AreSlots (m : Shown) : Type 0 where
 abbrev pub IsLive : Shared → ℕ → Type 0
 IsLive s n = (n < s.issued) × (is_some (packet_of s n) ≡ true)
 
--- it shows some run; its slots are those of the packets that it shows; and in whatever run it shows,
--- the packet of a slot is live
+-- it shows some run; its slots are those of the packets that it shows; and in whatever run it
+-- shows, the packet of a slot is live
 pub record HasSlots (m : Shown) : Type 0 where
   pub shown : IsShown m
   pub slots : AreSlots m

@@ -178,8 +178,8 @@ impl World {
         self.slots.words(thread)
     }
 
-    /// The number of the live packet in a slot. None where the slot has none. Each live packet stands
-    /// in one slot, whoever has it, and in no other.
+    /// The number of the live packet in a slot. None where the slot has none. Each live packet
+    /// stands in one slot, whoever has it, and in no other.
     pub fn number(&self, slot: u64) -> Option<u64>
         ensures number { result ≡ number_at self.now slot }
         ensures slots { HasSlots self.now }

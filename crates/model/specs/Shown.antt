@@ -64,9 +64,9 @@ pub record ShownPacket : Type 0 where
   pub cancel : Bool
   pub armer : Option Armer
 
--- a machine: its set, its threads, its live packets in the order of their numbers, in a row its slots,
--- each with the number of the packet that stands in it or none, how many packets were issued, and the
--- rest of what threads share
+-- a machine: its set, its threads, its live packets in the order of their numbers, in a row its
+-- slots, each with the number of the packet that stands in it or none, how many packets were
+-- issued, and the rest of what threads share
 pub record Shown : Type 0 where
   pub set : Set
   pub threads : List ShownThread
