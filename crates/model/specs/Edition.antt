@@ -8,6 +8,11 @@ use Rattle.model.specs.declared.set.Driver.{Driver}
 use Rattle.model.specs.declared.set.Routine.{Routine}
 use Rattle.model.specs.Set.{Set}
 
+-- whose rules are meant
+pub data Edition : Type 0 where
+  First : Edition
+  Second : Edition
+
 -- the one instruction of the second edition alone: each is named, so that a new one says of which
 -- edition it is
 abbrev pub is_dequeue : Instr → Bool

@@ -1,8 +1,9 @@
 -- The local rule: what an instruction demands of the state before it, and the state after it. All
--- conditions of an instruction are weighed, and the one of the least number is the rule broken.
+-- conditions of an instruction are weighed, and the one of the least number is the rule broken. Each
+-- edition has its rule; where none is named, the second one's is meant, which is today's.
 -- Static Driver Verifier has rules of the same names: DoubleCompletion, MarkIrpPending,
 -- CancelSpinLock, SpinLock.
-use Rattle.std.specs.Prelude.{ℕ, ◌||◌, ◌&&◌, ◌-◌, nat_le, not, Bool, true, false, ◌∷◌, Option, None, Some, Result, Ok, Err, is_some, option_and_then, replicate, slice_get, slice_index_or, slice_set, if◌then◌else◌}
+use Rattle.std.specs.Prelude.{ℕ, ◌||◌, ◌&&◌, ◌-◌, nat_le, not, Bool, true, false, List, [], ◌∷◌, Option, None, Some, Result, Ok, Err, is_some, option_and_then, replicate, slice_get, slice_index_or, slice_set, if◌then◌else◌}
 use Rattle.std.specs.List.{list_any}
 use Rattle.model.specs.declared.abs.Abs.{Abs}
 use Rattle.model.specs.declared.abs.Duty.{Duty}
@@ -19,6 +20,7 @@ use Rattle.model.specs.declared.instr.Instr.{Instr}
 use Rattle.model.specs.declared.instr.Instr.TheVariants.{Const, Move, Clear, Add, Subtract, JumpIfZero, JumpIfLess, Jump, Loop, End, Load, Store, LoadPaged, StorePaged, Get, Put, Mark, Acquire, Release, AcquireCancel, ReleaseCancel, Insert, Remove, Unlink, Arm, Disarm, IfCancel, Start, Take, Begin, Next, Dequeue, Pass, Call, Complete, IfPending, Ret}
 use Rattle.model.specs.declared.instr.Return.{Return}
 use Rattle.model.specs.declared.instr.Return.TheVariants.{WithStatus, Lower as LowerStatus, Continue, Stop, Void}
+use Rattle.model.specs.declared.set.Driver.{Driver}
 use Rattle.model.specs.declared.set.Guard.{Guard}
 use Rattle.model.specs.declared.set.Guard.TheVariants.{DeviceLock, CancelLock}
 use Rattle.model.specs.declared.set.QueueName.{QueueName}
@@ -27,10 +29,11 @@ use Rattle.model.specs.declared.set.Sort.{Sort}
 use Rattle.model.specs.declared.set.Sort.TheVariants.{Dispatch, StartIo, Dpc, Propagate, Hold, Cancel}
 use Rattle.model.specs.declared.status.Status.{Status}
 use Rattle.model.specs.declared.status.Status.TheVariants.{Success, Pending as PendingStatus, Busy, Unsuccessful, InvalidParameter, InvalidDeviceRequest, Cancelled}
+use Rattle.model.specs.Edition.{Edition, First, Second}
 use Rattle.model.specs.Kinds.{is_packet, is_view, is_new, is_kept, is_blank, is_lower, is_at, is_exchanged, names_list, needs_guard, kind_inserted, kind_removed, kind_disarmed, all_let_go, left_behind, duty_completed}
 use Rattle.model.specs.Forwarding.{lacks_lower, is_too_small}
 use Rattle.model.specs.declared.limits.TheConstants.{REGISTERS, SPIN_LOCKS}
-use Rattle.model.specs.Set.{Set, Member, Flow, Onward, Branches, Jumps, Opens, Closes, Leaves, flow_of, cancel_routine_of, cancels_for, has_cancel, guard_named, sort_of}
+use Rattle.model.specs.Set.{Set, Member, Flow, Onward, Branches, Jumps, Opens, Closes, Leaves, flow_of, cancel_routine_of, cancelled_from, only_one, cancels_for, has_cancel, guard_named, sort_of}
 
 -- the state in which a routine is entered, if it may be: a dispatch routine may do anything with
 -- the packet in its first register, a completion routine that lets the completion go on may look at
@@ -62,8 +65,22 @@ entry_of_sort Propagate name = Some (entered_with View NoDuty Open false)
 entry_of_sort Hold name = Some (entered_with New Fresh SettledMark false)
 entry_of_sort Cancel name = entry_of_cancel name
 
+-- the one list whose cancel routine a routine is, if it is that of exactly one: in the first edition
+-- the device queue had none
+abbrev pub cancelled_queues : Option Driver → ℕ → List QueueName
+cancelled_queues None number = []
+cancelled_queues (Some d) number = cancelled_from d.queues 0 number
+
+abbrev pub cancels_under : Edition → Set → ℕ → ℕ → Option QueueName
+cancels_under First set driver number =
+    only_one (cancelled_queues (slice_get set.drivers driver) number)
+cancels_under Second set driver number = cancels_for set driver number
+
+abbrev pub entry_under : Edition → Member → Option Abs
+entry_under e m = entry_of_sort m.routine.sort (cancels_under e m.set m.driver m.number)
+
 abbrev pub entry_state : Member → Option Abs
-entry_state m = entry_of_sort m.routine.sort (cancels_for m.set m.driver m.number)
+entry_state m = entry_under Second m
 
 abbrev pub kind_of : Abs → ℕ → Kind
 kind_of s r = slice_index_or s.kinds r Blank
@@ -458,10 +475,19 @@ has_startio set driver =
     is_some (option_and_then (λ d. d.startio) (slice_get set.drivers driver))
 
 -- where packets of the device queue have a cancel routine, their guard is held while one may be put
--- into it, or the first one is started
+-- into it, or the first one is started; in the first edition they had none
 abbrev pub waiting_fault : Abs → Set → ℕ → Option Rule
 waiting_fault s set driver =
     if has_cancel set driver DeviceQueue then guard_fault s set driver DeviceQueue else None
+
+abbrev pub waiting_fault_under : Edition → Abs → Set → ℕ → Option Rule
+waiting_fault_under First s set driver = None
+waiting_fault_under Second s set driver = waiting_fault s set driver
+
+-- the system cancel spin lock is released; in the first edition it guarded no list
+abbrev pub cancel_fault_under : Edition → Abs → Set → ℕ → Option Rule
+cancel_fault_under First s set driver = broken_if (not s.cancel) CancelSpinLock
+cancel_fault_under Second s set driver = release_fault s set driver CancelLock
 
 -- the current packet is taken in a DPC routine, which gets the token with it
 abbrev pub is_dpc : Sort → Bool
@@ -477,68 +503,72 @@ take_fault s sort = least_of (broken_if s.token Token) (unless (is_dpc sort) Sor
 
 -- the least rule that an instruction of a routine of a sort, of a driver of a set, breaks in a
 -- state
-abbrev pub refuses : Abs → Instr → Sort → Set → ℕ → Option Rule
-refuses s (Const r n) sort set driver = free_kind (kind_of s r)
-refuses s (Move r q) sort set driver = free_kind (kind_of s r)
-refuses s (Clear r) sort set driver = free_kind (kind_of s r)
-refuses s (Add r q) sort set driver =
+abbrev pub refuses_under : Edition → Abs → Instr → Sort → Set → ℕ → Option Rule
+refuses_under e s (Const r n) sort set driver = free_kind (kind_of s r)
+refuses_under e s (Move r q) sort set driver = free_kind (kind_of s r)
+refuses_under e s (Clear r) sort set driver = free_kind (kind_of s r)
+refuses_under e s (Add r q) sort set driver =
     least_of (number_kind (kind_of s r)) (number_kind (kind_of s q))
-refuses s (Subtract r q) sort set driver =
+refuses_under e s (Subtract r q) sort set driver =
     least_of (number_kind (kind_of s r)) (number_kind (kind_of s q))
-refuses s (JumpIfZero r label) sort set driver = number_kind (kind_of s r)
-refuses s (JumpIfLess r q label) sort set driver =
+refuses_under e s (JumpIfZero r label) sort set driver = number_kind (kind_of s r)
+refuses_under e s (JumpIfLess r q label) sort set driver =
     least_of (number_kind (kind_of s r)) (number_kind (kind_of s q))
-refuses s (Jump label) sort set driver = None
-refuses s (Loop turns) sort set driver = None
-refuses s End sort set driver = None
-refuses s (Load r c) sort set driver = free_kind (kind_of s r)
-refuses s (Store c r) sort set driver = number_kind (kind_of s r)
-refuses s (LoadPaged r c) sort set driver = least_of (level_fault s sort) (free_kind (kind_of s r))
-refuses s (StorePaged c r) sort set driver =
+refuses_under e s (Jump label) sort set driver = None
+refuses_under e s (Loop turns) sort set driver = None
+refuses_under e s End sort set driver = None
+refuses_under e s (Load r c) sort set driver = free_kind (kind_of s r)
+refuses_under e s (Store c r) sort set driver = number_kind (kind_of s r)
+refuses_under e s (LoadPaged r c) sort set driver = least_of (level_fault s sort) (free_kind (kind_of s r))
+refuses_under e s (StorePaged c r) sort set driver =
     least_of (number_kind (kind_of s r)) (level_fault s sort)
-refuses s (Get r q field) sort set driver =
+refuses_under e s (Get r q field) sort set driver =
     least_of (demanded any_packet (kind_of s q)) (free_kind (kind_of s r))
-refuses s (Put q r) sort set driver =
+refuses_under e s (Put q r) sort set driver =
     least_of (demanded any_packet (kind_of s q)) (number_kind (kind_of s r))
-refuses s (Mark r) sort set driver = mark_fault s.settled (kind_of s r)
-refuses s (Acquire lock) sort set driver = acquire_fault s (DeviceLock lock)
-refuses s (Release lock) sort set driver = release_fault s set driver (DeviceLock lock)
-refuses s AcquireCancel sort set driver = acquire_fault s CancelLock
-refuses s ReleaseCancel sort set driver = release_fault s set driver CancelLock
-refuses s (Insert r q) sort set driver =
+refuses_under e s (Mark r) sort set driver = mark_fault s.settled (kind_of s r)
+refuses_under e s (Acquire lock) sort set driver = acquire_fault s (DeviceLock lock)
+refuses_under e s (Release lock) sort set driver = release_fault s set driver (DeviceLock lock)
+refuses_under e s AcquireCancel sort set driver = acquire_fault s CancelLock
+refuses_under e s ReleaseCancel sort set driver = cancel_fault_under e s set driver
+refuses_under e s (Insert r q) sort set driver =
     least_of (demanded an_owned_one (kind_of s r)) (guard_fault s set driver (Declared q))
-refuses s (Remove r q label) sort set driver =
+refuses_under e s (Remove r q label) sort set driver =
     least_of (guard_fault s set driver (Declared q))
     (least_of (free_kind (kind_of s r)) (names_fault s (Declared q)))
-refuses s (Unlink r q) sort set driver =
+refuses_under e s (Unlink r q) sort set driver =
     least_of (unlink_kind (Declared q) (kind_of s r)) (guard_fault s set driver (Declared q))
-refuses s (Arm r q) sort set driver =
+refuses_under e s (Arm r q) sort set driver =
     least_of (queued_kind (is_at Listed (Declared q) (kind_of s r)) (kind_of s r))
     (guard_fault s set driver (Declared q))
-refuses s (Disarm r label) sort set driver =
+refuses_under e s (Disarm r label) sort set driver =
     queued_kind (is_exchanged (kind_of s r)) (kind_of s r)
-refuses s (IfCancel r label) sort set driver = demanded any_packet (kind_of s r)
-refuses s (Start r) sort set driver =
+refuses_under e s (IfCancel r label) sort set driver = demanded any_packet (kind_of s r)
+refuses_under e s (Start r) sort set driver =
     least_of (demanded an_owned_one (kind_of s r))
-    (least_of (waiting_fault s set driver) (unless (has_startio set driver) SortRule))
-refuses s (Take r label) sort set driver =
+    (least_of (waiting_fault_under e s set driver) (unless (has_startio set driver) SortRule))
+refuses_under e s (Take r label) sort set driver =
     least_of (take_fault s sort) (free_kind (kind_of s r))
-refuses s (Begin r) sort set driver =
+refuses_under e s (Begin r) sort set driver =
     least_of (demanded an_owned_one (kind_of s r)) (unless s.token Token)
-refuses s Next sort set driver = least_of (waiting_fault s set driver) (unless s.token Token)
-refuses s (Dequeue r) sort set driver =
+refuses_under e s Next sort set driver =
+    least_of (waiting_fault_under e s set driver) (unless s.token Token)
+refuses_under e s (Dequeue r) sort set driver =
     least_of (queued_kind (is_at Cancelling DeviceQueue (kind_of s r)) (kind_of s r))
     (least_of (guard_fault s set driver DeviceQueue)
     (unless (has_cancel set driver DeviceQueue) SortRule))
-refuses s (Pass r) sort set driver =
+refuses_under e s (Pass r) sort set driver =
     least_of (demanded a_new_one (kind_of s r)) (forward_fault s sort set driver 0)
-refuses s (Call r f) sort set driver =
+refuses_under e s (Call r f) sort set driver =
     least_of (demanded one_handed_or_owned (kind_of s r))
     (least_of (forward_fault s sort set driver 1) (hold_fault (kind_of s r) set driver f))
-refuses s (Complete r status) sort set driver =
+refuses_under e s (Complete r status) sort set driver =
     least_of (complete_kind (kind_of s r)) (completion_fault s status sort)
-refuses s (IfPending r label) sort set driver = look_fault s.settled (kind_of s r)
-refuses s (Ret form) sort set driver = return_fault s form sort
+refuses_under e s (IfPending r label) sort set driver = look_fault s.settled (kind_of s r)
+refuses_under e s (Ret form) sort set driver = return_fault s form sort
+
+abbrev pub refuses : Abs → Instr → Sort → Set → ℕ → Option Rule
+refuses s i sort set driver = refuses_under Second s i sort set driver
 
 -- a mark: the routine owns the packet, and owes STATUS_PENDING; a completion routine has carried it
 -- up. Of other kinds nothing is said here and below, since the instruction breaks a rule
@@ -568,48 +598,55 @@ abbrev pub released : Abs → Set → ℕ → Guard → Abs
 released s set driver lock =
     record (with_held s lock false) { kinds = all_let_go set driver lock s.kinds }
 
+abbrev pub cancel_released_under : Edition → Set → ℕ → Abs → Abs
+cancel_released_under First set driver s = with_cancel s false
+cancel_released_under Second set driver s = released s set driver CancelLock
+
 -- the state at the next position after an instruction that breaks no rule
-abbrev pub handed : Set → ℕ → Abs → Instr → Abs
-handed set driver s (Const r n) = with_kind s r Num
-handed set driver s (Move r q) = moved s r q
-handed set driver s (Clear r) = with_kind s r Blank
-handed set driver s (Add r q) = s
-handed set driver s (Subtract r q) = s
-handed set driver s (JumpIfZero r label) = s
-handed set driver s (JumpIfLess r q label) = s
-handed set driver s (Jump label) = s
-handed set driver s (Loop turns) = s
-handed set driver s End = s
-handed set driver s (Load r c) = with_kind s r Num
-handed set driver s (Store c r) = s
-handed set driver s (LoadPaged r c) = with_kind s r Num
-handed set driver s (StorePaged c r) = s
-handed set driver s (Get r q field) = with_kind s r Num
-handed set driver s (Put q r) = s
-handed set driver s (Mark r) = marked s r (kind_of s r)
-handed set driver s (Acquire lock) = with_held s (DeviceLock lock) true
-handed set driver s (Release lock) = released s set driver (DeviceLock lock)
-handed set driver s AcquireCancel = with_held s CancelLock true
-handed set driver s ReleaseCancel = released s set driver CancelLock
-handed set driver s (Insert r q) = with_kind s r
+abbrev pub handed_under : Edition → Set → ℕ → Abs → Instr → Abs
+handed_under e set driver s (Const r n) = with_kind s r Num
+handed_under e set driver s (Move r q) = moved s r q
+handed_under e set driver s (Clear r) = with_kind s r Blank
+handed_under e set driver s (Add r q) = s
+handed_under e set driver s (Subtract r q) = s
+handed_under e set driver s (JumpIfZero r label) = s
+handed_under e set driver s (JumpIfLess r q label) = s
+handed_under e set driver s (Jump label) = s
+handed_under e set driver s (Loop turns) = s
+handed_under e set driver s End = s
+handed_under e set driver s (Load r c) = with_kind s r Num
+handed_under e set driver s (Store c r) = s
+handed_under e set driver s (LoadPaged r c) = with_kind s r Num
+handed_under e set driver s (StorePaged c r) = s
+handed_under e set driver s (Get r q field) = with_kind s r Num
+handed_under e set driver s (Put q r) = s
+handed_under e set driver s (Mark r) = marked s r (kind_of s r)
+handed_under e set driver s (Acquire lock) = with_held s (DeviceLock lock) true
+handed_under e set driver s (Release lock) = released s set driver (DeviceLock lock)
+handed_under e set driver s AcquireCancel = with_held s CancelLock true
+handed_under e set driver s ReleaseCancel = cancel_released_under e set driver s
+handed_under e set driver s (Insert r q) = with_kind s r
     (kind_inserted (cancel_routine_of set driver q) (Declared q))
-handed set driver s (Remove r q label) = with_kind s r
+handed_under e set driver s (Remove r q label) = with_kind s r
     (kind_removed (cancel_routine_of set driver q) (Declared q))
-handed set driver s (Unlink r q) = with_kind s r Own
-handed set driver s (Arm r q) = with_kind s r (Queued (Declared q) Armed)
-handed set driver s (Disarm r label) = with_kind s r (kind_disarmed (kind_of s r))
-handed set driver s (IfCancel r label) = s
-handed set driver s (Start r) = with_kind s r Blank
-handed set driver s (Take r label) = record (with_kind s r Own) { token = true }
-handed set driver s (Begin r) = record (with_kind s r Blank) { token = false }
-handed set driver s Next = record s { token = false }
-handed set driver s (Dequeue r) = with_kind s r Own
-handed set driver s (Pass r) = given_down s r (kind_of s r)
-handed set driver s (Call r f) = given_down s r (kind_of s r)
-handed set driver s (Complete r status) =
+handed_under e set driver s (Unlink r q) = with_kind s r Own
+handed_under e set driver s (Arm r q) = with_kind s r (Queued (Declared q) Armed)
+handed_under e set driver s (Disarm r label) = with_kind s r (kind_disarmed (kind_of s r))
+handed_under e set driver s (IfCancel r label) = s
+handed_under e set driver s (Start r) = with_kind s r Blank
+handed_under e set driver s (Take r label) = record (with_kind s r Own) { token = true }
+handed_under e set driver s (Begin r) = record (with_kind s r Blank) { token = false }
+handed_under e set driver s Next = record s { token = false }
+handed_under e set driver s (Dequeue r) = with_kind s r Own
+handed_under e set driver s (Pass r) = given_down s r (kind_of s r)
+handed_under e set driver s (Call r f) = given_down s r (kind_of s r)
+handed_under e set driver s (Complete r status) =
     record (with_kind s r Blank) { duty = duty_completed (kind_of s r) s.duty }
-handed set driver s (IfPending r label) = record s { settled = SettledMark }
-handed set driver s (Ret form) = s
+handed_under e set driver s (IfPending r label) = record s { settled = SettledMark }
+handed_under e set driver s (Ret form) = s
+
+abbrev pub handed : Set → ℕ → Abs → Instr → Abs
+handed set driver s i = handed_under Second set driver s i
 
 -- and at its label, if it has one
 abbrev pub handed_at_label : Abs → Instr → Abs
@@ -661,8 +698,12 @@ outs_by (Opens turns) next jump = record { next = Some next; jump = None }
 outs_by Closes next jump = record { next = Some next; jump = None }
 outs_by Leaves next jump = record { next = None; jump = None }
 
+abbrev pub outs_under : Edition → Set → ℕ → Abs → Instr → Outs
+outs_under e set driver s i =
+    outs_by (flow_of i) (handed_under e set driver s i) (handed_at_label s i)
+
 abbrev pub outs : Set → ℕ → Abs → Instr → Outs
-outs set driver s i = outs_by (flow_of i) (handed set driver s i) (handed_at_label s i)
+outs set driver s i = outs_under Second set driver s i
 
 abbrev pub rule_or : Option Rule → Outs → Result Outs Rule
 rule_or None o = Ok o
@@ -670,6 +711,9 @@ rule_or (Some rule) o = Err rule
 
 -- the local rule; that a loop's end is reached in the state of its start is weighed for the whole
 -- routine
+abbrev pub local_rule_under : Edition → Abs → Instr → Sort → Set → ℕ → Result Outs Rule
+local_rule_under e s i sort set driver =
+    rule_or (refuses_under e s i sort set driver) (outs_under e set driver s i)
+
 abbrev pub local_rule : Abs → Instr → Sort → Set → ℕ → Result Outs Rule
-local_rule s i sort set driver =
-    rule_or (refuses s i sort set driver) (outs set driver s i)
+local_rule s i sort set driver = local_rule_under Second s i sort set driver

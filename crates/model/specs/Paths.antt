@@ -7,7 +7,8 @@ use Rattle.model.specs.declared.abs.Outs.{Outs}
 use Rattle.model.specs.declared.abs.Rule.{Rule}
 use Rattle.model.specs.declared.instr.Instr.{Instr}
 use Rattle.model.specs.declared.limits.TheConstants.{MAX_LOOPS}
-use Rattle.model.specs.LocalRule.{entry_state, local_rule}
+use Rattle.model.specs.Edition.{Edition, First, Second, is_dequeue}
+use Rattle.model.specs.LocalRule.{entry_under, local_rule_under}
 use Rattle.model.specs.Loops.{open_at, is_closed, loops_round}
 use Rattle.model.specs.Set.{Member, Flow, Onward, Branches, Jumps, Opens, Closes, Leaves, flow_of, label_of}
 
@@ -53,13 +54,23 @@ abbrev pub is_misplaced : List Instr → ℕ → Option Instr → Bool
 is_misplaced code p None = false
 is_misplaced code p (Some i) = is_misplaced_by code p (flow_of i)
 
+-- an instruction that its edition doesn't have
+abbrev pub is_unknown : Edition → Option Instr → Bool
+is_unknown First None = false
+is_unknown First (Some i) = is_dequeue i
+is_unknown Second i = false
+
 -- what stands at a position is no part of a routine, whatever leads there: the routine is empty,
--- its last instruction isn't a return, or an instruction can't stand where it does
+-- its last instruction isn't a return, or an instruction can't stand where it does, or not at all
+abbrev pub is_malformed_under : Edition → List Instr → ℕ → Bool
+is_malformed_under e code p =
+    is_unknown e (slice_get code p)
+    || (nat_eq (length code) 0
+    || ((nat_eq (p + 1) (length code) && isnt_return (slice_get code p))
+    || is_misplaced code p (slice_get code p)))
+
 abbrev pub is_malformed : List Instr → ℕ → Bool
-is_malformed code p =
-    nat_eq (length code) 0
-    || ((nat_eq (p + 1) (length code) && isnt_return (slice_get code p)) || is_misplaced code p
-    (slice_get code p))
+is_malformed code p = is_malformed_under Second code p
 
 -- what the local rule hands on from position q goes to position p as the state s: to the next
 -- position, or to the label
@@ -68,22 +79,37 @@ HandsOn (Err rule) label q p s = ⊥
 HandsOn (Ok outs) label q p s = ((p ≡ q + 1) × (outs.next ≡ Some s))
     ⊎ ((label ≡ Some p) × (outs.jump ≡ Some s))
 
-abbrev pub LeadsFrom : Member → Option Instr → ℕ → Abs → ℕ → Abs → Type 0
-LeadsFrom m None q before p s = ⊥
-LeadsFrom m (Some i) q before p s =
-    HandsOn (local_rule before i m.routine.sort m.set m.driver) (label_of i) q p s
+abbrev pub LeadsFromUnder : Edition → Member → Option Instr → ℕ → Abs → ℕ → Abs → Type 0
+LeadsFromUnder e m None q before p s = ⊥
+LeadsFromUnder e m (Some i) q before p s =
+    HandsOn (local_rule_under e before i m.routine.sort m.set m.driver) (label_of i) q p s
 
 -- the instruction at q, reached in a state, leads to p in the state s, and there is no fault at q
-abbrev pub Leads : Member → ℕ → Abs → ℕ → Abs → Type 0
-Leads m q before p s =
-    (is_malformed m.routine.code q ≡ false) × LeadsFrom m (slice_get m.routine.code q) q before p s
+abbrev pub LeadsUnder : Edition → Member → ℕ → Abs → ℕ → Abs → Type 0
+LeadsUnder e m q before p s =
+    (is_malformed_under e m.routine.code q ≡ false)
+    × LeadsFromUnder e m (slice_get m.routine.code q) q before p s
 
 -- a path leads to its last position in a state
-abbrev pub Along : Member → List ℕ → Abs → Type 0
-Along m [] s = ⊥
-Along m (p ∷ []) s = (p ≡ 0) × (entry_state m ≡ Some s)
-Along m (p ∷ q ∷ path) s = (before : Abs) × Along m (q ∷ path) before × Leads m q before p s
+abbrev pub AlongUnder : Edition → Member → List ℕ → Abs → Type 0
+AlongUnder e m [] s = ⊥
+AlongUnder e m (p ∷ []) s = (p ≡ 0) × (entry_under e m ≡ Some s)
+AlongUnder e m (p ∷ q ∷ path) s =
+    (before : Abs) × AlongUnder e m (q ∷ path) before × LeadsUnder e m q before p s
 
 -- some path leads to a position in a state
+abbrev pub ArrivesUnder : Edition → Member → ℕ → Abs → Type 0
+ArrivesUnder e m p s = (path : List ℕ) × AlongUnder e m (p ∷ path) s
+
+-- the same by the rules of the second edition
+abbrev pub LeadsFrom : Member → Option Instr → ℕ → Abs → ℕ → Abs → Type 0
+LeadsFrom m i q before p s = LeadsFromUnder Second m i q before p s
+
+abbrev pub Leads : Member → ℕ → Abs → ℕ → Abs → Type 0
+Leads m q before p s = LeadsUnder Second m q before p s
+
+abbrev pub Along : Member → List ℕ → Abs → Type 0
+Along m path s = AlongUnder Second m path s
+
 abbrev pub Arrives : Member → ℕ → Abs → Type 0
-Arrives m p s = (path : List ℕ) × Along m (p ∷ path) s
+Arrives m p s = ArrivesUnder Second m p s

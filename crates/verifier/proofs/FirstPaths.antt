@@ -12,13 +12,12 @@ use Rattle.model.specs.declared.set.QueueName.TheVariants.{Declared, DeviceQueue
 use Rattle.model.specs.declared.set.Routine.{Routine}
 use Rattle.model.specs.declared.set.Sort.{Sort}
 use Rattle.model.specs.declared.set.Sort.TheVariants.{Dispatch, StartIo, Dpc, Propagate, Hold, Cancel}
-use Rattle.model.specs.Edition.{is_dequeue, dequeues, is_of_second, edition_of}
-use Rattle.model.specs.LocalRule.{entry_of_cancel, entry_of_sort, entry_state, local_rule}
-use Rattle.model.specs.Paths.{HandsOn, LeadsFrom, Along, Arrives}
+use Rattle.model.specs.Edition.{First, Second, is_dequeue, dequeues, is_of_second, edition_of}
+use Rattle.model.specs.LocalRule.{cancelled_queues, cancels_under, entry_of_cancel, entry_of_sort, entry_state, entry_under, local_rule, local_rule_under}
+use Rattle.model.specs.Paths.{HandsOn, LeadsFrom, LeadsFromUnder, Along, AlongUnder, Arrives, ArrivesUnder, is_malformed, is_malformed_under, is_unknown}
 use Rattle.model.specs.Set.{Set, Member, member, is_named, cancelled_from, cancelled_in, only_one, cancels_for, has_cancel, label_of}
-use Rattle.model.specs.Typable.{fault_in}
-use Rattle.verifier.specs.FirstEdition.{first_cancelled_in, first_cancels_for, first_entry_state, first_local_rule, is_waiting, NoneWaits, IsOfFirst}
-use Rattle.verifier.specs.FirstVerdict.{FirstLeadsFrom, FirstAlong, FirstArrives, first_fault_in}
+use Rattle.model.specs.Typable.{fault_in, fault_under}
+use Rattle.verifier.specs.FirstEdition.{is_waiting, NoneWaits, IsOfFirst}
 use Rattle.verifier.proofs.FirstRules.{neither, refuses_alike, rules_alike, handed_on_free}
 
 -- what no element of a list is, the one at a position isn't
@@ -71,18 +70,18 @@ other_if false x y fails = refl
 
 cancelled_alike : (driver : Option Driver) (number : ℕ)
     → is_some (option_and_then (λ (one : Driver). one.startio_cancel) driver) ≡ false
-    → cancelled_in driver number ≡ first_cancelled_in driver number
+    → cancelled_in driver number ≡ cancelled_queues driver number
 cancelled_alike None number none = refl
 cancelled_alike (Some d) number none =
     other_if (is_named d.startio_cancel number) (DeviceQueue ∷ cancelled_from d.queues 0 number)
     (cancelled_from d.queues 0 number) (not_named d.startio_cancel number none)
 
 cancels_alike : (set : Set) (driver number : ℕ) → has_cancel set driver DeviceQueue ≡ false
-    → cancels_for set driver number ≡ first_cancels_for set driver number
+    → cancels_for set driver number ≡ cancels_under First set driver number
 cancels_alike set driver number none =
     ap only_one (cancelled_alike (slice_get set.drivers driver) number none)
 
-pub entry_alike : (m : Member) → IsOfFirst m → entry_state m ≡ first_entry_state m
+pub entry_alike : (m : Member) → IsOfFirst m → entry_state m ≡ entry_under First m
 entry_alike m first =
     ap (entry_of_sort m.routine.sort) (cancels_alike m.set m.driver m.number first.uncancelled)
 
@@ -99,7 +98,7 @@ queues_alone (queue ∷ queues) q number =
     (queues_alone queues (q + 1) number)
 
 first_alone : (driver : Option Driver) (number : ℕ)
-    → list_any is_waiting (first_cancelled_in driver number) ≡ false
+    → list_any is_waiting (cancelled_queues driver number) ≡ false
 first_alone None number = refl
 first_alone (Some d) number = queues_alone d.queues 0 number
 
@@ -136,22 +135,33 @@ sort_free Propagate name s none entered = given_none _ s refl entered
 sort_free Hold name s none entered = given_none _ s refl entered
 sort_free Cancel name s none entered = cancel_free name s none entered
 
-entry_free : (m : Member) (s : Abs) → first_entry_state m ≡ Some s → NoneWaits s
+entry_free : (m : Member) (s : Abs) → entry_under First m ≡ Some s → NoneWaits s
 entry_free m s entered =
-    sort_free m.routine.sort (first_cancels_for m.set m.driver m.number) s
-    (one_alone (first_cancelled_in (slice_get m.set.drivers m.driver) m.number)
+    sort_free m.routine.sort (cancels_under First m.set m.driver m.number) s
+    (one_alone (cancelled_queues (slice_get m.set.drivers m.driver) m.number)
     (first_alone (slice_get m.set.drivers m.driver) m.number)) entered
+
+-- the same is malformed in them
+known : (m : Member) (o : Option Instr) (p : ℕ) → IsOfFirst m → slice_get m.routine.code p ≡ o
+    → is_unknown First o ≡ false
+known m None p first here = refl
+known m (Some i) p first here = none_at is_dequeue m.routine.code p i first.plain here
+
+pub formed_alike : (m : Member) (p : ℕ) → IsOfFirst m
+    → is_malformed m.routine.code p ≡ is_malformed_under First m.routine.code p
+formed_alike m p first =
+    sym (ap (λ (b : Bool). b || is_malformed m.routine.code p)
+    (known m (slice_get m.routine.code p) p first refl))
 
 -- an instruction leads to the same states
 leads_to : (m : Member) (o : Option Instr) (q : ℕ) (before : Abs) (p : ℕ) (s : Abs) → IsOfFirst m
-    → slice_get m.routine.code q ≡ o → NoneWaits before → LeadsFrom m o q before p s
-    → FirstLeadsFrom m o q before p s × NoneWaits s
-leads_to m None q before p s first here free h = absurd h
-leads_to m (Some i) q before p s first here free h =
+    → NoneWaits before → LeadsFrom m o q before p s
+    → LeadsFromUnder First m o q before p s × NoneWaits s
+leads_to m None q before p s first free h = absurd h
+leads_to m (Some i) q before p s first free h =
     let same : local_rule before i m.routine.sort m.set m.driver
-    ≡ first_local_rule before i m.routine.sort m.set m.driver =
+    ≡ local_rule_under First before i m.routine.sort m.set m.driver =
     rules_alike before i m.routine.sort m.set m.driver free first.uncancelled
-    (none_at is_dequeue m.routine.code q i first.plain here)
     in
     record {
       0 = subst (λ rule. HandsOn rule (label_of i) q p s) same h;
@@ -159,42 +169,40 @@ leads_to m (Some i) q before p s first here free h =
     }
 
 leads_back : (m : Member) (o : Option Instr) (q : ℕ) (before : Abs) (p : ℕ) (s : Abs)
-    → IsOfFirst m
-    → slice_get m.routine.code q ≡ o → NoneWaits before → FirstLeadsFrom m o q before p s
+    → IsOfFirst m → NoneWaits before → LeadsFromUnder First m o q before p s
     → LeadsFrom m o q before p s
-leads_back m None q before p s first here free h = h
-leads_back m (Some i) q before p s first here free h =
+leads_back m None q before p s first free h = h
+leads_back m (Some i) q before p s first free h =
     subst (λ rule. HandsOn rule (label_of i) q p s)
-    (sym (rules_alike before i m.routine.sort m.set m.driver free first.uncancelled
-    (none_at is_dequeue m.routine.code q i first.plain here)))
+    (sym (rules_alike before i m.routine.sort m.set m.driver free first.uncancelled))
     h
 
 along_to : (m : Member) (path : List ℕ) (s : Abs) → IsOfFirst m → Along m path s
-    → FirstAlong m path s × NoneWaits s
+    → AlongUnder First m path s × NoneWaits s
 along_to m [] s first h = absurd h
 along_to m (p ∷ []) s first h =
-    let entered : first_entry_state m ≡ Some s = sym (entry_alike m first) ∙ h.1 in
+    let entered : entry_under First m ≡ Some s = sym (entry_alike m first) ∙ h.1 in
     record { 0 = (h.0, entered); 1 = entry_free m s entered }
 along_to m (p ∷ q ∷ path) s first h =
     let rest = along_to m (q ∷ path) h.0 first h.1 in
-    let leads = leads_to m (slice_get m.routine.code q) q h.0 p s first refl rest.1 h.2.1 in
-    record { 0 = (h.0, rest.0, (h.2.0, leads.0)); 1 = leads.1 }
+    let leads = leads_to m (slice_get m.routine.code q) q h.0 p s first rest.1 h.2.1 in
+    record { 0 = (h.0, rest.0, (sym (formed_alike m q first) ∙ h.2.0, leads.0)); 1 = leads.1 }
 
-along_back : (m : Member) (path : List ℕ) (s : Abs) → IsOfFirst m → FirstAlong m path s
+along_back : (m : Member) (path : List ℕ) (s : Abs) → IsOfFirst m → AlongUnder First m path s
     → Along m path s
 along_back m [] s first h = h
 along_back m (p ∷ []) s first h = (h.0, entry_alike m first ∙ h.1)
 along_back m (p ∷ q ∷ path) s first h =
     let rest = along_back m (q ∷ path) h.0 first h.1 in
     let free = (along_to m (q ∷ path) h.0 first rest).1 in
-    let leads = leads_back m (slice_get m.routine.code q) q h.0 p s first refl free h.2.1 in
-    (h.0, rest, (h.2.0, leads))
+    let leads = leads_back m (slice_get m.routine.code q) q h.0 p s first free h.2.1 in
+    (h.0, rest, (formed_alike m q first ∙ h.2.0, leads))
 
 pub arrives_to : (m : Member) (p : ℕ) (s : Abs) → IsOfFirst m → Arrives m p s
-    → FirstArrives m p s
+    → ArrivesUnder First m p s
 arrives_to m p s first h = (h.0, (along_to m (p ∷ h.0) s first h.1).0)
 
-pub arrives_back : (m : Member) (p : ℕ) (s : Abs) → IsOfFirst m → FirstArrives m p s
+pub arrives_back : (m : Member) (p : ℕ) (s : Abs) → IsOfFirst m → ArrivesUnder First m p s
     → Arrives m p s
 arrives_back m p s first h = (h.0, along_back m (p ∷ h.0) s first h.1)
 
@@ -202,14 +210,13 @@ pub arrives_free : (m : Member) (p : ℕ) (s : Abs) → IsOfFirst m → Arrives 
 arrives_free m p s first h = (along_to m (p ∷ h.0) s first h.1).1
 
 -- and breaks the same there
-fault_by : (m : Member) (o : Option Instr) (p : ℕ) (s : Abs) → IsOfFirst m
-    → slice_get m.routine.code p ≡ o → NoneWaits s → fault_in m s o ≡ first_fault_in m s o
-fault_by m None p s first here free = refl
-fault_by m (Some i) p s first here free =
+fault_by : (m : Member) (o : Option Instr) (s : Abs) → IsOfFirst m → NoneWaits s
+    → fault_in m s o ≡ fault_under First m s o
+fault_by m None s first free = refl
+fault_by m (Some i) s first free =
     refuses_alike s i m.routine.sort m.set m.driver free first.uncancelled
-    (none_at is_dequeue m.routine.code p i first.plain here)
 
 pub fault_alike : (m : Member) (p : ℕ) (s : Abs) → IsOfFirst m → Arrives m p s
-    → fault_in m s (slice_get m.routine.code p) ≡ first_fault_in m s (slice_get m.routine.code p)
+    → fault_in m s (slice_get m.routine.code p) ≡ fault_under First m s (slice_get m.routine.code p)
 fault_alike m p s first h =
-    fault_by m (slice_get m.routine.code p) p s first refl (arrives_free m p s first h)
+    fault_by m (slice_get m.routine.code p) s first (arrives_free m p s first h)

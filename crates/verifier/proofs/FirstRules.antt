@@ -16,12 +16,12 @@ use Rattle.model.specs.declared.set.Guard.{Guard}
 use Rattle.model.specs.declared.set.Guard.TheVariants.{DeviceLock, CancelLock}
 use Rattle.model.specs.declared.set.QueueName.TheVariants.{Declared, DeviceQueue}
 use Rattle.model.specs.declared.set.Sort.{Sort}
-use Rattle.model.specs.Edition.{is_dequeue}
+use Rattle.model.specs.Edition.{First}
 use Rattle.model.specs.Kinds.{is_guard, is_stage, stays_under_guard, needs_guard, let_go, all_let_go, left_behind, kind_inserted, kind_removed, kind_disarmed}
-use Rattle.model.specs.LocalRule.{kind_of, with_cancel, least_of, broken_if, unless, demanded, an_owned_one, has_startio, guard_fault, waiting_fault, refuses, marked, given_down, handed, handed_at_label, outs_by, outs, rule_or, local_rule}
+use Rattle.model.specs.LocalRule.{kind_of, with_cancel, least_of, broken_if, unless, demanded, an_owned_one, has_startio, guard_fault, waiting_fault, refuses, refuses_under, marked, given_down, handed, handed_under, handed_at_label, outs_by, outs, rule_or, local_rule, local_rule_under}
 use Rattle.model.specs.Paths.{HandsOn}
 use Rattle.model.specs.Set.{Set, Flow, Onward, Branches, Jumps, Opens, Closes, Leaves, guard_of, guard_named, cancel_routine_of, has_cancel, flow_of}
-use Rattle.verifier.specs.FirstEdition.{first_refuses, first_handed, first_local_rule, waits, NoneWaits}
+use Rattle.verifier.specs.FirstEdition.{waits, NoneWaits}
 
 pub neither : (a b : Bool) → (a || b) ≡ false → (a ≡ false) × (b ≡ false)
 neither true b none = cc
@@ -97,43 +97,41 @@ waiting_none s set driver none =
     unasked (has_cancel set driver DeviceQueue) (guard_fault s set driver DeviceQueue) none
 
 pub refuses_alike : (s : Abs) (i : Instr) (sort : Sort) (set : Set) (driver : ℕ) → NoneWaits s
-    → has_cancel set driver DeviceQueue ≡ false → is_dequeue i ≡ false
-    → refuses s i sort set driver ≡ first_refuses s i sort set driver
-refuses_alike s ReleaseCancel sort set driver free none plain =
+    → has_cancel set driver DeviceQueue ≡ false
+    → refuses s i sort set driver ≡ refuses_under First s i sort set driver
+refuses_alike s ReleaseCancel sort set driver free none =
     ap
     (λ (b : Bool). least_of (broken_if (not s.cancel) CancelSpinLock) (broken_if b GuardRule))
     (need_none set driver s.kinds free)
     ∙ least_none (broken_if (not s.cancel) CancelSpinLock)
-refuses_alike s (Start r) sort set driver free none plain =
+refuses_alike s (Start r) sort set driver free none =
     ap
     (λ (broken : Option Rule). least_of (demanded an_owned_one (kind_of s r))
     (least_of broken (unless (has_startio set driver) SortRule)))
     (waiting_none s set driver none)
-refuses_alike s Next sort set driver free none plain =
+refuses_alike s Next sort set driver free none =
     ap (λ (broken : Option Rule). least_of broken (unless s.token Token))
     (waiting_none s set driver none)
-refuses_alike s (Dequeue r) sort set driver free none plain = cc
-refuses_alike s i sort set driver free none plain = refl
+refuses_alike s i sort set driver free none = refl
 
 -- the states after it
-handed_alike : (set : Set) (driver : ℕ) (s : Abs) (i : Instr) → NoneWaits s → is_dequeue i ≡ false
-    → handed set driver s i ≡ first_handed set driver s i
-handed_alike set driver s ReleaseCancel free plain =
+handed_alike : (set : Set) (driver : ℕ) (s : Abs) (i : Instr) → NoneWaits s
+    → handed set driver s i ≡ handed_under First set driver s i
+handed_alike set driver s ReleaseCancel free =
     ap (λ (kinds : List Kind). record (with_cancel s false) { kinds = kinds })
     (keeps_kinds set driver s.kinds free)
-handed_alike set driver s (Dequeue r) free plain = cc
-handed_alike set driver s i free plain = refl
+handed_alike set driver s i free = refl
 
 pub rules_alike : (s : Abs) (i : Instr) (sort : Sort) (set : Set) (driver : ℕ) → NoneWaits s
-    → has_cancel set driver DeviceQueue ≡ false → is_dequeue i ≡ false
-    → local_rule s i sort set driver ≡ first_local_rule s i sort set driver
-rules_alike s i sort set driver free none plain =
+    → has_cancel set driver DeviceQueue ≡ false
+    → local_rule s i sort set driver ≡ local_rule_under First s i sort set driver
+rules_alike s i sort set driver free none =
     ap (λ (broken : Option Rule). rule_or broken (outs set driver s i))
-    (refuses_alike s i sort set driver free none plain)
+    (refuses_alike s i sort set driver free none)
     ∙ ap
-    (λ (next : Abs). rule_or (first_refuses s i sort set driver)
+    (λ (next : Abs). rule_or (refuses_under First s i sort set driver)
     (outs_by (flow_of i) next (handed_at_label s i)))
-    (handed_alike set driver s i free plain)
+    (handed_alike set driver s i free)
 
 -- no register comes to hold a packet of the device queue
 kind_free : (kinds : List Kind) (r : ℕ) → list_any waits kinds ≡ false

@@ -1,380 +1,300 @@
--- Since the same states arrive by the rules of both editions, and break the same, the verdict on a
--- set of the first edition is the same.
-use Rattle.std.proofs.Common.{◌≡◌, ℕ, ◌⊎◌, inl, inr, Option, None, Some, sym, ◌∙◌, length}
+-- Where the same states arrive under two editions, and break the same there, the verdict is the
+-- same; a set of the first edition is such.
+use Rattle.std.proofs.Common.{◌≡◌, ℕ, ◌⊎◌, inl, inr, List, Option, None, Some, Result, Ok, Err, sym, ◌∙◌, length}
 use Rattle.std.specs.Prelude.{slice_get}
 use Rattle.model.specs.declared.abs.Abs.{Abs}
 use Rattle.model.specs.declared.abs.Refusal.{Refusal}
 use Rattle.model.specs.declared.abs.Rule.{Rule}
+use Rattle.model.specs.declared.abs.Rule.TheVariants.{Memory}
 use Rattle.model.specs.declared.instr.Instr.{Instr}
 use Rattle.model.specs.declared.set.Driver.{Driver}
-use Rattle.model.specs.Edition.{edition_of}
+use Rattle.model.specs.declared.set.Routine.{Routine}
+use Rattle.model.specs.Edition.{Edition, First, Second, edition_of}
+use Rattle.model.specs.LocalRule.{entry_under}
 use Rattle.model.specs.Loops.{open_at}
+use Rattle.model.specs.Paths.{ArrivesUnder, is_malformed_under}
 use Rattle.model.specs.Set.{Set, Member, Flow, Onward, Branches, Jumps, Opens, Closes, Leaves, member, flow_of}
-use Rattle.model.specs.Typable.{ArrivesAlone, ReachesLoop, ClosesAlikeBy, ClosesAlike, ClosesUnlikeBy, ClosesUnlike, IsFineAt, IsTypableRoutine, AreTypableRoutines, AreTypable, IsTypable, HasNoEntry, IsUnreachable, HasSeveral, EndsUnlike, IsBroken, IsTooLong, IsFaultAt, IsFirstFaultOf, IsFirstFaultWithin, IsFirstFault}
+use Rattle.model.specs.Typable.{ArrivesAloneUnder, ReachesLoopUnder, ClosesAlikeByUnder, ClosesAlikeUnder, ClosesUnlikeByUnder, ClosesUnlikeUnder, IsFineUnder, IsTypableRoutineUnder, AreTypableRoutinesUnder, AreTypableUnder, IsTypableUnder, HasNoEntryUnder, IsUnreachableUnder, HasSeveralUnder, EndsUnlikeUnder, IsBrokenUnder, IsTooLongUnder, IsFaultUnder, IsFirstFaultOfUnder, IsFirstFaultWithinUnder, IsFirstFaultUnder, at_start, fault_under}
 use Rattle.verifier.specs.FirstEdition.{IsOfFirst}
-use Rattle.verifier.specs.FirstVerdict.{FirstArrivesAlone, FirstReachesLoop, FirstClosesAlikeBy, FirstClosesAlike, FirstClosesUnlikeBy, FirstClosesUnlike, FirstIsFineAt, FirstIsTypableRoutine, FirstAreTypableRoutines, FirstAreTypable, FirstIsTypable, FirstHasNoEntry, FirstIsUnreachable, FirstHasSeveral, FirstEndsUnlike, FirstIsBroken, FirstIsTooLong, FirstIsFaultAt, FirstIsFirstFaultOf, FirstIsFirstFaultWithin, FirstIsFirstFault}
-use Rattle.verifier.proofs.FirstPaths.{of_first, entry_alike, arrives_to, arrives_back, fault_alike}
+use Rattle.verifier.specs.FirstLaw.{IsVerdictUnder}
+use Rattle.verifier.specs.Verdict.{IsRefusalOf}
+use Rattle.verifier.proofs.FirstPaths.{of_first, entry_alike, formed_alike, arrives_to, arrives_back, fault_alike}
+
+-- two editions agree on a routine
+record Agree (a b : Edition) (m : Member) : Type 0 where
+  entry : entry_under a m ≡ entry_under b m
+  formed : (p : ℕ) → is_malformed_under a m.routine.code p ≡ is_malformed_under b m.routine.code p
+  arrives : (p : ℕ) (s : Abs) → ArrivesUnder a m p s → ArrivesUnder b m p s
+  back : (p : ℕ) (s : Abs) → ArrivesUnder b m p s → ArrivesUnder a m p s
+  faults : (p : ℕ) (s : Abs) → ArrivesUnder a m p s
+      → fault_under a m s (slice_get m.routine.code p) ≡ fault_under b m s
+      (slice_get m.routine.code p)
+
+turned : (a b : Edition) (m : Member) → Agree a b m → Agree b a m
+turned a b m h = record {
+  entry = sym h.entry;
+  formed = λ p. sym (h.formed p);
+  arrives = h.back;
+  back = h.arrives;
+  faults = λ p s arrives. sym (h.faults p s (h.back p s arrives));
+}
+
+agreed : (m : Member) → IsOfFirst m → Agree Second First m
+agreed m first = record {
+  entry = entry_alike m first;
+  formed = λ p. formed_alike m p first;
+  arrives = λ p s arrives. arrives_to m p s first arrives;
+  back = λ p s arrives. arrives_back m p s first arrives;
+  faults = λ p s arrives. fault_alike m p s first arrives;
+}
 
 -- what arrives alone
-alone_to : (m : Member) (p : ℕ) (s : Abs) → IsOfFirst m → ArrivesAlone m p s
-    → FirstArrivesAlone m p s
-alone_to m p s first h = record {
-  arrives = arrives_to m p s first h.arrives;
-  alone = λ other arrives. h.alone other (arrives_back m p other first arrives);
+alone : (a b : Edition) (m : Member) (p : ℕ) (s : Abs) → Agree a b m → ArrivesAloneUnder a m p s
+    → ArrivesAloneUnder b m p s
+alone a b m p s agree h = record {
+  arrives = agree.arrives p s h.arrives;
+  alone = λ other arrives. h.alone other (agree.back p other arrives);
 }
 
-alone_back : (m : Member) (p : ℕ) (s : Abs) → IsOfFirst m → FirstArrivesAlone m p s
-    → ArrivesAlone m p s
-alone_back m p s first h = record {
-  arrives = arrives_back m p s first h.arrives;
-  alone = λ other arrives. h.alone other (arrives_to m p other first arrives);
-}
-
-reaches_to : (m : Member) (q : Option ℕ) (s : Abs) → IsOfFirst m → ReachesLoop m q s
-    → FirstReachesLoop m q s
-reaches_to m None s first h = h
-reaches_to m (Some q) s first h = alone_to m q s first h
-
-reaches_back : (m : Member) (q : Option ℕ) (s : Abs) → IsOfFirst m → FirstReachesLoop m q s
-    → ReachesLoop m q s
-reaches_back m None s first h = h
-reaches_back m (Some q) s first h = alone_back m q s first h
+reaches : (a b : Edition) (m : Member) (q : Option ℕ) (s : Abs) → Agree a b m
+    → ReachesLoopUnder a m q s → ReachesLoopUnder b m q s
+reaches a b m None s agree h = h
+reaches a b m (Some q) s agree h = alone a b m q s agree h
 
 -- what closes a loop
-alike_by_to : (m : Member) (p : ℕ) (s : Abs) (f : Flow) → IsOfFirst m → ClosesAlikeBy m p s f
-    → FirstClosesAlikeBy m p s f
-alike_by_to m p s Onward first h = h
-alike_by_to m p s (Branches label) first h = h
-alike_by_to m p s (Jumps label) first h = h
-alike_by_to m p s (Opens turns) first h = h
-alike_by_to m p s Closes first h =
-    reaches_to m (slice_get (open_at m.routine.code p) 0) s first h
-alike_by_to m p s Leaves first h = h
+alike_by : (a b : Edition) (m : Member) (p : ℕ) (s : Abs) (f : Flow) → Agree a b m
+    → ClosesAlikeByUnder a m p s f → ClosesAlikeByUnder b m p s f
+alike_by a b m p s Onward agree h = h
+alike_by a b m p s (Branches label) agree h = h
+alike_by a b m p s (Jumps label) agree h = h
+alike_by a b m p s (Opens turns) agree h = h
+alike_by a b m p s Closes agree h =
+    reaches a b m (slice_get (open_at m.routine.code p) 0) s agree h
+alike_by a b m p s Leaves agree h = h
 
-alike_by_back : (m : Member) (p : ℕ) (s : Abs) (f : Flow) → IsOfFirst m
-    → FirstClosesAlikeBy m p s f → ClosesAlikeBy m p s f
-alike_by_back m p s Onward first h = h
-alike_by_back m p s (Branches label) first h = h
-alike_by_back m p s (Jumps label) first h = h
-alike_by_back m p s (Opens turns) first h = h
-alike_by_back m p s Closes first h =
-    reaches_back m (slice_get (open_at m.routine.code p) 0) s first h
-alike_by_back m p s Leaves first h = h
+alike : (a b : Edition) (m : Member) (p : ℕ) (s : Abs) (i : Option Instr) → Agree a b m
+    → ClosesAlikeUnder a m p s i → ClosesAlikeUnder b m p s i
+alike a b m p s None agree h = h
+alike a b m p s (Some i) agree h = alike_by a b m p s (flow_of i) agree h
 
-alike_to : (m : Member) (p : ℕ) (s : Abs) (i : Option Instr) → IsOfFirst m → ClosesAlike m p s i
-    → FirstClosesAlike m p s i
-alike_to m p s None first h = h
-alike_to m p s (Some i) first h = alike_by_to m p s (flow_of i) first h
+unlike_by : (a b : Edition) (m : Member) (p : ℕ) (s : Abs) (f : Flow) → Agree a b m
+    → ClosesUnlikeByUnder a m p s f → ClosesUnlikeByUnder b m p s f
+unlike_by a b m p s Onward agree h = h
+unlike_by a b m p s (Branches label) agree h = h
+unlike_by a b m p s (Jumps label) agree h = h
+unlike_by a b m p s (Opens turns) agree h = h
+unlike_by a b m p s Closes agree h =
+    (h.0, reaches a b m (slice_get (open_at m.routine.code p) 0) h.0 agree h.1, h.2)
+unlike_by a b m p s Leaves agree h = h
 
-alike_back : (m : Member) (p : ℕ) (s : Abs) (i : Option Instr) → IsOfFirst m
-    → FirstClosesAlike m p s i → ClosesAlike m p s i
-alike_back m p s None first h = h
-alike_back m p s (Some i) first h = alike_by_back m p s (flow_of i) first h
-
-unlike_by_to : (m : Member) (p : ℕ) (s : Abs) (f : Flow) → IsOfFirst m → ClosesUnlikeBy m p s f
-    → FirstClosesUnlikeBy m p s f
-unlike_by_to m p s Onward first h = h
-unlike_by_to m p s (Branches label) first h = h
-unlike_by_to m p s (Jumps label) first h = h
-unlike_by_to m p s (Opens turns) first h = h
-unlike_by_to m p s Closes first h =
-    (h.0, reaches_to m (slice_get (open_at m.routine.code p) 0) h.0 first h.1, h.2)
-unlike_by_to m p s Leaves first h = h
-
-unlike_by_back : (m : Member) (p : ℕ) (s : Abs) (f : Flow) → IsOfFirst m
-    → FirstClosesUnlikeBy m p s f → ClosesUnlikeBy m p s f
-unlike_by_back m p s Onward first h = h
-unlike_by_back m p s (Branches label) first h = h
-unlike_by_back m p s (Jumps label) first h = h
-unlike_by_back m p s (Opens turns) first h = h
-unlike_by_back m p s Closes first h =
-    (h.0, reaches_back m (slice_get (open_at m.routine.code p) 0) h.0 first h.1, h.2)
-unlike_by_back m p s Leaves first h = h
-
-unlike_to : (m : Member) (p : ℕ) (s : Abs) (i : Option Instr) → IsOfFirst m
-    → ClosesUnlike m p s i → FirstClosesUnlike m p s i
-unlike_to m p s None first h = h
-unlike_to m p s (Some i) first h = unlike_by_to m p s (flow_of i) first h
-
-unlike_back : (m : Member) (p : ℕ) (s : Abs) (i : Option Instr) → IsOfFirst m
-    → FirstClosesUnlike m p s i → ClosesUnlike m p s i
-unlike_back m p s None first h = h
-unlike_back m p s (Some i) first h = unlike_by_back m p s (flow_of i) first h
+unlike : (a b : Edition) (m : Member) (p : ℕ) (s : Abs) (i : Option Instr) → Agree a b m
+    → ClosesUnlikeUnder a m p s i → ClosesUnlikeUnder b m p s i
+unlike a b m p s None agree h = h
+unlike a b m p s (Some i) agree h = unlike_by a b m p s (flow_of i) agree h
 
 -- positions without a fault, and routines
-fine_to : (m : Member) (p : ℕ) → IsOfFirst m → IsFineAt m p → FirstIsFineAt m p
-fine_to m p first h = record {
-  formed = h.formed;
+fine : (a b : Edition) (m : Member) (p : ℕ) → Agree a b m → IsFineUnder a m p → IsFineUnder b m p
+fine a b m p agree h = record {
+  formed = sym (agree.formed p) ∙ h.formed;
   state = h.state;
-  arrival = alone_to m p h.state first h.arrival;
-  closes = alike_to m p h.state (slice_get m.routine.code p) first h.closes;
-  keeps = sym (fault_alike m p h.state first h.arrival.arrives) ∙ h.keeps;
+  arrival = alone a b m p h.state agree h.arrival;
+  closes = alike a b m p h.state (slice_get m.routine.code p) agree h.closes;
+  keeps = sym (agree.faults p h.state h.arrival.arrives) ∙ h.keeps;
   short = h.short;
 }
 
-fine_back : (m : Member) (p : ℕ) → IsOfFirst m → FirstIsFineAt m p → IsFineAt m p
-fine_back m p first h =
-    let arrival = alone_back m p h.state first h.arrival in
-    record {
-      formed = h.formed;
-      state = h.state;
-      arrival = arrival;
-      closes = alike_back m p h.state (slice_get m.routine.code p) first h.closes;
-      keeps = fault_alike m p h.state first arrival.arrives ∙ h.keeps;
-      short = h.short;
-    }
-
-pub routine_to : (m : Member) → IsOfFirst m → IsTypableRoutine m → FirstIsTypableRoutine m
-routine_to m first h =
-    record { some = h.some; each = λ p within. fine_to m p first (h.each p within) }
-
-pub routine_back : (m : Member) → IsOfFirst m → FirstIsTypableRoutine m → IsTypableRoutine m
-routine_back m first h =
-    record { some = h.some; each = λ p within. fine_back m p first (h.each p within) }
+routine : (a b : Edition) (m : Member) → Agree a b m → IsTypableRoutineUnder a m
+    → IsTypableRoutineUnder b m
+routine a b m agree h =
+    record { some = h.some; each = λ p within. fine a b m p agree (h.each p within) }
 
 -- faults
-unreachable_to : (m : Member) (p : ℕ) → IsOfFirst m → IsUnreachable m p → FirstIsUnreachable m p
-unreachable_to m p first h = record {
+unreachable : (a b : Edition) (m : Member) (p : ℕ) → Agree a b m → IsUnreachableUnder a m p
+    → IsUnreachableUnder b m p
+unreachable a b m p agree h = record {
   within = h.within;
-  formed = h.formed;
+  formed = sym (agree.formed p) ∙ h.formed;
   entry = h.entry;
-  entered = sym (entry_alike m first) ∙ h.entered;
-  never = λ s arrives. h.never s (arrives_back m p s first arrives);
+  entered = sym agree.entry ∙ h.entered;
+  never = λ s arrives. h.never s (agree.back p s arrives);
 }
 
-unreachable_back : (m : Member) (p : ℕ) → IsOfFirst m → FirstIsUnreachable m p
-    → IsUnreachable m p
-unreachable_back m p first h = record {
+several : (a b : Edition) (m : Member) (p : ℕ) → Agree a b m → HasSeveralUnder a m p
+    → HasSeveralUnder b m p
+several a b m p agree h = record {
   within = h.within;
-  formed = h.formed;
-  entry = h.entry;
-  entered = entry_alike m first ∙ h.entered;
-  never = λ s arrives. h.never s (arrives_to m p s first arrives);
-}
-
-several_to : (m : Member) (p : ℕ) → IsOfFirst m → HasSeveral m p → FirstHasSeveral m p
-several_to m p first h = record {
-  within = h.within;
-  formed = h.formed;
+  formed = sym (agree.formed p) ∙ h.formed;
   one = h.one;
   other = h.other;
-  one_arrives = arrives_to m p h.one first h.one_arrives;
-  other_arrives = arrives_to m p h.other first h.other_arrives;
+  one_arrives = agree.arrives p h.one h.one_arrives;
+  other_arrives = agree.arrives p h.other h.other_arrives;
   differ = h.differ;
 }
 
-several_back : (m : Member) (p : ℕ) → IsOfFirst m → FirstHasSeveral m p → HasSeveral m p
-several_back m p first h = record {
+ends : (a b : Edition) (m : Member) (p : ℕ) → Agree a b m → EndsUnlikeUnder a m p
+    → EndsUnlikeUnder b m p
+ends a b m p agree h = record {
   within = h.within;
-  formed = h.formed;
-  one = h.one;
-  other = h.other;
-  one_arrives = arrives_back m p h.one first h.one_arrives;
-  other_arrives = arrives_back m p h.other first h.other_arrives;
-  differ = h.differ;
+  formed = sym (agree.formed p) ∙ h.formed;
+  state = h.state;
+  arrival = alone a b m p h.state agree h.arrival;
+  closes = unlike a b m p h.state (slice_get m.routine.code p) agree h.closes;
 }
 
-ends_to : (m : Member) (p : ℕ) → IsOfFirst m → EndsUnlike m p → FirstEndsUnlike m p
-ends_to m p first h = record {
+differ : (a b : Edition) (m : Member) (p : ℕ) → Agree a b m
+    → HasSeveralUnder a m p ⊎ EndsUnlikeUnder a m p
+    → HasSeveralUnder b m p ⊎ EndsUnlikeUnder b m p
+differ a b m p agree (inl h) = inl (several a b m p agree h)
+differ a b m p agree (inr h) = inr (ends a b m p agree h)
+
+broken : (a b : Edition) (m : Member) (p : ℕ) (rule : Rule) → Agree a b m
+    → IsBrokenUnder a m p rule → IsBrokenUnder b m p rule
+broken a b m p rule agree h = record {
   within = h.within;
-  formed = h.formed;
+  formed = sym (agree.formed p) ∙ h.formed;
   state = h.state;
-  arrival = alone_to m p h.state first h.arrival;
-  closes = unlike_to m p h.state (slice_get m.routine.code p) first h.closes;
+  arrival = alone a b m p h.state agree h.arrival;
+  closes = alike a b m p h.state (slice_get m.routine.code p) agree h.closes;
+  breaks = sym (agree.faults p h.state h.arrival.arrives) ∙ h.breaks;
 }
 
-ends_back : (m : Member) (p : ℕ) → IsOfFirst m → FirstEndsUnlike m p → EndsUnlike m p
-ends_back m p first h = record {
-  within = h.within;
-  formed = h.formed;
-  state = h.state;
-  arrival = alone_back m p h.state first h.arrival;
-  closes = unlike_back m p h.state (slice_get m.routine.code p) first h.closes;
+barred : (a b : Edition) (m : Member) (p : ℕ) → Agree a b m → HasNoEntryUnder a m p
+    → HasNoEntryUnder b m p
+barred a b m p agree h = record {
+  start = h.start;
+  formed = sym (agree.formed p) ∙ h.formed;
+  none = sym agree.entry ∙ h.none;
 }
 
-differ_to : (m : Member) (p : ℕ) → IsOfFirst m → HasSeveral m p ⊎ EndsUnlike m p
-    → FirstHasSeveral m p ⊎ FirstEndsUnlike m p
-differ_to m p first (inl h) = inl (several_to m p first h)
-differ_to m p first (inr h) = inr (ends_to m p first h)
-
-differ_back : (m : Member) (p : ℕ) → IsOfFirst m → FirstHasSeveral m p ⊎ FirstEndsUnlike m p
-    → HasSeveral m p ⊎ EndsUnlike m p
-differ_back m p first (inl h) = inl (several_back m p first h)
-differ_back m p first (inr h) = inr (ends_back m p first h)
-
-broken_to : (m : Member) (p : ℕ) (rule : Rule) → IsOfFirst m → IsBroken m p rule
-    → FirstIsBroken m p rule
-broken_to m p rule first h = record {
+long : (a b : Edition) (m : Member) (p : ℕ) → Agree a b m → IsTooLongUnder a m p
+    → IsTooLongUnder b m p
+long a b m p agree h = record {
   within = h.within;
-  formed = h.formed;
+  formed = sym (agree.formed p) ∙ h.formed;
   state = h.state;
-  arrival = alone_to m p h.state first h.arrival;
-  closes = alike_to m p h.state (slice_get m.routine.code p) first h.closes;
-  breaks = sym (fault_alike m p h.state first h.arrival.arrives) ∙ h.breaks;
-}
-
-broken_back : (m : Member) (p : ℕ) (rule : Rule) → IsOfFirst m → FirstIsBroken m p rule
-    → IsBroken m p rule
-broken_back m p rule first h =
-    let arrival = alone_back m p h.state first h.arrival in
-    record {
-      within = h.within;
-      formed = h.formed;
-      state = h.state;
-      arrival = arrival;
-      closes = alike_back m p h.state (slice_get m.routine.code p) first h.closes;
-      breaks = fault_alike m p h.state first arrival.arrives ∙ h.breaks;
-    }
-
-barred_to : (m : Member) (p : ℕ) → IsOfFirst m → HasNoEntry m p → FirstHasNoEntry m p
-barred_to m p first h =
-    record { start = h.start; formed = h.formed; none = sym (entry_alike m first) ∙ h.none }
-
-barred_back : (m : Member) (p : ℕ) → IsOfFirst m → FirstHasNoEntry m p → HasNoEntry m p
-barred_back m p first h =
-    record { start = h.start; formed = h.formed; none = entry_alike m first ∙ h.none }
-
-long_to : (m : Member) (p : ℕ) → IsOfFirst m → IsTooLong m p → FirstIsTooLong m p
-long_to m p first h = record {
-  within = h.within;
-  formed = h.formed;
-  state = h.state;
-  arrival = alone_to m p h.state first h.arrival;
-  closes = alike_to m p h.state (slice_get m.routine.code p) first h.closes;
-  keeps = sym (fault_alike m p h.state first h.arrival.arrives) ∙ h.keeps;
+  arrival = alone a b m p h.state agree h.arrival;
+  closes = alike a b m p h.state (slice_get m.routine.code p) agree h.closes;
+  keeps = sym (agree.faults p h.state h.arrival.arrives) ∙ h.keeps;
   long = h.long;
 }
 
-long_back : (m : Member) (p : ℕ) → IsOfFirst m → FirstIsTooLong m p → IsTooLong m p
-long_back m p first h =
-    let arrival = alone_back m p h.state first h.arrival in
-    record {
-      within = h.within;
-      formed = h.formed;
-      state = h.state;
-      arrival = arrival;
-      closes = alike_back m p h.state (slice_get m.routine.code p) first h.closes;
-      keeps = fault_alike m p h.state first arrival.arrives ∙ h.keeps;
-      long = h.long;
-    }
+fault : (a b : Edition) (m : Member) (p : ℕ) (rule : Rule) → Agree a b m
+    → IsFaultUnder a m p rule → IsFaultUnder b m p rule
+fault a b m p rule agree (inl h) = inl (sym (agree.formed p) ∙ h.0, h.1)
+fault a b m p rule agree (inr (inl h)) = inr (inl (unreachable a b m p agree h.0, h.1))
+fault a b m p rule agree (inr (inr (inl h))) = inr (inr (inl (differ a b m p agree h.0, h.1)))
+fault a b m p rule agree (inr (inr (inr (inl h)))) =
+    inr (inr (inr (inl (broken a b m p rule agree h))))
+fault a b m p rule agree (inr (inr (inr (inr (inl h))))) =
+    inr (inr (inr (inr (inl (barred a b m p agree h.0, h.1)))))
+fault a b m p rule agree (inr (inr (inr (inr (inr h))))) =
+    inr (inr (inr (inr (inr (long a b m p agree h.0, h.1)))))
 
-fault_to : (m : Member) (p : ℕ) (rule : Rule) → IsOfFirst m → IsFaultAt m p rule
-    → FirstIsFaultAt m p rule
-fault_to m p rule first (inl h) = inl h
-fault_to m p rule first (inr (inl h)) = inr (inl (unreachable_to m p first h.0, h.1))
-fault_to m p rule first (inr (inr (inl h))) = inr (inr (inl (differ_to m p first h.0, h.1)))
-fault_to m p rule first (inr (inr (inr (inl h)))) =
-    inr (inr (inr (inl (broken_to m p rule first h))))
-fault_to m p rule first (inr (inr (inr (inr (inl h))))) =
-    inr (inr (inr (inr (inl (barred_to m p first h.0, h.1)))))
-fault_to m p rule first (inr (inr (inr (inr (inr h))))) =
-    inr (inr (inr (inr (inr (long_to m p first h.0, h.1)))))
-
-fault_back : (m : Member) (p : ℕ) (rule : Rule) → IsOfFirst m → FirstIsFaultAt m p rule
-    → IsFaultAt m p rule
-fault_back m p rule first (inl h) = inl h
-fault_back m p rule first (inr (inl h)) = inr (inl (unreachable_back m p first h.0, h.1))
-fault_back m p rule first (inr (inr (inl h))) = inr (inr (inl (differ_back m p first h.0, h.1)))
-fault_back m p rule first (inr (inr (inr (inl h)))) =
-    inr (inr (inr (inl (broken_back m p rule first h))))
-fault_back m p rule first (inr (inr (inr (inr (inl h))))) =
-    inr (inr (inr (inr (inl (barred_back m p first h.0, h.1)))))
-fault_back m p rule first (inr (inr (inr (inr (inr h))))) =
-    inr (inr (inr (inr (inr (long_back m p first h.0, h.1)))))
-
-pub first_fault_to : (m : Member) (at : ℕ) (rule : Rule) → IsOfFirst m → IsFirstFaultOf m at rule
-    → FirstIsFirstFaultOf m at rule
-first_fault_to m at rule first h = record {
-  before = λ p earlier. fine_to m p first (h.before p earlier);
-  fault = fault_to m at rule first h.fault;
+first_fault : (a b : Edition) (m : Member) (at : ℕ) (rule : Rule) → Agree a b m
+    → IsFirstFaultOfUnder a m at rule → IsFirstFaultOfUnder b m at rule
+first_fault a b m at rule agree h = record {
+  before = λ p earlier. fine a b m p agree (h.before p earlier);
+  fault = fault a b m at rule agree h.fault;
 }
+
+-- routines that a set of the first edition may have
+pub routine_to : (m : Member) → IsOfFirst m → IsTypableRoutineUnder Second m
+    → IsTypableRoutineUnder First m
+routine_to m first h = routine Second First m (agreed m first) h
+
+pub routine_back : (m : Member) → IsOfFirst m → IsTypableRoutineUnder First m
+    → IsTypableRoutineUnder Second m
+routine_back m first h =
+    routine First Second m (turned Second First m (agreed m first)) h
+
+pub first_fault_to : (m : Member) (at : ℕ) (rule : Rule) → IsOfFirst m
+    → IsFirstFaultOfUnder Second m at rule → IsFirstFaultOfUnder First m at rule
+first_fault_to m at rule first h = first_fault Second First m at rule (agreed m first) h
 
 pub first_fault_back : (m : Member) (at : ℕ) (rule : Rule) → IsOfFirst m
-    → FirstIsFirstFaultOf m at rule → IsFirstFaultOf m at rule
-first_fault_back m at rule first h = record {
-  before = λ p earlier. fine_back m p first (h.before p earlier);
-  fault = fault_back m at rule first h.fault;
+    → IsFirstFaultOfUnder First m at rule → IsFirstFaultOfUnder Second m at rule
+first_fault_back m at rule first h =
+    first_fault First Second m at rule (turned Second First m (agreed m first)) h
+
+-- sets: two editions agree on all routines of one
+abbrev AgreeOn : Edition → Edition → Set → Type 0
+AgreeOn a b set =
+    (number : ℕ) (driver : Driver) (r : ℕ) (routine : Routine)
+    → slice_get set.drivers number ≡ Some driver → slice_get driver.routines r ≡ Some routine
+    → Agree a b (member set number r routine)
+
+agreed_on : (set : Set) → edition_of set ≡ 1 → AgreeOn Second First set
+agreed_on set first = λ number driver r routine there here.
+    agreed (member set number r routine) (of_first set number driver r routine first there here)
+
+turned_on : (a b : Edition) (set : Set) → AgreeOn a b set → AgreeOn b a set
+turned_on a b set agree = λ number driver r routine there here.
+    turned a b (member set number r routine) (agree number driver r routine there here)
+
+routines : (a b : Edition) (set : Set) (number : ℕ) (driver : Driver) (count : ℕ)
+    → AgreeOn a b set → slice_get set.drivers number ≡ Some driver
+    → AreTypableRoutinesUnder a set number driver count
+    → AreTypableRoutinesUnder b set number driver count
+routines a b set number driver count agree there h =
+    λ r it within here.
+    routine a b (member set number r it) (agree number driver r it there here)
+    (h r it within here)
+
+drivers : (a b : Edition) (set : Set) (count : ℕ) → AgreeOn a b set → AreTypableUnder a set count
+    → AreTypableUnder b set count
+drivers a b set count agree h =
+    λ number driver within there.
+    routines a b set number driver (length driver.routines) agree there
+    (h number driver within there)
+
+typable : (a b : Edition) (set : Set) → AgreeOn a b set → IsTypableUnder a set
+    → IsTypableUnder b set
+typable a b set agree h = record {
+  devices = h.devices;
+  drivers = drivers a b set (length set.drivers) agree h.drivers;
 }
 
--- sets
-routines_to : (set : Set) (number : ℕ) (driver : Driver) (count : ℕ) → edition_of set ≡ 1
-    → slice_get set.drivers number ≡ Some driver → AreTypableRoutines set number driver count
-    → FirstAreTypableRoutines set number driver count
-routines_to set number driver count first there h =
-    λ r routine within here.
-    routine_to (member set number r routine) (of_first set number driver r routine first there here)
-    (h r routine within here)
-
-routines_back : (set : Set) (number : ℕ) (driver : Driver) (count : ℕ) → edition_of set ≡ 1
-    → slice_get set.drivers number ≡ Some driver → FirstAreTypableRoutines set number driver count
-    → AreTypableRoutines set number driver count
-routines_back set number driver count first there h =
-    λ r routine within here.
-    routine_back (member set number r routine)
-    (of_first set number driver r routine first there here) (h r routine within here)
-
-drivers_to : (set : Set) (count : ℕ) → edition_of set ≡ 1 → AreTypable set count
-    → FirstAreTypable set count
-drivers_to set count first h =
-    λ number driver within there.
-    routines_to set number driver (length driver.routines) first there
-    (h number driver within there)
-
-drivers_back : (set : Set) (count : ℕ) → edition_of set ≡ 1 → FirstAreTypable set count
-    → AreTypable set count
-drivers_back set count first h =
-    λ number driver within there.
-    routines_back set number driver (length driver.routines) first there
-    (h number driver within there)
-
-pub typable_to : (set : Set) → edition_of set ≡ 1 → IsTypable set → FirstIsTypable set
-typable_to set first h =
-    record { devices = h.devices; drivers = drivers_to set (length set.drivers) first h.drivers }
-
-pub typable_back : (set : Set) → edition_of set ≡ 1 → FirstIsTypable set → IsTypable set
-typable_back set first h =
-    record { devices = h.devices; drivers = drivers_back set (length set.drivers) first h.drivers }
-
-within_to : (set : Set) (refusal : Refusal) → edition_of set ≡ 1 → IsFirstFaultWithin set refusal
-    → FirstIsFirstFaultWithin set refusal
-within_to set refusal first h = record {
+faulty : (a b : Edition) (set : Set) (refusal : Refusal) → AgreeOn a b set
+    → IsFirstFaultWithinUnder a set refusal → IsFirstFaultWithinUnder b set refusal
+faulty a b set refusal agree h = record {
   devices = h.devices;
   driver = h.driver;
   driver_at = h.driver_at;
-  drivers_before = drivers_to set refusal.driver first h.drivers_before;
+  drivers_before = drivers a b set refusal.driver agree h.drivers_before;
   routine = h.routine;
   routine_at = h.routine_at;
-  routines_before = routines_to set refusal.driver h.driver refusal.routine first h.driver_at
+  routines_before = routines a b set refusal.driver h.driver refusal.routine agree h.driver_at
       h.routines_before;
-  first = first_fault_to (member set refusal.driver refusal.routine h.routine) refusal.at
-      refusal.rule
-      (of_first set refusal.driver h.driver refusal.routine h.routine first h.driver_at
+  first = first_fault a b (member set refusal.driver refusal.routine h.routine) refusal.at
+      refusal.rule (agree refusal.driver h.driver refusal.routine h.routine h.driver_at
       h.routine_at) h.first;
 }
 
-within_back : (set : Set) (refusal : Refusal) → edition_of set ≡ 1
-    → FirstIsFirstFaultWithin set refusal → IsFirstFaultWithin set refusal
-within_back set refusal first h = record {
-  devices = h.devices;
-  driver = h.driver;
-  driver_at = h.driver_at;
-  drivers_before = drivers_back set refusal.driver first h.drivers_before;
-  routine = h.routine;
-  routine_at = h.routine_at;
-  routines_before = routines_back set refusal.driver h.driver refusal.routine first h.driver_at
-      h.routines_before;
-  first = first_fault_back (member set refusal.driver refusal.routine h.routine) refusal.at
-      refusal.rule
-      (of_first set refusal.driver h.driver refusal.routine h.routine first h.driver_at
-      h.routine_at) h.first;
-}
+refused : (a b : Edition) (set : Set) (refusal : Refusal) → AgreeOn a b set
+    → IsFirstFaultUnder a set refusal → IsFirstFaultUnder b set refusal
+refused a b set refusal agree (inl h) = inl h
+refused a b set refusal agree (inr h) = inr (faulty a b set refusal agree h)
 
-pub refusal_to : (set : Set) (refusal : Refusal) → edition_of set ≡ 1 → IsFirstFault set refusal
-    → FirstIsFirstFault set refusal
-refusal_to set refusal first (inl h) = inl h
-refusal_to set refusal first (inr h) = inr (within_to set refusal first h)
+verdict : (a b : Edition) (set : Set) (it : Result (List (List ℕ)) Refusal) → AgreeOn a b set
+    → IsVerdictUnder a set it → IsVerdictUnder b set it
+verdict a b set (Ok certificates) agree h = (typable a b set agree h.0, h.1)
+verdict a b set (Err refusal) agree h = refused a b set refusal agree h
 
-pub refusal_back : (set : Set) (refusal : Refusal) → edition_of set ≡ 1
-    → FirstIsFirstFault set refusal → IsFirstFault set refusal
-refusal_back set refusal first (inl h) = inl h
-refusal_back set refusal first (inr h) = inr (within_back set refusal first h)
+pub verdict_to : (set : Set) (it : Result (List (List ℕ)) Refusal) → edition_of set ≡ 1
+    → IsVerdictUnder Second set it → IsVerdictUnder First set it
+verdict_to set it first h = verdict Second First set it (agreed_on set first) h
+
+pub verdict_back : (set : Set) (it : Result (List (List ℕ)) Refusal) → edition_of set ≡ 1
+    → IsVerdictUnder First set it → IsVerdictUnder Second set it
+verdict_back set it first h =
+    verdict First Second set it (turned_on Second First set (agreed_on set first)) h
+
+pub typable_to : (set : Set) → edition_of set ≡ 1 → IsTypableUnder Second set
+    → IsTypableUnder First set
+typable_to set first h = typable Second First set (agreed_on set first) h
+
+pub refused_to : (set : Set) (refusal : Refusal) → edition_of set ≡ 1 → IsRefusalOf set refusal
+    → (refusal ≡ at_start Memory) ⊎ IsFirstFaultUnder First set refusal
+refused_to set refusal first (inl memory) = inl memory
+refused_to set refusal first (inr h) =
+    inr (refused Second First set refusal (agreed_on set first) h)

@@ -5,5 +5,4 @@ pub mod Certificates
 pub mod Verdict
 pub mod FirstFault
 pub mod FirstEdition
-pub mod FirstVerdict
 pub mod FirstLaw

@@ -2,9 +2,10 @@
 
 ghost use Rattle.std.specs.Prelude.{◌≡◌, ◌≢◌, ◌⊎◌, IsSome, IfOk, IfErr, OnOk};
 ghost use Rattle.model.specs.Certificate.{certificate_of};
+ghost use Rattle.model.specs.Edition.{First, edition_of};
 ghost use Rattle.model.specs.Set.{routine_of};
 ghost use Rattle.model.specs.Sound.{DriverFits};
-ghost use Rattle.model.specs.Typable.{IsTypable, IsTypableDriver, IsFirstFault, at_start};
+ghost use Rattle.model.specs.Typable.{IsTypable, IsTypableDriver, IsTypableUnder, IsFirstFault, IsFirstFaultUnder, at_start};
 ghost use Rattle.verifier.specs.Certificates.{driver_certificates, AreCertificates};
 ghost use Rattle.verifier.specs.Verdict.{IsRefusalOf, IsRefusalOfDriver};
 
@@ -64,12 +65,16 @@ impl Accepted {
 
 /// Accepts a set exactly if it is typable, memory apart. Else it is handed back with its first
 /// fault: of the least driver, of its least routine, at the least position, the least rule. Where
-/// no memory is found the refusal says that, at driver 0, routine 0, position 0.
+/// no memory is found the refusal says that, at driver 0, routine 0, position 0. A set of the first
+/// edition is judged as its own rules would.
 pub fn verify(alloc: Global, set: DriverSet) -> Result<Accepted, (DriverSet, Refusal)>
     ensures accepted { IfOk result (λ a. (a ≡ set) × IsTypable set) }
     ensures refused { IfErr result
         (λ e. (e.0 ≡ set) × ((e.1 ≡ at_start Rule.Memory) ⊎ IsFirstFault set e.1)) }
     ensures untypable { IfErr result (λ e. e.1.rule ≢ Rule.Memory → IsTypable set → ⊥) }
+    ensures accepted_first { IfOk result (λ a. edition_of set ≡ 1 → IsTypableUnder First set) }
+    ensures refused_first { IfErr result (λ e. edition_of set ≡ 1
+        → (e.1 ≡ at_start Rule.Memory) ⊎ IsFirstFaultUnder First set e.1) }
 {
     match check_set(alloc, &set) {
         Ok(certificates) => Ok(Accepted {

@@ -1,6 +1,6 @@
 use Rattle.verifier.proofs.FirstRules.{rules_alike}
-use Rattle.verifier.proofs.FirstPaths.{of_first, entry_alike, arrives_to, arrives_back, arrives_free}
-use Rattle.verifier.proofs.FirstVerdicts.{routine_to, routine_back, first_fault_to, first_fault_back, typable_to, typable_back, refusal_to, refusal_back}
+use Rattle.verifier.proofs.FirstPaths.{of_first, formed_alike, entry_alike, arrives_to, arrives_back, arrives_free}
+use Rattle.verifier.proofs.FirstVerdicts.{routine_to, routine_back, first_fault_to, first_fault_back, verdict_to, verdict_back}
 use Rattle.verifier.proofs.laws.first_edition_is_kept.Goals as goal
 
 pub returns-clause-rules : goal.returns-clause-rules
@@ -8,6 +8,9 @@ returns-clause-rules c = rules_alike
 
 pub returns-clause-of_first : goal.returns-clause-of_first
 returns-clause-of_first c = of_first
+
+pub returns-clause-forms : goal.returns-clause-forms
+returns-clause-forms c = formed_alike
 
 pub returns-clause-entries : goal.returns-clause-entries
 returns-clause-entries c = entry_alike
@@ -28,11 +31,7 @@ returns-clause-routine_faults c =
     λ m at rule first.
     record { 0 = first_fault_to m at rule first; 1 = first_fault_back m at rule first }
 
-pub returns-clause-sets : goal.returns-clause-sets
-returns-clause-sets c =
-    λ set first. record { 0 = typable_to set first; 1 = typable_back set first }
-
-pub returns-clause-faults : goal.returns-clause-faults
-returns-clause-faults c =
-    λ set refusal first.
-    record { 0 = refusal_to set refusal first; 1 = refusal_back set refusal first }
+pub returns-clause-verdicts : goal.returns-clause-verdicts
+returns-clause-verdicts c =
+    λ set verdict first.
+    record { 0 = verdict_to set verdict first; 1 = verdict_back set verdict first }
