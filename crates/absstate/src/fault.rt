@@ -104,19 +104,22 @@ pub fn demanded(wanted: Wanted, kind: Kind) -> Option<Rule>
 {
     match kind {
         Kind::Blank | Kind::Num | Kind::Lower => Some(Rule::WrongKind),
-        Kind::New => unless(wanted.new, mark_or_completion(wanted.own)),
-        Kind::Own => unless(wanted.own, mark_or_completion(wanted.new)),
+        Kind::New => unless(wanted.new, another(wanted.queued, wanted.own)),
+        Kind::Own => unless(wanted.own, another(wanted.queued, wanted.new)),
         Kind::Queued(_, _) => unless(wanted.queued, Rule::CancelState),
         Kind::View => unless(wanted.view, Rule::Completion),
     }
 }
 
-/// What an unwanted packet breaks that the routine may complete: the rule on marks, where it would
-/// be wanted but for its mark.
-fn mark_or_completion(but_for_its_mark: bool) -> Rule
-    ensures { result ≡ (if but_for_its_mark then Rule.MarkIrpPending else Rule.Completion) }
+/// What an unwanted packet breaks that the routine may complete: the rule on cancellation, where one
+/// of a list is wanted, and the rule on marks, where it would be wanted but for its mark.
+fn another(listed: bool, but_for_its_mark: bool) -> Rule
+    ensures { result ≡ (if listed then Rule.CancelState
+        else if but_for_its_mark then Rule.MarkIrpPending else Rule.Completion) }
 {
-    if but_for_its_mark {
+    if listed {
+        Rule::CancelState
+    } else if but_for_its_mark {
         Rule::MarkIrpPending
     } else {
         Rule::Completion

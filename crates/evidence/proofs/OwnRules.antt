@@ -19,7 +19,7 @@ use Rattle.model.specs.declared.set.QueueName.TheVariants.{Declared, DeviceQueue
 use Rattle.model.specs.declared.set.Sort.{Sort}
 use Rattle.model.specs.declared.set.Sort.TheVariants.{Dispatch, StartIo, Dpc, Propagate, Hold, Cancel}
 use Rattle.model.specs.declared.status.Status.{Status}
-use Rattle.model.specs.LocalRule.{kind_of, is_held, holds_spin_lock, holds_lock, rule_number, least_of, broken_if, unless, Wanted, demanded, any_packet, a_new_one, one_handed_or_owned, an_owned_one, one_to_mark, one_to_look_at, is_completion, is_pending, free_kind, number_kind, level_fault, complete_kind, completion_sort_fault, forward_sort_fault, forward_fault, hold_fault, status_fault, duty_fault, form_fault, is_settled, is_fresh, is_taken_back, lent_fault, settled_fault, gives_back, left_packet, kept_fault, return_fault, completion_fault, guard_fault, waiting_fault, queued_kind, unlink_kind, names_fault, is_dpc, take_fault, refuses}
+use Rattle.model.specs.LocalRule.{kind_of, is_held, holds_spin_lock, holds_lock, rule_number, least_of, broken_if, unless, Wanted, demanded, is_wanted, missing, a_listed_one, any_packet, a_new_one, one_handed_or_owned, an_owned_one, one_to_mark, one_to_look_at, is_completion, is_pending, free_kind, number_kind, level_fault, complete_kind, completion_sort_fault, forward_sort_fault, forward_fault, hold_fault, status_fault, duty_fault, form_fault, is_settled, is_fresh, is_taken_back, lent_fault, settled_fault, gives_back, left_packet, kept_fault, return_fault, completion_fault, guard_fault, waiting_fault, queued_kind, unlink_kind, names_fault, is_dpc, take_fault, refuses}
 use Rattle.model.specs.Kinds.{is_packet, is_blank, is_at, is_exchanged}
 use Rattle.model.specs.Set.{Set, has_cancel}
 
@@ -69,20 +69,24 @@ broken_own b rule own = either_own b (Some rule) None own refl
 unless_own : (b : Bool) (rule : Rule) → is_own rule ≡ true → IsOwn (unless b rule)
 unless_own b rule own = either_own b None (Some rule) refl own
 
-packet_rule_own : (b : Bool) → is_own (if b then MarkIrpPending else Completion) ≡ true
-packet_rule_own true = refl
-packet_rule_own false = refl
+another_own : (listed marked : Bool)
+    → is_own (if listed then CancelState else if marked then MarkIrpPending else Completion) ≡ true
+another_own true marked = refl
+another_own false true = refl
+another_own false false = refl
+
+missing_own : (wanted : Wanted) (kind : Kind) → is_own (missing wanted kind) ≡ true
+missing_own wanted Blank = refl
+missing_own wanted Num = refl
+missing_own wanted Lower = refl
+missing_own wanted New = another_own wanted.queued wanted.own
+missing_own wanted Own = another_own wanted.queued wanted.new
+missing_own wanted (Queued name stage) = refl
+missing_own wanted View = refl
 
 demanded_own : (wanted : Wanted) (kind : Kind) → IsOwn (demanded wanted kind)
-demanded_own wanted Blank = refl
-demanded_own wanted Num = refl
-demanded_own wanted Lower = refl
-demanded_own wanted New = unless_own wanted.new (if wanted.own then MarkIrpPending else Completion)
-    (packet_rule_own wanted.own)
-demanded_own wanted Own = unless_own wanted.own (if wanted.new then MarkIrpPending else Completion)
-    (packet_rule_own wanted.new)
-demanded_own wanted (Queued name stage) = unless_own wanted.queued CancelState refl
-demanded_own wanted View = unless_own wanted.view Completion refl
+demanded_own wanted kind =
+    unless_own (is_wanted wanted kind) (missing wanted kind) (missing_own wanted kind)
 
 free_own : (kind : Kind) → IsOwn (free_kind kind)
 free_own kind = broken_own (is_packet kind) Dropped refl
@@ -206,13 +210,9 @@ waiting_own s set driver =
     (guard_own s set driver DeviceQueue) refl
 
 queued_own : (fits : Bool) (kind : Kind) → IsOwn (queued_kind fits kind)
-queued_own fits Blank = refl
-queued_own fits Num = refl
-queued_own fits Lower = refl
-queued_own fits New = refl
-queued_own fits Own = refl
-queued_own fits (Queued name stage) = unless_own fits CancelState refl
-queued_own fits View = refl
+queued_own fits kind =
+    unless_own (is_wanted a_listed_one kind && fits) (missing a_listed_one kind)
+    (missing_own a_listed_one kind)
 
 pub refuses_own : (s : Abs) (i : Instr) (sort : Sort) (set : Set) (driver : ℕ)
     → IsOwn (refuses s i sort set driver)

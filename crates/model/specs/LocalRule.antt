@@ -157,18 +157,35 @@ pub record Wanted : Type 0 where
   pub view : Bool
   pub queued : Bool
 
--- a packet of a wanted kind has to be there. Where there is none the kind is wrong; a packet that
--- was marked where an unmarked one is wanted, or the other way round, breaks the rule on pending
--- marks; one that stands in a list, or might be cancelled, the rule on cancellation; any other
--- breaks the rule on completion
+-- whether a register has one of them
+abbrev pub is_wanted : Wanted → Kind → Bool
+is_wanted wanted Blank = false
+is_wanted wanted Num = false
+is_wanted wanted Lower = false
+is_wanted wanted New = wanted.new
+is_wanted wanted Own = wanted.own
+is_wanted wanted (Queued name stage) = wanted.queued
+is_wanted wanted View = wanted.view
+
+-- which rule is broken by what is there where no wanted packet is. What is no packet is of a wrong
+-- kind; a packet that stands in a list, or might be cancelled, breaks the rule on cancellation, as
+-- one does that the routine has, where one that stands in a list is wanted; one that was marked
+-- where an unmarked one is wanted, or the other way round, breaks the rule on pending marks; any
+-- other breaks the rule on completion
+abbrev pub missing : Wanted → Kind → Rule
+missing wanted Blank = WrongKind
+missing wanted Num = WrongKind
+missing wanted Lower = WrongKind
+missing wanted New = if wanted.queued then CancelState
+    else if wanted.own then MarkIrpPending else Completion
+missing wanted Own = if wanted.queued then CancelState
+    else if wanted.new then MarkIrpPending else Completion
+missing wanted (Queued name stage) = CancelState
+missing wanted View = Completion
+
+-- a packet of a wanted kind has to be there
 abbrev pub demanded : Wanted → Kind → Option Rule
-demanded wanted Blank = Some WrongKind
-demanded wanted Num = Some WrongKind
-demanded wanted Lower = Some WrongKind
-demanded wanted New = unless wanted.new (if wanted.own then MarkIrpPending else Completion)
-demanded wanted Own = unless wanted.own (if wanted.new then MarkIrpPending else Completion)
-demanded wanted (Queued name stage) = unless wanted.queued CancelState
-demanded wanted View = unless wanted.view Completion
+demanded wanted kind = unless (is_wanted wanted kind) (missing wanted kind)
 
 abbrev pub any_packet : Wanted
 any_packet = record { new = true; own = true; view = true; queued = true }
@@ -187,6 +204,9 @@ one_to_mark = record { new = true; own = false; view = true; queued = false }
 
 abbrev pub one_to_look_at : Wanted
 one_to_look_at = record { new = false; own = false; view = true; queued = false }
+
+abbrev pub a_listed_one : Wanted
+a_listed_one = record { new = false; own = false; view = false; queued = true }
 
 abbrev pub is_completion : Sort → Bool
 is_completion Dispatch = false
@@ -439,15 +459,10 @@ is_guarded s (Some guard) = holds_guard s guard
 abbrev pub guard_fault : Abs → Set → ℕ → QueueName → Option Rule
 guard_fault s set driver name = unless (is_guarded s (guard_named set driver name)) GuardRule
 
--- one of these has to be there, in a state that fits the instruction
+-- a packet of a list has to be there, in a state that fits the instruction
 abbrev pub queued_kind : Bool → Kind → Option Rule
-queued_kind fits Blank = Some WrongKind
-queued_kind fits Num = Some WrongKind
-queued_kind fits Lower = Some WrongKind
-queued_kind fits New = Some CancelState
-queued_kind fits Own = Some CancelState
-queued_kind fits (Queued name stage) = unless fits CancelState
-queued_kind fits View = Some Completion
+queued_kind fits kind =
+    unless (is_wanted a_listed_one kind && fits) (missing a_listed_one kind)
 
 abbrev pub unlink_kind : QueueName → Kind → Option Rule
 unlink_kind name kind = queued_kind (is_at Listed name kind || is_at Cancelling name kind) kind
