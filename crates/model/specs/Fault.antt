@@ -11,7 +11,7 @@ use Rattle.model.specs.declared.event.Subject.{Subject}
 use Rattle.model.specs.declared.event.Subject.TheVariants.{Packet, Lock as LockSubject, Cell}
 use Rattle.model.specs.declared.world.Irql.{Irql}
 use Rattle.model.specs.declared.world.Irql.TheVariants.{Passive, Apc, Dispatch}
-use Rattle.model.specs.Action.{Action, OnLock, OnPacket, OnLocation, OfRoutine, Acquire, Release, Touch, Complete, Continue, Lend, Exchange, TopOut, Issue, Call, Up, Mark, Leave, Execute, TouchPaged, Return, GoWrong}
+use Rattle.model.specs.Action.{Action, LockAct, PacketAct, LocationAct, OnLock, OnPacket, OnLocation, OfRoutine, Acquire, Release, Touch, Complete, Continue, Lend, Exchange, TopOut, Issue, Call, Up, Mark, Leave, Execute, TouchPaged, Return, GoWrong}
 use Rattle.model.specs.Trace.{Entry, Actor, entry}
 
 -- the same lock
@@ -21,17 +21,48 @@ is_lock SystemCancel (Spin m) = false
 is_lock (Spin l) SystemCancel = false
 is_lock (Spin l) (Spin m) = nat_eq l.device m.device && nat_eq l.number m.number
 
--- a thread holds a lock: its last Acquires or Releases of it is an Acquires
-abbrev pub holds_after : Action → Bool → Lock → Bool → Bool
-holds_after (OnLock m Acquire) its_own l before = if its_own && is_lock m l then true else before
-holds_after (OnLock m Release) its_own l before = if its_own && is_lock m l then false else before
-holds_after (OnPacket packet act) its_own l before = before
-holds_after (OnLocation packet act) its_own l before = before
-holds_after (OfRoutine act) its_own l before = before
+-- what a thread did to a lock, what was done with a packet, and with its locations, the newest first.
+-- A packet that is touched stays as it was
+abbrev pub with_lock_act : Action → Bool → Lock → List LockAct → List LockAct
+with_lock_act (OnLock m act) its_own l acts = if its_own && is_lock m l then act ∷ acts else acts
+with_lock_act (OnPacket packet act) its_own l acts = acts
+with_lock_act (OnLocation packet act) its_own l acts = acts
+with_lock_act (OfRoutine act) its_own l acts = acts
+
+abbrev pub lock_acts : List Entry → ℕ → Lock → List LockAct
+lock_acts [] t l = []
+lock_acts (e ∷ past) t l =
+    with_lock_act e.action (nat_eq e.actor.thread t) l (lock_acts past t l)
+
+abbrev pub with_packet_act : Action → ℕ → List PacketAct → List PacketAct
+with_packet_act (OnPacket packet Touch) n acts = acts
+with_packet_act (OnPacket m act) n acts = if nat_eq m n then act ∷ acts else acts
+with_packet_act (OnLock lock act) n acts = acts
+with_packet_act (OnLocation packet act) n acts = acts
+with_packet_act (OfRoutine act) n acts = acts
+
+abbrev pub packet_acts : List Entry → ℕ → List PacketAct
+packet_acts [] n = []
+packet_acts (e ∷ past) n = with_packet_act e.action n (packet_acts past n)
+
+abbrev pub with_location_act : Action → ℕ → List LocationAct → List LocationAct
+with_location_act (OnLocation m act) n acts = if nat_eq m n then act ∷ acts else acts
+with_location_act (OnLock lock act) n acts = acts
+with_location_act (OnPacket packet act) n acts = acts
+with_location_act (OfRoutine act) n acts = acts
+
+abbrev pub location_acts : List Entry → ℕ → List LocationAct
+location_acts [] n = []
+location_acts (e ∷ past) n = with_location_act e.action n (location_acts past n)
+
+-- a thread holds a lock: the last that it did to it was to acquire it
+abbrev pub ends_held : List LockAct → Bool
+ends_held [] = false
+ends_held (Acquire ∷ acts) = true
+ends_held (Release ∷ acts) = false
 
 abbrev pub holds : List Entry → ℕ → Lock → Bool
-holds [] t l = false
-holds (e ∷ past) t l = holds_after e.action (nat_eq e.actor.thread t) l (holds past t l)
+holds past t l = ends_held (lock_acts past t l)
 
 -- the locks that were ever acquired
 abbrev pub with_acquired : Action → List Lock → List Lock
@@ -59,81 +90,65 @@ abbrev pub at_dispatch : List Entry → Actor → Bool
 at_dispatch past actor = is_dispatch_level actor.root || holds_any past actor.thread
 
 -- a packet has topped out
-abbrev pub tops : Action → ℕ → Bool → Bool
-tops (OnPacket m TopOut) n before = nat_eq m n || before
-tops (OnPacket packet Touch) n before = before
-tops (OnPacket packet Complete) n before = before
-tops (OnPacket packet Continue) n before = before
-tops (OnPacket packet Lend) n before = before
-tops (OnPacket packet (Exchange stores)) n before = before
-tops (OnLock lock act) n before = before
-tops (OnLocation packet act) n before = before
-tops (OfRoutine act) n before = before
+abbrev pub is_top_out : PacketAct → Bool
+is_top_out Touch = false
+is_top_out Complete = false
+is_top_out Continue = false
+is_top_out Lend = false
+is_top_out (Exchange stores) = false
+is_top_out TopOut = true
 
 abbrev pub topped : List Entry → ℕ → Bool
-topped [] n = false
-topped (e ∷ past) n = tops e.action n (topped past n)
+topped past n = list_any is_top_out (packet_acts past n)
 
 -- the I/O manager has a packet: the last of its completions, continues and lendings isn't a lending
-abbrev pub completes : Action → ℕ → Bool → Bool
-completes (OnPacket m Complete) n before = if nat_eq m n then true else before
-completes (OnPacket m Continue) n before = if nat_eq m n then true else before
-completes (OnPacket m Lend) n before = if nat_eq m n then false else before
-completes (OnPacket packet Touch) n before = before
-completes (OnPacket packet (Exchange stores)) n before = before
-completes (OnPacket packet TopOut) n before = before
-completes (OnLock lock act) n before = before
-completes (OnLocation packet act) n before = before
-completes (OfRoutine act) n before = before
+abbrev pub ends_completing : List PacketAct → Bool
+ends_completing [] = false
+ends_completing (Touch ∷ acts) = ends_completing acts
+ends_completing (Complete ∷ acts) = true
+ends_completing (Continue ∷ acts) = true
+ends_completing (Lend ∷ acts) = false
+ends_completing (Exchange stores ∷ acts) = ends_completing acts
+ends_completing (TopOut ∷ acts) = ends_completing acts
 
 abbrev pub completing : List Entry → ℕ → Bool
-completing [] n = false
-completing (e ∷ past) n = completes e.action n (completing past n)
+completing past n = ends_completing (packet_acts past n)
 
 -- a packet has a cancel routine: its last exchange stored one
-abbrev pub arms : Action → ℕ → Bool → Bool
-arms (OnPacket m (Exchange stores)) n before = if nat_eq m n then stores else before
-arms (OnPacket packet Touch) n before = before
-arms (OnPacket packet Complete) n before = before
-arms (OnPacket packet Continue) n before = before
-arms (OnPacket packet Lend) n before = before
-arms (OnPacket packet TopOut) n before = before
-arms (OnLock lock act) n before = before
-arms (OnLocation packet act) n before = before
-arms (OfRoutine act) n before = before
+abbrev pub ends_armed : List PacketAct → Bool
+ends_armed [] = false
+ends_armed (Touch ∷ acts) = ends_armed acts
+ends_armed (Complete ∷ acts) = ends_armed acts
+ends_armed (Continue ∷ acts) = ends_armed acts
+ends_armed (Lend ∷ acts) = ends_armed acts
+ends_armed (Exchange stores ∷ acts) = stores
+ends_armed (TopOut ∷ acts) = ends_armed acts
 
 abbrev pub armed : List Entry → ℕ → Bool
-armed [] n = false
-armed (e ∷ past) n = arms e.action n (armed past n)
+armed past n = ends_armed (packet_acts past n)
 
 -- how many locations a packet has, and how far down it was sent: its issue and calls less its ups
-abbrev pub stack_after : Action → ℕ → ℕ → ℕ
-stack_after (OnLocation m (Issue stack)) n before = if nat_eq m n then stack else before
-stack_after (OnLocation packet Call) n before = before
-stack_after (OnLocation packet Up) n before = before
-stack_after (OnLocation packet Mark) n before = before
-stack_after (OnLocation packet Leave) n before = before
-stack_after (OnLock lock act) n before = before
-stack_after (OnPacket packet act) n before = before
-stack_after (OfRoutine act) n before = before
+abbrev pub stack_after : List LocationAct → ℕ
+stack_after [] = 0
+stack_after (Issue stack ∷ acts) = stack
+stack_after (Call ∷ acts) = stack_after acts
+stack_after (Up ∷ acts) = stack_after acts
+stack_after (Mark ∷ acts) = stack_after acts
+stack_after (Leave ∷ acts) = stack_after acts
 
 abbrev pub stack_size : List Entry → ℕ → ℕ
-stack_size [] n = 0
-stack_size (e ∷ past) n = stack_after e.action n (stack_size past n)
+stack_size past n = stack_after (location_acts past n)
 
-abbrev pub depth_after : Action → ℕ → ℕ → ℕ
-depth_after (OnLocation m (Issue stack)) n before = if nat_eq m n then 1 else before
-depth_after (OnLocation m Call) n before = if nat_eq m n then before + 1 else before
-depth_after (OnLocation m Up) n before = if nat_eq m n then before - 1 else before
-depth_after (OnLocation packet Mark) n before = before
-depth_after (OnLocation packet Leave) n before = before
-depth_after (OnLock lock act) n before = before
-depth_after (OnPacket packet act) n before = before
-depth_after (OfRoutine act) n before = before
+abbrev pub depth_after : List LocationAct → ℕ
+depth_after [] = 0
+depth_after (Issue stack ∷ acts) = 1
+depth_after (Call ∷ acts) = depth_after acts + 1
+depth_after (Up ∷ acts) = depth_after acts - 1
+depth_after (Mark ∷ acts) = depth_after acts
+depth_after (Leave ∷ acts) = depth_after acts
 
 abbrev pub depth : List Entry → ℕ → ℕ
-depth [] n = 0
-depth (e ∷ past) n = depth_after e.action n (depth past n)
+depth past n = depth_after (location_acts past n)
 
 abbrev pub bug_if : Bool → BugCheck → Subject → Option Bug
 bug_if b check subject = if b then Some (record { check = check; subject = subject }) else None

@@ -1,6 +1,6 @@
 -- The names that most proofs of laws cite, passed on from one place: those of `Prelude`, and of what
 -- is known of lists, steps and states. Declares nothing.
-pub use Rattle.run_laws.proofs.Prelude.{ap, append-nil, arith, cond, drop, eqb-true, get_or, inl, inr, map, refl, subst, sym, take, zero, ◌*◌, ◌-◌, ◌∙◌, cases_Bool, cases_eq, cases_lt, cond_both, eq-eqb, leb-false, lt-ltb, ltb-false, ltb-true, ne_eqb, eqb_tells, leb_tells, append_assoc, get_or-set_other, get_or-set_same, length-append, length-replicate, length-set, set-get_or, All-nil, get_or_from_slice_get, slice_get-get_or, slice_get_within, list_any, All, Bool, IfSome, List, None, Option, Some, [], false, if◌then◌else◌, is_none, is_some, length, nat_eq, nat_le, nat_lt, not, option_and_then, option_map, remove, replicate, slice_get, slice_index_or, slice_set, suc, true, ℕ, ⊤, ◌&&◌, ◌++◌, ◌+◌, ◌<◌, ◌||◌, ◌∷◌, ◌≡◌, ◌≢◌, ◌≤◌, ◌⊎◌, Acquires, Action, Calls, Completes, Continues, Exchanges, Execute, Executes, GoWrong, GoesWrong, Issues, Leave, Lends, Marks, OfRoutine, OnLocation, OnLock, OnPacket, Releases, TopOut, TopsOut, Touch, TouchPaged, Touches, TouchesPaged, Up, Ups, certificate, certificate_of, Outcome, acquire_effect, answered, answered_in, arm_effect, arm_packet, armer_of, armer_waiting, ask_effect, ask_packet, asks, begin_effect, call_effect, call_packet, cancel_step, complete_effect, complete_packet, completes_with, dequeue_effect, difference_of, disarm_effect, disarm_packet, dispatched, end_effect, frame_effect, get_effect, get_packet, goes_on, goes_on_cancelling, goes_wrong, insert_effect, instruction_effect, is_less_at, is_walk, is_zero_at, jump_effect, kept_below, leaves, let_on, load_effect, load_paged_effect, look_effect, look_packet, mark_effect, mark_packet, next_disarmed, next_effect, next_packet, next_waiting, number_effect, operand_of, pass_effect, pass_packet, put_effect, put_packet, release_effect, remove_effect, remove_from, return_effect, return_lower, returned, routine_effect, routine_of_device, set_by, sort_of_completion, spin_lock, start_effect, start_packet, start_waiting, store_effect, store_paged_effect, sum_of, take_effect, take_from, told_to, told_top, top_of, turned, unlink_effect, waits, walk_packet, Change, can_issue, dpc_activation, effect, finished_or, interrupt_on, interrupted, is_idle, issue_on, issued, root_over, serves_request, settled, standing, step_thread, top_effect, unchanged, with_new_packet, with_stack, with_thread, acquired, armed, bug_if, completing, depth, fault_of, first_fault, first_or, holds, holds_after, holds_any, is_lock, stack_size, topped, is_too_small, lacks_lower, replies_of, request_started, top_out_of, all_let_go, duty_completed, is_at, is_blank, is_claim, is_exchanged, is_guard, is_kept, is_lower, is_name, is_new, is_packet, is_right, is_stage, is_view, kind_disarmed, kind_inserted, kind_removed, left_behind, let_go, a_new_one, an_owned_one, broken_if, complete_kind, completion_sort_fault, demanded, duty_fault, entered_with, entry_of_cancel, entry_of_sort, entry_state, form_fault, forward_fault, forward_sort_fault, free_kind, given_down, gives_back, guard_fault, handed, handed_at_label, holds_lock, holds_spin_lock, is_completion, is_dropped, is_fresh, is_guarded, is_hold, is_pending, kept_fault, kind_of, least_of, level_fault, look_fault, mark_fault, marked, number_kind, one_handed_or_owned, outs, outs_by, queued_kind, refuses, rule_or, settled_fault, take_fault, unless, unlink_kind, with_kind, loops_round, open_at, open_by, reply_to, Along, Arrives, HandsOn, LeadsFrom, goes_forward, is_malformed, is_misplaced, is_misplaced_by, PendingAgree, is_use, marks_left, statuses_returned, was_marked, StartState, dequeued, has_room_for_next, has_room_to_start, head_of, idle, inserted, is_full, next_of, next_started, started, unlinked, with_slot, without_first_to_start, without_head, Answered, Run, activations_after, actor_on, begun, counted_kept, frames_of, frames_on, goes, kept_tag, new_tag, refused, root_of, run, run_from, step, tags_after, tags_on, thread_of, top_tag, Branches, Closes, Flow, Jumps, Leaves, Member, Onward, Opens, Set, cancel_routine_named, cancel_routine_of, cancels_for, default_code, default_number, default_routine, dpc_of, flow_of, guard_named, has_cancel, instruction_at, label_in, label_of, lower_of, member, routine_of, sort_in, sort_of, startio_of, MayBeTaken, Reads, ShowsWorld, blank_register, shown_packet, told_register, whole, whole_register, DeviceFits, DriverFits, HasSort, IsSound, OperandFits, QueueFits, queue_named, Activated, Actor, Entry, Managing, Serving, Tag, current_use, entry, recorded, uses, uses_opened, ArrivesAlone, IsTypable, IsTypableRoutine, fault_in, Locks, Shared, World, asked_of, at_label, blank_cells, cancelled, completed, completion_of, copied_location, current_location, entered, idle_thread, innermost, is_marked, is_queued, left_location, mark_current, marked_location, moved_up, new_packet, next, number_in, owner_of, packet_in, packet_of, place_of, queue_of, register, sent_down, shared_location, shared_with, start_of, status_in, unused_location, with_armer, with_dpc, with_info, with_locks, with_loops, with_owner, with_packet, with_queue, with_register, with_start, without_packet, Abs, Duty, Finished, Fresh, GivenDown, NoDuty, Pending, Kind, BlankKind, Lower, LowerKind, New, NumKind, Own, Queued, QueuedKind, View, Rule, CancelSpinLock, CancelState, CompletionRule, Dropped, GuardRule, SpinLock, Token, Settled, NeedMark, Open, SettledMark, Stage, Armed, Cancelling, Listed, Taken, Bug, BugCheck, IrqlNotLessOrEqual, SpinLockAlreadyOwned, SpinLockNotOwned, Event, CancelEvent, DpcEvent, Interrupt, Issue, StartIoEvent, Step, Lock, Spin, SystemCancel, OfDevice, Place, Reply, BugCheckReply, Idle, Refused, Started, Stepped, Topped, Waited, Wrong, Subject, LockSubject, PacketSubject, Field, Instr, Acquire, AcquireCancel, Add, Arm, Begin, Call, Clear, Complete, Const, Dequeue, Disarm, End, Get, IfCancel, IfPending, Insert, Jump, JumpIfLess, JumpIfZero, Load, LoadPaged, Loop, Mark, Move, Next, Pass, Put, Release, ReleaseCancel, Remove, Ret, Start, Store, StorePaged, Subtract, Take, Unlink, Return, Continue, Stop, Void, WithStatus, MAX_FRAMES, MAX_LIVE_PACKETS, MAX_LOOPS, MAX_QUEUES, MAX_ROUTINES, REGISTERS, SPIN_LOCKS, Device, Driver, Guard, CancelLock, DeviceLock, Queue, QueueName, Declared, DeviceQueue, RoutineOf, Sort, Cancel, Dispatch, Dpc, Hold, Propagate, StartIo, Major, Read, Status, Success, Activation, Armer, CancelStep, AcquireStep, Exchange, SetFlag, Canceller, Cells, Completion, Frame, CancelFrame, Routine, Walk, Irql, DispatchLevel, Passive, Location, OpenLoop, Packet, Thread, Value, Blank, Num, Ref, StatusValue}
+pub use Rattle.run_laws.proofs.Prelude.{ap, append-nil, arith, cond, drop, eqb-true, get_or, inl, inr, map, refl, subst, sym, take, zero, ◌*◌, ◌-◌, ◌∙◌, cases_Bool, cases_eq, cases_lt, cond_both, eq-eqb, leb-false, lt-ltb, ltb-false, ltb-true, ne_eqb, eqb_tells, leb_tells, append_assoc, get_or-set_other, get_or-set_same, length-append, length-replicate, length-set, set-get_or, All-nil, get_or_from_slice_get, slice_get-get_or, slice_get_within, list_any, All, Bool, IfSome, List, None, Option, Some, [], false, if◌then◌else◌, is_none, is_some, length, nat_eq, nat_le, nat_lt, not, option_and_then, option_map, remove, replicate, slice_get, slice_index_or, slice_set, suc, true, ℕ, ⊤, ◌&&◌, ◌++◌, ◌+◌, ◌<◌, ◌||◌, ◌∷◌, ◌≡◌, ◌≢◌, ◌≤◌, ◌⊎◌, Acquires, Action, Calls, Completes, Continues, Exchanges, Execute, Executes, GoWrong, GoesWrong, Issues, Leave, Lends, Marks, OfRoutine, OnLocation, OnLock, OnPacket, Releases, TopOut, TopsOut, Touch, TouchPaged, Touches, TouchesPaged, Up, Ups, certificate, certificate_of, Outcome, acquire_effect, answered, answered_in, arm_effect, arm_packet, armer_of, armer_waiting, ask_effect, ask_packet, asks, begin_effect, call_effect, call_packet, cancel_step, complete_effect, complete_packet, completes_with, dequeue_effect, difference_of, disarm_effect, disarm_packet, dispatched, end_effect, frame_effect, get_effect, get_packet, goes_on, goes_on_cancelling, goes_wrong, insert_effect, instruction_effect, is_less_at, is_walk, is_zero_at, jump_effect, kept_below, leaves, let_on, load_effect, load_paged_effect, look_effect, look_packet, mark_effect, mark_packet, next_disarmed, next_effect, next_packet, next_waiting, number_effect, operand_of, pass_effect, pass_packet, put_effect, put_packet, release_effect, remove_effect, remove_from, return_effect, return_lower, returned, routine_effect, routine_of_device, set_by, sort_of_completion, spin_lock, start_effect, start_packet, start_waiting, store_effect, store_paged_effect, sum_of, take_effect, take_from, told_to, told_top, top_of, turned, unlink_effect, waits, walk_packet, Change, can_issue, dpc_activation, effect, finished_or, interrupt_on, interrupted, is_idle, issue_on, issued, root_over, serves_request, settled, standing, step_thread, top_effect, unchanged, with_new_packet, with_stack, with_thread, acquired, armed, bug_if, completing, depth, fault_of, first_fault, first_or, holds, lock_acts, with_lock_act, ends_held, holds_any, is_lock, stack_size, topped, is_too_small, lacks_lower, replies_of, request_started, top_out_of, all_let_go, duty_completed, is_at, is_blank, is_claim, is_exchanged, is_guard, is_kept, is_lower, is_name, is_new, is_packet, is_right, is_stage, is_view, kind_disarmed, kind_inserted, kind_removed, left_behind, let_go, a_new_one, an_owned_one, broken_if, complete_kind, completion_sort_fault, demanded, duty_fault, entered_with, entry_of_cancel, entry_of_sort, entry_state, form_fault, forward_fault, forward_sort_fault, free_kind, given_down, gives_back, guard_fault, handed, handed_at_label, holds_lock, holds_spin_lock, is_completion, is_dropped, is_fresh, is_guarded, is_hold, is_pending, kept_fault, kind_of, least_of, level_fault, look_fault, mark_fault, marked, number_kind, one_handed_or_owned, outs, outs_by, queued_kind, refuses, rule_or, settled_fault, take_fault, unless, unlink_kind, with_kind, loops_round, open_at, open_by, reply_to, Along, Arrives, HandsOn, LeadsFrom, goes_forward, is_malformed, is_misplaced, is_misplaced_by, PendingAgree, is_use, marks_left, statuses_returned, was_marked, StartState, dequeued, has_room_for_next, has_room_to_start, head_of, idle, inserted, is_full, next_of, next_started, started, unlinked, with_slot, without_first_to_start, without_head, Answered, Run, activations_after, actor_on, begun, counted_kept, frames_of, frames_on, goes, kept_tag, new_tag, refused, root_of, run, run_from, step, tags_after, tags_on, thread_of, top_tag, Branches, Closes, Flow, Jumps, Leaves, Member, Onward, Opens, Set, cancel_routine_named, cancel_routine_of, cancels_for, default_code, default_number, default_routine, dpc_of, flow_of, guard_named, has_cancel, instruction_at, label_in, label_of, lower_of, member, routine_of, sort_in, sort_of, startio_of, MayBeTaken, Reads, ShowsWorld, blank_register, shown_packet, told_register, whole, whole_register, DeviceFits, DriverFits, HasSort, IsSound, OperandFits, QueueFits, queue_named, Activated, Actor, Entry, Managing, Serving, Tag, current_use, entry, recorded, uses, uses_opened, ArrivesAlone, IsTypable, IsTypableRoutine, fault_in, Locks, Shared, World, asked_of, at_label, blank_cells, cancelled, completed, completion_of, copied_location, current_location, entered, idle_thread, innermost, is_marked, is_queued, left_location, mark_current, marked_location, moved_up, new_packet, next, number_in, owner_of, packet_in, packet_of, place_of, queue_of, register, sent_down, shared_location, shared_with, start_of, status_in, unused_location, with_armer, with_dpc, with_info, with_locks, with_loops, with_owner, with_packet, with_queue, with_register, with_start, without_packet, Abs, Duty, Finished, Fresh, GivenDown, NoDuty, Pending, Kind, BlankKind, Lower, LowerKind, New, NumKind, Own, Queued, QueuedKind, View, Rule, CancelSpinLock, CancelState, CompletionRule, Dropped, GuardRule, SpinLock, Token, Settled, NeedMark, Open, SettledMark, Stage, Armed, Cancelling, Listed, Taken, Bug, BugCheck, IrqlNotLessOrEqual, SpinLockAlreadyOwned, SpinLockNotOwned, Event, CancelEvent, DpcEvent, Interrupt, Issue, StartIoEvent, Step, Lock, Spin, SystemCancel, OfDevice, Place, Reply, BugCheckReply, Idle, Refused, Started, Stepped, Topped, Waited, Wrong, Subject, LockSubject, PacketSubject, Field, Instr, Acquire, AcquireCancel, Add, Arm, Begin, Call, Clear, Complete, Const, Dequeue, Disarm, End, Get, IfCancel, IfPending, Insert, Jump, JumpIfLess, JumpIfZero, Load, LoadPaged, Loop, Mark, Move, Next, Pass, Put, Release, ReleaseCancel, Remove, Ret, Start, Store, StorePaged, Subtract, Take, Unlink, Return, Continue, Stop, Void, WithStatus, MAX_FRAMES, MAX_LIVE_PACKETS, MAX_LOOPS, MAX_QUEUES, MAX_ROUTINES, REGISTERS, SPIN_LOCKS, Device, Driver, Guard, CancelLock, DeviceLock, Queue, QueueName, Declared, DeviceQueue, RoutineOf, Sort, Cancel, Dispatch, Dpc, Hold, Propagate, StartIo, Major, Read, Status, Success, Activation, Armer, CancelStep, AcquireStep, Exchange, SetFlag, Canceller, Cells, Completion, Frame, CancelFrame, Routine, Walk, Irql, DispatchLevel, Passive, Location, OpenLoop, Packet, Thread, Value, Blank, Num, Ref, StatusValue}
 pub use Rattle.run_laws.specs.ArrivingStates.{States}
 pub use Rattle.run_laws.specs.Holder.{alive, all_walking, frame_rights, frame_walks, is_lent, is_live, named_as, named_in, names, right, rights, stack_sum, thread_sum, times_at, times_in, times_in_slot, times_listed, times_named, times_on, times_plain, times_plain_on, times_queued, times_started, times_to_start, times_waiting, waits_cancelable, walking}
 pub use Rattle.run_laws.specs.Lifetime.{AreOneRoutine, KeepsCertificate, executions}

@@ -12,7 +12,7 @@ pub use Rattle.model.specs.Action.{Acquires, Action, Calls, Completes, Continues
 pub use Rattle.model.specs.Certificate.{certificate, certificate_of}
 pub use Rattle.model.specs.Effect.{Outcome, acquire_effect, answered, answered_in, arm_effect, arm_packet, armer_of, armer_waiting, ask_effect, ask_packet, asks, begin_effect, call_effect, call_packet, cancel_step, complete_effect, complete_packet, completes_with, dequeue_effect, difference_of, disarm_effect, disarm_packet, dispatched, end_effect, frame_effect, get_effect, get_packet, goes_on, goes_on_cancelling, goes_wrong, insert_effect, instruction_effect, is_less_at, is_walk, is_zero_at, jump_effect, kept_below, leaves, let_on, load_effect, load_paged_effect, look_effect, look_packet, mark_effect, mark_packet, next_disarmed, next_effect, next_packet, next_waiting, number_effect, operand_of, pass_effect, pass_packet, put_effect, put_packet, release_effect, remove_effect, remove_from, return_effect, return_lower, returned, routine_effect, routine_of_device, set_by, sort_of_completion, spin_lock, start_effect, start_packet, start_waiting, store_effect, store_paged_effect, sum_of, take_effect, take_from, told_to, told_top, top_of, turned, unlink_effect, waits, walk_packet}
 pub use Rattle.model.specs.Events.{Change, can_issue, dpc_activation, effect, finished_or, interrupt_on, interrupted, is_idle, issue_on, issued, root_over, serves_request, settled, standing, step_thread, top_effect, unchanged, with_new_packet, with_stack, with_thread}
-pub use Rattle.model.specs.Fault.{acquired, armed, bug_if, completing, depth, fault_of, first_fault, first_or, holds, holds_after, holds_any, is_lock, stack_size, topped}
+pub use Rattle.model.specs.Fault.{acquired, armed, bug_if, completing, depth, depth_after, ends_armed, ends_completing, ends_held, fault_of, first_fault, first_or, holds, holds_any, is_lock, is_top_out, location_acts, lock_acts, packet_acts, stack_after, stack_size, topped, with_lock_act}
 pub use Rattle.model.specs.Forwarding.{is_too_small, lacks_lower}
 pub use Rattle.model.specs.History.{replies_of, request_started, top_out_of}
 pub use Rattle.model.specs.Kinds.{all_let_go, duty_completed, is_at, is_blank, is_claim, is_exchanged, is_guard, is_kept, is_lower, is_name, is_new, is_packet, is_right, is_stage, is_view, kind_disarmed, kind_inserted, kind_removed, left_behind, let_go}

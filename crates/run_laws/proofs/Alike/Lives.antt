@@ -1,7 +1,8 @@
 -- A packet that was issued before an event and is live after it was live before it; and what a step
 -- touches is live.
-use Rattle.run_laws.proofs.Common.{inl, inr, refl, sym, ◌∙◌, cases_Bool, Bool, List, None, Option, Some, [], false, is_some, nat_eq, slice_get, true, ℕ, ◌<◌, ◌||◌, ◌∷◌, ◌≡◌, Action, Execute, OfRoutine, OnPacket, TopOut, Touch, top_of, Change, bug_if, topped, root_of, Set, Actor, Entry, Managing, entry, recorded, Shared, World, packet_of, IrqlNotLessOrEqual, PacketSubject, Packet, States, IsGood, Standing, standing_kept, fault_among, is_touch, none_first, none_later}
-use Rattle.model.specs.Fault.{tops}
+use Rattle.run_laws.proofs.Common.{inl, inr, refl, sym, ◌∙◌, cases_Bool, cond, list_any, Bool, List, None, Option, Some, [], false, is_some, nat_eq, slice_get, true, ℕ, ◌<◌, ◌||◌, ◌∷◌, ◌≡◌, Action, Execute, OfRoutine, OnPacket, TopOut, Touch, top_of, Change, bug_if, topped, root_of, Set, Actor, Entry, Managing, entry, recorded, Shared, World, packet_of, IrqlNotLessOrEqual, PacketSubject, Packet, States, IsGood, Standing, standing_kept, fault_among, is_touch, none_first, none_later}
+use Rattle.model.specs.Action.{PacketAct}
+use Rattle.model.specs.Fault.{is_top_out, packet_acts, with_packet_act}
 use Rattle.run_laws.proofs.Accepted.Keeps.{Keeps, goes_on_by}
 use Rattle.run_laws.proofs.Alike.Frames.{IsLive}
 use Rattle.run_laws.proofs.Alike.Routines.{TouchesLive, first_touch}
@@ -12,20 +13,28 @@ use Rattle.run_laws.proofs.Past.Packets.{Tells, found, gone_topped, untopped}
 use Rattle.run_laws.proofs.Runs.Events.{StepsFrame, Happens}
 
 -- what has topped out stays so
-tops_later : (action : Action) (n : ℕ) (before : Bool) → before ≡ true → tops action n before ≡ true
-tops_later (OnPacket m TopOut) n before is = rw is (or_true (nat_eq m n))
-  where
-    or_true : (b : Bool) → (b || true) ≡ true
-    or_true true = refl
-    or_true false = refl
-tops_later _ n before is = is
+either_topped : (b : Bool) → (b || true) ≡ true
+either_topped true = refl
+either_topped false = refl
+
+added_later : (b : Bool) (act : PacketAct) (acts : List PacketAct)
+    → list_any is_top_out acts ≡ true
+    → list_any is_top_out (cond b (act ∷ acts) acts) ≡ true
+added_later true act acts is = rw is (either_topped (is_top_out act))
+added_later false act acts is = is
+
+tops_later : (action : Action) (n : ℕ) (acts : List PacketAct) → list_any is_top_out acts ≡ true
+    → list_any is_top_out (with_packet_act action n acts) ≡ true
+tops_later (OnPacket m Touch) n acts is = is
+tops_later (OnPacket m act) n acts is = added_later (nat_eq m n) act acts is
+tops_later _ n acts is = is
 
 topped_later : (past : List Entry) (actor : Actor) (actions : List Action) (n : ℕ)
     → topped past n ≡ true → topped (recorded past actor actions) n ≡ true
 topped_later past actor [] n is = is
 topped_later past actor (action ∷ actions) n is =
     topped_later (entry past actor action ∷ past) actor actions n
-    (tops_later action n (topped past n) is)
+    (tops_later action n (packet_acts past n) is)
 
 -- a live packet hasn't topped out, and one that was issued and hasn't is live
 live_untopped : (s : Shared) (past : List Entry) (n : ℕ) (o : Option Packet) → Tells s past

@@ -1,6 +1,9 @@
 -- No packet tops out twice: one that tops out is live, so it hasn't topped out.
-use Rattle.run_laws.proofs.Common.{arith, inl, inr, refl, subst, eqb_tells, List, Option, Some, false, if◌then◌else◌, ℕ, ◌≡◌, ◌≤◌, Outcome, Change, topped, Set, Actor, Entry, recorded, Shared, World, CancelStep, Frame, times_topped, Cancels, Comes, cancels, takes_cancel, tops_out, works_on_queues, queued_touches, if_one}
+use Rattle.run_laws.proofs.Common.{arith, cond, inl, inr, list_any, nat_eq, refl, subst, ◌∙◌, eqb_tells, Bool, List, [], ◌∷◌, ◌+◌, ◌||◌, entry, true, Option, Some, false, if◌then◌else◌, ℕ, ◌≡◌, ◌≤◌, Outcome, Change, topped, Set, Actor, Entry, recorded, Shared, World, CancelStep, Frame, times_topped, Cancels, Comes, cancels, takes_cancel, tops_out, works_on_queues, queued_touches, if_one}
+use Rattle.model.specs.Action.{Action, OnPacket, PacketAct, Touch, TopOut}
 use Rattle.model.specs.Effect.{top_of as top_frame}
+use Rattle.model.specs.Fault.{is_top_out, packet_acts, with_packet_act}
+use Rattle.run_laws.specs.TopsOnce.{top_of as counted}
 use Rattle.run_laws.proofs.Past.Packets.{Tells, found, untopped}
 use Rattle.run_laws.proofs.Runs.Events.{Happens, nothing, steps, begins}
 use Rattle.run_laws.proofs.Runs.Roots.{root_told}
@@ -9,13 +12,47 @@ use Rattle.run_laws.proofs.Runs.Roots.{root_told}
 abbrev pub ToppedOnce : List Entry → Type 0
 ToppedOnce past = (n : ℕ) → times_topped past n ≡ (if topped past n then 1 else 0)
 
+-- an action by which no packet tops out
+abbrev tops_out_by : Action → Bool
+tops_out_by (OnPacket n TopOut) = true
+tops_out_by _ = false
+
+same_or : (b : Bool) (act : PacketAct) (acts : List PacketAct) → is_top_out act ≡ false
+    → list_any is_top_out (cond b (act ∷ acts) acts) ≡ list_any is_top_out acts
+same_or true act acts quiet = rw quiet refl
+same_or false act acts quiet = refl
+
+untopped_by : (action : Action) (m : ℕ) (acts : List PacketAct) → tops_out_by action ≡ false
+    → list_any is_top_out (with_packet_act action m acts) ≡ list_any is_top_out acts
+untopped_by (OnPacket n Touch) m acts quiet = refl
+untopped_by (OnPacket n TopOut) m acts quiet = cc
+untopped_by (OnPacket n act) m acts quiet = same_or (nat_eq n m) act acts refl
+untopped_by _ m acts quiet = refl
+
+uncounted : (action : Action) (m count : ℕ) → tops_out_by action ≡ false
+    → counted action m + count ≡ count
+uncounted (OnPacket n TopOut) m count quiet = cc
+uncounted _ m count quiet = omega arith
+
+quiet_once : (actions : List Action) (past : List Entry) (actor : Actor)
+    → list_any tops_out_by actions ≡ false → ToppedOnce past
+    → ToppedOnce (recorded past actor actions)
+quiet_once [] past actor quiet once = once
+quiet_once (action ∷ actions) past actor quiet once =
+    let none = neither (tops_out_by action) (list_any tops_out_by actions) quiet in
+    quiet_once actions (entry past actor action ∷ past) actor none.1
+    (λ m. rw (untopped_by action m (packet_acts past m) none.0)
+    (uncounted action m (times_topped past m) none.0 ∙ once m))
+  where
+    neither : (a b : Bool) → (a || b) ≡ false → (a ≡ false) × (b ≡ false)
+    neither true b none = cc
+    neither false b none = (refl, none)
+
 module _ (set : Set) (past : List Entry) (actor : Actor) (once : ToppedOnce past) where
   once_cancel : (s : Shared) (n : ℕ) (step : CancelStep) (o : Outcome)
       → Cancels set s actor.thread n step o → ToppedOnce (recorded past actor o.actions)
-  once_cancel s n step o (takes_cancel free) m =
-      omega (arith, once m)
-  once_cancel s n step o _ m =
-      omega (arith, once m)
+  once_cancel s n step o (takes_cancel free) = quiet_once o.actions past actor refl once
+  once_cancel s n step o _ = quiet_once o.actions past actor refl once
 
   once_step : (s : Shared) (under : Option Frame) (f : Frame) (o : Outcome) → Tells s past
       → Comes set s actor.thread under f o → ToppedOnce (recorded past actor o.actions)
@@ -36,8 +73,7 @@ module _ (set : Set) (past : List Entry) (actor : Actor) (once : ToppedOnce past
       elim (queued_touches queued)
       [ inl none ↦ rw none (omega arith) | inr one ↦ rw one.1 (omega arith) ]
   once_step s under f o tells (cancels n step made moves) m = once_cancel s n step made moves m
-  once_step s under f o tells _ m =
-      omega (arith, once m)
+  once_step s under f o tells _ m = quiet_once o.actions past actor refl once m
 
   pub once_kept : (w : World) (c : Change) → Tells w.shared past → Happens set w actor.thread c
       → ToppedOnce (recorded past actor c.actions)

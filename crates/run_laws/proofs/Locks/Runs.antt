@@ -1,8 +1,8 @@
 -- Locks and levels are kept in every run of an accepted set: every thread holds the locks that the
 -- state of its top frame says.
-use Rattle.run_laws.proofs.Common.{ap, inl, inr, refl, subst, sym, ◌-◌, ◌∙◌, ne_eqb, append_assoc, Bool, List, None, Option, Some, [], false, slice_get, ℕ, ◌++◌, ◌∷◌, ◌≡◌, ◌≢◌, Action, OnLock, Outcome, answered_in, operand_of, top_of, Change, standing, with_stack, with_thread, holds, holds_after, begun, frames_on, root_of, Set, instruction_at, Actor, Entry, entry, recorded, Shared, World, Lock, Status, Activation, Frame, CancelFrame, Routine, Walk, Irql, Thread, States, RootFrame, root_cancels, root_enters, IsGood, state_of, Low, Stacked, Stands, Standing, on_top, root_there, stands_there, told_frame, told_is, told_last, stood, fault_among, is_of_locks}
+use Rattle.run_laws.proofs.Common.{ap, inl, inr, refl, subst, sym, ◌-◌, ◌∙◌, ne_eqb, append_assoc, Bool, List, None, Option, Some, [], false, slice_get, ℕ, ◌++◌, ◌∷◌, ◌≡◌, ◌≢◌, Action, OnLock, Outcome, answered_in, operand_of, top_of, Change, standing, with_stack, with_thread, ends_held, holds, lock_acts, with_lock_act, begun, frames_on, root_of, Set, instruction_at, Actor, Entry, entry, recorded, Shared, World, Lock, Status, Activation, Frame, CancelFrame, Routine, Walk, Irql, Thread, States, RootFrame, root_cancels, root_enters, IsGood, state_of, Low, Stacked, Stands, Standing, on_top, root_there, stands_there, told_frame, told_is, told_last, stood, fault_among, is_of_locks}
 use Rattle.std.proofs.lemmas.List.{append-nil}
-use Rattle.model.specs.Action.{Acquire, Release}
+use Rattle.model.specs.Action.{LockAct}
 use Rattle.run_laws.proofs.Locks.Says.{frame_says, top_says, free_says}
 use Rattle.run_laws.proofs.Locks.Steps.{begun_says, own, lock_faults}
 use Rattle.run_laws.proofs.Runs.Events.{StepsFrame, Happens, nothing, steps, begins}
@@ -16,11 +16,10 @@ abbrev pub LocksAgree : States → World → List Entry → Type 0
 LocksAgree states w past = (t : ℕ) (l : Lock) → holds past t l ≡ top_says states (frames_on w t) l
 
 -- actions of one thread leave the locks of others
-other_holds : (action : Action) (l : Lock) (before : Bool)
-    → holds_after action false l before ≡ before
-other_holds (OnLock m Acquire) l before = refl
-other_holds (OnLock m Release) l before = refl
-other_holds _ l before = refl
+other_holds : (action : Action) (l : Lock) (acts : List LockAct)
+    → with_lock_act action false l acts ≡ acts
+other_holds (OnLock m act) l acts = refl
+other_holds _ l acts = refl
 
 other_threads : (past : List Entry) (actor : Actor) (k : ℕ) (actions : List Action) (l : Lock)
     → actor.thread ≢ k
@@ -28,7 +27,8 @@ other_threads : (past : List Entry) (actor : Actor) (k : ℕ) (actions : List Ac
 other_threads past actor k [] l apart = refl
 other_threads past actor k (action ∷ actions) l apart =
     let one : holds (entry past actor action ∷ past) k l ≡ holds past k l =
-    rw (ne_eqb actor.thread k apart) (other_holds action l (holds past k l)) in
+    rw (ne_eqb actor.thread k apart)
+    (ap ends_held (other_holds action l (lock_acts past k l))) in
     other_threads (entry past actor action ∷ past) actor k actions l apart ∙ one
 
 module _ (set : Set) (states : States) (issued : ℕ) (l : Lock) where

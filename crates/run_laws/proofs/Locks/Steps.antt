@@ -1,6 +1,8 @@
 -- A thread holds the locks that the state of its top frame says, and every step of that frame keeps
 -- that; so no step has a bug check about locks or paged cells.
-use Rattle.run_laws.proofs.Common.{ap, inl, inr, refl, sym, ◌∙◌, eq-eqb, list_any, Bool, List, None, Option, Some, [], false, if◌then◌else◌, is_some, nat_eq, not, slice_get, true, ℕ, ◌&&◌, ◌∷◌, ◌≡◌, Action, Outcome, completes_with, dispatched, turned, acquired, bug_if, first_or, holds, is_lock, handed, holds_lock, holds_spin_lock, level_fault, refuses, StartState, Set, cancels_for, flow_of, lower_of, sort_of, OperandFits, Actor, Entry, recorded, Shared, asked_of, current_location, next, register, Abs, BugCheck, IrqlNotLessOrEqual, SpinLockAlreadyOwned, SpinLockNotOwned, Lock, SystemCancel, Subject, LockSubject, Instr, Call, Complete, End, LoadPaged, Loop, Mark, Pass, Put, Ret, StorePaged, Return, Continue, Stop, Void, QueueName, Sort, Cancel, Dispatch, Dpc, Hold, Propagate, StartIo, Activation, CancelStep, Frame, CancelFrame, Routine, Packet, Value, Ref, States, all_at, begins_called, Enters, begins_back, begins_lent, begins_lower, first_state, Moved, Runs, state_of, moved_end, arrives, arrives_next, falls_next, has_next, onto, completes_one, returns_by, sends_down, OnTop, runs, MovedOn, queue_moves, waits_move, Low, first_none, second_none, unbroken, Cancels, Comes, GoesTo, awaits_cancel, calls_cancel, calls_down, cancels, completes_gone, completes_packet, computes, ends_cancel, ends_dpc, ends_startio, exchanges, exchanges_gone, finds_empty, finds_none, flags_gone, frees_lock, jumping, lends_to, lets_go, lets_walk, looks_at, marks_packet, onward, opens_loop, pages, passes_down, resumes_gone, resumes_none, resumes_walk, retakes_cancel, retakes_lock, returns_status, sets_flag, stops_none, stops_walk, takes_cancel, takes_lock, touches_gone, turns_loop, walks_to, works_on_queues, works_on_waiting, writes_info, fault_among, is_of_locks, freed_word, taken_word, queued_touches, queued_work, waits_work, Forwarding, Locking, Work, is_touching, lock_freed, lock_taken, packet_operand, work_of}
+use Rattle.model.specs.Action.{LockAct, Acquire, Release}
+use Rattle.run_laws.proofs.Past.Owners.{lock_told}
+use Rattle.run_laws.proofs.Common.{ap, inl, inr, refl, sym, ◌∙◌, eq-eqb, list_any, Bool, List, None, Option, Some, [], false, if◌then◌else◌, is_some, nat_eq, not, slice_get, true, ℕ, ◌&&◌, ◌∷◌, ◌≡◌, Action, OnLock, Outcome, completes_with, dispatched, turned, acquired, bug_if, ends_held, first_or, holds, is_lock, lock_acts, with_lock_act, handed, holds_lock, holds_spin_lock, level_fault, refuses, StartState, Set, cancels_for, flow_of, lower_of, sort_of, OperandFits, Actor, Entry, recorded, Shared, asked_of, current_location, next, register, Abs, BugCheck, IrqlNotLessOrEqual, SpinLockAlreadyOwned, SpinLockNotOwned, Lock, SystemCancel, Subject, LockSubject, Instr, Call, Complete, End, LoadPaged, Loop, Mark, Pass, Put, Ret, StorePaged, Return, Continue, Stop, Void, QueueName, Sort, Cancel, Dispatch, Dpc, Hold, Propagate, StartIo, Activation, CancelStep, Frame, CancelFrame, Routine, Packet, Value, Ref, States, all_at, begins_called, Enters, begins_back, begins_lent, begins_lower, first_state, Moved, Runs, state_of, moved_end, arrives, arrives_next, falls_next, has_next, onto, completes_one, returns_by, sends_down, OnTop, runs, MovedOn, queue_moves, waits_move, Low, first_none, second_none, unbroken, Cancels, Comes, GoesTo, awaits_cancel, calls_cancel, calls_down, cancels, completes_gone, completes_packet, computes, ends_cancel, ends_dpc, ends_startio, exchanges, exchanges_gone, finds_empty, finds_none, flags_gone, frees_lock, jumping, lends_to, lets_go, lets_walk, looks_at, marks_packet, onward, opens_loop, pages, passes_down, resumes_gone, resumes_none, resumes_walk, retakes_cancel, retakes_lock, returns_status, sets_flag, stops_none, stops_walk, takes_cancel, takes_lock, touches_gone, turns_loop, walks_to, works_on_queues, works_on_waiting, writes_info, fault_among, is_of_locks, freed_word, taken_word, queued_touches, queued_work, waits_work, Forwarding, Locking, Work, is_touching, lock_freed, lock_taken, packet_operand, work_of}
 use Rattle.model.specs.declared.event.Subject.TheVariants.{Cell}
 use Rattle.model.specs.Fault.{is_dispatch_level, at_dispatch}
 use Rattle.run_laws.proofs.Locks.Says.{state_says, frame_says, top_says, free_says, is_locking, handed_says, label_says, Locks, taken, freed, says_none, says_cancel}
@@ -143,7 +145,27 @@ now_free : (same : Bool) → (if same then false else same) ≡ false
 now_free true = refl
 now_free false = refl
 
+abbrev is_acquire : LockAct → Bool
+is_acquire Acquire = true
+is_acquire Release = false
+
+-- what one act more says
+lasts : (act : LockAct) (acts : List LockAct) → ends_held (act ∷ acts) ≡ is_acquire act
+lasts Acquire acts = refl
+lasts Release acts = refl
+
 module _ (set : Set) (states : States) (s : Shared) (past : List Entry) (actor : Actor) where
+  own_told : (act : LockAct) (lock l : Lock)
+      → ends_held (with_lock_act (OnLock lock act) (nat_eq actor.thread actor.thread) l
+      (lock_acts past actor.thread l))
+      ≡ (if nat_eq actor.thread actor.thread && is_lock lock l then is_acquire act
+      else holds past actor.thread l)
+  own_told act lock l =
+      let its : Bool = nat_eq actor.thread actor.thread && is_lock lock l in
+      let acts : List LockAct = lock_acts past actor.thread l in
+      lock_told act its acts
+      ∙ ap (λ (b : Bool). if its then b else ends_held acts) (lasts act acts)
+
   abbrev pub Agrees : Frame → Type 0
   Agrees f = (l : Lock) → holds past actor.thread l ≡ frame_says states f l
 
@@ -164,26 +186,29 @@ module _ (set : Set) (states : States) (s : Shared) (past : List Entry) (actor :
           frees
           (operand set states s a i h) h.obeys
 
-      own_now : (lock : Lock) (held b : Bool) → has_next (flow_of i) ≡ true
+      own_now : (lock : Lock) (held : Bool) (act : LockAct) → has_next (flow_of i) ≡ true
           → ((l : Lock) → state_says (handed set a.driver (state_of states a) i) a.device l
-          ≡ (if is_lock lock l then b else state_says (state_of states a) a.device l)) → (l : Lock)
-          → (if nat_eq actor.thread actor.thread && is_lock lock l then b
-          else holds past actor.thread l)
+          ≡ (if is_lock lock l then is_acquire act else state_says (state_of states a) a.device l))
+          → (l : Lock)
+          → ends_held (with_lock_act (OnLock lock act) (nat_eq actor.thread actor.thread) l
+          (lock_acts past actor.thread l))
           ≡ frame_says states (Routine (next a)) l
-      own_now lock held b on now l =
-          now_held actor.thread (is_lock lock l) (state_says (state_of states a) a.device l)
-          (holds past actor.thread l) b
+      own_now lock held act on now l =
+          own_told act lock l
+          ∙ now_held actor.thread (is_lock lock l) (state_says (state_of states a) a.device l)
+          (holds past actor.thread l) (is_acquire act)
           (agrees l)
           ∙ sym (now l)
           ∙ ap (λ state. state_says state a.device l) (sym (arrives_next set states s a i h on))
 
   -- the system cancel spin lock, alone held, is freed
   cancel_freed : ((l : Lock) → holds past actor.thread l ≡ is_lock SystemCancel l) → (l : Lock)
-      → (if nat_eq actor.thread actor.thread && is_lock SystemCancel l then false
-      else holds past actor.thread l)
+      → ends_held (with_lock_act (OnLock SystemCancel Release) (nat_eq actor.thread actor.thread) l
+      (lock_acts past actor.thread l))
       ≡ false
   cancel_freed agrees l =
-      now_held actor.thread (is_lock SystemCancel l) (is_lock SystemCancel l)
+      own_told Release SystemCancel l
+      ∙ now_held actor.thread (is_lock SystemCancel l) (is_lock SystemCancel l)
       (holds past actor.thread l) false (agrees l)
       ∙ now_free (is_lock SystemCancel l)
 
@@ -195,11 +220,13 @@ module _ (set : Set) (states : States) (s : Shared) (past : List Entry) (actor :
       → Cancels set s actor.thread n step o → (l : Lock)
       → holds (recorded past actor o.actions) actor.thread l ≡ top_says states o.frames l
   cancel_own n step o top agrees (takes_cancel free) l =
-      now_held actor.thread (is_lock SystemCancel l) false (holds past actor.thread l) true
+      own_told Acquire SystemCancel l
+      ∙ now_held actor.thread (is_lock SystemCancel l) false (holds past actor.thread l) true
       (agrees l)
       ∙ now_its_own (is_lock SystemCancel l)
   cancel_own n step o top agrees (retakes_cancel its) l =
-      now_held actor.thread (is_lock SystemCancel l) false (holds past actor.thread l) true
+      own_told Acquire SystemCancel l
+      ∙ now_held actor.thread (is_lock SystemCancel l) false (holds past actor.thread l) true
       (agrees l)
       ∙ now_its_own (is_lock SystemCancel l)
   cancel_own n step o top agrees (awaits_cancel owner owned apart) l = agrees l
@@ -250,15 +277,15 @@ module _ (set : Set) (states : States) (s : Shared) (past : List Entry) (actor :
       (quiet_goes set states s a i (runs set states s a i top at) b jumped (rw is refl) goes l)
   own under f o top agrees (takes_lock a i lock at takes free) l =
       let h : Runs set states s a i = runs set states s a i top at in
-      own_now a i h agrees lock false true (falls_next (flow_of i) (taken_word a i lock takes).on)
+      own_now a i h agrees lock false Acquire (falls_next (flow_of i) (taken_word a i lock takes).on)
       (locks_taken a i h agrees lock takes).now l
   own under f o top agrees (retakes_lock a i lock at takes its) l =
       let h : Runs set states s a i = runs set states s a i top at in
-      own_now a i h agrees lock false true (falls_next (flow_of i) (taken_word a i lock takes).on)
+      own_now a i h agrees lock false Acquire (falls_next (flow_of i) (taken_word a i lock takes).on)
       (locks_taken a i h agrees lock takes).now l
   own under f o top agrees (frees_lock a i lock owner at frees there) l =
       let h : Runs set states s a i = runs set states s a i top at in
-      own_now a i h agrees lock true false (falls_next (flow_of i) (freed_word a i lock frees).on)
+      own_now a i h agrees lock true Release (falls_next (flow_of i) (freed_word a i lock frees).on)
       (locks_freed a i h agrees lock frees).now l
   own under f o top agrees (works_on_queues a i b queues starts actions full at queued) l =
       let on : MovedOn set states s a i b queues starts =

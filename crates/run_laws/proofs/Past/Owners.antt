@@ -1,5 +1,6 @@
 -- The owners of the locks tell what the past tells: which thread holds each lock.
-use Rattle.run_laws.proofs.Prelude.{ap, cond, inl, inr, refl, sym, zero, ◌∙◌, eq-eqb, eqb_tells, get_or_from_slice_get, Bool, List, None, Option, Some, [], false, nat_eq, option_and_then, replicate, slice_get, slice_index_or, slice_set, suc, true, ℕ, ◌&&◌, ◌≡◌, ◌⊎◌, holds, is_lock, Entry, Locks, owner_of, with_owner, Lock, Spin, SystemCancel, OfDevice, SPIN_LOCKS}
+use Rattle.model.specs.Action.{LockAct}
+use Rattle.run_laws.proofs.Prelude.{ap, cond, inl, inr, refl, sym, zero, ◌∙◌, eq-eqb, eqb_tells, get_or_from_slice_get, Bool, List, None, Option, Some, [], false, nat_eq, option_and_then, replicate, slice_get, slice_index_or, slice_set, suc, true, ℕ, ◌&&◌, ◌∷◌, ◌≡◌, ◌⊎◌, ends_held, holds, is_lock, Entry, Locks, owner_of, with_owner, Lock, Spin, SystemCancel, OfDevice, SPIN_LOCKS}
 use Rattle.model.specs.World.{free_locks}
 use Rattle.run_laws.proofs.Lists.{set_same, set_other}
 
@@ -133,6 +134,12 @@ module _ (locks : Locks) (past after : List Entry) (m : Lock) (o before : Option
       other_way : (its b held : Bool) → cond (its && false) b held ≡ held
       other_way true b held = refl
       other_way false b held = refl
+
+-- what one more act says of a lock
+pub lock_told : (act : LockAct) (b : Bool) (acts : List LockAct)
+    → ends_held (cond b (act ∷ acts) acts) ≡ cond b (ends_held (act ∷ acts)) (ends_held acts)
+lock_told act true acts = refl
+lock_told act false acts = refl
 
 -- a thread that acquires a free lock owns it, and one that releases a lock of its own leaves it
 -- free

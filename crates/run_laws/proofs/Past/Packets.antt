@@ -1,7 +1,7 @@
 -- The live packets tell what the past tells: which packets have topped out, and of each live one
 -- whether the I/O manager has it, whether it has a cancel routine, how many locations it has and
 -- how far down it was sent.
-use Rattle.run_laws.proofs.Prelude.{ap, arith, inl, inr, refl, subst, sym, ◌∙◌, cases_lt, eq-eqb, eqb_tells, leb_tells, Bool, List, None, Option, Some, [], false, if◌then◌else◌, is_none, is_some, nat_eq, nat_lt, suc, true, ℕ, ◌&&◌, ◌++◌, ◌+◌, ◌<◌, ◌||◌, ◌∷◌, ◌≡◌, ◌≢◌, ◌≤◌, armed, completing, depth, stack_size, topped, Entry, Shared, new_packet, packet_in, packet_of, with_packet, without_packet, Major, Packet, Value, Ref}
+use Rattle.run_laws.proofs.Prelude.{ap, arith, inl, inr, refl, subst, sym, ◌∙◌, cases_lt, eq-eqb, eqb_tells, leb_tells, Bool, List, None, Option, Some, [], false, if◌then◌else◌, is_none, is_some, nat_eq, nat_lt, suc, true, ℕ, ◌&&◌, ◌++◌, ◌+◌, ◌<◌, ◌||◌, ◌∷◌, ◌≡◌, ◌≢◌, ◌≤◌, list_any, armed, completing, depth, is_top_out, location_acts, packet_acts, stack_size, topped, Entry, Shared, new_packet, packet_in, packet_of, with_packet, without_packet, Major, Packet, Value, Ref}
 use Rattle.run_laws.proofs.Past.LivePackets.{find, Rises, find_place, find_number, find_above, find_set, rises_set, find_remove, rises_remove, find_push, rises_push}
 use Rattle.run_laws.proofs.Past.Stacks.{Measured, Changed, measured_new}
 use Rattle.run_laws.proofs.Tests.{and_false}
@@ -101,15 +101,17 @@ told_of : (s : Shared) (past : List Entry) → Tells s past → (n : ℕ)
 told_of s past tells n = record { gone = tells.gone n; live = tells.live n; fresh = tells.fresh n }
 
 -- one packet changes
-module _ (after : List Packet) (issued : ℕ) (tops ends arms : ℕ → Bool) (sizes deeps : ℕ → ℕ) where
+module _ (after : List Packet) (issued : ℕ) (later : List Entry) where
   abbrev Of : Option Packet → ℕ → Type 0
-  Of o n = ToldOf o n issued (tops n) (ends n) (arms n) (sizes n) (deeps n)
+  Of o n = ToldOf o n issued (topped later n) (completing later n) (armed later n)
+      (stack_size later n) (depth later n)
 
   told_where : (before : ℕ → Option Packet) (n : ℕ) (o : Option Packet)
       → ((m : ℕ) → find after m ≡ (if nat_eq n m then o else before m)) → Rises 0 after issued
       → Of o n
       → ((m : ℕ) → nat_eq n m ≡ false → n ≢ m → Of (before m) m)
-      → Told after issued tops ends arms sizes deeps
+      → Told after issued (topped later) (completing later) (armed later) (stack_size later)
+      (depth later)
   told_where before n o finds rises here others =
       let every : (m : ℕ) → Of (find after m) m =
       λ m. rw (finds m) (elim (eqb_tells n m) [
@@ -123,171 +125,127 @@ module _ (after : List Packet) (issued : ℕ) (tops ends arms : ℕ → Bool) (s
         fresh = λ m. (every m).fresh;
       }
 
+-- what was done between two pasts was done with one packet alone
+abbrev pub Others : List Entry → List Entry → ℕ → Type 0
+Others past later n =
+    (m : ℕ) → nat_eq n m ≡ false → (packet_acts later m ≡ packet_acts past m)
+    × (location_acts later m ≡ location_acts past m)
+
+-- and this is what the later one tells of that packet, where the earlier one told what it shows
+pub record Shows (past later : List Entry) (n : ℕ) (p : Packet) (has held : Bool) (deep : ℕ)
+    : Type 0 where
+  pub untopped : topped later n ≡ topped past n
+  pub taken : completing past n ≡ p.completing → completing later n ≡ has
+  pub armed : armed past n ≡ is_some p.armer → armed later n ≡ held
+  pub count : stack_size later n ≡ stack_size past n
+  pub place : depth past n ≡ p.depth → depth later n ≡ deep
+
 -- a packet changes, and with it whether the I/O manager has it, whether it has a cancel routine,
 -- and its depth
 module _ (s : Shared) (past : List Entry) (tells : Tells s past) (n : ℕ) (p q : Packet)
     (there : packet_of s n ≡ Some p) where
-  tells_set : (ends arms : ℕ → Bool) (deeps : ℕ → ℕ) → q.number ≡ p.number
-      → (Measured p (completing past n) (armed past n) (stack_size past n) (depth past n)
-      → Measured q (ends n) (arms n) (stack_size past n) (deeps n))
-      → ((m : ℕ) → nat_eq n m ≡ false
-      → (ends m ≡ completing past m) × (arms m ≡ armed past m) × (deeps m ≡ depth past m))
-      → Told (with_packet s n q).packets s.issued (topped past) ends arms (stack_size past) deeps
-  tells_set ends arms deeps number here others =
+  pub tells_changed : (later : List Entry) (taken held : Bool) (place : ℕ)
+      → Changed p q taken held place → Shows past later n p taken held place
+      → Others past later n → Tells (with_packet s n q) later
+  tells_changed later taken held place changed shows others =
       let at : find s.packets n ≡ Some p = found s n (Some p) there in
-      let same : q.number ≡ n = number ∙ numbered s n p there in
+      let same : q.number ≡ n = changed.number ∙ numbered s n p there in
       let low : n < s.issued = found_lt s n p tells.rises at in
-      told_where (with_packet s n q).packets s.issued (topped past) ends arms (stack_size past)
-      deeps
-      (find s.packets) n
+      let before = tells.live n p at in
+      told_where (with_packet s n q).packets s.issued later (find s.packets) n
       (Some q) (find_set s.packets n p q at same)
       (rises_set 0 s.packets s.issued n p q at same tells.rises)
       (record {
-        gone = rw at at (tells.gone n);
+        gone = shows.untopped ∙ (rw at at (tells.gone n));
         live = λ r is. let one : q ≡ r = cc in
-            subst (λ (x : Packet). Measured x (ends n) (arms n) (stack_size past n) (deeps n)) one
-            (here (tells.live n p at));
+            subst (λ (x : Packet). Measured x (completing later n) (armed later n)
+            (stack_size later n) (depth later n)) one
+            (record {
+              taken = shows.taken before.taken ∙ sym changed.taken;
+              armed = shows.armed before.armed ∙ sym changed.armed;
+              count = shows.count ∙ before.count ∙ sym changed.count;
+              place = shows.place before.place ∙ sym changed.place;
+            });
         fresh = λ high. absurd (omega arith);
       })
-      (λ m other apart. rw ((others m other).0, (others m other).1, (others m other).2)
-      (told_of s past tells m))
+      (λ m other apart. rw ((others m other).0, (others m other).1) (told_of s past tells m))
 
   pub tells_kept : Changed p q p.completing (is_some p.armer) p.depth
       → Tells (with_packet s n q) past
   tells_kept changed =
-      tells_set (completing past) (armed past) (depth past) changed.number
-      (λ before. record {
-        taken = before.taken ∙ sym changed.taken;
-        armed = before.armed ∙ sym changed.armed;
-        count = before.count ∙ sym changed.count;
-        place = before.place ∙ sym changed.place;
+      tells_changed past p.completing (is_some p.armer) p.depth changed
+      (record {
+        untopped = refl;
+        taken = λ is. is;
+        armed = λ is. is;
+        count = refl;
+        place = λ is. is;
       })
-      (λ m other. (refl, refl, refl))
+      (λ m other. (refl, refl))
 
-  pub tells_moved : (moves : ℕ → ℕ) → Changed p q p.completing (is_some p.armer) (moves p.depth)
-      → Told (with_packet s n q).packets s.issued (topped past) (completing past) (armed past)
-      (stack_size past) (λ m. if nat_eq n m then moves (depth past m) else depth past m)
-  tells_moved moves changed =
-      tells_set (completing past) (armed past)
-      (λ m. if nat_eq n m then moves (depth past m) else depth past m)
-      changed.number
-      (λ before. record {
-        taken = before.taken ∙ sym changed.taken;
-        armed = before.armed ∙ sym changed.armed;
-        count = before.count ∙ sym changed.count;
-        place = rw (eq-eqb n n refl) (ap moves before.place ∙ sym changed.place);
-      })
-      (λ m other. (refl, refl, rw other refl))
-
-  pub tells_taken : Changed p q true (is_some p.armer) p.depth
-      → Told (with_packet s n q).packets s.issued (topped past)
-      (λ m. if nat_eq n m then true else completing past m) (armed past)
-      (stack_size past) (depth past)
-  tells_taken changed =
-      tells_set (λ m. if nat_eq n m then true else completing past m) (armed past) (depth past)
-      changed.number
-      (λ before. record {
-        taken = rw (eq-eqb n n refl) (sym changed.taken);
-        armed = before.armed ∙ sym changed.armed;
-        count = before.count ∙ sym changed.count;
-        place = before.place ∙ sym changed.place;
-      })
-      (λ m other. (rw other refl, refl, refl))
-
-  -- it is lent where completion leaves a location
-  pub tells_lent : (moves : ℕ → ℕ) → Changed p q false (is_some p.armer) (moves p.depth)
-      → Told (with_packet s n q).packets s.issued (topped past)
-      (λ m. if nat_eq n m then false else completing past m) (armed past)
-      (stack_size past) (λ m. if nat_eq n m then moves (depth past m) else depth past m)
-  tells_lent moves changed =
-      tells_set (λ m. if nat_eq n m then false else completing past m) (armed past)
-      (λ m. if nat_eq n m then moves (depth past m) else depth past m) changed.number
-      (λ before. record {
-        taken = rw (eq-eqb n n refl) (sym changed.taken);
-        armed = before.armed ∙ sym changed.armed;
-        count = before.count ∙ sym changed.count;
-        place = rw (eq-eqb n n refl) (ap moves before.place ∙ sym changed.place);
-      })
-      (λ m other. (rw other refl, refl, rw other refl))
-
-  -- its cancel routine is exchanged, for one or for none
-  pub tells_exchanged : (stores : Bool) → Changed p q p.completing stores p.depth
-      → Told (with_packet s n q).packets s.issued (topped past) (completing past)
-      (λ m. if nat_eq n m then stores else armed past m) (stack_size past) (depth past)
-  tells_exchanged stores changed =
-      tells_set (completing past) (λ m. if nat_eq n m then stores else armed past m) (depth past)
-      changed.number
-      (λ before. record {
-        taken = before.taken ∙ sym changed.taken;
-        armed = rw (eq-eqb n n refl) (sym changed.armed);
-        count = before.count ∙ sym changed.count;
-        place = before.place ∙ sym changed.place;
-      })
-      (λ m other. (refl, rw other refl, refl))
-
-module _ (s : Shared) (past : List Entry) (tells : Tells s past) where
+module _ (s : Shared) (past : List Entry) (tells : Tells s past) (later : List Entry) (n : ℕ)
+    (others : Others past later n) where
   -- a packet is completed, or its completion goes on, that has topped out
-  pub tells_late : (n : ℕ) → n < s.issued → packet_of s n ≡ None
-      → Told s.packets s.issued (topped past) (λ m. if nat_eq n m then true else completing past m)
-      (armed past) (stack_size past) (depth past)
-  tells_late n low none =
+  pub tells_late : n < s.issued → packet_of s n ≡ None → topped later n ≡ topped past n
+      → Tells s later
+  tells_late low none same_top =
       let at : find s.packets n ≡ None = found s n None none in
       record {
         rises = tells.rises;
-        gone = tells.gone;
+        gone = λ m. elim (eqb_tells n m) [
+          | inl same ↦ subst (λ (k : ℕ). topped later k ≡ absent s.packets s.issued k) same.1
+              (same_top ∙ tells.gone n)
+          | inr other ↦ rw (others m other.0).0 (tells.gone m)
+        ];
         live = λ m p there. elim (eqb_tells n m) [
           | inl same ↦ let no : None ≡ Some p = sym at ∙ (rw same.1 there) in cc
-          | inr other ↦ rw other.0 (tells.live m p there)
+          | inr other ↦ rw ((others m other.0).0, (others m other.0).1) (tells.live m p there)
         ];
         fresh = λ m high. elim (eqb_tells n m) [
           | inl same ↦ let k : n ≡ m = same.1 in absurd (omega arith)
-          | inr other ↦ rw other.0 (tells.fresh m high)
+          | inr other ↦ rw (others m other.0).0 (tells.fresh m high)
         ];
       }
 
   -- a packet tops out
-  pub tells_top : (n : ℕ) (p : Packet) → packet_of s n ≡ Some p
-      → Told (without_packet s n).packets s.issued (λ m. nat_eq n m || topped past m)
-      (completing past)
-      (armed past) (stack_size past) (depth past)
-  tells_top n p there =
+  pub tells_top : (p : Packet) → packet_of s n ≡ Some p → topped later n ≡ true
+      → Tells (without_packet s n) later
+  tells_top p there now =
       let low : n < s.issued = found_lt s n p tells.rises (found s n (Some p) there) in
-      told_where (without_packet s n).packets s.issued (λ m. nat_eq n m || topped past m)
-      (completing past) (armed past)
-      (stack_size past) (depth past) (find s.packets) n None
+      told_where (without_packet s n).packets s.issued later (find s.packets) n None
       (find_remove 0 s.packets s.issued n tells.rises)
       (rises_remove 0 s.packets s.issued n tells.rises)
       (record {
-        gone = rw (eq-eqb n n refl, lt_true n s.issued low) refl;
+        gone = rw (now, lt_true n s.issued low) refl;
         live = λ q no. cc;
         fresh = λ high. absurd (omega arith);
       })
-      (λ m other apart. rw other (told_of s past tells m))
+      (λ m other apart. rw ((others m other).0, (others m other).1) (told_of s past tells m))
 
+module _ (s : Shared) (past : List Entry) (tells : Tells s past) (later : List Entry) where
   -- a packet is issued
   pub tells_issue : (d : ℕ) (major : Major) (argument stack : ℕ) → 1 ≤ stack
+      → Others past later s.issued → packet_acts later s.issued ≡ packet_acts past s.issued
+      → stack_size later s.issued ≡ stack → depth later s.issued ≡ 1
       → Told (s.packets ++ new_packet s.issued d major argument stack ∷ []) (s.issued + 1)
-      (topped past)
-      (completing past) (armed past) (λ m. if nat_eq s.issued m then stack else stack_size past m)
-      (λ m. if nat_eq s.issued m then 1 else depth past m)
-  tells_issue d major argument stack low =
+      (topped later) (completing later) (armed later) (stack_size later) (depth later)
+  tells_issue d major argument stack low others unmoved sized placed =
       let n : ℕ = s.issued in
       let p : Packet = new_packet n d major argument stack in
       let new : (completing past n ≡ false) × (armed past n ≡ false) = tells.fresh n (omega arith)
       in
       let unseen : topped past n ≡ false = tells.gone n ∙ (rw (lt_false n n (omega arith)) refl) in
-      told_where (s.packets ++ p ∷ []) (n + 1) (topped past) (completing past)
-      (armed past) (λ m. if nat_eq n m then stack else stack_size past m)
-      (λ m. if nat_eq n m then 1 else depth past m)
+      told_where (s.packets ++ p ∷ []) (n + 1) later
       (find s.packets) n (Some p) (find_push 0 s.packets n p tells.rises refl)
       (rises_push 0 s.packets n p tells.rises refl)
       (record {
-        gone = unseen ∙ sym (and_false (nat_lt n (n + 1)));
+        gone = ap (list_any is_top_out) unmoved ∙ unseen ∙ sym (and_false (nat_lt n (n + 1)));
         live = λ q is. let one : p ≡ q = cc in
-            rw (eq-eqb n n refl, ← one, new.0, new.1) (measured_new n d major argument stack low);
+            rw (← one, unmoved, new.0, new.1, sized, placed)
+            (measured_new n d major argument stack low);
         fresh = λ high. absurd (omega arith);
       })
-      (λ m other apart. rw other (record {
+      (λ m other apart. rw ((others m other).0, (others m other).1) (record {
         gone = rw (lt_more m n apart) (tells.gone m);
         live = tells.live m;
         fresh = λ high. tells.fresh m (omega arith);

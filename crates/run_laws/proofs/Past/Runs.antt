@@ -1,5 +1,5 @@
 -- In every run of a sound set, until it stops, the past tells what the world has.
-use Rattle.run_laws.proofs.Prelude.{arith, inl, inr, sym, ◌∙◌, cases_lt, Bool, List, None, Option, Some, [], false, length, nat_lt, slice_get, true, ℕ, ◌++◌, ◌||◌, ◌∷◌, ◌≡◌, ◌≤◌, top_of, Change, settled, standing, with_stack, with_thread, armed, completing, depth, first_fault, holds, stack_size, Run, begun, frames_on, run, Set, IsSound, Actor, Entry, recorded, Shared, World, packet_of, Lock, MAX_FRAMES, Frame, Packet, Thread}
+use Rattle.run_laws.proofs.Prelude.{arith, inl, inr, refl, sym, ◌∙◌, cases_lt, eq-eqb, nat_eq, Bool, List, None, Option, Some, [], false, length, nat_lt, slice_get, true, ℕ, ◌++◌, ◌||◌, ◌∷◌, ◌≡◌, ◌≤◌, Issues, top_of, Change, settled, standing, with_stack, with_thread, armed, completing, depth, first_fault, holds, stack_size, Run, begun, frames_on, run, Set, IsSound, Actor, Entry, recorded, Shared, World, packet_of, Lock, MAX_FRAMES, Frame, Packet, Thread}
 use Rattle.run_laws.specs.PastTells.{PastTells, TellsOfPacket, PastTellsOfTheWorld}
 use Rattle.run_laws.proofs.Devices.{device_fits}
 use Rattle.run_laws.proofs.Lists.{Each, each_after, each_before}
@@ -71,7 +71,7 @@ module _ (set : Set) (w : World) (past : List Entry) (actor : Actor) (tells : Te
   telling_step quiet within =
       let below : Option Frame = top_of h.below in
       record {
-        packets = told_packets set w.shared past actor below h.frame h.outcome tells.packets
+        packets = told_packets set w.shared past actor tells.packets below h.frame h.outcome
             (under_issued w.shared.issued h.below below_issued) h.comes;
         locks = told_locks set w.shared past actor below h.frame h.outcome tells.locks h.comes
             quiet;
@@ -88,8 +88,11 @@ pub root_tells : (set : Set) → IsSound set
     → (s : Shared) (past : List Entry) (actor : Actor) (root : Root) → Tells s past
     → Beside set s root → Tells root.shared (recorded past actor root.actions)
 root_tells set sound s past actor root tells (issues h) =
-    tells_issue s past tells h.d h.major h.argument h.device.stack
-    (device_fits set h.d h.device sound h.there).low
+    let same : nat_eq s.issued s.issued ≡ true = eq-eqb s.issued s.issued refl in
+    tells_issue s past tells (recorded past actor (Issues s.issued h.device.stack ∷ [])) h.d
+    h.major h.argument h.device.stack
+    (device_fits set h.d h.device sound h.there).low (λ m other. (refl, rw other refl)) refl
+    (rw same refl) (rw same refl)
 root_tells set sound s past actor root tells _ = tells
 
 root_locks : (set : Set) (s : Shared) (past : List Entry) (actor : Actor) (root : Root)

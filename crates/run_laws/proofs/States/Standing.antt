@@ -204,7 +204,7 @@ module _ (set : Set) (states : States) (w : World) (past : List Entry) (good : I
       let issued : o.shared.issued ≡ w.shared.issued = leaves.issued in
       record {
         fits = leaves.fits;
-        tells = told_packets set w.shared past actor (top_of h.below) h.frame o stands.tells
+        tells = told_packets set w.shared past actor stands.tells (top_of h.below) h.frame o
             (walks_below t h) h.comes;
         roots = roots_after t o.shared h.thread (with_stack h.thread (standing set h.below o))
             h.found

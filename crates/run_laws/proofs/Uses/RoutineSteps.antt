@@ -299,7 +299,7 @@ module _ (set : Set) (states : States) (s : Shared) (past : List Entry) (actor :
         used = refl;
         marked = λ u. refl;
         left = λ u. refl;
-        sized = refl;
+        sized = rw (eq-eqb n n refl) refl;
         due = mark_due late p (find s.packets n)
             (late_on states p.pending_returned n under (Routine a)) at
             (lates.own p.pending_returned) known.due;
@@ -389,7 +389,7 @@ module _ (set : Set) (states : States) (s : Shared) (past : List Entry) (actor :
         used = rw (eq-eqb n n refl) refl;
         marked = λ u. refl;
         left = λ u. refl;
-        sized = refl;
+        sized = rw (eq-eqb n n refl) refl;
         room = leb-false (stack_size past n) (depth past n) room;
         free = free;
         none = none_late late (find s.packets n) none;

@@ -2,7 +2,7 @@
 -- packet leaves its uses as they were.
 use Rattle.run_laws.proofs.Common.{ap, arith, drop, inl, inr, refl, ◌-◌, ◌∙◌, eqb_tells, list_any, Bool, List, None, Option, Some, [], false, if◌then◌else◌, length, nat_eq, slice_get, suc, true, ℕ, ◌+◌, ◌<◌, ◌||◌, ◌∷◌, ◌≡◌, ◌≤◌, Action, Leave, OnLocation, Up, depth, stack_size, is_use, marks_left, was_marked, Actor, Entry, Serving, current_use, entry, recorded, uses, uses_opened, and_false, or_left, or_right}
 use Rattle.model.specs.Action.{Issue, Call, Mark}
-use Rattle.model.specs.Fault.{depth_after}
+use Rattle.model.specs.Fault.{depth_after, location_acts, with_location_act}
 use Rattle.model.specs.PendingAgreement.{leaves_use, marks_use}
 use Rattle.model.specs.Trace.{opens, use_of, uses_after}
 use Rattle.run_laws.proofs.Uses.Fates.{Falls, Traced}
@@ -50,7 +50,7 @@ length_dropped [] = refl
 length_dropped (u ∷ upper) = omega arith
 
 entry_depths : (past : List Entry) (action : Action) (n : ℕ) → depth past n ≡ length (uses past n)
-    → depth_after action n (depth past n)
+    → depth_after (with_location_act action n (location_acts past n))
     ≡ length (uses_after action n (use_of past action) (uses past n))
 entry_depths past (OnLocation m (Issue stack)) n h =
     elim (eqb_tells m n) [ inl e ↦ rw e.0 refl | inr e ↦ rw e.0 h ]
@@ -61,6 +61,8 @@ entry_depths past (OnLocation m Up) n h =
       | inl e ↦ rw e.0 (ap (λ (d : ℕ). d - 1) h ∙ length_dropped (uses past n))
       | inr e ↦ rw e.0 h
     ]
+entry_depths past (OnLocation m act) n h =
+    elim (eqb_tells m n) [ inl e ↦ rw e.0 h | inr e ↦ rw e.0 h ]
 entry_depths past _ n h = h
 
 -- a use that wasn't opened yet is current nowhere
@@ -158,22 +160,22 @@ same_entry : (past : List Entry) (actor : Actor) (action : Action) (n : ℕ)
 same_entry past actor (OnLocation m (Issue stack)) n h =
     record { used = rw h refl; marked = λ u. refl; left = λ u. refl; sized = rw h refl }
 same_entry past actor (OnLocation m Call) n h =
-    record { used = rw h refl; marked = λ u. refl; left = λ u. refl; sized = refl }
+    record { used = rw h refl; marked = λ u. refl; left = λ u. refl; sized = rw h refl }
 same_entry past actor (OnLocation m Up) n h =
-    record { used = rw h refl; marked = λ u. refl; left = λ u. refl; sized = refl }
+    record { used = rw h refl; marked = λ u. refl; left = λ u. refl; sized = rw h refl }
 same_entry past actor (OnLocation m Mark) n h =
     record {
       used = refl;
       marked = λ u. rw (not_other m n u (current_use past m) h) refl;
       left = λ u. refl;
-      sized = refl;
+      sized = rw h refl;
     }
 same_entry past actor (OnLocation m Leave) n h =
     record {
       used = refl;
       marked = λ u. refl;
       left = λ u. rw (not_other m n u (current_use past m) h) refl;
-      sized = refl;
+      sized = rw h refl;
     }
 same_entry past actor _ n h =
     record { used = refl; marked = λ u. refl; left = λ u. refl; sized = refl }

@@ -141,7 +141,7 @@ module _ (set : Set) (states : States) (s : Shared) (past : List Entry) (actor :
         used = rw (eq-eqb n n refl) refl;
         marked = λ u. refl;
         left = left_current past actor n;
-        sized = refl;
+        sized = rw (eq-eqb n n refl) refl;
         quiet = λ m apart. rw apart refl;
       }
 
@@ -151,7 +151,7 @@ module _ (set : Set) (states : States) (s : Shared) (past : List Entry) (actor :
         used = rw (eq-eqb n n refl) refl;
         marked = λ u. refl;
         left = λ u. refl;
-        sized = refl;
+        sized = rw (eq-eqb n n refl) refl;
         quiet = λ m apart. rw apart refl;
       }
 
@@ -191,7 +191,7 @@ module _ (set : Set) (states : States) (s : Shared) (past : List Entry) (actor :
             used = rw (eq-eqb n n refl) refl;
             marked = λ u. refl;
             left = left_current past actor n;
-            sized = refl;
+            sized = rw (eq-eqb n n refl) refl;
             more = λ some rooted. ltb-true 1 p.depth deep;
             done = h.done p at;
             none = ap (late_of late) at ∙ none p.pending_returned;
@@ -208,7 +208,7 @@ module _ (set : Set) (states : States) (s : Shared) (past : List Entry) (actor :
             used = refl;
             marked = λ u. refl;
             left = λ u. refl;
-            sized = refl;
+            sized = rw (eq-eqb n n refl) refl;
             due = inr (omega arith);
           });
         };
