@@ -21,8 +21,8 @@ use text::cut::Lines;
 ///
 /// # Errors
 ///
-/// The text's first fault. `Memory` comes exactly where a growth was refused, which may be
-/// anywhere.
+/// The text's first fault. Any text may be answered by `Memory`, which is told where a growth was
+/// refused.
 pub fn assemble(alloc: Global, text: &[u8]) -> Result<DriverSet, AsmFault>
     ensures { MatchResult result (λ set. IsNamed text.now set)
         (λ fault. (fault ≡ memory) ⊎ IsFaultOf text.now fault) }

@@ -7,7 +7,7 @@ use Rattle.model.specs.Machine.{AppliesWhole, Machine, ShowsWhole, reply_to}
 use Rattle.model.specs.Run.{run}
 use Rattle.model.specs.Set.{Set}
 use Rattle.inputs_outputs.specs.declared.fault.End.TheVariants.{Complete, Stopped}
-use Rattle.inputs_outputs.specs.Answer.{ended, is_last, replies}
+use Rattle.inputs_outputs.specs.Answer.{ended, is_last, shown_replies}
 use Rattle.drvhost_parts.specs.Told.{IsRunDrawn, replies_by}
 use Rattle.drvhost_parts.proofs.ToldRuns.{next_replies}
 
@@ -19,7 +19,7 @@ pub record Drawing (set : Set) (threads : ℕ) (events : List Event) (m : Machin
   pub same : m.set ≡ set
   pub shows : ShowsWhole m threads past
   pub last : list_any is_last (replies_by set threads events)
-      ≡ list_any is_last (replies set (run set threads past) rest)
+      ≡ list_any is_last (shown_replies set (run set threads past) rest)
 
 pub drawing_first : (m : Machine) (threads : ℕ) (events : List Event)
     → ShowsWhole m threads [] → Drawing m.set threads events m events
@@ -36,7 +36,7 @@ module _ (set : Set) (threads : ℕ) (events : List Event) (m n : Machine) (e : 
 
   answered : list_any is_last (replies_by set threads events)
       ≡ list_any is_last (reply ∷ (if is_last reply then []
-      else replies set (run set threads (d.past ++ e ∷ [])) rest))
+      else shown_replies set (run set threads (d.past ++ e ∷ [])) rest))
   answered =
       d.last ∙ ap (λ x. list_any is_last x) (next_replies set threads d.past e rest reply replied)
 
@@ -44,7 +44,7 @@ module _ (set : Set) (threads : ℕ) (events : List Event) (m n : Machine) (e : 
   pub drawing_on : is_last reply ≡ false → Drawing set threads events n rest
   drawing_on goes =
       let past = d.past ++ e ∷ [] in
-      let tail = replies set (run set threads past) rest in
+      let tail = shown_replies set (run set threads past) rest in
       record {
         past = past;
         same = ran.set ∙ d.same;
@@ -56,7 +56,7 @@ module _ (set : Set) (threads : ℕ) (events : List Event) (m n : Machine) (e : 
   -- or ends with it
   pub drawn_last : is_last reply ≡ true → list_any is_last (replies_by set threads events) ≡ true
   drawn_last ends =
-      let tail = replies set (run set threads (d.past ++ e ∷ [])) rest in
+      let tail = shown_replies set (run set threads (d.past ++ e ∷ [])) rest in
       answered ∙ ap (λ (b : Bool). b || list_any is_last (if b then [] else tail)) ends
 
 -- no event is left

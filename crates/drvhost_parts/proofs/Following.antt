@@ -14,7 +14,7 @@ use Rattle.report.specs.Word.{word_line, word_lines, word_of}
 use Rattle.inputs_outputs.specs.declared.fault.End.TheVariants.{Complete, Stopped}
 use Rattle.inputs_outputs.specs.declared.fault.Fault.TheVariants.{Write}
 use Rattle.drvhost_parts.specs.declared.running.Replies.{Replies}
-use Rattle.inputs_outputs.specs.Answer.{Answer, ended, is_last, replies, reply_lines, trace_of}
+use Rattle.inputs_outputs.specs.Answer.{Answer, ended, is_last, shown_replies, reply_lines, trace_of}
 use Rattle.inputs_outputs.specs.Device.{Adds, TakesBeginning}
 use Rattle.inputs_outputs.specs.Fault.{Goes}
 use Rattle.drvhost_parts.specs.Repeats.{AreReplies, RepeatsBy, told_by}
@@ -93,12 +93,12 @@ lines_word w reply is number (suc count) =
 
 -- the replies after one
 abbrev after_reply : Set → Run → List Event → Reply → List Reply
-after_reply set r rest reply = if is_last reply then [] else replies set r rest
+after_reply set r rest reply = if is_last reply then [] else shown_replies set r rest
 
 module _ (set : Set) (threads : ℕ) (e : Event) (rest : List Event) where
   first_of : (reply : Reply) (more : List Event) (past : List Event)
       → reply ≡ (step set (run set threads past) e).reply
-      → replies set (run set threads past) (e ∷ more)
+      → shown_replies set (run set threads past) (e ∷ more)
       ≡ reply ∷ after_reply set (run set threads (past ++ e ∷ [])) more reply
   first_of reply more past is =
       let answered = step set (run set threads past) e in
@@ -109,36 +109,36 @@ module _ (set : Set) (threads : ℕ) (e : Event) (rest : List Event) where
   -- replies of which none is the last
   pub replies_on : (told : List Reply) (past : List Event)
       → AreReplies set threads past e told → NoneLast told
-      → replies set (run set threads past) (replicate (length told) e ++ rest)
-      ≡ told ++ replies set (run set threads (past ++ replicate (length told) e)) rest
+      → shown_replies set (run set threads past) (replicate (length told) e ++ rest)
+      ≡ told ++ shown_replies set (run set threads (past ++ replicate (length told) e)) rest
   replies_on [] past are none =
-      ap (λ (events : List Event). replies set (run set threads events) rest)
+      ap (λ (events : List Event). shown_replies set (run set threads events) rest)
       (sym (append-nil past))
   replies_on (reply ∷ told) past are none =
       let each = neither (is_last reply) (list_any is_last told) none in
       let more = replicate (length told) e in
       first_of reply (more ++ rest) past are.0
       ∙ ap (λ (b : Bool). reply
-      ∷ (if b then [] else replies set (run set threads (past ++ e ∷ [])) (more ++ rest))) each.0
+      ∷ (if b then [] else shown_replies set (run set threads (past ++ e ∷ [])) (more ++ rest))) each.0
       ∙ ap (λ later. reply ∷ later) (replies_on told (past ++ e ∷ []) are.1 each.1)
-      ∙ ap (λ (events : List Event). reply ∷ (told ++ replies set (run set threads events) rest))
+      ∙ ap (λ (events : List Event). reply ∷ (told ++ shown_replies set (run set threads events) rest))
       (append_assoc past (e ∷ []) more)
 
   -- and replies of which the last one is
   pub replies_end : (told : List Reply) (last : Reply) (past : List Event)
       → AreReplies set threads past e (told ++ last ∷ []) → NoneLast told → is_last last ≡ true
-      → replies set (run set threads past) (replicate (length (told ++ last ∷ [])) e ++ rest)
+      → shown_replies set (run set threads past) (replicate (length (told ++ last ∷ [])) e ++ rest)
       ≡ told ++ last ∷ []
   replies_end [] last past are none ends =
       first_of last rest past are.0
       ∙ ap (λ (b : Bool). last
-      ∷ (if b then [] else replies set (run set threads (past ++ e ∷ [])) rest)) ends
+      ∷ (if b then [] else shown_replies set (run set threads (past ++ e ∷ [])) rest)) ends
   replies_end (reply ∷ told) last past are none ends =
       let each = neither (is_last reply) (list_any is_last told) none in
       let more = replicate (length (told ++ last ∷ [])) e in
       first_of reply (more ++ rest) past are.0
       ∙ ap (λ (b : Bool). reply
-      ∷ (if b then [] else replies set (run set threads (past ++ e ∷ [])) (more ++ rest))) each.0
+      ∷ (if b then [] else shown_replies set (run set threads (past ++ e ∷ [])) (more ++ rest))) each.0
       ∙ ap (λ later. reply ∷ later) (replies_end told last (past ++ e ∷ []) are.1 each.1 ends)
 
 -- a machine of any sort, with its set, that shows runs in its way
@@ -149,7 +149,7 @@ module _ {M : Type 0} (set_of : M → Set) (ShowsRun : M → ℕ → List Event 
     pub past : List Event
     pub same : set_of m ≡ set
     pub shows : ShowsRun m threads past
-    pub are : later ≡ replies set (run set threads past) rest
+    pub are : later ≡ shown_replies set (run set threads past) rest
 
   -- a run that is followed: the lines that were added so far, and the replies that are still to
   -- come
@@ -162,11 +162,11 @@ module _ {M : Type 0} (set_of : M → Set) (ShowsRun : M → ℕ → List Event 
 
   pub followed_first : (m : M) (threads : ℕ) (events : List Event) (b : Option (List ℕ))
       → ShowsRun m threads [] → Followed (set_of m) threads
-      (replies (set_of m) (begun (set_of m) threads) events) m 0
+      (shown_replies (set_of m) (begun (set_of m) threads) events) m 0
       events b b []
   followed_first m threads events b shows =
       record {
-        later = replies (set_of m) (begun (set_of m) threads) events;
+        later = shown_replies (set_of m) (begun (set_of m) threads) events;
         remains = record { past = []; same = refl; shows = shows; are = refl };
         lines = record { text = []; whole = refl; adds = adds_none b [] };
         last = refl;
@@ -213,7 +213,7 @@ module _ {M : Type 0} (set_of : M → Set) (ShowsRun : M → ℕ → List Event 
     goes_with goes =
         let past = h.past ++ replicate (length told) e in
         let none_told : NoneLast told = any_told ∙ ap (λ (b : Bool). b || false) goes in
-        let after = replies set (run set threads past) rest in
+        let after = shown_replies set (run set threads past) rest in
         let are : later ≡ told ++ after =
         h.are ∙ replies_on set threads e rest told h.past are_told none_told in
         record {

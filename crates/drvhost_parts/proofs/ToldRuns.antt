@@ -36,7 +36,7 @@ use Rattle.drvhost_parts.specs.declared.show.Showing.{Showing}
 use Rattle.drvhost_parts.specs.declared.tell.Detail.{Detail}
 use Rattle.drvhost_parts.specs.declared.tell.Detail.TheVariants.{Quiet}
 use Rattle.drvhost_parts.specs.declared.telling.Told.{Told}
-use Rattle.inputs_outputs.specs.Answer.{Answer, IsRefused, IsToRun, ended, faulty, is_last, replies}
+use Rattle.inputs_outputs.specs.Answer.{Answer, IsRefused, IsToRun, ended, faulty, is_last, shown_replies}
 use Rattle.inputs_outputs.specs.Device.{Supply, TakesBeginning}
 use Rattle.inputs_outputs.specs.declared.verification.Verification.{Verification}
 use Rattle.inputs_outputs.specs.Ends.{HoldsRun}
@@ -56,10 +56,10 @@ pub record Telling (detail : Detail) (set : Set) (threads : ℕ) (events : List 
   pub shows : ShowsWhole m threads past
   pub tells : TellsRun (run set threads past) ledger
   pub told : (later : List ℕ)
-      → IsTold detail number (replies set (run set threads past) rest) later
+      → IsTold detail number (shown_replies set (run set threads past) rest) later
       → IsTold detail 0 (replies_by set threads events) (text ++ later)
   pub last : list_any is_last (replies_by set threads events)
-      ≡ list_any is_last (replies set (run set threads past) rest)
+      ≡ list_any is_last (shown_replies set (run set threads past) rest)
   pub ends : run_to_end set (begun set threads) events
       ≡ run_to_end set (run set threads past) rest
 
@@ -84,12 +84,12 @@ module _ (set : Set) (threads : ℕ) (past : List Event) (e : Event) (rest : Lis
   abbrev after : Run
   after = run set threads (past ++ e ∷ [])
 
-  pub next_replies : replies set (run set threads past) (e ∷ rest)
-      ≡ reply ∷ (if is_last reply then [] else replies set after rest)
+  pub next_replies : shown_replies set (run set threads past) (e ∷ rest)
+      ≡ reply ∷ (if is_last reply then [] else shown_replies set after rest)
   next_replies =
       let answered = step set (run set threads past) e in
-      ap (λ (x : Reply). x ∷ (if is_last x then [] else replies set answered.run rest)) (sym is)
-      ∙ ap (λ (r : Run). reply ∷ (if is_last reply then [] else replies set r rest))
+      ap (λ (x : Reply). x ∷ (if is_last x then [] else shown_replies set answered.run rest)) (sym is)
+      ∙ ap (λ (r : Run). reply ∷ (if is_last reply then [] else shown_replies set r rest))
       (sym (run_more set (begun set threads) past e))
 
   next_end : run_to_end set (run set threads past) (e ∷ rest)
@@ -122,7 +122,7 @@ module _ (detail : Detail) (set : Set) (threads : ℕ) (events : List Event) (m 
       (noted threads t.past t.shows before)
 
   told_behind : (tail : List Reply)
-      → replies set (run set threads t.past) (e ∷ rest) ≡ reply ∷ tail → (later : List ℕ)
+      → shown_replies set (run set threads t.past) (e ∷ rest) ≡ reply ∷ tail → (later : List ℕ)
       → IsTold detail (number + 1) tail later
       → IsTold detail 0 (replies_by set threads events) (more ++ later)
   told_behind tail are later h =
@@ -138,8 +138,8 @@ module _ (detail : Detail) (set : Set) (threads : ℕ) (events : List Event) (m 
       → Telling detail set threads events n k (number + 1) rest more
   telling_on goes =
       let past = t.past ++ e ∷ [] in
-      let tail = replies set (run set threads past) rest in
-      let are : replies set (run set threads t.past) (e ∷ rest) ≡ reply ∷ tail =
+      let tail = shown_replies set (run set threads past) rest in
+      let are : shown_replies set (run set threads t.past) (e ∷ rest) ≡ reply ∷ tail =
       next_replies set threads t.past e rest reply replied
       ∙ ap (λ (b : Bool). reply ∷ (if b then [] else tail)) goes in
       record {
@@ -160,8 +160,8 @@ module _ (detail : Detail) (set : Set) (threads : ℕ) (events : List Event) (m 
       → HasTold detail set threads events n.set n.world k true more
   told_last ends =
       let past = t.past ++ e ∷ [] in
-      let tail = replies set (run set threads past) rest in
-      let are : replies set (run set threads t.past) (e ∷ rest) ≡ reply ∷ [] =
+      let tail = shown_replies set (run set threads past) rest in
+      let are : shown_replies set (run set threads t.past) (e ∷ rest) ≡ reply ∷ [] =
       next_replies set threads t.past e rest reply replied
       ∙ ap (λ (b : Bool). reply ∷ (if b then [] else tail)) ends in
       let same : n.set ≡ set = ran.set ∙ t.same in

@@ -30,7 +30,7 @@ use Rattle.drvhost_parts.specs.declared.tell.Detail.{Detail}
 use Rattle.drvhost_parts.specs.declared.tell.Detail.TheVariants.{Whole, Quiet}
 use Rattle.drvhost_parts.specs.declared.telling.Told.{Told}
 use Rattle.inputs_outputs.specs.declared.verification.Verification.{Verification}
-use Rattle.inputs_outputs.specs.Answer.{Answer, IsTraced, ended, faulty, is_last, replies}
+use Rattle.inputs_outputs.specs.Answer.{Answer, IsTraced, ended, faulty, is_last, shown_replies}
 use Rattle.inputs_outputs.specs.Device.{Holds, Supply}
 use Rattle.inputs_outputs.specs.Ends.{IsOfSupply}
 
@@ -122,7 +122,7 @@ run_to_end set r (e ∷ events) =
 
 -- the replies to the events of a schedule, and the world that they leave
 abbrev pub replies_by : Set → ℕ → List Event → List Reply
-replies_by set threads events = replies set (begun set threads) events
+replies_by set threads events = shown_replies set (begun set threads) events
 
 abbrev pub world_by : Set → ℕ → List Event → World
 world_by set threads events = (run_to_end set (begun set threads) events).world

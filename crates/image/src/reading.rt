@@ -732,8 +732,8 @@ fn read(alloc: Global, bytes: &[u8]) -> Result<DriverSet, ImageFault>
 ///
 /// # Errors
 ///
-/// The first fault of bytes that are no image. `Memory` comes exactly where a growth was refused,
-/// which may be anywhere.
+/// The first fault of bytes that are no image. Any bytes may be answered by `Memory`, which is told
+/// where a growth was refused.
 pub fn decode(alloc: Global, bytes: &[u8]) -> Result<DriverSet, ImageFault>
     ensures spelled { IfOk result (λ set. Spells bytes.now set) }
     ensures read { (set : Set) → IsSound set → Spells bytes.now set

@@ -19,7 +19,8 @@ use Rattle.model.specs.declared.event.Reply.TheVariants.{Started, Stepped, Finis
 use Rattle.model.specs.declared.set.Driver.{Driver}
 use Rattle.model.specs.declared.set.Routine.{Routine}
 use Rattle.model.specs.Certificate.{certificate_of}
-use Rattle.model.specs.Run.{Run, begun, step}
+use Rattle.model.specs.History.{replies_from}
+use Rattle.model.specs.Run.{Run, begun}
 use Rattle.model.specs.Set.{Set}
 use Rattle.model.specs.Sound.{IsSound}
 use Rattle.model.specs.Typable.{IsTypable, IsFirstFault}
@@ -109,12 +110,14 @@ is_last Waited = false
 is_last Idle = false
 is_last Refused = false
 
--- the replies to events, up to and with the last one
-abbrev pub replies : Set → Run → List Event → List Reply
-replies set r [] = []
-replies set r (e ∷ events) =
-    (step set r e).reply
-    ∷ (if is_last (step set r e).reply then [] else replies set (step set r e).run events)
+-- replies up to and with the last one: behind it nothing is told
+abbrev pub up_to_last : List Reply → List Reply
+up_to_last [] = []
+up_to_last (reply ∷ rest) = reply ∷ (if is_last reply then [] else up_to_last rest)
+
+-- those of a run to events
+abbrev pub shown_replies : Set → Run → List Event → List Reply
+shown_replies set r events = up_to_last (replies_from set r events)
 
 -- a line for each reply, the first of which has this number
 abbrev pub reply_lines : ℕ → List Reply → List ℕ
@@ -127,7 +130,7 @@ trace_of all = ended (if list_any is_last all then Stopped else Complete) (reply
 
 -- the trace of a set by a schedule, or the fault of the schedule
 abbrev pub ran : Set → Result Schedule ScheduleFault → Answer
-ran set (Ok schedule) = trace_of (replies set (begun set schedule.threads) schedule.events)
+ran set (Ok schedule) = trace_of (shown_replies set (begun set schedule.threads) schedule.events)
 ran set (Err fault) = faulty (schedule_fault_line fault)
 
 -- a file that begins with the letters of an image is one, any other a text

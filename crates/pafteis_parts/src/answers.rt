@@ -1,4 +1,5 @@
-//! The program's answers, over bytes in memory. An error comes only where a growth was refused.
+//! The program's answers, over bytes in memory. A call may answer that no memory was found, whatever
+//! it is asked.
 
 ghost use Rattle.std.specs.Prelude.{IfOk};
 ghost use Rattle.inputs_outputs.specs.Answer.{IsRuleExplained, IsVersion};

@@ -48,8 +48,8 @@ impl Told {
 }
 
 /// What a call answered with this exit status, which wrote to writers in memory, and so many of
-/// whose reads of the set and of the schedule in memory failed. None where something failed: what fails in memory is a
-/// growth alone.
+/// whose reads of the set and of the schedule in memory failed. None where something failed: what
+/// fails in memory is a growth alone.
 pub(crate) fn collected(
     exit: u8,
     unread: u64,

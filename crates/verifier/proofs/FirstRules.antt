@@ -1,7 +1,7 @@
 -- Where no register holds a packet of the device queue, the rules of both editions are the same,
 -- and no register comes to hold one.
 use Rattle.std.proofs.Common.{◌≡◌, ℕ, zero, suc, ◌||◌, ◌&&◌, inl, inr, true, false, Bool, List, [], ◌∷◌, Option, None, Some, refl, subst, ◌∙◌, ap}
-use Rattle.std.specs.Prelude.{not, if◌then◌else◌, option_map, slice_set, slice_index_or}
+use Rattle.std.specs.Prelude.{not, if◌then◌else◌, option_map, slice_get, slice_set, slice_index_or}
 use Rattle.std.specs.List.{list_any}
 use Rattle.model.specs.declared.abs.Abs.{Abs}
 use Rattle.model.specs.declared.abs.Kind.{Kind}
@@ -18,10 +18,11 @@ use Rattle.model.specs.declared.set.QueueName.TheVariants.{Declared, DeviceQueue
 use Rattle.model.specs.declared.set.Sort.{Sort}
 use Rattle.model.specs.Edition.{First}
 use Rattle.model.specs.Kinds.{is_guard, is_stage, stays_under_guard, needs_guard, let_go, all_let_go, left_behind, kind_inserted, kind_removed, kind_disarmed}
-use Rattle.model.specs.LocalRule.{kind_of, with_cancel, least_of, broken_if, unless, demanded, an_owned_one, has_startio, guard_fault, waiting_fault, refuses, refuses_under, marked, given_down, handed, handed_under, handed_at_label, outs_by, outs, rule_or, local_rule, local_rule_under}
-use Rattle.model.specs.Paths.{HandsOn}
+use Rattle.model.specs.LocalRule.{kind_of, with_cancel, least_of, broken_if, unless, demanded, an_owned_one, has_startio, guard_fault, waiting_fault, refuses, refuses_under, marked, given_down, handed, handed_under, handed_at_label, outs_by, outs, outs_under, rule_or, local_rule, local_rule_under}
+use Rattle.model.specs.Paths.{HandsOn, is_malformed_under}
 use Rattle.model.specs.Set.{Set, Flow, Onward, Branches, Jumps, Opens, Closes, Leaves, guard_of, guard_named, cancel_routine_of, has_cancel, flow_of}
 use Rattle.verifier.specs.FirstEdition.{waits, NoneWaits}
+use Rattle.verifier.specs.FirstLaw.{FirstHasItsRows}
 
 pub neither : (a b : Bool) → (a || b) ≡ false → (a ≡ false) × (b ≡ false)
 neither true b none = cc
@@ -281,3 +282,21 @@ handed_on_free before i sort set driver label q p s free h =
     hands_free (refuses before i sort set driver) (outs set driver before i) label q p s
     (outs_free_by (flow_of i) (handed set driver before i) (handed_at_label before i)
     (handed_free set driver before i free) (label_free before i free)) h
+
+-- the rows of the first edition
+starts_alike : (s : Abs) (r : ℕ) (sort : Sort) (set other : Set) (driver : ℕ)
+    → has_startio set driver ≡ has_startio other driver
+    → local_rule_under First s (Start r) sort set driver
+    ≡ local_rule_under First s (Start r) sort other driver
+starts_alike s r sort set other driver alike =
+    ap (λ (has : Bool). rule_or
+    (least_of (demanded an_owned_one (kind_of s r)) (unless has SortRule))
+    (outs_under First set driver s (Start r))) alike
+
+no_dequeue : (code : List Instr) (p r : ℕ) → slice_get code p ≡ Some (Dequeue r)
+    → is_malformed_under First code p ≡ true
+no_dequeue code p r here = rw here refl
+
+pub its_rows : FirstHasItsRows
+its_rows s sort set other driver r code p =
+    (refl, (refl, (starts_alike s r sort set other driver, no_dequeue code p r)))

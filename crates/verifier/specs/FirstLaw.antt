@@ -1,21 +1,36 @@
 -- What the rules of the first edition are worth for its sets: they give the verdict of those of
 -- today, rule by rule, with the same first fault and the same certificates.
-use Rattle.std.specs.Prelude.{ℕ, ◌≡◌, ◌↔◌, List, Result, Ok, Err, false, Some, slice_get}
+use Rattle.std.specs.Prelude.{ℕ, ◌≡◌, ◌↔◌, List, Result, Ok, Err, false, true, Some, slice_get}
 use Rattle.model.specs.declared.abs.Abs.{Abs}
 use Rattle.model.specs.declared.abs.Refusal.{Refusal}
 use Rattle.model.specs.declared.abs.Rule.{Rule}
 use Rattle.model.specs.declared.instr.Instr.{Instr}
+use Rattle.model.specs.declared.instr.Instr.TheVariants.{Dequeue, Next, ReleaseCancel, Start}
 use Rattle.model.specs.declared.set.Driver.{Driver}
 use Rattle.model.specs.declared.set.QueueName.TheVariants.{DeviceQueue}
 use Rattle.model.specs.declared.set.Routine.{Routine}
 use Rattle.model.specs.declared.set.Sort.{Sort}
 use Rattle.model.specs.Edition.{Edition, First, Second, edition_of}
-use Rattle.model.specs.LocalRule.{entry_state, entry_under, local_rule, local_rule_under}
+use Rattle.model.specs.LocalRule.{entry_state, entry_under, has_startio, local_rule, local_rule_under}
 use Rattle.model.specs.Paths.{Arrives, ArrivesUnder, is_malformed, is_malformed_under}
 use Rattle.model.specs.Set.{Set, Member, member, has_cancel}
 use Rattle.model.specs.Typable.{IsFirstFaultOf, IsFirstFaultOfUnder, IsFirstFaultUnder, IsTypableRoutine, IsTypableRoutineUnder, IsTypableUnder}
 use Rattle.verifier.specs.Certificates.{AreCertificates}
 use Rattle.verifier.specs.FirstEdition.{NoneWaits, IsOfFirst}
+
+-- the rows that it has for itself: whatever drivers name, `relc` and `next` ask the same, `start` does
+-- where there is a StartIo routine in both or in neither, and `dequeue` is no part of a routine
+abbrev pub FirstHasItsRows : Type 0
+FirstHasItsRows =
+    (s : Abs) (sort : Sort) (set other : Set) (driver : ℕ) (r : ℕ) (code : List Instr) (p : ℕ)
+    → (local_rule_under First s ReleaseCancel sort set driver
+    ≡ local_rule_under First s ReleaseCancel sort other driver)
+    × ((local_rule_under First s Next sort set driver
+    ≡ local_rule_under First s Next sort other driver)
+    × ((has_startio set driver ≡ has_startio other driver
+    → local_rule_under First s (Start r) sort set driver
+    ≡ local_rule_under First s (Start r) sort other driver)
+    × (slice_get code p ≡ Some (Dequeue r) → is_malformed_under First code p ≡ true)))
 
 -- they say the same of each instruction where the driver has no cancel routine for its device queue
 -- and no register holds a packet of it

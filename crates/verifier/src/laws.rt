@@ -2,7 +2,8 @@
 //! a function that does nothing.
 
 ghost use Rattle.verifier.specs.FirstFault.{OneIsFirst, TypableHasNone};
-ghost use Rattle.verifier.specs.FirstLaw.{RulesAgree, RoutinesAreOfFirst, FormsAgree, EntriesAgree};
+ghost use Rattle.verifier.specs.FirstLaw.{FirstHasItsRows, RulesAgree, RoutinesAreOfFirst};
+ghost use Rattle.verifier.specs.FirstLaw.{FormsAgree, EntriesAgree};
 ghost use Rattle.verifier.specs.FirstLaw.{NoneWaitingArrives, ArrivalsAgree, RoutinesAgree};
 ghost use Rattle.verifier.specs.FirstLaw.{RoutineFaultsAgree, VerdictsAgree};
 
@@ -18,6 +19,7 @@ pub fn first_fault_is_one()
 /// rules say the same of each instruction in each state that arrives there, and the same states
 /// arrive. In none of them does a register hold a packet of the device queue.
 pub fn first_edition_is_kept()
+    ensures rows { FirstHasItsRows }
     ensures rules { RulesAgree }
     ensures of_first { RoutinesAreOfFirst }
     ensures forms { FormsAgree }

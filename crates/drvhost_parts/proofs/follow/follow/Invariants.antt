@@ -1,7 +1,7 @@
 use Rattle.std.proofs.Common.{◌≡◌, ◌+◌, ◌≤◌, length}
 use Rattle.std.specs.Prelude.{IfSome}
 use Rattle.model.specs.Run.{begun}
-use Rattle.inputs_outputs.specs.Answer.{replies}
+use Rattle.inputs_outputs.specs.Answer.{shown_replies}
 use Rattle.drvhost_parts.specs.Repeats.{awaited}
 use Rattle.drvhost_parts.proofs.Following.{Followed}
 use Rattle.drvhost_parts.proofs.follow.follow.Given as goal
@@ -15,7 +15,7 @@ invariant-loop-event g l =
       fine : g.O.Sink.failures l.out ≡ g.O.Sink.failures l.initial.out;
       followed :
           Followed g.M.Machine.set_of g.M.Machine.shows set l.schedule.threads
-          (replies set (begun set l.schedule.threads) l.schedule.events)
+          (shown_replies set (begun set l.schedule.threads) l.schedule.events)
           l.machine l.number (awaited l.rest l.upcoming)
           (g.O.Sink.contents l.initial.out) (g.O.Sink.contents l.out) l.lines;
     }

@@ -1,7 +1,10 @@
-use Rattle.verifier.proofs.FirstRules.{rules_alike}
+use Rattle.verifier.proofs.FirstRules.{its_rows, rules_alike}
 use Rattle.verifier.proofs.FirstPaths.{of_first, formed_alike, entry_alike, arrives_to, arrives_back, arrives_free}
 use Rattle.verifier.proofs.FirstVerdicts.{routine_to, routine_back, first_fault_to, first_fault_back, verdict_to, verdict_back}
 use Rattle.verifier.proofs.laws.first_edition_is_kept.Goals as goal
+
+pub returns-clause-rows : goal.returns-clause-rows
+returns-clause-rows c = its_rows
 
 pub returns-clause-rules : goal.returns-clause-rules
 returns-clause-rules c = rules_alike
