@@ -21,8 +21,8 @@ is_lock SystemCancel (Spin m) = false
 is_lock (Spin l) SystemCancel = false
 is_lock (Spin l) (Spin m) = nat_eq l.device m.device && nat_eq l.number m.number
 
--- what a thread did to a lock, what was done with a packet, and with its locations, the newest first.
--- A packet that is touched stays as it was
+-- what a thread did to a lock, what was done with a packet, and with its locations, the newest
+-- first. A packet that is touched stays as it was
 abbrev pub with_lock_act : Action → Bool → Lock → List LockAct → List LockAct
 with_lock_act (OnLock m act) its_own l acts = if its_own && is_lock m l then act ∷ acts else acts
 with_lock_act (OnPacket packet act) its_own l acts = acts

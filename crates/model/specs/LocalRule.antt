@@ -1,6 +1,6 @@
 -- The local rule: what an instruction demands of the state before it, and the state after it. All
--- conditions of an instruction are weighed, and the one of the least number is the rule broken. Each
--- edition has its rule; where none is named, the second one's is meant, which is today's.
+-- conditions of an instruction are weighed, and the one of the least number is the rule broken.
+-- Each edition has its rule; where none is named, the second one's is meant, which is today's.
 -- Static Driver Verifier has rules of the same names: DoubleCompletion, MarkIrpPending,
 -- CancelSpinLock, SpinLock.
 use Rattle.std.specs.Prelude.{ℕ, ◌||◌, ◌&&◌, ◌-◌, nat_le, not, Bool, true, false, List, [], ◌∷◌, Option, None, Some, Result, Ok, Err, is_some, option_and_then, replicate, slice_get, slice_index_or, slice_set, if◌then◌else◌}
@@ -65,8 +65,8 @@ entry_of_sort Propagate name = Some (entered_with View NoDuty Open false)
 entry_of_sort Hold name = Some (entered_with New Fresh SettledMark false)
 entry_of_sort Cancel name = entry_of_cancel name
 
--- the one list whose cancel routine a routine is, if it is that of exactly one: in the first edition
--- the device queue had none
+-- the one list whose cancel routine a routine is, if it is that of exactly one: in the first
+-- edition the device queue had none
 abbrev pub cancelled_queues : Option Driver → ℕ → List QueueName
 cancelled_queues None number = []
 cancelled_queues (Some d) number = cancelled_from d.queues 0 number
@@ -534,7 +534,8 @@ refuses_under e s (Loop turns) sort set driver = None
 refuses_under e s End sort set driver = None
 refuses_under e s (Load r c) sort set driver = free_kind (kind_of s r)
 refuses_under e s (Store c r) sort set driver = number_kind (kind_of s r)
-refuses_under e s (LoadPaged r c) sort set driver = least_of (level_fault s sort) (free_kind (kind_of s r))
+refuses_under e s (LoadPaged r c) sort set driver =
+    least_of (level_fault s sort) (free_kind (kind_of s r))
 refuses_under e s (StorePaged c r) sort set driver =
     least_of (number_kind (kind_of s r)) (level_fault s sort)
 refuses_under e s (Get r q field) sort set driver =

@@ -1,5 +1,5 @@
--- When a driver set is accepted, over all paths, and where and why it is refused else, by the rules of
--- an edition; where none is named, those of the second are meant, which are today's.
+-- When a driver set is accepted, over all paths, and where and why it is refused else, by the rules
+-- of an edition; where none is named, those of the second are meant, which are today's.
 use Rattle.std.specs.Prelude.{ℕ, suc, ⊤, ◌≡◌, ◌≢◌, ◌<◌, ◌≤◌, ◌⊎◌, true, false, length, Option, None, Some, slice_get}
 use Rattle.model.specs.declared.abs.Abs.{Abs}
 use Rattle.model.specs.declared.abs.Refusal.{Refusal}
@@ -81,7 +81,8 @@ AreTypableRoutinesUnder e set number driver count =
     → IsTypableRoutineUnder e (member set number r routine)
 
 abbrev pub IsTypableDriverUnder : Edition → Set → ℕ → Driver → Type 0
-IsTypableDriverUnder e set number driver = AreTypableRoutinesUnder e set number driver (length driver.routines)
+IsTypableDriverUnder e set number driver =
+    AreTypableRoutinesUnder e set number driver (length driver.routines)
 
 -- the drivers before a number are typable
 abbrev pub AreTypableUnder : Edition → Set → ℕ → Type 0
@@ -178,7 +179,8 @@ at_start rule = record { driver = 0; routine = 0; at = 0; rule = rule }
 -- a set without devices is malformed before all else
 abbrev pub IsFirstFaultUnder : Edition → Set → Refusal → Type 0
 IsFirstFaultUnder e set refusal =
-    ((length set.devices ≡ 0) × (refusal ≡ at_start Malformed)) ⊎ IsFirstFaultWithinUnder e set refusal
+    ((length set.devices ≡ 0) × (refusal ≡ at_start Malformed))
+    ⊎ IsFirstFaultWithinUnder e set refusal
 
 -- the same by the rules of the second edition
 abbrev pub fault_in : Member → Abs → Option Instr → Option Rule

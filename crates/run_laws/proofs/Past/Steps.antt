@@ -211,14 +211,18 @@ module _ (set : Set) (s : Shared) (past : List Entry) (actor : Actor) where
   cancel_locks n step o owned (retakes_cancel its) quiet =
       absurd (retaken SystemCancel its owned (none_first _ _ quiet))
   cancel_locks n step o owned (flags_gone none) quiet =
-      cancel_freed (Releases SystemCancel ∷ []) owned (one_more Release SystemCancel) (none_first _ _ quiet)
+      cancel_freed (Releases SystemCancel ∷ []) owned (one_more Release SystemCancel)
+      (none_first _ _ quiet)
   cancel_locks n step o owned (exchanges_gone none) quiet =
-      cancel_freed (Releases SystemCancel ∷ []) owned (one_more Release SystemCancel) (none_first _ _ quiet)
+      cancel_freed (Releases SystemCancel ∷ []) owned (one_more Release SystemCancel)
+      (none_first _ _ quiet)
   cancel_locks n step o owned (finds_empty p there word) quiet =
-      cancel_freed (Exchanges n false ∷ Releases SystemCancel ∷ []) owned (one_more Release SystemCancel)
+      cancel_freed (Exchanges n false ∷ Releases SystemCancel ∷ []) owned
+      (one_more Release SystemCancel)
       (none_first _ _ quiet)
   cancel_locks n step o owned (finds_none p armer there word named_none) quiet =
-      cancel_freed (Exchanges n false ∷ Releases SystemCancel ∷ []) owned (one_more Release SystemCancel)
+      cancel_freed (Exchanges n false ∷ Releases SystemCancel ∷ []) owned
+      (one_more Release SystemCancel)
       (none_first _ _ quiet)
   cancel_locks n step o owned _ quiet = owned
 
