@@ -111,8 +111,8 @@ pub fn demanded(wanted: Wanted, kind: Kind) -> Option<Rule>
     }
 }
 
-/// What an unwanted packet breaks that the routine may complete: the rule on cancellation, where one
-/// of a list is wanted, and the rule on marks, where it would be wanted but for its mark.
+/// What an unwanted packet breaks that the routine may complete: the rule on cancellation, where
+/// one of a list is wanted, and the rule on marks, where it would be wanted but for its mark.
 fn another(listed: bool, but_for_its_mark: bool) -> Rule
     ensures { result ≡ (if listed then Rule.CancelState
         else if but_for_its_mark then Rule.MarkIrpPending else Rule.Completion) }

@@ -1,5 +1,5 @@
-//! The program's answers, over bytes in memory. A call may answer that no memory was found, whatever
-//! it is asked.
+//! The program's answers, over bytes in memory. A call may answer that no memory was found,
+//! whatever it is asked.
 
 ghost use Rattle.std.specs.Prelude.{IfOk};
 ghost use Rattle.inputs_outputs.specs.Answer.{IsRuleExplained, IsVersion};

@@ -19,7 +19,8 @@ use Rattle.verifier.specs.Certificates.{AreCertificates}
 use Rattle.verifier.specs.FirstEdition.{NoneWaits, IsOfFirst}
 
 -- the rows that it has for itself: whatever drivers name, `relc` and `next` ask the same, `start`
--- does where there is a StartIo routine in both or in neither, and `dequeue` is no part of a routine
+-- does where there is a StartIo routine in both or in neither, and `dequeue` is no part of a
+-- routine
 abbrev pub FirstHasItsRows : Type 0
 FirstHasItsRows =
     (s : Abs) (sort : Sort) (set other : Set) (driver : ℕ) (r : ℕ) (code : List Instr) (p : ℕ)

@@ -277,11 +277,13 @@ module _ (set : Set) (states : States) (s : Shared) (past : List Entry) (actor :
       (quiet_goes set states s a i (runs set states s a i top at) b jumped (rw is refl) goes l)
   own under f o top agrees (takes_lock a i lock at takes free) l =
       let h : Runs set states s a i = runs set states s a i top at in
-      own_now a i h agrees lock false Acquire (falls_next (flow_of i) (taken_word a i lock takes).on)
+      own_now a i h agrees lock false Acquire
+      (falls_next (flow_of i) (taken_word a i lock takes).on)
       (locks_taken a i h agrees lock takes).now l
   own under f o top agrees (retakes_lock a i lock at takes its) l =
       let h : Runs set states s a i = runs set states s a i top at in
-      own_now a i h agrees lock false Acquire (falls_next (flow_of i) (taken_word a i lock takes).on)
+      own_now a i h agrees lock false Acquire
+      (falls_next (flow_of i) (taken_word a i lock takes).on)
       (locks_taken a i h agrees lock takes).now l
   own under f o top agrees (frees_lock a i lock owner at frees there) l =
       let h : Runs set states s a i = runs set states s a i top at in

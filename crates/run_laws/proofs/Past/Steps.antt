@@ -11,8 +11,8 @@ use Rattle.run_laws.proofs.Steps.Comes.{Cancels, takes_cancel, retakes_cancel, f
 use Rattle.run_laws.proofs.Steps.Queues.{queued_touches}
 
 module _ (set : Set) (s : Shared) (past : List Entry) (actor : Actor) (tells : Tells s past) where
-  -- the packets: one whose cancel routine was exchanged, one that the I/O manager has again, and one
-  -- that moved between its locations
+  -- the packets: one whose cancel routine was exchanged, one that the I/O manager has again, and
+  -- one that moved between its locations
   module _ (n : ℕ) (p : Packet) (there : packet_of s n ≡ Some p) (later : List Entry)
       (others : Others past later n) where
     exchanged : (armer : Option Armer)
