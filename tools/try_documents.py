@@ -1,6 +1,6 @@
 #!/usr/bin/env python3
-"""try_documents.py [PROGRAM]: runs the program (crates/drvhost/out/drvhost) on every example of README.md, docs/TEXTS.md and
-docs/RULES.md, and tells where it says anything else than the document does. An example begins with a line of its own,
+"""try_documents.py [PROGRAM]: runs the program (crates/drvhost/out/drvhost) on every example of README.md and of the documents
+of docs/ that have some, and tells where it says anything else than the document does. An example begins with a line of its own,
 
     <!-- example: COMMAND, status N -->
 
@@ -8,11 +8,12 @@ and ends with the next fenced block that is called `output`, which has all that 
 single line `...` there stands for some text, whatever it is. COMMAND is `check`, `explain --all`, `trace`,
 `trace --unchecked` or `host --workers N`, whose files are the blocks between, in their order: `drv`, `sched` and `script` are texts, and `image` has
 the bytes of an image in hexadecimal, up to `;` in a line. Or COMMAND is `run`, and each line of the block `sh` between is a
-command that starts where a copy of examples/ lies. The last line counts."""
+command that starts where a copy of examples/ lies; a block `drv` there has to be the text of the file that ends the first of
+them. The last line counts."""
 import os, re, shlex, shutil, subprocess, sys, tempfile
 
 TOP = os.path.dirname(os.path.dirname(os.path.abspath(__file__)))
-DOCUMENTS = ['README.md', 'docs/TEXTS.md', 'docs/RULES.md']
+DOCUMENTS = ['README.md', 'docs/COMMANDS.md', 'docs/TEXTS.md', 'docs/RULES.md']
 MARK = re.compile(r'<!-- example: (.+), status (\d+) -->$')
 KINDS = ('drv', 'image', 'sched', 'script', 'sh', 'output')
 FILES = ('drv', 'image', 'sched', 'script')
@@ -66,12 +67,21 @@ def answer(program, words, folder):
     done = subprocess.run([program, *words], cwd=folder, stdin=subprocess.DEVNULL, capture_output=True, timeout=60)
     return (done.stdout + done.stderr).decode('utf-8', 'replace'), done.returncode
 
+def unlike(example, lines):
+    """What is said of a driver that isn't the text of the file that ends the first line."""
+    with open(os.path.join(TOP, lines[0].split()[-1]), newline='') as file:
+        text = file.read()
+    return ''.join('the file has another text\n' for _, shown in example.of_kinds(('drv',)) if shown != text)
+
 def run_lines(program, example):
     """The answers to the lines of a block, one after another, with the last exit status."""
     told, status = '', None
+    lines = ''.join(text for _, text in example.of_kinds(('sh',))).splitlines()
+    if example.of_kinds(('drv',)):
+        told = unlike(example, lines)
     with tempfile.TemporaryDirectory() as folder:
         shutil.copytree(os.path.join(TOP, 'examples'), os.path.join(folder, 'examples'))
-        for line in ''.join(text for _, text in example.of_kinds(('sh',))).splitlines():
+        for line in lines:
             more, status = answer(program, shlex.split(line)[1:], folder)
             told += more
     return told, status
