@@ -4,7 +4,9 @@ use Rattle.std.proofs.KnownBytes.{Appends-nil, Keeps-refl}
 use Rattle.clap.specs.Words.{Text, subcommand_of, takes}
 use Rattle.inputs_outputs.specs.Answer.{Answer}
 use Rattle.inputs_outputs.specs.Device.{Bytes, Closed, Holds, IsSuppliedAs, MayBeClosed, Supply, Unknown}
-use Rattle.inputs_outputs.specs.Ends.{Answers, Ends, HoldsRun, IsCheckOf, IsExplainedOf, IsListOf, IsRewriteOf, IsTraceOf, OutOfMemory, ReadFailed, Rightly, WriteFailed}
+use Rattle.inputs_outputs.specs.Ends.{Answers, Ends, HoldsRun, IsCheckOf, IsListOf, IsRewriteOf, IsTraceOf, OutOfMemory, ReadFailed, Rightly, WriteFailed}
+use Rattle.set_answers.specs.declared.explaining.Extent.{Extent}
+use Rattle.set_answers.specs.Explained.{IsExplainedOf}
 use Rattle.drvhost_parts.specs.Served.{IsHostOf}
 use Rattle.drvhost_parts.specs.Told.{IsDrawOf, IsTellOf}
 use Rattle.drvhost_parts.specs.declared.tell.Detail.{Detail}
@@ -102,9 +104,9 @@ pub check_known : (known supply : Supply) → IsSuppliedAs known supply → (ans
 check_known known supply h answer (bytes, holds, right) =
     (bytes, holds_known known supply bytes h holds, right)
 
-pub explain_known : (known supply : Supply) → IsSuppliedAs known supply → (answer : Answer)
-    → IsExplainedOf supply answer → IsExplainedOf known answer
-explain_known known supply h answer (bytes, holds, right) =
+pub explain_known : (extent : Extent) (known supply : Supply) → IsSuppliedAs known supply
+    → (answer : Answer) → IsExplainedOf extent supply answer → IsExplainedOf extent known answer
+explain_known extent known supply h answer (bytes, holds, right) =
     (bytes, holds_known known supply bytes h holds, right)
 
 pub list_known : (known supply : Supply) → IsSuppliedAs known supply → (answer : Answer)

@@ -9,7 +9,8 @@ use Rattle.inputs_outputs.specs.Answer.{Answer, IsRuleExplained, IsUnopened, IsV
 use Rattle.inputs_outputs.specs.Device.{MayBeClosed, Supply}
 use Rattle.inputs_outputs.specs.declared.verification.Verification.{Verification}
 use Rattle.inputs_outputs.specs.declared.verification.Verification.TheVariants.{Required}
-use Rattle.inputs_outputs.specs.Ends.{HoldsRun, IsCheckOf, IsExplainedOf, IsListOf, IsRewriteOf, IsTraceOf}
+use Rattle.inputs_outputs.specs.Ends.{HoldsRun, IsCheckOf, IsListOf, IsRewriteOf, IsTraceOf}
+use Rattle.set_answers.specs.Explained.{IsExplainedOf}
 use Rattle.drvhost_parts.specs.Served.{IsHostOf}
 use Rattle.drvhost_parts.specs.Told.{IsDrawOf, IsTellOf}
 use Rattle.command_line.specs.declared.answer.Way.{Way}
@@ -47,7 +48,7 @@ IsQuietly Right answer =
 -- what is right for a job, where the files of these names have this to give
 abbrev pub IsJobOf : (List ℕ → Supply) → Job → Answer → Type 0
 IsJobOf supply (Check set) answer = IsCheckOf (supply set.now) answer
-IsJobOf supply (Explain set extent) answer = IsOfNamed IsExplainedOf supply set.now answer
+IsJobOf supply (Explain set extent) answer = IsOfNamed (IsExplainedOf extent) supply set.now answer
 IsJobOf supply (ExplainRule rule) answer = IsRuleExplained rule answer
 IsJobOf supply (ListJob set) answer = IsOfNamed IsListOf supply set.now answer
 IsJobOf supply (Rewrite set output) answer = IsQuietly (IsRewriteOf (supply set.now)) answer

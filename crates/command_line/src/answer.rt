@@ -3,7 +3,8 @@
 ghost use Rattle.std.specs.Prelude.{◌≡◌, ◌+◌, ◌<◌, ◌^◌, ◌⊎◌, ℕ, List, Option, drop, map, string_bytes, true};
 ghost use Rattle.command_line.specs.Program.{IsAnswerTo, IsAnswerToLost, IsJobOf, IsOfNamed, IsProgram, IsRunBy, Opens, OpensFor, OpensToTrace, IsQuietly, JobStores, ProgramOpens, ProgramStores, RewritesFile, WordsStore, verification_of};
 ghost use Rattle.inputs_outputs.specs.Device.{CanCount, Says};
-ghost use Rattle.inputs_outputs.specs.Ends.{Answers, HoldsRun, IsCheckOf, IsExplainedOf, IsListOf, IsRewriteOf};
+ghost use Rattle.inputs_outputs.specs.Ends.{Answers, HoldsRun, IsCheckOf, IsListOf, IsRewriteOf};
+ghost use Rattle.set_answers.specs.Explained.{IsExplainedOf};
 
 use crate::files::{Files, Later, Pending};
 use crate::job::{Job, JobFault, Workers, refuse_unknown_words, refuse_words};
@@ -235,7 +236,7 @@ fn explain_file<F: Files, O: Sink, E: Sink>(
     requires files { CanCount (F.failures files.old) }
     requires out { CanCount (O.failures out.old) }
     requires err { CanCount (E.failures err.old) }
-    ensures answers { Answers (IsOfNamed IsExplainedOf (F.supply files.old) set.now)
+    ensures answers { Answers (IsOfNamed (IsExplainedOf extent) (F.supply files.old) set.now)
         (F.failures files.old) (F.failures files.new) (O.failures out.old) (O.failures out.new)
         (O.contents out.old) (O.contents out.new)
         (Says (E.failures err.old) (E.failures err.new) (E.contents err.old) (E.contents err.new))

@@ -84,20 +84,6 @@ abbrev pub IsVerdict : Set → Answer → Type 0
 IsVerdict set answer =
     (IsTypable set × (answer ≡ ended Complete (acceptance set))) ⊎ IsRefused set answer
 
--- the verdict on a set, with some words behind it
-pub record IsExplained (set : Set) (answer : Answer) : Type 0 where
-  pub end : End
-  pub verdict : List ℕ
-  pub words : List ℕ
-  pub judged : IsVerdict set (ended end verdict)
-  pub is : answer ≡ ended end (verdict ++ words)
-
--- what `explain` answers for what a file says: for the set that it names the verdict, with some
--- words behind it; else the line that tells its first fault, with some words behind that
-abbrev pub IsExplainedSaid : Result Set (List ℕ) → Answer → Type 0
-IsExplainedSaid (Ok set) answer = IsExplained set answer
-IsExplainedSaid (Err line) answer = (words : List ℕ) × (answer ≡ faulty (line ++ words))
-
 -- a reply with which a trace ends: a bug check, or a wrong operand
 abbrev pub is_last : Reply → Bool
 is_last (Bug bug) = true

@@ -1,11 +1,11 @@
 -- How a command ends, for what its devices hold.
-use Rattle.std.specs.Prelude.{ℕ, ◌≡◌, ◌+◌, ◌⊎◌, List, codes, Ok, Option, Result}
+use Rattle.std.specs.Prelude.{ℕ, ◌≡◌, ◌+◌, ◌⊎◌, List, codes, Ok, Option}
 use Rattle.std.specs.Io.KnownBytes.{Appends, Keeps}
 use Rattle.inputs_outputs.specs.declared.fault.End.TheVariants.{Complete}
 use Rattle.inputs_outputs.specs.declared.verification.Verification.{Verification}
 use Rattle.interleave.specs.Listing.{schedule_in}
 use Rattle.model.specs.Set.{Set}
-use Rattle.inputs_outputs.specs.Answer.{Answer, FileSays, IsExplainedSaid, IsListing, IsOfFile, IsRewritten, IsToRun, IsTraced, IsVerdict, ended, ran}
+use Rattle.inputs_outputs.specs.Answer.{Answer, FileSays, IsListing, IsOfFile, IsRewritten, IsToRun, IsTraced, IsVerdict, ended, ran}
 use Rattle.inputs_outputs.specs.Device.{Bytes, Holds, Supply, TakesBeginning}
 
 -- what is right for the set that a source has, where these are the right answers for a set
@@ -16,13 +16,6 @@ IsOfSupply Right supply answer =
 -- what `check` answers for what its source has
 abbrev pub IsCheckOf : Supply → Answer → Type 0
 IsCheckOf supply answer = IsOfSupply IsVerdict supply answer
-
--- what `explain` answers for what its source has: the verdict on the set, or the line that tells the
--- fault, each with some words behind it
-abbrev pub IsExplainedOf : Supply → Answer → Type 0
-IsExplainedOf supply answer =
-    (bytes : List ℕ) × Holds supply bytes
-    × ((said : Result Set (List ℕ)) × FileSays bytes said × IsExplainedSaid said answer)
 
 -- what `list` answers for what its source has
 abbrev pub IsListOf : Supply → Answer → Type 0

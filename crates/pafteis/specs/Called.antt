@@ -4,7 +4,10 @@ use Rattle.inputs_outputs.specs.declared.verification.Verification.{Verification
 use Rattle.inputs_outputs.specs.declared.verification.Verification.TheVariants.{Required, Skipped}
 use Rattle.inputs_outputs.specs.Answer.{Answer, IsRuleExplained}
 use Rattle.inputs_outputs.specs.Device.{Bytes}
-use Rattle.inputs_outputs.specs.Ends.{IsExplainedOf, IsTraceOf}
+use Rattle.inputs_outputs.specs.Ends.{IsTraceOf}
+use Rattle.set_answers.specs.declared.explaining.Extent.{Extent}
+use Rattle.set_answers.specs.declared.explaining.Extent.TheVariants.{First, Each}
+use Rattle.set_answers.specs.Explained.{IsExplainedOf}
 use Rattle.model.specs.declared.abs.Rule.{Rule}
 use Rattle.model.specs.declared.memory.OutOfMemory.{OutOfMemory}
 use Rattle.pafteis_parts.specs.Delivery.{bytes_of, placed}
@@ -51,12 +54,12 @@ AnswersIf Right None before after needed status = AnswersNothing before after ne
 AnswersIf Right (Some a) before after needed status = Answers (Right a) before after needed status
 
 -- how much is explained, by its number: the first fault, or that of each routine
-abbrev pub extent_named : ℕ → Option ℕ
-extent_named n = if nat_eq n 0 then Some 0 else if nat_eq n 1 then Some 1 else None
+abbrev pub extent_named : ℕ → Option Extent
+extent_named n = if nat_eq n 0 then Some First else if nat_eq n 1 then Some Each else None
 
 abbrev pub ExplainsSet : ℕ → List ℕ → List ℕ → List ℕ → ℕ → ℕ → Type 0
 ExplainsSet extent set before after needed status =
-    AnswersIf (λ _. IsExplainedOf (Bytes set)) (extent_named extent) before after needed status
+    AnswersIf (λ e. IsExplainedOf e (Bytes set)) (extent_named extent) before after needed status
 
 abbrev pub ExplainsRule : ℕ → List ℕ → List ℕ → ℕ → ℕ → Type 0
 ExplainsRule rule before after needed status =

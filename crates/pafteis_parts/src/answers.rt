@@ -4,7 +4,8 @@
 ghost use Rattle.std.specs.Prelude.{IfOk};
 ghost use Rattle.inputs_outputs.specs.Answer.{IsRuleExplained, IsVersion};
 ghost use Rattle.inputs_outputs.specs.Device.{Bytes};
-ghost use Rattle.inputs_outputs.specs.Ends.{IsCheckOf, IsExplainedOf, IsListOf, IsRewriteOf, IsTraceOf};
+ghost use Rattle.inputs_outputs.specs.Ends.{IsCheckOf, IsListOf, IsRewriteOf, IsTraceOf};
+ghost use Rattle.set_answers.specs.Explained.{IsExplainedOf};
 
 use crate::returned::{Told, collected};
 use inputs_outputs::device::{Reader, Source, Writer};
@@ -25,9 +26,9 @@ pub fn check(alloc: Global, set: &[u8]) -> Result<Told, OutOfMemory>
     collected(exit, source.failures(), 0, output, errors)
 }
 
-/// The same, explained in words.
+/// The same, explained in words: of its first fault, or of each routine's.
 pub fn explain(alloc: Global, extent: Extent, set: &[u8]) -> Result<Told, OutOfMemory>
-    ensures { IfOk result (IsExplainedOf (Bytes set.now)) }
+    ensures { IfOk result (IsExplainedOf extent (Bytes set.now)) }
 {
     let mut source = Reader::new(Some(set));
     let mut output = Writer::new(Vec::new(alloc));

@@ -1,9 +1,9 @@
 -- What `explain` answers of a file, by the verdict on its set or the fault of its text.
 use Rattle.std.proofs.Common.{◌≡◌, ◌∙◌, ℕ, List, [], ◌++◌, inl, inr, Option, Result, Ok, Err, arith, codes, refl, sym, ap, subst}
 use Rattle.std.proofs.lemmas.List.{append-nil}
-use Rattle.inputs_outputs.specs.Answer.{Answer, IsExplained, IsExplainedSaid, IsOfSaid, faulty}
+use Rattle.inputs_outputs.specs.Answer.{Answer, IsOfSaid, faulty}
 use Rattle.inputs_outputs.specs.Device.{Bytes, Holds, Supply}
-use Rattle.inputs_outputs.specs.Ends.{Answers, Ends, IsExplainedOf, IsOfSupply, Rightly, ReadFailed, WriteFailed, OutOfMemory}
+use Rattle.inputs_outputs.specs.Ends.{Answers, Ends, IsOfSupply, Rightly, ReadFailed, WriteFailed, OutOfMemory}
 use Rattle.inputs_outputs.specs.declared.fault.End.{End}
 use Rattle.inputs_outputs.specs.declared.fault.Fault.{Fault}
 use Rattle.inputs_outputs.specs.declared.fault.Fault.TheVariants.{Read, Write, Memory, Text, Image, Schedule as OfSchedule, Script as OfScript}
@@ -13,23 +13,26 @@ use Rattle.inputs_outputs.proofs.Writing.{appends_none, keeps_same}
 use Rattle.asm.specs.declared.fault.AsmFault.{AsmFault}
 use Rattle.report.specs.Fault.{text_fault_line}
 use Rattle.model.specs.Set.{Set}
+use Rattle.set_answers.specs.declared.explaining.Extent.{Extent}
+use Rattle.set_answers.specs.Explained.{IsExplained, IsExplainedOf, IsExplainedSaid}
 
 -- a fault's line alone has no words behind it
-said_plainly : (said : Result Set (List ℕ)) (answer : Answer) → IsOfSaid IsExplained said answer
-    → IsExplainedSaid said answer
-said_plainly (Ok set) answer right = right
-said_plainly (Err line) answer same =
+said_plainly : (extent : Extent) (said : Result Set (List ℕ)) (answer : Answer)
+    → IsOfSaid (IsExplained extent) said answer → IsExplainedSaid extent said answer
+said_plainly extent (Ok set) answer right = right
+said_plainly extent (Err line) answer same =
     ([], same ∙ ap (λ (told : List ℕ). faulty told) (sym (append-nil line)))
 
-pub explained_plainly : (supply : Supply) (answer : Answer) → IsOfSupply IsExplained supply answer
-    → IsExplainedOf supply answer
-explained_plainly supply answer (bytes, holds, (said, says, right)) =
-    (bytes, holds, (said, says, said_plainly said answer right))
+pub explained_plainly : (extent : Extent) (supply : Supply) (answer : Answer)
+    → IsOfSupply (IsExplained extent) supply answer → IsExplainedOf extent supply answer
+explained_plainly extent supply answer (bytes, holds, (said, says, right)) =
+    (bytes, holds, (said, says, said_plainly extent said answer right))
 
 -- what is right for the bytes is right for the source that has them
-pub explained_held : (supply : Supply) (bytes : List ℕ) → Holds supply bytes → (answer : Answer)
-    → IsExplainedOf (Bytes bytes) answer → IsExplainedOf supply answer
-explained_held supply bytes holds answer (other, same, said) =
+pub explained_held : (extent : Extent) (supply : Supply) (bytes : List ℕ) → Holds supply bytes
+    → (answer : Answer) → IsExplainedOf extent (Bytes bytes) answer
+    → IsExplainedOf extent supply answer
+explained_held extent supply bytes holds answer (other, same, said) =
     (other, subst (λ (b : List ℕ). Holds supply b) (sym same) holds, said)
 
 -- where more answers are right
@@ -46,31 +49,33 @@ ends_rightly R Q reads writes before after status told on (OutOfMemory f w s t k
     OutOfMemory f w s t k
 
 -- how `explain` ends for the bytes of a file, where it goes so for the set that they name
-pub named_ends : (bytes : List ℕ) (set : Set) (b n : Option (List ℕ)) (end : Result End Fault)
-    → ReadsSet (Bytes bytes) (Ok set) → Goes (IsExplained set) b n [] [] end
-    → Ends (IsExplainedOf (Bytes bytes)) (reads_failed end) (writes_failed end) b n
+pub named_ends : (extent : Extent) (bytes : List ℕ) (set : Set) (b n : Option (List ℕ))
+    (end : Result End Fault) → ReadsSet (Bytes bytes) (Ok set)
+    → Goes (IsExplained extent set) b n [] [] end
+    → Ends (IsExplainedOf extent (Bytes bytes)) (reads_failed end) (writes_failed end) b n
     (status_of end) (told_of end)
-named_ends bytes set b n end read goes =
-    ends_of (IsExplainedOf (Bytes bytes)) b n end
-    (goes_rightly (IsExplained set) (IsExplainedOf (Bytes bytes)) b n [] [] end
-    (λ answer right. explained_plainly (Bytes bytes) answer
-    (right_on IsExplained (Bytes bytes) set read answer right)) goes)
+named_ends extent bytes set b n end read goes =
+    ends_of (IsExplainedOf extent (Bytes bytes)) b n end
+    (goes_rightly (IsExplained extent set) (IsExplainedOf extent (Bytes bytes)) b n [] [] end
+    (λ answer right. explained_plainly extent (Bytes bytes) answer
+    (right_on (IsExplained extent) (Bytes bytes) set read answer right)) goes)
 
 -- and where a source has no set
-pub unnamed_ends : (held : Supply) (b : Option (List ℕ)) (fault : Fault)
+pub unnamed_ends : (extent : Extent) (held : Supply) (b : Option (List ℕ)) (fault : Fault)
     → ReadsSet held (Err fault)
-    → Ends (IsExplainedOf held) (failed_reads fault) (failed_writes fault) b b
+    → Ends (IsExplainedOf extent held) (failed_reads fault) (failed_writes fault) b b
     (fault_status fault) (fault_told fault)
-unnamed_ends held b fault unread =
-    ends_of (IsExplainedOf held) b b (Err fault)
-    (goes_rightly (IsOfSupply IsExplained held) (IsExplainedOf held) b b [] [] (Err fault)
-    (explained_plainly held) (set_unread IsExplained held b [] [] fault unread))
+unnamed_ends extent held b fault unread =
+    ends_of (IsExplainedOf extent held) b b (Err fault)
+    (goes_rightly (IsOfSupply (IsExplained extent) held) (IsExplainedOf extent held) b b [] []
+    (Err fault)
+    (explained_plainly extent held) (set_unread (IsExplained extent) held b [] [] fault unread))
 
 -- and with some words behind the fault of a text
-pub text_ends : (bytes words : List ℕ) (b : Option (List ℕ)) (fault : AsmFault)
+pub text_ends : (extent : Extent) (bytes words : List ℕ) (b : Option (List ℕ)) (fault : AsmFault)
     → ReadsSet (Bytes bytes) (Err (Text fault))
-    → Ends (IsExplainedOf (Bytes bytes)) 0 0 b b 2 (text_fault_line fault ++ words)
-text_ends bytes words b fault (other, same, says) =
+    → Ends (IsExplainedOf extent (Bytes bytes)) 0 0 b b 2 (text_fault_line fault ++ words)
+text_ends extent bytes words b fault (other, same, says) =
     Rightly (faulty (text_fault_line fault ++ words))
     (other, same, (Err (text_fault_line fault), says, (words, refl))) refl refl refl refl
     (appends_none b b (keeps_same b))
@@ -87,20 +92,21 @@ none_written held (OfSchedule fault) h = refl
 none_written held (OfScript fault) h = refl
 
 -- a fault of a text was told, or memory ran out
-pub fault_answered : (bytes : List ℕ) (b : Option (List ℕ)) (fault : AsmFault) (reads writes : ℕ)
-    (Tells : List ℕ → Type 0) (status : ℕ)
+pub fault_answered : (extent : Extent) (bytes : List ℕ) (b : Option (List ℕ)) (fault : AsmFault)
+    (reads writes : ℕ) (Tells : List ℕ → Type 0) (status : ℕ)
     → ReadsSet (Bytes bytes) (Err (Text fault)) → TellsFault fault Tells status
-    → Answers (IsExplainedOf (Bytes bytes)) reads reads writes writes b b Tells status
-fault_answered bytes b fault reads writes Tells status read (inl (words, told, two)) = record {
-  reads = 0;
-  writes = 0;
-  told = text_fault_line fault ++ words;
-  reads_are = omega arith;
-  writes_are = omega arith;
-  tells = told;
-  ends = rw two (text_ends bytes words b fault read);
-}
-fault_answered bytes b fault reads writes Tells status read (inr (told, three)) = record {
+    → Answers (IsExplainedOf extent (Bytes bytes)) reads reads writes writes b b Tells status
+fault_answered extent bytes b fault reads writes Tells status read (inl (words, told, two)) =
+    record {
+      reads = 0;
+      writes = 0;
+      told = text_fault_line fault ++ words;
+      reads_are = omega arith;
+      writes_are = omega arith;
+      tells = told;
+      ends = rw two (text_ends extent bytes words b fault read);
+    }
+fault_answered extent bytes b fault reads writes Tells status read (inr (told, three)) = record {
   reads = 0;
   writes = 0;
   told = codes "out of memory\n";

@@ -1,1 +1,2 @@
+pub mod Explained
 pub mod Laws

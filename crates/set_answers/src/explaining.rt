@@ -1,11 +1,13 @@
 //! The verdict on a driver set, explained.
 
-ghost use Rattle.std.specs.Prelude.{◌≡◌, ◌+◌, ◌++◌, ◌⊎◌, ℕ, List, [], IfOk};
+ghost use Rattle.std.specs.Prelude.{◌≡◌, ◌+◌, ◌++◌, ◌⊎◌, ℕ, List, [], ◌∷◌, IfOk, OnOk};
 ghost use Rattle.model.specs.Typable.{IsFirstFault, at_start};
-ghost use Rattle.inputs_outputs.specs.Answer.{IsExplained};
 ghost use Rattle.inputs_outputs.specs.Device.{Bytes, CanCount, Says};
-ghost use Rattle.inputs_outputs.specs.Ends.{Answers, IsExplainedOf};
+ghost use Rattle.inputs_outputs.specs.Ends.{Answers};
 ghost use Rattle.inputs_outputs.specs.Fault.{Goes, TellsFault, reads_failed, writes_failed};
+ghost use Rattle.explain.specs.Faults.{refusals};
+ghost use Rattle.report.specs.Verdict.{refusal_line};
+ghost use Rattle.set_answers.specs.Explained.{AreWordsOf, AreWordsOn, IsAcceptanceExplained, IsBlock, IsExplained, IsExplainedOf, IsRefusalExplained};
 
 use crate::check::{accept, refuse};
 use asm::AsmFault;
@@ -46,7 +48,7 @@ pub fn explain<S: Source, O: Sink, E: Sink>(
     requires set { CanCount (S.failures set.old) }
     requires out { CanCount (O.failures out.old) }
     requires err { CanCount (E.failures err.old) }
-    ensures { Answers (IsExplainedOf (S.supply set.old))
+    ensures { Answers (IsExplainedOf extent (S.supply set.old))
         (S.failures set.old) (S.failures set.new) (O.failures out.old) (O.failures out.new)
         (O.contents out.old) (O.contents out.new)
         (Says (E.failures err.old) (E.failures err.new) (E.contents err.old) (E.contents err.new))
@@ -71,7 +73,7 @@ fn explain_source<S: Source, O: Sink, E: Sink>(
     requires out { CanCount (O.failures out.old) }
     requires err { CanCount (E.failures err.old) }
     requires empty { lines.old ≡ [] }
-    ensures { Answers (IsExplainedOf (S.supply set.old))
+    ensures { Answers (IsExplainedOf extent (S.supply set.old))
         (S.failures set.old) (S.failures set.new) (O.failures out.old) (O.failures out.new)
         (O.contents out.old) (O.contents out.new)
         (Says (E.failures err.old) (E.failures err.new) (E.contents err.old) (E.contents err.new))
@@ -95,7 +97,7 @@ fn explain_bytes<O: Sink, E: Sink>(
     requires out { CanCount (O.failures out.old) }
     requires err { CanCount (E.failures err.old) }
     requires empty { lines.old ≡ [] }
-    ensures { (reads : ℕ) → Answers (IsExplainedOf (Bytes bytes.now))
+    ensures { (reads : ℕ) → Answers (IsExplainedOf extent (Bytes bytes.now))
         reads reads (O.failures out.old) (O.failures out.new) (O.contents out.old)
         (O.contents out.new)
         (Says (E.failures err.old) (E.failures err.new) (E.contents err.old) (E.contents err.new))
@@ -161,7 +163,8 @@ fn explain_set<O: Sink>(
 ) -> Result<End, Fault>
     requires out { CanCount (O.failures out.old) }
     requires empty { lines.old ≡ [] }
-    ensures goes { Goes (IsExplained set) (O.contents out.old) (O.contents out.new) [] [] result }
+    ensures goes { Goes (IsExplained extent set) (O.contents out.old) (O.contents out.new) [] []
+        result }
     ensures reads { reads_failed result ≡ 0 }
     ensures writes { O.failures out.new ≡ O.failures out.old + writes_failed result }
 {
@@ -190,8 +193,8 @@ fn explain_named<O: Sink>(
 ) -> Result<End, Fault>
     requires out { CanCount (O.failures out.old) }
     requires empty { lines.old ≡ [] }
-    ensures goes { Goes (IsExplained set) (O.contents out.old) (O.contents out.new) [] lines.new
-        result }
+    ensures goes { Goes (IsExplained extent set) (O.contents out.old) (O.contents out.new) []
+        lines.new result }
     ensures reads { reads_failed result ≡ 0 }
     ensures writes { O.failures out.new ≡ O.failures out.old + writes_failed result }
 {
@@ -212,8 +215,8 @@ fn explain_acceptance<O: Sink>(
 ) -> Result<End, Fault>
     requires out { CanCount (O.failures out.old) }
     requires empty { lines.old ≡ [] }
-    ensures goes { Goes (IsExplained accepted.now) (O.contents out.old) (O.contents out.new) []
-        lines.new result }
+    ensures goes { Goes (IsAcceptanceExplained accepted.now) (O.contents out.old)
+        (O.contents out.new) [] lines.new result }
     ensures reads { reads_failed result ≡ 0 }
     ensures writes { O.failures out.new ≡ O.failures out.old + writes_failed result }
 {
@@ -237,8 +240,8 @@ fn explain_refusal<O: Sink>(
     requires first { (refusal.now ≡ at_start Rule.Memory) ⊎ IsFirstFault set.now refusal.now }
     requires out { CanCount (O.failures out.old) }
     requires empty { lines.old ≡ [] }
-    ensures goes { Goes (IsExplained set.now) (O.contents out.old) (O.contents out.new) []
-        lines.new result }
+    ensures goes { Goes (IsRefusalExplained extent set.now) (O.contents out.old)
+        (O.contents out.new) [] lines.new result }
     ensures reads { reads_failed result ≡ 0 }
     ensures writes { O.failures out.new ≡ O.failures out.old + writes_failed result }
 {
@@ -257,26 +260,72 @@ fn refusal_words(
     refusal: &Refusal,
 ) -> Result<Vec<u8>, AllocError>
     requires { (refusal.now ≡ at_start Rule.Memory) ⊎ IsFirstFault set.now refusal.now }
+    ensures { IfOk result (λ words. AreWordsOf extent set.now words.items) }
 {
     match extent {
-        Extent::First => Ok(explanation(alloc, origin, set, refusal)?.into_bytes()),
+        Extent::First => one_block(alloc, explanation(alloc, origin, set, refusal)?.as_bytes()),
         Extent::Each => one_by_one(alloc, explanations(alloc, origin, set)?.as_slice()),
     }
 }
 
+/// The words on one refusal.
+fn one_block(alloc: Global, told: &[u8]) -> Result<Vec<u8>, AllocError>
+    ensures { IfOk result (λ words. IsBlock words.items) }
+{
+    let mut words = Vec::new(alloc);
+    add_block(&mut words, told)?;
+    Ok(words)
+}
+
 /// The words on several refusals. The line of the first stands before them; before the words on
 /// each other stands its own, behind an empty one.
-fn one_by_one(alloc: Global, all: &[Told]) -> Result<Vec<u8>, AllocError> {
-    let mut words = Vec::new(alloc);
+fn one_by_one(alloc: Global, all: &[Told]) -> Result<Vec<u8>, AllocError>
+    ensures { IfOk result (λ words. AreWordsOn (refusals all.now) words.items) }
+{
+    let Some((first, others)) = all.split_first() else {
+        return Ok(Vec::new(alloc));
+    };
+    let mut words = one_block(alloc, first.words.as_bytes())?;
     let mut line = Lines::new(alloc)?;
-    for (place, told) in all.iter().enumerate() {
-        if place > 0 {
-            line.clear();
-            line.refusal(&told.refusal);
-            words.push(b'\n')?;
-            words.extend_from_slice(line.bytes())?;
-        }
-        words.extend_from_slice(told.words.as_bytes())?;
+    for told in others {
+        add_further(&mut words, &mut line, told)?;
     }
     Ok(words)
+}
+
+/// Adds an empty line, the line of a refusal, and the words on it.
+fn add_further(words: &mut Vec<u8>, line: &mut Lines, told: &Told) -> Result<(), AllocError>
+    ensures { OnOk result ((block : List ℕ) × IsBlock block
+        × (words.new.items ≡ words.old.items
+        ++ ((0x0A ∷ refusal_line told.now.refusal) ++ block))) }
+{
+    line.clear();
+    line.refusal(&told.refusal);
+    words.push(b'\n')?;
+    words.extend_from_slice(line.bytes())?;
+    add_block(words, told.words.as_bytes())
+}
+
+/// Adds the words on one refusal, with a line feed at their end.
+fn add_block(words: &mut Vec<u8>, told: &[u8]) -> Result<(), AllocError>
+    ensures { OnOk result ((block : List ℕ) × IsBlock block
+        × (words.new.items ≡ words.old.items ++ block)) }
+{
+    words.extend_from_slice(unbroken(told))?;
+    words.push(b'\n')?;
+    Ok(())
+}
+
+/// Words up to an empty line that doesn't begin them, without the line feed at their end. By an
+/// empty line the words on one refusal can be told from those on the next: they have none.
+fn unbroken(words: &[u8]) -> &[u8]
+    ensures { IsBlock (result.now ++ 0x0A ∷ []) }
+{
+    for end in 0..words.len() {
+        let next = words.get(end + 1).unwrap_or(&b'\n');
+        if words[end] == b'\n' && *next == b'\n' {
+            return &words[..end];
+        }
+    }
+    words
 }

@@ -1,6 +1,9 @@
+use Rattle.std.proofs.Common.{refl}
 use Rattle.std.proofs.lemmas.Result.{err_from_is_err_and}
+use Rattle.inputs_outputs.specs.Answer.{acceptance}
 use Rattle.inputs_outputs.specs.declared.fault.End.TheVariants.{Complete}
-use Rattle.set_answers.proofs.Wording.{accepted_broken, accepted_goes, explained, explained_broken}
+use Rattle.set_answers.specs.Explained.{IsAcceptanceExplained}
+use Rattle.set_answers.proofs.Wording.{accepted_broken, broken_behind, goes_behind}
 use Rattle.set_answers.proofs.explaining.explain_acceptance.Goals as goal
 
 pub returns-in_err-accept-clause-goes : goal.returns-in_err-accept-clause-goes
@@ -15,15 +18,17 @@ returns-in_err-write_words-clause-goes g c =
     let p = err_from_is_err_and c.from_residual-in_err-write_words.result
     c.from_residual-in_err-write_words.ensures.1 in
     let set = c.args.accepted.now in
+    let words = c.as_bytes.result.now in
     rw (p.1, p.2, c.in_err-write_words.ensures.fault)
-    (explained_broken set _ _ _ c.accept.new.lines c.as_bytes.result.now Complete
-    (accepted_goes set _ _ _ c.set.ensures.typable c.in_ok-accept.ensures.added)
+    (broken_behind (IsAcceptanceExplained set) _ _ _ c.accept.new.lines (acceptance set) words
+    Complete (c.set.ensures.typable, (words, refl)) c.in_ok-accept.ensures.added
     c.in_err-write_words.ensures.written)
 
 pub returns-clause-goes : goal.returns-clause-goes
 returns-clause-goes g c =
     let set = c.args.accepted.now in
+    let words = c.as_bytes.result.now in
     rw c.in_ok-write_words.ensures.forgotten
-    (explained set _ _ _ c.accept.new.lines c.as_bytes.result.now Complete
-    (accepted_goes set _ _ _ c.set.ensures.typable c.in_ok-accept.ensures.added)
+    (goes_behind (IsAcceptanceExplained set) _ _ _ c.accept.new.lines (acceptance set) words
+    Complete (c.set.ensures.typable, (words, refl)) c.in_ok-accept.ensures.added
     c.in_ok-write_words.ensures.written)

@@ -18,7 +18,7 @@ returns-in-Ok g c = λ reads.
       writes_are = c.explain_set-end.ensures.writes;
       tells = c.finish.ensures.told;
       ends = rw c.finish.ensures.status
-          (named_ends c.args.bytes.now c.in-Ok.set _ _ end c.in-Ok.ensures.set
+          (named_ends c.args.extent c.args.bytes.now c.in-Ok.set _ _ end c.in-Ok.ensures.set
           c.explain_set-end.ensures.goes);
     }
 
@@ -29,7 +29,8 @@ returns-in-Err-Text g c = λ reads.
     (g.E.Sink.contents c.explain_fault.new.err) in
     let Told : AsmFault → Type 0 = λ fault. TellsFault fault Tells c.explain_fault.result in
     let Read : Fault → Type 0 = λ fault. ReadsSet (Bytes c.args.bytes.now) (Err fault) in
-    fault_answered c.args.bytes.now _ c.in-Err-Text.fault reads _ Tells c.explain_fault.result
+    fault_answered c.args.extent c.args.bytes.now _ c.in-Err-Text.fault reads _ Tells
+    c.explain_fault.result
     (subst Read c.in-Err-Text.field-0-is c.in-Err-Text.ensures.set)
     (subst Told c.in-Err-Text.fault-is c.explain_fault.ensures)
 
@@ -45,5 +46,5 @@ returns-in-Err g c = λ reads.
       writes_are = omega (arith, none_written (Bytes c.args.bytes.now) fault c.in-Err.ensures.set);
       tells = c.finish-in-Err.ensures.told;
       ends = rw c.finish-in-Err.ensures.status
-          (unnamed_ends (Bytes c.args.bytes.now) _ fault c.in-Err.ensures.set);
+          (unnamed_ends c.args.extent (Bytes c.args.bytes.now) _ fault c.in-Err.ensures.set);
     }

@@ -1,36 +1,52 @@
-use Rattle.std.proofs.Common.{[], Ok, inr}
+use Rattle.std.proofs.Common.{[], List, ℕ, refl, subst, sym}
 use Rattle.std.proofs.lemmas.Result.{err_from_is_err_and}
-use Rattle.inputs_outputs.specs.Answer.{IsRefused, IsVerdict}
-use Rattle.set_answers.proofs.Wording.{explained, explained_broken}
-use Rattle.inputs_outputs.proofs.Jobs.{goes_refused, goes_rightly}
+use Rattle.inputs_outputs.proofs.Writing.{appends_none, keeps_same}
+use Rattle.set_answers.specs.Explained.{AreWordsOf, IsRefusalExplained}
+use Rattle.set_answers.proofs.Wording.{broken_behind, goes_behind, refusal_right}
 use Rattle.set_answers.proofs.explaining.explain_refusal.Goals as goal
 
 pub returns-in_err-write_words-clause-goes : goal.returns-in_err-write_words-clause-goes
 returns-in_err-write_words-clause-goes g c =
     let p = err_from_is_err_and c.from_residual-in_err-write_words.result
     c.from_residual-in_err-write_words.ensures.1 in
+    let extent = c.args.extent in
     let set = c.args.set.now in
+    let refusal = c.args.refusal.now in
     let before = g.O.Sink.contents c.args.out.now in
     let lines = c.refuse.new.lines in
+    let words = c.as_slice.result.now in
     let end = c.in_ok-end.end in
+    let Of : List ℕ → Type 0 = AreWordsOf extent set in
     rw (p.1, p.2, c.in_err-write_words.ensures.fault)
-    (explained_broken set before before _ lines c.as_slice.result.now end
-    (goes_rightly (IsRefused set) (IsVerdict set) before before [] lines (Ok end)
-    (λ answer refused. inr refused)
-    (goes_refused set c.args.refusal.now before lines (Ok end) c.requires.first
-    (rw c.requires.empty at c.in_ok-end.ensures.refused) tt))
+    (broken_behind (IsRefusalExplained extent set) before before _ lines lines words end
+    (refusal_right extent set refusal lines words end c.requires.first
+    (rw c.requires.empty at c.in_ok-end.ensures.refused)
+    (subst Of (sym c.as_slice.ensures.value) c.in_ok-words.ensures))
+    (record {
+      written = [];
+      appended = appends_none before before (keeps_same before);
+      whole = refl;
+    })
     c.in_err-write_words.ensures.written)
 
 pub returns-clause-goes : goal.returns-clause-goes
 returns-clause-goes g c =
+    let extent = c.args.extent in
     let set = c.args.set.now in
+    let refusal = c.args.refusal.now in
     let before = g.O.Sink.contents c.args.out.now in
     let lines = c.refuse.new.lines in
+    let words = c.as_slice.result.now in
     let end = c.in_ok-end.end in
+    let Of : List ℕ → Type 0 = AreWordsOf extent set in
     rw c.in_ok-write_words.ensures.forgotten
-    (explained set before before _ lines c.as_slice.result.now end
-    (goes_rightly (IsRefused set) (IsVerdict set) before before [] lines (Ok end)
-    (λ answer refused. inr refused)
-    (goes_refused set c.args.refusal.now before lines (Ok end) c.requires.first
-    (rw c.requires.empty at c.in_ok-end.ensures.refused) tt))
+    (goes_behind (IsRefusalExplained extent set) before before _ lines lines words end
+    (refusal_right extent set refusal lines words end c.requires.first
+    (rw c.requires.empty at c.in_ok-end.ensures.refused)
+    (subst Of (sym c.as_slice.ensures.value) c.in_ok-words.ensures))
+    (record {
+      written = [];
+      appended = appends_none before before (keeps_same before);
+      whole = refl;
+    })
     c.in_ok-write_words.ensures.written)

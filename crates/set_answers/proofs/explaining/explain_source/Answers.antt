@@ -1,13 +1,14 @@
 use Rattle.std.proofs.Common.{List, ℕ, arith, subst, sym}
 use Rattle.inputs_outputs.specs.Device.{Bytes, Holds}
-use Rattle.inputs_outputs.specs.Ends.{IsExplainedOf}
 use Rattle.inputs_outputs.specs.Fault.{failed_reads, failed_writes, fault_told}
+use Rattle.set_answers.specs.Explained.{IsExplainedOf}
 use Rattle.set_answers.proofs.Explained.{ends_rightly, explained_held, none_written, unnamed_ends}
 use Rattle.inputs_outputs.proofs.Jobs.{bytes_unread}
 use Rattle.set_answers.proofs.explaining.explain_source.Goals as goal
 
 pub returns-in-Ok : goal.returns-in-Ok
 returns-in-Ok g c =
+    let extent = c.args.extent in
     let held = g.S.Source.supply c.args.set.now in
     let bytes = c.as_slice.result.now in
     let holds = subst (λ (bytes : List ℕ). Holds held bytes) (sym c.as_slice.ensures.value)
@@ -20,8 +21,8 @@ returns-in-Ok g c =
       reads_are = omega (arith, its.reads_are, c.in-Ok.ensures.reads);
       writes_are = its.writes_are;
       tells = its.tells;
-      ends = ends_rightly (IsExplainedOf (Bytes bytes)) (IsExplainedOf held) its.reads its.writes _ _
-          _ its.told (explained_held held bytes holds) its.ends;
+      ends = ends_rightly (IsExplainedOf extent (Bytes bytes)) (IsExplainedOf extent held)
+          its.reads its.writes _ _ _ its.told (explained_held extent held bytes holds) its.ends;
     }
 
 pub returns-in-Err : goal.returns-in-Err
@@ -37,5 +38,5 @@ returns-in-Err g c =
       writes_are = omega (arith, none_written held fault unread);
       tells = c.finish.ensures.told;
       ends = rw c.finish.ensures.status
-          (unnamed_ends held _ fault unread);
+          (unnamed_ends c.args.extent held _ fault unread);
     }
