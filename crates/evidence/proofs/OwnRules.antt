@@ -1,6 +1,6 @@
 -- The rules that an instruction can break by itself: none of them is about what leads to it, the
 -- routine's length or memory.
-use Rattle.std.proofs.Common.{◌≡◌, ℕ, Bool, true, false, Option, None, Some, refl}
+use Rattle.std.proofs.Common.{◌&&◌, ◌≡◌, ℕ, Bool, true, false, Option, None, Some, refl}
 use Rattle.std.specs.Prelude.{if◌then◌else◌, nat_le, not}
 use Rattle.model.specs.declared.abs.Stage.TheVariants.{Listed, Cancelling}
 use Rattle.model.specs.declared.abs.Abs.{Abs}
