@@ -17,7 +17,7 @@ use Rattle.command_line.specs.declared.job.JobFault.TheVariants.{Memory, Usage}
 use Rattle.command_line.specs.CommandLine.{Names, job_fault_status, job_fault_told, program, text_told}
 use Rattle.command_line.specs.Files.{supply_of}
 use Rattle.command_line.specs.declared.answer.Way.{Way}
-use Rattle.command_line.specs.declared.answer.Way.TheVariants.{BySchedule, InWords, AsPicture, ByWorkers}
+use Rattle.command_line.specs.declared.answer.Way.TheVariants.{BySchedule, InWords, AsPicture}
 use Rattle.command_line.specs.Program.{IsAnswerTo, IsQuietly, IsRunBy}
 
 -- where more answers are right
@@ -140,7 +140,7 @@ draw_known v known supply schedule other h e answer (bytes, holds, right) =
     let P : Supply → Type 0 = λ s. IsDrawOf v known s answer in
     subst P e (bytes, holds_known known supply bytes h holds, right)
 
-host_known : (workers : ℕ) (known supply script other : Supply)
+pub host_known : (workers : ℕ) (known supply script other : Supply)
     → IsSuppliedAs known supply → other ≡ script → (answer : Answer)
     → IsHostOf workers supply other answer → IsHostOf workers known script answer
 host_known workers known supply script other h e answer (bytes, holds, right) =
@@ -156,8 +156,6 @@ way_known (InWords v d) known supply input other h e answer right =
     tell_known v d known supply input other h e answer right
 way_known (AsPicture v) known supply input other h e answer right =
     draw_known v known supply input other h e answer right
-way_known (ByWorkers workers) known supply input other h e answer right =
-    host_known workers known supply input other h e answer right
 
 pub run_known : {A : Type 0} (v : Verification) (known supply : Supply)
     → IsSuppliedAs known supply → A ⊎ HoldsRun v supply → (A → ⊥) → HoldsRun v known

@@ -7,7 +7,9 @@ use Rattle.interleave.specs.Line.{number_within}
 use Rattle.model.specs.Words.{rule_word}
 use Rattle.model.specs.declared.limits.TheConstants.{MAX_THREADS}
 use Rattle.command_line.specs.declared.job.Job.{Job}
-use Rattle.command_line.specs.declared.job.Job.TheVariants.{Check, Explain, ExplainRule, List as ListJob, Rewrite, Version, Trace, Tell, Draw, Host}
+use Rattle.command_line.specs.declared.job.Job.TheVariants.{Alone, Host}
+use Rattle.command_line.specs.declared.job.AloneJob.{AloneJob}
+use Rattle.command_line.specs.declared.job.AloneJob.TheVariants.{Check, Explain, ExplainRule, List as ListJob, Rewrite, Version, Trace, Tell, Draw}
 use Rattle.command_line.specs.declared.job.JobFault.{JobFault}
 use Rattle.command_line.specs.declared.job.JobFault.TheVariants.{Usage, Memory}
 use Rattle.set_answers.specs.declared.explaining.Extent.{Extent}
@@ -123,37 +125,41 @@ pub record IsDetail (value : Option Text) (detail : Detail) : Type 0 where
   pub set : value ≡ Some (codes "true") → detail ≡ Quiet
   pub other : value ≢ Some (codes "true") → detail ≡ Whole
 
--- a subcommand with its matches names a task; a file is explained, or a rule, and that without
--- `--all`
-abbrev pub NamesTask : Text × List Row → Job → Type 0
-NamesTask found (Check set) = (found.0 ≡ codes "check")
+-- a subcommand with its matches names a task that waits for no other thread; a file is explained,
+-- or a rule, and that without `--all`
+abbrev pub NamesAlone : Text × List Row → AloneJob → Type 0
+NamesAlone found (Check set) = (found.0 ≡ codes "check")
     × (first_of (codes "FILE") found.1 ≡ Some set.now)
-NamesTask found (Explain set extent) = (found.0 ≡ codes "explain")
+NamesAlone found (Explain set extent) = (found.0 ≡ codes "explain")
     × (first_of (codes "FILE") found.1 ≡ Some set.now) × (first_of (codes "RULE") found.1 ≡ None)
     × IsExtent (first_of (codes "all") found.1) extent
-NamesTask found (ExplainRule rule) = (found.0 ≡ codes "explain")
+NamesAlone found (ExplainRule rule) = (found.0 ≡ codes "explain")
     × (first_of (codes "FILE") found.1 ≡ None)
     × (first_of (codes "RULE") found.1 ≡ Some (rule_word rule))
     × IsExtent (first_of (codes "all") found.1) First
-NamesTask found (ListJob set) = (found.0 ≡ codes "list")
+NamesAlone found (ListJob set) = (found.0 ≡ codes "list")
     × (first_of (codes "FILE") found.1 ≡ Some set.now)
-NamesTask found (Rewrite set output) =
+NamesAlone found (Rewrite set output) =
     (found.0 ≡ codes "rewrite") × (first_of (codes "FILE") found.1 ≡ Some set.now)
     × (first_of (codes "OUT") found.1 ≡ Some output.now)
-NamesTask found Version = found.0 ≡ codes "version"
-NamesTask found (Trace set schedule verification) =
+NamesAlone found Version = found.0 ≡ codes "version"
+NamesAlone found (Trace set schedule verification) =
     (found.0 ≡ codes "trace") × (first_of (codes "FILE") found.1 ≡ Some set.now)
     × (first_of (codes "SCHEDULE") found.1 ≡ Some schedule.now)
     × IsFlag (first_of (codes "unchecked") found.1) verification
-NamesTask found (Tell set schedule verification detail) =
+NamesAlone found (Tell set schedule verification detail) =
     (found.0 ≡ codes "tell") × (first_of (codes "FILE") found.1 ≡ Some set.now)
     × (first_of (codes "SCHEDULE") found.1 ≡ Some schedule.now)
     × IsFlag (first_of (codes "unchecked") found.1) verification
     × IsDetail (first_of (codes "quiet") found.1) detail
-NamesTask found (Draw set schedule verification) =
+NamesAlone found (Draw set schedule verification) =
     (found.0 ≡ codes "draw") × (first_of (codes "FILE") found.1 ≡ Some set.now)
     × (first_of (codes "SCHEDULE") found.1 ≡ Some schedule.now)
     × IsFlag (first_of (codes "unchecked") found.1) verification
+
+-- or any task
+abbrev pub NamesTask : Text × List Row → Job → Type 0
+NamesTask found (Alone job) = NamesAlone found job
 NamesTask found (Host set script workers) =
     (found.0 ≡ codes "host") × (first_of (codes "FILE") found.1 ≡ Some set.now)
     × (first_of (codes "SCRIPT") found.1 ≡ Some script.now)

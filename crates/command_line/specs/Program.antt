@@ -14,9 +14,10 @@ use Rattle.set_answers.specs.Explained.{IsExplainedOf}
 use Rattle.drvhost_parts.specs.Served.{IsHostOf}
 use Rattle.drvhost_parts.specs.Told.{IsDrawOf, IsTellOf}
 use Rattle.command_line.specs.declared.answer.Way.{Way}
-use Rattle.command_line.specs.declared.answer.Way.TheVariants.{BySchedule, InWords, AsPicture, ByWorkers}
+use Rattle.command_line.specs.declared.answer.Way.TheVariants.{BySchedule, InWords, AsPicture}
 use Rattle.command_line.specs.declared.job.Job.{Job}
-use Rattle.command_line.specs.declared.job.Job.TheVariants.{Check, Explain, ExplainRule, List as ListJob, Rewrite, Version, Trace, Tell, Draw, Host}
+use Rattle.command_line.specs.declared.job.Job.TheVariants.{Alone, Host}
+use Rattle.command_line.specs.declared.job.AloneJob.TheVariants.{Check, Explain, ExplainRule, List as ListJob, Rewrite, Version, Trace, Tell, Draw}
 use Rattle.command_line.specs.CommandLine.{Names, program, usage}
 use Rattle.command_line.specs.Files.{Has}
 
@@ -26,14 +27,12 @@ IsRunBy (BySchedule verification) set schedule answer = IsTraceOf verification s
 IsRunBy (InWords verification detail) set schedule answer =
     IsTellOf verification detail set schedule answer
 IsRunBy (AsPicture verification) set schedule answer = IsDrawOf verification set schedule answer
-IsRunBy (ByWorkers workers) set script answer = IsHostOf workers set script answer
 
 -- whether the set has to be accepted
 abbrev pub verification_of : Way → Verification
 verification_of (BySchedule verification) = verification
 verification_of (InWords verification detail) = verification
 verification_of (AsPicture verification) = verification
-verification_of (ByWorkers workers) = Required
 
 -- what is right for what the file of a name has, or where it can't be opened: its name is told
 abbrev pub IsOfNamed : (Supply → Answer → Type 0) → (List ℕ → Supply) → List ℕ → Answer → Type 0
@@ -47,17 +46,17 @@ IsQuietly Right answer =
 
 -- what is right for a job, where the files of these names have this to give
 abbrev pub IsJobOf : (List ℕ → Supply) → Job → Answer → Type 0
-IsJobOf supply (Check set) answer = IsCheckOf (supply set.now) answer
-IsJobOf supply (Explain set extent) answer = IsOfNamed (IsExplainedOf extent) supply set.now answer
-IsJobOf supply (ExplainRule rule) answer = IsRuleExplained rule answer
-IsJobOf supply (ListJob set) answer = IsOfNamed IsListOf supply set.now answer
-IsJobOf supply (Rewrite set output) answer = IsQuietly (IsRewriteOf (supply set.now)) answer
-IsJobOf supply Version answer = IsVersion answer
-IsJobOf supply (Trace set schedule verification) answer =
+IsJobOf supply (Alone (Check set)) answer = IsCheckOf (supply set.now) answer
+IsJobOf supply (Alone (Explain set extent)) answer = IsOfNamed (IsExplainedOf extent) supply set.now answer
+IsJobOf supply (Alone (ExplainRule rule)) answer = IsRuleExplained rule answer
+IsJobOf supply (Alone (ListJob set)) answer = IsOfNamed IsListOf supply set.now answer
+IsJobOf supply (Alone (Rewrite set output)) answer = IsQuietly (IsRewriteOf (supply set.now)) answer
+IsJobOf supply (Alone Version) answer = IsVersion answer
+IsJobOf supply (Alone (Trace set schedule verification)) answer =
     IsTraceOf verification (supply set.now) (supply schedule.now) answer
-IsJobOf supply (Tell set schedule verification detail) answer =
+IsJobOf supply (Alone (Tell set schedule verification detail)) answer =
     IsTellOf verification detail (supply set.now) (supply schedule.now) answer
-IsJobOf supply (Draw set schedule verification) answer =
+IsJobOf supply (Alone (Draw set schedule verification)) answer =
     IsDrawOf verification (supply set.now) (supply schedule.now) answer
 IsJobOf supply (Host set script workers) answer =
     IsHostOf workers (supply set.now) (supply script.now) answer
@@ -69,17 +68,17 @@ OpensToTrace verification set count =
 
 -- how many files a job opens to read them
 abbrev pub Opens : (List ℕ → Supply) → Job → ℕ → Type 0
-Opens supply (Check set) count = count ≡ 1
-Opens supply (Explain set extent) count = count ≡ 1
-Opens supply (ExplainRule rule) count = count ≡ 0
-Opens supply (ListJob set) count = count ≡ 1
-Opens supply (Rewrite set output) count = count ≡ 1
-Opens supply Version count = count ≡ 0
-Opens supply (Trace set schedule verification) count =
+Opens supply (Alone (Check set)) count = count ≡ 1
+Opens supply (Alone (Explain set extent)) count = count ≡ 1
+Opens supply (Alone (ExplainRule rule)) count = count ≡ 0
+Opens supply (Alone (ListJob set)) count = count ≡ 1
+Opens supply (Alone (Rewrite set output)) count = count ≡ 1
+Opens supply (Alone Version) count = count ≡ 0
+Opens supply (Alone (Trace set schedule verification)) count =
     OpensToTrace verification (supply set.now) count
-Opens supply (Tell set schedule verification detail) count =
+Opens supply (Alone (Tell set schedule verification detail)) count =
     OpensToTrace verification (supply set.now) count
-Opens supply (Draw set schedule verification) count =
+Opens supply (Alone (Draw set schedule verification)) count =
     OpensToTrace verification (supply set.now) count
 Opens supply (Host set script workers) count = OpensToTrace Required (supply set.now) count
 
@@ -154,18 +153,18 @@ pub record RewritesFile (set : Supply) (name : List ℕ) (before after : List �
 
 -- what a job does to the files
 abbrev pub JobStores : Job → (List ℕ → Supply) → (List ℕ → Supply) → ℕ → ℕ → ℕ → Type 0
-JobStores (Rewrite set output) before after old new status =
+JobStores (Alone (Rewrite set output)) before after old new status =
     RewritesFile (before set.now) output.now before after old new status
-JobStores (Check set) before after old new status = LeavesFiles before after old new
-JobStores (Explain set extent) before after old new status = LeavesFiles before after old new
-JobStores (ExplainRule rule) before after old new status = LeavesFiles before after old new
-JobStores (ListJob set) before after old new status = LeavesFiles before after old new
-JobStores Version before after old new status = LeavesFiles before after old new
-JobStores (Trace set schedule verification) before after old new status =
+JobStores (Alone (Check set)) before after old new status = LeavesFiles before after old new
+JobStores (Alone (Explain set extent)) before after old new status = LeavesFiles before after old new
+JobStores (Alone (ExplainRule rule)) before after old new status = LeavesFiles before after old new
+JobStores (Alone (ListJob set)) before after old new status = LeavesFiles before after old new
+JobStores (Alone Version) before after old new status = LeavesFiles before after old new
+JobStores (Alone (Trace set schedule verification)) before after old new status =
     LeavesFiles before after old new
-JobStores (Tell set schedule verification detail) before after old new status =
+JobStores (Alone (Tell set schedule verification detail)) before after old new status =
     LeavesFiles before after old new
-JobStores (Draw set schedule verification) before after old new status =
+JobStores (Alone (Draw set schedule verification)) before after old new status =
     LeavesFiles before after old new
 JobStores (Host set script workers) before after old new status = LeavesFiles before after old new
 

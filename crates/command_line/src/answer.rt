@@ -5,9 +5,10 @@ ghost use Rattle.command_line.specs.Program.{IsAnswerTo, IsAnswerToLost, IsJobOf
 ghost use Rattle.inputs_outputs.specs.Device.{CanCount, Says};
 ghost use Rattle.inputs_outputs.specs.Ends.{Answers, HoldsRun, IsCheckOf, IsListOf, IsRewriteOf};
 ghost use Rattle.set_answers.specs.Explained.{IsExplainedOf};
+ghost use Rattle.drvhost_parts.specs.Served.{IsHostOf};
 
 use crate::files::{Files, Later, Pending};
-use crate::job::{Job, JobFault, Workers, refuse_unknown_words, refuse_words};
+use crate::job::{AloneJob, Job, JobFault, Workers, refuse_unknown_words, refuse_words};
 use drvhost_parts::draw::draw;
 use drvhost_parts::host::host;
 use drvhost_parts::tell::{Detail, tell};
@@ -115,16 +116,17 @@ fn answer_words<F: Files, O: Sink, E: Sink, R: Threads + Wait + Sync>(
         (F.created files.old) (F.created files.new) result }
 {
     match Job::of(alloc, words) {
-        Ok(job) => perform(rt, alloc, job, files, out, err),
+        Ok(job) => perform(rt, alloc, &job, files, out, err),
         Err(fault) => refuse_words(&fault, err),
     }
 }
 
-/// Does a job with the files that it names.
+/// Does a job with the files that it names. Only what does `host` is given the runtime: nothing else
+/// starts a thread, or waits.
 fn perform<F: Files, O: Sink, E: Sink, R: Threads + Wait + Sync>(
     rt: &R,
     alloc: Global,
-    job: Job<'_>,
+    job: &Job<'_>,
     files: &mut F,
     out: &mut O,
     err: &mut E,
@@ -135,63 +137,84 @@ fn perform<F: Files, O: Sink, E: Sink, R: Threads + Wait + Sync>(
     requires unwritten { CanCount (F.unwritten files.old) }
     requires out { CanCount (O.failures out.old) }
     requires err { CanCount (E.failures err.old) }
-    ensures answers { Answers (IsJobOf (F.supply files.old) job.entry)
+    ensures answers { Answers (IsJobOf (F.supply files.old) job.now)
         (F.failures files.old) (F.failures files.new)
         (F.unwritten files.old + O.failures out.old) (F.unwritten files.new + O.failures out.new)
         (O.contents out.old) (O.contents out.new)
         (Says (E.failures err.old) (E.failures err.new) (E.contents err.old) (E.contents err.new))
         result }
-    ensures opened { (count : ℕ) × Opens (F.supply files.old) job.entry count
+    ensures opened { (count : ℕ) × Opens (F.supply files.old) job.now count
         × (F.opened files.new ≡ F.opened files.old + count) }
-    ensures stores { JobStores job.entry (F.supply files.old) (F.supply files.new)
+    ensures stores { JobStores job.now (F.supply files.old) (F.supply files.new)
+        (F.created files.old) (F.created files.new) result }
+{
+    match *job {
+        Job::Alone(job) => perform_alone(alloc, job, files, out, err),
+        Job::Host {
+            set,
+            script,
+            workers,
+        } => host_files(rt, alloc, set, script, workers, files, out, err),
+    }
+}
+
+/// Does a job that waits for no other thread.
+fn perform_alone<F: Files, O: Sink, E: Sink>(
+    alloc: Global,
+    job: AloneJob<'_>,
+    files: &mut F,
+    out: &mut O,
+    err: &mut E,
+) -> u8
+    requires opened { F.opened files.old + 2 < 2 ^ 64 }
+    requires files { CanCount (F.failures files.old) }
+    requires created { F.created files.old + 1 < 2 ^ 64 }
+    requires unwritten { CanCount (F.unwritten files.old) }
+    requires out { CanCount (O.failures out.old) }
+    requires err { CanCount (E.failures err.old) }
+    ensures answers { Answers (IsJobOf (F.supply files.old) (Job.Alone job.entry))
+        (F.failures files.old) (F.failures files.new)
+        (F.unwritten files.old + O.failures out.old) (F.unwritten files.new + O.failures out.new)
+        (O.contents out.old) (O.contents out.new)
+        (Says (E.failures err.old) (E.failures err.new) (E.contents err.old) (E.contents err.new))
+        result }
+    ensures opened { (count : ℕ) × Opens (F.supply files.old) (Job.Alone job.entry) count
+        × (F.opened files.new ≡ F.opened files.old + count) }
+    ensures stores { JobStores (Job.Alone job.entry) (F.supply files.old) (F.supply files.new)
         (F.created files.old) (F.created files.new) result }
 {
     match job {
-        Job::Check { set } => check_file(alloc, set, files, out, err),
-        Job::Explain { set, extent } => explain_file(alloc, extent, set, files, out, err),
-        Job::ExplainRule { rule } => explain_rule(alloc, rule, out, err),
-        Job::List { set } => list_file(alloc, set, files, out, err),
-        Job::Rewrite { set, output } => rewrite_file(alloc, set, output, files, err),
-        Job::Version => version(out, err),
-        Job::Trace {
+        AloneJob::Check { set } => check_file(alloc, set, files, out, err),
+        AloneJob::Explain { set, extent } => explain_file(alloc, extent, set, files, out, err),
+        AloneJob::ExplainRule { rule } => explain_rule(alloc, rule, out, err),
+        AloneJob::List { set } => list_file(alloc, set, files, out, err),
+        AloneJob::Rewrite { set, output } => rewrite_file(alloc, set, output, files, err),
+        AloneJob::Version => version(out, err),
+        AloneJob::Trace {
             set,
             schedule,
             verification,
         } => {
             let way = Way::BySchedule(verification);
-            run_files(rt, alloc, set, schedule, way, files, out, err)
+            run_files(alloc, set, schedule, way, files, out, err)
         }
-        Job::Tell {
+        AloneJob::Tell {
             set,
             schedule,
             verification,
             detail,
         } => {
             let way = Way::InWords(verification, detail);
-            run_files(rt, alloc, set, schedule, way, files, out, err)
+            run_files(alloc, set, schedule, way, files, out, err)
         }
-        Job::Draw {
+        AloneJob::Draw {
             set,
             schedule,
             verification,
         } => {
             let way = Way::AsPicture(verification);
-            run_files(rt, alloc, set, schedule, way, files, out, err)
+            run_files(alloc, set, schedule, way, files, out, err)
         }
-        Job::Host {
-            set,
-            script,
-            workers,
-        } => run_files(
-            rt,
-            alloc,
-            set,
-            script,
-            Way::ByWorkers(workers),
-            files,
-            out,
-            err,
-        ),
     }
 }
 
@@ -333,25 +356,10 @@ pub(crate) enum Way {
     InWords(Verification, Detail),
     /// By the events of a schedule, and it is drawn.
     AsPicture(Verification),
-    /// By workers that serve the commands of a script.
-    ByWorkers(Workers),
-}
-
-/// A gate that is always open.
-#[derive(Drop)]
-struct Open;
-
-impl Gate for Open {
-    fn before(&self, _worker: u32, _count: u64) -> bool
-        ensures { result ≡ true }
-    {
-        true
-    }
 }
 
 /// Runs the set of a file by the input of another one, which is opened for a run alone.
-fn run_files<F: Files, O: Sink, E: Sink, R: Threads + Wait + Sync>(
-    rt: &R,
+fn run_files<F: Files, O: Sink, E: Sink>(
     alloc: Global,
     set: &str,
     input: &str,
@@ -379,7 +387,7 @@ fn run_files<F: Files, O: Sink, E: Sink, R: Threads + Wait + Sync>(
 {
     let mut file = files.open(set);
     let mut later = Later::new(files, input);
-    let status = run(rt, alloc, &mut file, &mut later, way, out, err);
+    let status = run(alloc, &mut file, &mut later, way, out, err);
     let inputs = later.into_file();
     files.close(file);
     if let Some(inputs) = inputs {
@@ -389,8 +397,7 @@ fn run_files<F: Files, O: Sink, E: Sink, R: Threads + Wait + Sync>(
 }
 
 /// Runs the set of a source by the input of another one.
-fn run<S: Source, P: Source, O: Sink, E: Sink, R: Threads + Wait + Sync>(
-    rt: &R,
+fn run<S: Source, P: Source, O: Sink, E: Sink>(
     alloc: Global,
     set: &mut S,
     input: &mut P,
@@ -416,9 +423,58 @@ fn run<S: Source, P: Source, O: Sink, E: Sink, R: Threads + Wait + Sync>(
             tell(alloc, set, input, verification, detail, out, err)
         }
         Way::AsPicture(verification) => draw(alloc, set, input, verification, out, err),
-        Way::ByWorkers(workers) => {
-            let count = workers.count();
-            host(rt, alloc, set, input, count, &Open, out, err)
-        }
     }
+}
+
+/// A gate that is always open.
+#[derive(Drop)]
+struct Open;
+
+impl Gate for Open {
+    fn before(&self, _worker: u32, _count: u64) -> bool
+        ensures { result ≡ true }
+    {
+        true
+    }
+}
+
+/// Has workers serve the script of a file on the set of another one. That of the script is opened
+/// for a set that is accepted.
+fn host_files<F: Files, O: Sink, E: Sink, R: Threads + Wait + Sync>(
+    rt: &R,
+    alloc: Global,
+    set: &str,
+    script: &str,
+    workers: Workers,
+    files: &mut F,
+    out: &mut O,
+    err: &mut E,
+) -> u8
+    requires opened { F.opened files.old + 2 < 2 ^ 64 }
+    requires files { CanCount (F.failures files.old) }
+    requires out { CanCount (O.failures out.old) }
+    requires err { CanCount (E.failures err.old) }
+    ensures answers { Answers (IsHostOf workers (F.supply files.old set.now)
+        (F.supply files.old script.now))
+        (F.failures files.old) (F.failures files.new) (O.failures out.old) (O.failures out.new)
+        (O.contents out.old) (O.contents out.new)
+        (Says (E.failures err.old) (E.failures err.new) (E.contents err.old) (E.contents err.new))
+        result }
+    ensures opened { (count : ℕ)
+        × OpensToTrace Verification.Required (F.supply files.old set.now) count
+        × (F.opened files.new ≡ F.opened files.old + count) }
+    ensures supply { F.supply files.new ≡ F.supply files.old }
+    ensures created { F.created files.new ≡ F.created files.old }
+    ensures unwritten { F.unwritten files.new ≡ F.unwritten files.old }
+{
+    let count = workers.count();
+    let mut file = files.open(set);
+    let mut later = Later::new(files, script);
+    let status = host(rt, alloc, &mut file, &mut later, count, &Open, out, err);
+    let commands = later.into_file();
+    files.close(file);
+    if let Some(commands) = commands {
+        files.close(commands);
+    }
+    status
 }

@@ -6,7 +6,7 @@ ghost use Rattle.clap.specs.declared.builder.command.Command.TheViews.{out-Comma
 ghost use Rattle.inputs_outputs.specs.Device.{CanCount, Says};
 ghost use Rattle.interleave.specs.Line.{number_within};
 ghost use Rattle.model.specs.declared.limits.TheConstants.{MAX_THREADS};
-ghost use Rattle.command_line.specs.CommandLine.{explain_command, file_argument, flag, host_command, job_fault_status, job_fault_told, judging_program, program, program_of_files, reading_program, rewrite_command, schedule_command, set_command, tell_command, text_told, unrun_program, unthreaded_program, usage, value_option, version_command, workers_option, IsDetail, IsExtent, IsFlag, Names, NamesTask};
+ghost use Rattle.command_line.specs.CommandLine.{explain_command, file_argument, flag, host_command, job_fault_status, job_fault_told, judging_program, program, program_of_files, reading_program, rewrite_command, schedule_command, set_command, tell_command, text_told, unrun_program, unthreaded_program, usage, value_option, version_command, workers_option, IsDetail, IsExtent, IsFlag, Names, NamesAlone, NamesTask};
 
 use clap::builder::ValueParser;
 use clap::error::ErrorKind;
@@ -42,6 +42,19 @@ const SET: &str = "The text or the image of the driver set";
 /// A task for the program, with the names of its files.
 #[derive(Clone, Copy)]
 pub enum Job<'a> {
+    /// One that waits for no other thread.
+    Alone(AloneJob<'a>),
+    /// `host FILE SCRIPT --workers N`
+    Host {
+        set: &'a str,
+        script: &'a str,
+        workers: Workers,
+    },
+}
+
+/// A task that the program does on its own thread.
+#[derive(Clone, Copy)]
+pub enum AloneJob<'a> {
     /// `check FILE`
     Check {
         set: &'a str,
@@ -84,12 +97,6 @@ pub enum Job<'a> {
         set: &'a str,
         schedule: &'a str,
         verification: Verification,
-    },
-    /// `host FILE SCRIPT --workers N`
-    Host {
-        set: &'a str,
-        script: &'a str,
-        workers: Workers,
     },
 }
 
@@ -456,33 +463,44 @@ fn named<'a>(matches: &ArgMatches<'a>) -> Option<Job<'a>>
     ensures none { IfNone result ((job : Job) → Names (subcommand_rows_of matches.now) job → ⊥) }
 {
     let (command, inner) = matches.subcommand()?;
+    if command == "host" {
+        return host_named(inner);
+    }
+    Some(Job::Alone(alone_named(command, inner)?))
+}
+
+/// The one of the others that a command and its matches name.
+fn alone_named<'a>(command: &str, matches: &ArgMatches<'a>) -> Option<AloneJob<'a>>
+    ensures some { IfSome result (NamesAlone (command.now, rows_of (found_of matches.now))) }
+    ensures none { IfNone result
+        ((job : AloneJob) → NamesAlone (command.now, rows_of (found_of matches.now)) job → ⊥) }
+{
     match command {
-        "check" => check_named(inner),
-        "explain" => explain_named(inner),
-        "trace" => trace_named(inner),
-        "tell" => tell_named(inner),
-        "draw" => draw_named(inner),
-        "host" => host_named(inner),
-        "list" => list_named(inner),
-        "rewrite" => rewrite_named(inner),
-        "version" => Some(Job::Version),
+        "check" => check_named(matches),
+        "explain" => explain_named(matches),
+        "trace" => trace_named(matches),
+        "tell" => tell_named(matches),
+        "draw" => draw_named(matches),
+        "list" => list_named(matches),
+        "rewrite" => rewrite_named(matches),
+        "version" => Some(AloneJob::Version),
         _ => None,
     }
 }
 
-fn check_named<'a>(matches: &ArgMatches<'a>) -> Option<Job<'a>>
-    ensures some { IfSome result (NamesTask (codes "check", rows_of (found_of matches.now))) }
+fn check_named<'a>(matches: &ArgMatches<'a>) -> Option<AloneJob<'a>>
+    ensures some { IfSome result (NamesAlone (codes "check", rows_of (found_of matches.now))) }
     ensures none { IfNone result
-        ((job : Job) → NamesTask (codes "check", rows_of (found_of matches.now)) job → ⊥) }
+        ((job : AloneJob) → NamesAlone (codes "check", rows_of (found_of matches.now)) job → ⊥) }
 {
     let set = argument(matches, "FILE")?;
-    Some(Job::Check { set })
+    Some(AloneJob::Check { set })
 }
 
-fn explain_named<'a>(matches: &ArgMatches<'a>) -> Option<Job<'a>>
-    ensures some { IfSome result (NamesTask (codes "explain", rows_of (found_of matches.now))) }
+fn explain_named<'a>(matches: &ArgMatches<'a>) -> Option<AloneJob<'a>>
+    ensures some { IfSome result (NamesAlone (codes "explain", rows_of (found_of matches.now))) }
     ensures none { IfNone result
-        ((job : Job) → NamesTask (codes "explain", rows_of (found_of matches.now)) job → ⊥) }
+        ((job : AloneJob) → NamesAlone (codes "explain", rows_of (found_of matches.now)) job → ⊥) }
 {
     match argument(matches, "RULE") {
         Some(word) => rule_to_explain(matches, word),
@@ -491,77 +509,77 @@ fn explain_named<'a>(matches: &ArgMatches<'a>) -> Option<Job<'a>>
 }
 
 /// The rule of a word, if no set is to be explained beside it.
-fn rule_to_explain<'a>(matches: &ArgMatches<'a>, word: &str) -> Option<Job<'a>>
+fn rule_to_explain<'a>(matches: &ArgMatches<'a>, word: &str) -> Option<AloneJob<'a>>
     requires { first_of (codes "RULE") (rows_of (found_of matches.now)) ≡ Some word.now }
-    ensures some { IfSome result (NamesTask (codes "explain", rows_of (found_of matches.now))) }
+    ensures some { IfSome result (NamesAlone (codes "explain", rows_of (found_of matches.now))) }
     ensures none { IfNone result
-        ((job : Job) → NamesTask (codes "explain", rows_of (found_of matches.now)) job → ⊥) }
+        ((job : AloneJob) → NamesAlone (codes "explain", rows_of (found_of matches.now)) job → ⊥) }
 {
     match (argument(matches, "FILE"), extent_asked(matches)) {
         (None, Extent::First) => {
             let rule = rule_named(word)?;
-            Some(Job::ExplainRule { rule })
+            Some(AloneJob::ExplainRule { rule })
         }
         _ => None,
     }
 }
 
 /// The set that is to be explained, where no rule is.
-fn set_to_explain<'a>(matches: &ArgMatches<'a>) -> Option<Job<'a>>
+fn set_to_explain<'a>(matches: &ArgMatches<'a>) -> Option<AloneJob<'a>>
     requires { first_of (codes "RULE") (rows_of (found_of matches.now)) ≡ None }
-    ensures some { IfSome result (NamesTask (codes "explain", rows_of (found_of matches.now))) }
+    ensures some { IfSome result (NamesAlone (codes "explain", rows_of (found_of matches.now))) }
     ensures none { IfNone result
-        ((job : Job) → NamesTask (codes "explain", rows_of (found_of matches.now)) job → ⊥) }
+        ((job : AloneJob) → NamesAlone (codes "explain", rows_of (found_of matches.now)) job → ⊥) }
 {
     let set = argument(matches, "FILE")?;
     let extent = extent_asked(matches);
-    Some(Job::Explain { set, extent })
+    Some(AloneJob::Explain { set, extent })
 }
 
-fn list_named<'a>(matches: &ArgMatches<'a>) -> Option<Job<'a>>
-    ensures some { IfSome result (NamesTask (codes "list", rows_of (found_of matches.now))) }
+fn list_named<'a>(matches: &ArgMatches<'a>) -> Option<AloneJob<'a>>
+    ensures some { IfSome result (NamesAlone (codes "list", rows_of (found_of matches.now))) }
     ensures none { IfNone result
-        ((job : Job) → NamesTask (codes "list", rows_of (found_of matches.now)) job → ⊥) }
+        ((job : AloneJob) → NamesAlone (codes "list", rows_of (found_of matches.now)) job → ⊥) }
 {
     let set = argument(matches, "FILE")?;
-    Some(Job::List { set })
+    Some(AloneJob::List { set })
 }
 
-fn rewrite_named<'a>(matches: &ArgMatches<'a>) -> Option<Job<'a>>
-    ensures some { IfSome result (NamesTask (codes "rewrite", rows_of (found_of matches.now))) }
+fn rewrite_named<'a>(matches: &ArgMatches<'a>) -> Option<AloneJob<'a>>
+    ensures some { IfSome result (NamesAlone (codes "rewrite", rows_of (found_of matches.now))) }
     ensures none { IfNone result
-        ((job : Job) → NamesTask (codes "rewrite", rows_of (found_of matches.now)) job → ⊥) }
+        ((job : AloneJob) → NamesAlone (codes "rewrite", rows_of (found_of matches.now)) job → ⊥) }
 {
     let set = argument(matches, "FILE")?;
     let output = argument(matches, "OUT")?;
-    Some(Job::Rewrite { set, output })
+    Some(AloneJob::Rewrite { set, output })
 }
 
-fn trace_named<'a>(matches: &ArgMatches<'a>) -> Option<Job<'a>>
-    ensures some { IfSome result (NamesTask (codes "trace", rows_of (found_of matches.now))) }
+fn trace_named<'a>(matches: &ArgMatches<'a>) -> Option<AloneJob<'a>>
+    ensures some { IfSome result (NamesAlone (codes "trace", rows_of (found_of matches.now))) }
     ensures none { IfNone result
-        ((job : Job) → NamesTask (codes "trace", rows_of (found_of matches.now)) job → ⊥) }
+        ((job : AloneJob) → NamesAlone (codes "trace", rows_of (found_of matches.now)) job → ⊥) }
 {
     let set = argument(matches, "FILE")?;
     let schedule = argument(matches, "SCHEDULE")?;
     let verification = flagged(matches);
-    Some(Job::Trace {
+    Some(AloneJob::Trace {
         set,
         schedule,
         verification,
     })
 }
 
-fn tell_named<'a>(matches: &ArgMatches<'a>) -> Option<Job<'a>>
-    ensures some { IfSome result (NamesTask (codes "tell", rows_of (found_of matches.now))) }
+fn tell_named<'a>(matches: &ArgMatches<'a>) -> Option<AloneJob<'a>>
+    ensures some { IfSome result (NamesAlone (codes "tell", rows_of (found_of matches.now))) }
     ensures none { IfNone result
-        ((job : Job) → NamesTask (codes "tell", rows_of (found_of matches.now)) job → ⊥) }
+        ((job : AloneJob) → NamesAlone (codes "tell", rows_of (found_of matches.now)) job → ⊥) }
 {
     let set = argument(matches, "FILE")?;
     let schedule = argument(matches, "SCHEDULE")?;
     let verification = flagged(matches);
     let detail = detail_asked(matches);
-    Some(Job::Tell {
+    Some(AloneJob::Tell {
         set,
         schedule,
         verification,
@@ -569,15 +587,15 @@ fn tell_named<'a>(matches: &ArgMatches<'a>) -> Option<Job<'a>>
     })
 }
 
-fn draw_named<'a>(matches: &ArgMatches<'a>) -> Option<Job<'a>>
-    ensures some { IfSome result (NamesTask (codes "draw", rows_of (found_of matches.now))) }
+fn draw_named<'a>(matches: &ArgMatches<'a>) -> Option<AloneJob<'a>>
+    ensures some { IfSome result (NamesAlone (codes "draw", rows_of (found_of matches.now))) }
     ensures none { IfNone result
-        ((job : Job) → NamesTask (codes "draw", rows_of (found_of matches.now)) job → ⊥) }
+        ((job : AloneJob) → NamesAlone (codes "draw", rows_of (found_of matches.now)) job → ⊥) }
 {
     let set = argument(matches, "FILE")?;
     let schedule = argument(matches, "SCHEDULE")?;
     let verification = flagged(matches);
-    Some(Job::Draw {
+    Some(AloneJob::Draw {
         set,
         schedule,
         verification,

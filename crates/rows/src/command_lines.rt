@@ -1,6 +1,6 @@
 //! What the words of a command line name.
 
-use command_line::job::{Job, JobFault, refuse_words};
+use command_line::job::{AloneJob, Job, JobFault, refuse_words};
 use drvhost_parts::tell::Detail;
 use inputs_outputs::device::Writer;
 use inputs_outputs::verification::Verification;
@@ -13,20 +13,20 @@ use std::test::Fail;
 fn tasks(rt: HostRuntime) -> Result<(), Fail> {
     let alloc = rt.alloc();
     let job = Job::of(alloc, &["check", "a.set"])?;
-    assert!(rt; matches!(job, Job::Check { set: "a.set" }));
+    assert!(rt; matches!(job, Job::Alone(AloneJob::Check { set: "a.set" })));
     let job = Job::of(alloc, &["list", "a.set"])?;
-    assert!(rt; matches!(job, Job::List { set: "a.set" }));
+    assert!(rt; matches!(job, Job::Alone(AloneJob::List { set: "a.set" })));
     let job = Job::of(alloc, &["version"])?;
-    assert!(rt; matches!(job, Job::Version));
+    assert!(rt; matches!(job, Job::Alone(AloneJob::Version)));
     let job = Job::of(alloc, &["trace", "a.set", "b.schedule"])?;
     assert!(rt;
         matches!(
             job,
-            Job::Trace {
+            Job::Alone(AloneJob::Trace {
                 set: "a.set",
                 schedule: "b.schedule",
                 verification: Verification::Required
-            }
+            })
         )
     );
     let job = Job::of(alloc, &["explain", "a.set"])?;
@@ -43,11 +43,11 @@ fn tasks(rt: HostRuntime) -> Result<(), Fail> {
         assert!(rt;
             matches!(
                 job,
-                Job::Trace {
+                Job::Alone(AloneJob::Trace {
                     set: "a",
                     schedule: "b",
                     verification: Verification::Skipped
-                }
+                })
             )
         );
     }
@@ -65,12 +65,14 @@ fn tasks(rt: HostRuntime) -> Result<(), Fail> {
 /// Whether a job is to tell a run of the set of a file by the schedule of another one so.
 fn is_to_tell(job: &Job<'_>, run: Verification, told: Detail) -> bool {
     match *job {
-        Job::Tell {
-            set,
-            schedule,
-            verification,
-            detail,
-        } => set == "a" && schedule == "b" && verification == run && detail == told,
+        Job::Alone(
+            AloneJob::Tell {
+                set,
+                schedule,
+                verification,
+                detail,
+            },
+        ) => set == "a" && schedule == "b" && verification == run && detail == told,
         _ => false,
     }
 }
@@ -78,11 +80,13 @@ fn is_to_tell(job: &Job<'_>, run: Verification, told: Detail) -> bool {
 /// Whether a job is to draw a run of the set of a file by the schedule of another one so.
 fn is_to_draw(job: &Job<'_>, run: Verification) -> bool {
     match *job {
-        Job::Draw {
-            set,
-            schedule,
-            verification,
-        } => set == "a" && schedule == "b" && verification == run,
+        Job::Alone(
+            AloneJob::Draw {
+                set,
+                schedule,
+                verification,
+            },
+        ) => set == "a" && schedule == "b" && verification == run,
         _ => false,
     }
 }
@@ -90,7 +94,7 @@ fn is_to_draw(job: &Job<'_>, run: Verification) -> bool {
 /// Whether a job is to explain the set of a file so.
 fn is_to_explain(job: &Job<'_>, file: &str, all: Extent) -> bool {
     match *job {
-        Job::Explain { set, extent } => set == file && extent == all,
+        Job::Alone(AloneJob::Explain { set, extent }) => set == file && extent == all,
         _ => false,
     }
 }
@@ -102,13 +106,18 @@ fn rules_by_their_words(rt: HostRuntime) -> Result<(), Fail> {
     let job = Job::of(alloc, &["explain", "--rule", "V1"])?;
     let is_first = matches!(
         job,
-        Job::ExplainRule {
+        Job::Alone(AloneJob::ExplainRule {
             rule: Rule::Malformed
-        }
+        })
     );
     assert!(rt; is_first);
     let job = Job::of(alloc, &["explain", "--rule=V20"])?;
-    assert!(rt; matches!(job, Job::ExplainRule { rule: Rule::Memory }));
+    assert!(rt;
+        matches!(
+            job,
+            Job::Alone(AloneJob::ExplainRule { rule: Rule::Memory })
+        )
+    );
     for word in ["V0", "V21", "v1", "V01", "V1 ", "V", "1", "Malformed", ""] {
         assert!(rt; is_refused(alloc, &["explain", "--rule", word]), "{word}");
     }

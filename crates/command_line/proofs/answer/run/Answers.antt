@@ -8,6 +8,3 @@ returns-in-InWords g c = rw c.in-InWords.is c.tell.ensures
 
 pub returns-in-AsPicture : goal.returns-in-AsPicture
 returns-in-AsPicture g c = rw c.in-AsPicture.is c.draw.ensures
-
-pub returns-in-ByWorkers : goal.returns-in-ByWorkers
-returns-in-ByWorkers g c = rw (c.in-ByWorkers.is, ← c.count-count.ensures.count) c.host.ensures
