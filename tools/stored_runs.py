@@ -16,7 +16,7 @@ names of all cases, with --show the cases of a group, each with its texts. The l
 With `run` it tries the crate before any proof (`rt try`), and prints each run that is answered otherwise; with `run PROGRAM`
 it gives each command line to that program, as to `drvhost`, and compares what goes out, what goes to standard error and the
 exit status."""
-import difflib, os, re, subprocess, sys
+import difflib, os, re, shutil, subprocess, sys, tempfile
 
 from compare_pages import pages, sections, titles
 
@@ -217,9 +217,9 @@ def by_group(written):
     """What a run of the stored runs writes, by the names of their groups."""
     return dict(re.findall(r'^; (\w+): (.*?)(?=^; |\Z)', written, re.M | re.S))
 
-def answered(program, run):
-    """What a program answers to a run's words, as it is stored, but for the files that are opened."""
-    done = subprocess.run([os.path.abspath(program), *run.words], cwd=DATA, stdin=subprocess.DEVNULL, capture_output=True,
+def answered(program, run, data):
+    """What a program answers to a run's words over these texts, as it is stored, but for the files that are opened."""
+    done = subprocess.run([os.path.abspath(program), *run.words], cwd=data, stdin=subprocess.DEVNULL, capture_output=True,
                           text=True, errors='replace')
     told = ['told:', *done.stderr.splitlines()] if done.stderr else []
     return [*done.stdout.splitlines(), *told, 'status %d' % done.returncode]
@@ -232,10 +232,11 @@ def differences(all_groups, program):
         wanted = read(os.path.join(CRATE, STDOUT)).decode()
         return [['nothing is written']] if written is None else [d for d in [diff(wanted.splitlines(), written.splitlines())] if d]
     found = []
-    for group in all_groups:
-        for run in group.runs:
+    with tempfile.TemporaryDirectory() as folder:  # a copy, since a rewrite writes
+        data = shutil.copytree(DATA, os.path.join(folder, 'data'))
+        for run in [run for group in all_groups for run in group.runs]:
             stored = [*run.answer[:-1], run.answer[-1].partition(',')[0]]
-            told = diff(stored, answered(program, run))
+            told = diff(stored, answered(program, run, data))
             if told:
                 found.append([run.lines()[0], *told])
     return found

@@ -97,6 +97,20 @@ impl<'r, R: fs::Files> Disk<'r, R> {
             unwritten: 0,
         }
     }
+
+    /// How many were opened to be read and handed back so far.
+    pub fn opened(&self) -> u64
+        ensures { result ≡ ⟦<Disk<'r, R> as Files>⟧.opened self.now }
+    {
+        self.opened
+    }
+
+    /// How many reads of these failed.
+    pub fn failures(&self) -> u64
+        ensures { result ≡ ⟦<Disk<'r, R> as Files>⟧.failures self.now }
+    {
+        self.failures
+    }
 }
 
 impl<R: fs::Files> Files for Disk<'_, R> {

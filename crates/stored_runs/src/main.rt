@@ -4,11 +4,9 @@
 //! were opened, and how many reads of them failed.
 #![tactic(auto)]
 
-mod shelf;
-
 use command_line::answer::answer;
+use command_line::files::Disk;
 use inputs_outputs::device::Writer;
-use shelf::Shelf;
 use std::alloc::{AllocError, Global};
 use std::fs::{self, Files};
 use std::io::{self, Write};
@@ -42,15 +40,15 @@ fn write_answer<R: Files + Threads + Wait + Sync, W: Write>(
     out: &mut W,
 ) -> io::Result<()> {
     let words = command_line_of(alloc, words)?;
-    let mut shelf = Shelf::new(rt);
+    let mut files = Disk::new(rt);
     let mut lines = Writer::new(Vec::<u8>::new(alloc));
     let mut told = Writer::new(Vec::<u8>::new(alloc));
-    let status = answer(rt, alloc, Ok(words), &mut shelf, &mut lines, &mut told);
+    let status = answer(rt, alloc, Ok(words), &mut files, &mut lines, &mut told);
     out.write_all(lines.into_inner().as_slice())?;
     write_told(told.into_inner().as_slice(), out)?;
-    let opened = shelf.opened();
+    let opened = files.opened();
     write!(out, "status {status}, opened {opened}")?;
-    match shelf.failures() {
+    match files.failures() {
         0 => out.write_all(b"\n"),
         failures => write!(out, ", failed reads {failures}\n"),
     }
