@@ -7,9 +7,8 @@ use crate::book::Book;
 use crate::disagreement::{Place, add_note, add_place, opened_place};
 use crate::line::Happened;
 use crate::places::{add_holders, add_sites};
-use crate::words::{add_lock, add_top_out, reason_words};
+use crate::words::{add_lock, add_top_out, refusal_words};
 use audit::findings::Findings;
-use audit::refusal::Reason;
 use audit::ring::waits_for;
 use checked::Checked;
 use irp::Packet;
@@ -25,7 +24,7 @@ use std::marker::Model;
 #[derive(Clone, Copy)]
 struct RefusedEvent {
     number: u64,
-    reason: Option<Reason>,
+    why: &'static str,
 }
 
 /// What is noted of a run while it goes: packets that topped out, and events that were refused.
@@ -93,7 +92,7 @@ impl Audited {
             })?,
             Reply::Refused => self.refused.push(RefusedEvent {
                 number,
-                reason: happened.moment.reason,
+                why: refusal_words(&happened.moment),
             })?,
             _ => {}
         }
@@ -192,11 +191,11 @@ fn add_disagreeing(
 /// Adds the events that were refused, and why.
 fn add_refused(words: &mut String, audited: &Audited) -> Result<(), AllocError> {
     for refused in audited.refused.iter() {
-        let why = match refused.reason {
-            Some(reason) => reason_words(reason),
-            None => "a list or the thread's stack is full, or the run has stopped",
-        };
-        write!(words, "event {} was refused: {why}\n", refused.number)?;
+        write!(
+            words,
+            "event {} was refused: {}\n",
+            refused.number, refused.why
+        )?;
     }
     Ok(())
 }

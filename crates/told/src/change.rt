@@ -3,13 +3,14 @@
 use crate::book::Book;
 use crate::line::Moment;
 use crate::words::{
-    add_lock, add_number, add_packet, add_top_out, cause_of, check_name, major_name, reason_words,
+    add_lock, add_number, add_packet, add_top_out, cause_of, check_name, major_name, refusal_words,
     status_name,
 };
 use audit::ring::waits_for;
 use checked::Checked;
 use model::event::{Event, Lock, OfDevice, Reply};
 use model::instr::{Instr, Return};
+use model::set::{QueueName, Sort};
 use model::view::{FrameView, LiveView, PacketView};
 use model::world::CancelStep;
 use pending_uses::acting::Acting;
@@ -38,7 +39,7 @@ pub fn add_change(
             Event::StartIo { .. } => "the start list is empty",
             _ => "the thread has no frame",
         }),
-        Reply::Refused => add_refusal(words, moment),
+        Reply::Refused => words.push_str(refusal_words(moment)),
         Reply::Bug(bug) => {
             let cause = cause_of(bug.check, bug.subject);
             write!(words, "{}: {}: {cause}", check_name(bug.check), bug.subject)
@@ -96,14 +97,6 @@ fn add_wait(words: &mut String, event: &Event, machine: &Checked) -> Result<(), 
     }
 }
 
-/// Adds why an event was refused.
-fn add_refusal(words: &mut String, moment: &Moment) -> Result<(), AllocError> {
-    words.push_str(match moment.reason {
-        Some(reason) => reason_words(reason),
-        None => "a list or the thread's stack is full",
-    })
-}
-
 /// Adds what a step changed.
 fn add_step(
     words: &mut String,
@@ -131,13 +124,13 @@ fn add_step(
     match (acting.frame, acting.packet) {
         (FrameView::Walk(n), _) => add_walk(words, n, moment, machine),
         (FrameView::Cancel(canceller), _) => {
-            add_cancelling(words, canceller.packet, canceller.next, machine)
+            add_cancelling(words, canceller.packet, canceller.next, moment, machine)
         }
         (FrameView::Routine { driver, device, .. }, Some(n)) => {
             add_about(words, book, machine, moment, n, driver, device, acting)
         }
         (FrameView::Routine { driver, device, .. }, None) => {
-            add_other(words, book, event, driver, device, acting)
+            add_other(words, book, event, moment, driver, device, acting)
         }
     }
 }
@@ -149,7 +142,7 @@ fn add_walk(
     moment: &Moment,
     machine: &Checked,
 ) -> Result<(), AllocError> {
-    let Some(PacketView::Live(before)) = moment.packet else {
+    let Some(before) = live_before(moment) else {
         return Ok(());
     };
     add_packet(words, n, ": completion leaves location ")?;
@@ -157,16 +150,19 @@ fn add_walk(
     let PacketView::Live(after) = machine.packet(n) else {
         return Ok(());
     };
-    if is_marked(&after) && !mark_at(&before, after.depth) {
+    if mark_at(&after, after.depth) && !mark_at(&before, after.depth) {
         words.push_str(", the mark is carried up to ")?;
         add_number(words, u64::from(after.depth))?;
     }
     Ok(())
 }
 
-/// Whether the current location is marked.
-fn is_marked(packet: &LiveView) -> bool {
-    mark_at(packet, packet.depth)
+/// The packet before a step that is about it, where it was looked at and lives.
+fn live_before(moment: &Moment) -> Option<LiveView> {
+    match moment.packet {
+        Some(PacketView::Live(before)) => Some(before),
+        _ => None,
+    }
 }
 
 /// Whether the location of a depth is marked.
@@ -182,24 +178,25 @@ fn add_cancelling(
     words: &mut String,
     n: u64,
     step: CancelStep,
+    moment: &Moment,
     machine: &Checked,
 ) -> Result<(), AllocError> {
     let released = matches!(machine.shared().owner(Lock::SystemCancel), Some(None));
-    match step {
-        CancelStep::Acquire => words.push_str("owns the system cancel spin lock"),
-        CancelStep::SetFlag if released => add_packet(
-            words,
-            n,
-            ": has topped out; the system cancel spin lock is free",
-        ),
-        CancelStep::SetFlag => add_packet(words, n, ": Irp->Cancel is set"),
-        CancelStep::Exchange if released => add_packet(
-            words,
-            n,
-            ": no cancel routine was set; the system cancel spin lock is free",
-        ),
-        CancelStep::Exchange => add_packet(words, n, ": its cancel routine is called"),
-    }
+    let behind = match step {
+        CancelStep::Acquire => return words.push_str("owns the system cancel spin lock"),
+        _ if released && matches!(machine.packet(n), PacketView::Topped) => {
+            ": has topped out; the system cancel spin lock is free"
+        }
+        CancelStep::SetFlag => match live_before(moment) {
+            Some(LiveView { cancel: true, .. }) => ": Irp->Cancel is set already",
+            _ => ": Irp->Cancel is set",
+        },
+        CancelStep::Exchange if released => {
+            ": no cancel routine was set; the system cancel spin lock is free"
+        }
+        CancelStep::Exchange => ": its cancel routine is called",
+    };
+    add_packet(words, n, behind)
 }
 
 /// Adds what an instruction did that is about a packet.
@@ -222,60 +219,132 @@ fn add_about(
     add_packet(words, n, ": ")?;
     match instr {
         Instr::Put(_, _) => words.push_str("its information is set"),
-        Instr::Mark(_) => words.push_str("its current location is marked pending"),
-        Instr::Insert(_, queue) => {
-            words.push_str("put into queue ")?;
-            book.add_queue(words, driver, queue)
-        }
-        Instr::Remove(_, queue, _) | Instr::Unlink(_, queue) => {
-            words.push_str("taken off queue ")?;
-            book.add_queue(words, driver, queue)
-        }
+        Instr::Mark(_) => words.push_str(match live_before(moment) {
+            Some(before) if mark_at(&before, before.depth) => {
+                "its current location is marked pending already"
+            }
+            _ => "its current location is marked pending",
+        }),
         Instr::Arm(_, queue) => {
             words.push_str("the cancel routine is set of queue ")?;
-            book.add_queue(words, driver, queue)
+            book.add_queue(words, driver, queue)?;
+            words.push_str(set_before(moment, device, QueueName::Declared(queue)))
         }
-        Instr::Disarm(_, _) => words.push_str(match moment.packet {
-            Some(PacketView::Live(LiveView { armer: Some(_), .. })) => {
-                "its cancel routine is set no more"
-            }
-            _ => "none set any more",
+        Instr::Disarm(_, _) => words.push_str(match live_before(moment) {
+            Some(LiveView { armer: Some(_), .. }) => "its cancel routine is set no more",
+            _ => "no cancel routine was set",
         }),
-        Instr::IfCancel(_, _) => words.push_str(match moment.packet {
-            Some(PacketView::Live(LiveView { cancel: true, .. })) => "Irp->Cancel is set",
+        Instr::IfCancel(_, _) => words.push_str(match live_before(moment) {
+            Some(LiveView { cancel: true, .. }) => "Irp->Cancel is set",
             _ => "Irp->Cancel isn't set",
         }),
-        Instr::Start(_) => add_started(words, machine, device, n),
-        Instr::Take(_, _) => words.push_str("taken out of the current slot"),
-        Instr::Begin(_) => words.push_str("put into the current slot"),
-        Instr::Next => words.push_str("goes from the device queue to the start list"),
-        Instr::Dequeue(_) => words.push_str("taken off the device queue"),
         Instr::Pass(_) | Instr::Call(_, _) => add_sent(words, book, machine, device, n),
         Instr::Complete(_, status) => {
             words.push_str("IoCompleteRequest is called with ")?;
             words.push_str(status_name(status))
         }
         Instr::IfPending(_, _) => words.push_str("PendingReturned is looked at"),
+        _ => add_moved(words, book, machine, moment, n, acting),
+    }
+}
+
+/// How a cancel routine was set before a step that sets that of a list of a device.
+fn set_before(moment: &Moment, device: u8, queue: QueueName) -> &'static str {
+    let Some(
+        LiveView {
+            armer: Some(before),
+            ..
+        },
+    ) = live_before(moment)
+    else {
+        return "";
+    };
+    if before.device == device && before.queue == queue {
+        ", as before"
+    } else {
+        ", in place of another"
+    }
+}
+
+/// Adds what list or slot a packet was put into or taken off.
+fn add_moved(
+    words: &mut String,
+    book: &Book<'_>,
+    machine: &Checked,
+    moment: &Moment,
+    n: u64,
+    acting: Acting,
+) -> Result<(), AllocError> {
+    let (Some(instr), FrameView::Routine { driver, device, .. }) = (
+        acting.instruction,
+        acting.frame,
+    ) else {
+        return Ok(());
+    };
+    let found = moment.found == Some(true);
+    match instr {
+        Instr::Insert(_, queue) => {
+            words.push_str("put into queue ")?;
+            book.add_queue(words, driver, queue)
+        }
+        Instr::Remove(_, _, _) | Instr::Unlink(_, _) | Instr::Dequeue(_) => {
+            add_off(words, book, machine, found, instr, acting.frame)
+        }
+        Instr::Take(_, _) => words.push_str("taken out of the current slot"),
+        Instr::Begin(_) if found => words.push_str("is in the current slot already"),
+        Instr::Begin(_) => words.push_str("put into the current slot"),
+        Instr::Start(_) if found => {
+            words.push_str("waits in the device queue")?;
+            if !machine.set().has_cancel(driver, QueueName::DeviceQueue) {
+                return Ok(());
+            }
+            words.push_str("; its cancel routine is set")?;
+            words.push_str(set_before(moment, device, QueueName::DeviceQueue))
+        }
+        Instr::Start(_) => words.push_str("put into the start list"),
+        Instr::Next => {
+            words.push_str("goes from the device queue to the start list")?;
+            match (live_before(moment), machine.packet(n)) {
+                (
+                    Some(LiveView { armer: Some(_), .. }),
+                    PacketView::Live(LiveView { armer: None, .. }),
+                ) => words.push_str("; its cancel routine is set no more"),
+                _ => Ok(()),
+            }
+        }
         _ => Ok(()),
     }
 }
 
-/// Adds where a packet was put that was started.
-fn add_started(
+/// Adds that a packet was taken off the list of an instruction, or that it wasn't found there.
+fn add_off(
     words: &mut String,
+    book: &Book<'_>,
     machine: &Checked,
-    device: u8,
-    n: u64,
+    found: bool,
+    instr: Instr,
+    frame: FrameView,
 ) -> Result<(), AllocError> {
-    let starts = match machine.shared().start_of(device) {
-        Some(start) => start.start_list().has(n),
-        None => false,
+    let FrameView::Routine {
+        driver,
+        routine,
+        ..
+    } = frame
+    else {
+        return Ok(());
     };
-    words.push_str(if starts {
-        "put into the start list"
-    } else {
-        "waits in the device queue"
-    })
+    words.push_str(if found { "taken off " } else { "isn't in " })?;
+    match instr {
+        Instr::Remove(_, queue, _) | Instr::Unlink(_, queue) => {
+            words.push_str("queue ")?;
+            book.add_queue(words, driver, queue)?;
+        }
+        _ => words.push_str("the device queue")?,
+    }
+    if !found && matches!(machine.set().sort(driver, routine), Sort::Cancel) {
+        return words.push_str("; the cancel routine has it");
+    }
+    Ok(())
 }
 
 /// Adds to where a packet was sent down.
@@ -305,6 +374,7 @@ fn add_other(
     words: &mut String,
     book: &Book<'_>,
     event: &Event,
+    moment: &Moment,
     driver: u8,
     device: u8,
     acting: Acting,
@@ -325,7 +395,10 @@ fn add_other(
         Instr::Take(_, _) => words.push_str("the current slot is empty"),
         Instr::Next => {
             book.add_device(words, device)?;
-            words.push_str(" is idle: no packet waits")
+            words.push_str(match moment.found {
+                Some(true) => " is idle: no packet waits",
+                _ => " is idle already: no packet waits",
+            })
         }
         Instr::Ret(form) => words.push_str(match form {
             Return::WithStatus(status) => status_name(status),

@@ -30,6 +30,8 @@ pub struct Moment {
     pub acting: Option<Acting>,
     /// The packet that it is about, where words on it say how it was.
     pub packet: Option<PacketView>,
+    /// Whether its step finds what it looks for, where it looks for something.
+    pub found: Option<bool>,
     /// Why the event can't happen, if it can't.
     pub reason: Option<Reason>,
 }
@@ -40,6 +42,7 @@ impl Moment {
         Moment {
             acting: None,
             packet: None,
+            found: None,
             reason: None,
         }
     }
@@ -54,12 +57,13 @@ impl Moment {
         moment
     }
 
-    /// Becomes the one before an event, but for the packet.
+    /// Becomes the one before an event, but for the packet and what its step looks for.
     pub fn look(&mut self, machine: &Checked, event: &Event)
         ensures { self.new.acting ≡ acting_in machine.now.set machine.now.world event.now }
     {
         self.acting = acting_in(machine, event);
         self.packet = None;
+        self.found = None;
         // Where a frame acts there is its thread, and a step needs nothing else.
         self.reason = match self.acting {
             Some(_) => None,
@@ -67,14 +71,15 @@ impl Moment {
         };
     }
 
-    /// Looks at the packet too, which words tell of on steps that leave a frame where it stands.
+    /// Looks at these too, which words tell of on steps that leave a frame where it stands.
     pub fn look_at_packet(&mut self, machine: &Checked)
         ensures { self.new.acting ≡ self.old.acting }
     {
-        self.packet = match &self.acting {
-            Some(acting) => packet_before(machine, acting),
-            None => None,
+        let Some(acting) = &self.acting else {
+            return;
         };
+        self.packet = packet_before(machine, acting);
+        self.found = found_before(machine, acting);
     }
 }
 
@@ -93,12 +98,42 @@ fn packet_before(machine: &Checked, acting: &Acting) -> Option<PacketView> {
     let is_told = match acting.frame {
         FrameView::Routine { .. } => matches!(
             acting.instruction,
-            Some(Instr::Disarm(_, _) | Instr::IfCancel(_, _))
+            Some(
+                Instr::Mark(_)
+                    | Instr::Arm(_, _)
+                    | Instr::Disarm(_, _)
+                    | Instr::IfCancel(_, _)
+                    | Instr::Start(_)
+                    | Instr::Next
+            )
         ),
         FrameView::Walk(_) | FrameView::Cancel(_) => true,
     };
     match acting.packet {
         Some(n) if is_told => Some(machine.packet(n)),
+        _ => None,
+    }
+}
+
+/// Whether a step finds what it looks for: the packet in the list that it is taken off or in the
+/// slot that it is put into, or a busy device where a packet is started.
+fn found_before(machine: &Checked, acting: &Acting) -> Option<bool> {
+    let FrameView::Routine { device, .. } = acting.frame else {
+        return None;
+    };
+    let shared = machine.shared();
+    match acting.instruction? {
+        Instr::Remove(_, _, _) => Some(acting.packet.is_some()),
+        Instr::Unlink(_, queue) => {
+            let n = acting.packet?;
+            Some(shared.queue(device, queue)?.has(n))
+        }
+        Instr::Dequeue(_) => {
+            let n = acting.packet?;
+            Some(shared.start_of(device)?.waiting().has(n))
+        }
+        Instr::Begin(_) => Some(shared.start_of(device)?.current() == acting.packet),
+        Instr::Start(_) | Instr::Next => Some(shared.start_of(device)?.is_busy()),
         _ => None,
     }
 }

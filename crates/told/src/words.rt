@@ -1,10 +1,13 @@
 //! Words for values.
 
 use crate::book::Book;
+use crate::line::Moment;
 use audit::refusal::Reason;
 use itoa::Buffer;
 use model::event::{BugCheck, Lock, OfDevice, Subject};
+use model::instr::Instr;
 use model::status::{Major, Status};
+use pending_uses::acting::Acting;
 use std::alloc::AllocError;
 
 /// The name of a status value.
@@ -56,8 +59,25 @@ pub(crate) fn cause_of(check: BugCheck, subject: Subject) -> &'static str {
     }
 }
 
-/// Why an event is refused.
-pub(crate) fn reason_words(reason: Reason) -> &'static str {
+/// Why an event of a run that goes on was refused, by the moment before it: where nothing else
+/// stands against it, what is full.
+pub(crate) fn refusal_words(moment: &Moment) -> &'static str {
+    if let Some(reason) = moment.reason {
+        return reason_words(reason);
+    }
+    match moment.acting {
+        Some(
+            Acting {
+                instruction: Some(Instr::Insert(_, _) | Instr::Start(_) | Instr::Next),
+                ..
+            },
+        ) => "the list is full",
+        _ => "the thread's stack is full",
+    }
+}
+
+/// What would have to be otherwise.
+fn reason_words(reason: Reason) -> &'static str {
     match reason {
         Reason::NoThread => "there is no such thread",
         Reason::NotIdle => "the thread isn't idle",
