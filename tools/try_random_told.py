@@ -16,13 +16,13 @@ def answer(program, *words):
     done = subprocess.run([program, *words], capture_output=True, text=True, errors='replace', timeout=60)
     return done.stdout, done.returncode
 
-def accepted(program):
-    """The accepted texts, each content once, with the number of their devices."""
+def sets_for(program, job):
+    """The texts of sets that a job takes, as `check` those that are accepted: each content once, with the number of their devices."""
     found = {}
     for place in PLACES:
         for path in sorted(glob.glob(os.path.join(TOP, place), recursive=True)):
             text = open(path, errors='replace').read()
-            if text not in found and answer(program, 'check', path)[1] == 0:
+            if text not in found and answer(program, job, path)[1] == 0:
                 found[text] = path, len(re.findall(r'^\s*device\s', text, re.M))
     return sorted(found.values())
 
@@ -70,7 +70,7 @@ def main():
     parser.add_argument('program', nargs='?', default=os.path.join(TOP, 'crates/drvhost/out/drvhost'))
     given = parser.parse_args()
     program, rng = os.path.abspath(given.program), random.Random(given.seed)
-    sets, wrong, events = accepted(program), 0, 0
+    sets, wrong, events = sets_for(program, 'check'), 0, 0
     with tempfile.TemporaryDirectory() as folder:
         by = os.path.join(folder, 'schedule')
         for number in range(given.runs):
@@ -85,4 +85,5 @@ def main():
     print('%d runs of %d lines of events on %d accepted sets, %d wrong' % (given.runs, events, len(sets), wrong))
     return 1 if wrong else 0
 
-sys.exit(main())
+if __name__ == '__main__':
+    sys.exit(main())
