@@ -1,10 +1,11 @@
 #!/usr/bin/env python3
 """try_told_changes.py [--seed N] [--runs N] [--forms] [PROGRAM]: random runs (2,000, if no number is given) of all sets in examples,
 gallery and crates/stored_runs/data, the refused ones among them, told by the program (crates/drvhost/out/drvhost, if none is
-named). The machine of tools/second_machine.py makes the same steps. The words on each event are read, and have to say what the
-worlds before and after it differ in: each change of a list, a slot, a cancel word, a cancel flag, a mark, a location, a lock, a
-busy device or a queued DPC is told, nothing else is, and what is said to stay as it was does. The places of the steps and the
-replies are compared too, up to a bug check. With --forms it lists how often each form of words was read. The last line counts."""
+named). Half of the schedules stand beside the sets, with lines moved. The machine of tools/second_machine.py makes the same
+steps. The words on each event are read, and have to say what the worlds before and after it differ in: each change of a list, a
+slot, a cancel word, a cancel flag, a mark, a location, a lock, a busy device or a queued DPC is told, nothing else is, and what
+is said to stay as it was does. The places of the steps and the replies are compared too, up to a bug check. With --forms it
+lists how often each form of words was read. The last line counts."""
 import argparse, collections, os, random, re, sys, tempfile
 
 from second_machine import CANCEL_LOCK, World, read_set
@@ -196,6 +197,23 @@ def events_of(text):
         words = line.split()
         yield from [words[:2]] * int((words + [1])[2]) if words[0] == 'step' else [words]
 
+def moved(rng, path):
+    """The schedule that stands beside a set, with runs of steps split and a few lines moved; none, where there is no such schedule."""
+    for file in path[:-len('.drv')] + '.sched', os.path.join(os.path.dirname(path), 'events.sched'):
+        if os.path.exists(file):
+            head, *lines = filter(None, (line.partition(';')[0].strip() for line in open(file, errors='replace')))
+            events = [part for line in lines for part in split(rng, line.split())]
+            for _ in range(rng.randrange(4)):
+                events.insert(rng.randrange(len(events)), events.pop(rng.randrange(len(events))))
+            return '\n'.join([head, *events]) + '\n'
+    return None
+
+def split(rng, words):
+    """A line of a schedule, in two where it is of several steps."""
+    count = int(words[2]) if words[0] == 'step' and words[2:] else 1
+    first = rng.randrange(count)
+    return ['step %s %d' % (words[1], part) for part in (first, count - first) if part] if count > 1 else [' '.join(words)]
+
 def wrong_of(told, text, listing, forms):
     """What is wrong with a told run, or None, and how many events were read."""
     world, lines = World(read_set(listing), int(text.split()[1])), told.partition('\naudit\n')[0].splitlines()
@@ -218,7 +236,8 @@ def main():
         listed, by = os.path.join(folder, 'set.drv'), os.path.join(folder, 'events.sched')
         for number in range(given.runs):
             path, devices = sets[number % len(sets)]
-            text, listing = schedule(rng, max(devices, 1)), answer(program, 'list', path)[0]
+            listing, text = answer(program, 'list', path)[0], moved(rng, path) if rng.random() < 0.5 else None
+            text = text or schedule(rng, max(devices, 1))
             for file, content in (listed, listing), (by, text):
                 with open(file, 'w') as out:
                     out.write(content)
