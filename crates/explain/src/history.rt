@@ -76,7 +76,7 @@ pub(crate) fn add_token(
     case: &Case<'_>,
 ) -> Result<(), AllocError> {
     let title = if case.state().token {
-        "the token was had since "
+        "the token was taken "
     } else {
         "the token was spent "
     };

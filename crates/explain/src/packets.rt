@@ -392,8 +392,7 @@ fn left_behind(case: &Case<'_>, form: Return) -> Lesson {
         ),
         (Some(Kind::New), _) => lost(
             "the Driver Kit on dispatch routines",
-            "`complete $R` with the status that is returned, pass it on, or mark it and put it \
-             into a queue",
+            "`complete $R` with the returned status, `pass` it on, or `mark` and `insert` it",
         ),
         _ => lost("the Driver Kit on dispatch routines", FINISH),
     };
