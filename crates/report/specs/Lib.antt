@@ -5,5 +5,4 @@ pub mod Reply
 pub mod Word
 pub mod Verdict
 pub mod Fault
-pub mod Rule
 pub mod Host
