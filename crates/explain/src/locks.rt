@@ -83,7 +83,11 @@ pub(crate) fn list_of(instr: &Instr) -> Option<QueueName> {
 /// cancelled, has to be made the routine's own before its guard is released.
 pub(crate) fn lock_held(case: &Case<'_>) -> Lesson {
     let source = "the Driver Kit on IoCompleteRequest, IoCallDriver and spin locks";
-    let why = "a packet is completed or sent down while $L is held";
+    let why = if is_so(Fact::Held(Guard::CancelLock), case.state()) {
+        "a packet is completed or sent down while the system cancel spin lock is held"
+    } else {
+        "a packet is completed or sent down while $L is held"
+    };
     let register = packet_of(case.instr);
     match kind_of(case.state(), register) {
         _ if is_sent_elsewhere(case) => sent_down(case.sort),
