@@ -28,8 +28,17 @@ LEFT_OUT = {
     # Memory runs out in no stored run.
     'memory ran out before there was a verdict',
     'try again with more memory',
-    # A path leads to each instruction that wants another kind of thing, and the state that arrives along it is known.
-    'a register has no number or no packet where one is wanted',
+    # A lesson that names a register is given one; a lock that is released too early has a register that says why; a second
+    # packet is taken while a register names the first; a packet is left behind in a register.
+    'the register',
+    'the lock is released while a register has a packet that it guards',
+    'finish with the packet first',
+    'finish with that one before it',
+    # What is used as the routine's own and isn't is a packet of a list.
+    "the packet may still be cancelled, so it isn't the routine's own",
+    '`disarm` and `unlink` it under the lock of its queue first',
+    # The cancel routine of the device queue can't release the lock before it has dequeued its packet, nor return with it.
+    '`dequeue $R` before `relc`, and `complete $R CANCELLED` before the return',
     # A register has a lower driver's status only from `pass` and `call` of the packet that was handed in, after which the
     # lower driver's status is owed; that a register hasn't it is told by another rule, which comes first.
     "a lower driver's status is returned for a packet that wasn't sent down",

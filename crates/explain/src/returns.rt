@@ -59,7 +59,8 @@ pub(crate) fn sent_down(sort: Sort) -> Lesson {
         "only a dispatch routine sends a packet down",
         "the Driver Kit on each sort of routine",
         match sort {
-            Sort::Propagate | Sort::Hold => "take it out, and let the completion go on",
+            Sort::Propagate | Sort::Hold =>
+                "take it out: let the completion go on, or keep the packet in a queue",
             _ => "take it out: complete the packet here, or send it down in a dispatch routine",
         },
     )
