@@ -210,7 +210,8 @@ fn add_about(
     device: u8,
     acting: Acting,
 ) -> Result<(), AllocError> {
-    let Some(instr) = acting.instruction else {
+    let instruction = acting.instruction;
+    let Some(instr) = instruction else {
         return Ok(());
     };
     if matches!(instr, Instr::Get(_, _, _)) {

@@ -121,8 +121,12 @@ fn found_before(machine: &Checked, acting: &Acting) -> Option<bool> {
     let FrameView::Routine { device, .. } = acting.frame else {
         return None;
     };
+    let instruction = acting.instruction;
+    let Some(instr) = instruction else {
+        return None;
+    };
     let shared = machine.shared();
-    match acting.instruction? {
+    match instr {
         Instr::Remove(_, _, _) => Some(acting.packet.is_some()),
         Instr::Unlink(_, queue) => {
             let n = acting.packet?;
