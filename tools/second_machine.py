@@ -6,6 +6,10 @@ import collections
 MAJORS = {'READ': 3, 'WRITE': 4, 'CONTROL': 14}
 CANCEL_LOCK = 'the system cancel spin lock'
 
+def value_of(word):
+    """What a number of a text or a schedule says: decimal, or hexadecimal behind 0x."""
+    return int(word, 0) if word[:2] in ('0x', '0X') else int(word)
+
 class Routine:
     """The sort of a routine, its instructions with the words on their places, and its labels."""
 
@@ -95,10 +99,10 @@ class World:
 
     def begin(self, kind, *words):
         """An event that isn't a step, and that happened."""
-        device = int(words[kind != 'interrupt'])
-        stack = self.stacks[int(words[0])] if kind != 'interrupt' else None
+        device = value_of(words[kind != 'interrupt'])
+        stack = self.stacks[value_of(words[0])] if kind != 'interrupt' else None
         if kind == 'issue':
-            self.packets[self.issued] = Packet(words[2], int(words[3]))
+            self.packets[self.issued] = Packet(words[2], value_of(words[3]))
             self.enter(stack, device, words[2], self.issued)
             self.issued += 1
         elif kind == 'cancel':
@@ -154,7 +158,7 @@ class World:
         if n in self.lists[key]:
             self.lists[key].remove(n)
 
-    def do_const(self, f, r, n): f.registers[r] = int(n)
+    def do_const(self, f, r, n): f.registers[r] = value_of(n)
     def do_mov(self, f, r, s): f.registers[r] = f.registers[s]
     def do_clear(self, f, r): f.registers[r] = None
     def do_add(self, f, r, s): f.registers[r] = (f.registers[r] + f.registers[s]) % 2 ** 64
@@ -162,7 +166,7 @@ class World:
     def do_jz(self, f, r, label): f.jump(label, f.registers[r] == 0)
     def do_jlt(self, f, r, s, label): f.jump(label, f.registers[r] < f.registers[s])
     def do_jmp(self, f, label): f.jump(label)
-    def do_loop(self, f, n): f.loops.append([f.at, int(n)])
+    def do_loop(self, f, n): f.loops.append([f.at, value_of(n)])
 
     def do_end(self, f):
         f.loops[-1][1] -= 1

@@ -8,7 +8,7 @@ is said to stay as it was does. The places of the steps and the replies are comp
 lists how often each form of words was read. The last line counts."""
 import argparse, collections, os, random, re, sys, tempfile
 
-from second_machine import CANCEL_LOCK, World, read_set
+from second_machine import CANCEL_LOCK, World, read_set, value_of
 from try_random_told import TOP, answer, schedule, sets_for
 
 LINE = re.compile(r'\d+ (?:(started) \d+|(topped) \d+ 0x\w+ \d+|(stepped|finished|waited|idle|refused)) +[.|\d]+  (.*)')
@@ -19,11 +19,11 @@ class Scene:
 
     def __init__(self, world, words):
         self.world, self.event, self.frame, self.operation, self.place = world, words, None, ('',), '-'
-        self.thread = None if words[0] == 'interrupt' else int(words[1])
+        self.thread = None if words[0] == 'interrupt' else value_of(words[1])
         self.stack = world.stacks[self.thread] if self.thread is not None and self.thread < len(world.stacks) else []
         if words[0] == 'step' and self.stack:
             self.look(self.stack[-1])
-        self.device = self.frame.device if self.frame else int(words[-1])
+        self.device = self.frame.device if self.frame else value_of(words[-1])
 
     def look(self, frame):
         self.frame, self.place = frame, 'IoCompleteRequest' if frame.kind == 'walk' else 'IoCancelIrp: ' + frame.kind
@@ -195,7 +195,7 @@ def events_of(text):
     """The events of a schedule, one by one."""
     for line in text.splitlines()[1:]:
         words = line.split()
-        yield from [words[:2]] * int((words + [1])[2]) if words[0] == 'step' else [words]
+        yield from [words[:2]] * value_of(str((words + [1])[2])) if words[0] == 'step' else [words]
 
 def moved(rng, path):
     """The schedule that stands beside a set, with runs of steps split and a few lines moved; none, where there is no such schedule."""
@@ -210,13 +210,13 @@ def moved(rng, path):
 
 def split(rng, words):
     """A line of a schedule, in two where it is of several steps."""
-    count = int(words[2]) if words[0] == 'step' and words[2:] else 1
+    count = value_of(words[2]) if words[0] == 'step' and words[2:] else 1
     first = rng.randrange(count)
     return ['step %s %d' % (words[1], part) for part in (first, count - first) if part] if count > 1 else [' '.join(words)]
 
 def wrong_of(told, text, listing, forms):
     """What is wrong with a told run, or None, and how many events were read."""
-    world, lines = World(read_set(listing), int(text.split()[1])), told.partition('\naudit\n')[0].splitlines()
+    world, lines = World(read_set(listing), value_of(text.split()[1])), told.partition('\naudit\n')[0].splitlines()
     for number, (line, words) in enumerate(zip(lines, events_of(text))):
         fault = fault_at(line, words, world, forms)
         if fault:
