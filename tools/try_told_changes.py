@@ -82,7 +82,7 @@ def off(key, n, holder, scene):
 
 def issued(scene, n, major, argument, device):
     return {('marks', n): turns(None, (False,)), ('cancel', n): turns(None, False), ('info', n): turns(None, 0),
-            'so issued': scene.event[2:] == [str(device), major, str(argument)]}
+            'so issued': scene.event[3:4] == [major] and [value_of(scene.event[at]) for at in (2, 4)] == [value_of(str(device)), argument]}
 
 def topped(scene, n, status, info):
     p = scene.world.topped
