@@ -105,6 +105,24 @@ impl Names<'_, '_> {
         }
     }
 
+    /// Adds the name of a queue as an instruction has it.
+    pub(crate) fn add_queue_alone(
+        self,
+        prose: &mut String,
+        name: QueueName,
+    ) -> Result<(), AllocError> {
+        let QueueName::Declared(number) = name else {
+            return prose.push_str("the device queue");
+        };
+        match self {
+            Names::Given(Some(names)) => match names.queues.get(number as usize) {
+                Some(name) => add_bytes(prose, name.bytes()),
+                None => write!(prose, "q{number}"),
+            },
+            _ => write!(prose, "q{number}"),
+        }
+    }
+
     /// Adds the name of the queue of a number.
     fn add_declared(self, prose: &mut String, number: u8) -> Result<(), AllocError> {
         match self {
