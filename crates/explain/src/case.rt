@@ -1,8 +1,10 @@
 //! An instruction that breaks a rule, and what is known of it: the state that arrives there, and
 //! what was done on the path before.
 
+use crate::kinds::packet_of;
+use crate::lesson::{About, spin_number};
 use driver_set::DriverSet;
-use evidence::Path;
+use evidence::{Path, Step};
 use model::abs::{Abs, Kind, Rule, Stage};
 use model::instr::{Instr, Register};
 use model::set::{Guard, QueueName, Sort};
@@ -42,25 +44,72 @@ impl<'a> Case<'a> {
 
     /// The position on the path before this one at which something was so for the last time, if it
     /// was. Where it isn't so any more, the instruction there has ended it.
-    pub(crate) fn last_so(&self, fact: Fact) -> Option<u16> {
+    pub(crate) fn last_so(&self, fact: &Fact) -> Option<u16> {
         let mut last: Option<u16> = None;
         for step in self.path.before.as_slice() {
-            if is_so(fact, &step.state) {
-                last = Some(step.at);
-            }
+            last = later(fact, step, last);
         }
         last
     }
 
+    /// Whether something was so on the path before.
+    pub(crate) fn was_so(&self, fact: &Fact) -> bool {
+        self.last_so(fact).is_some()
+    }
+
     /// The instruction that left a register blank, if one did.
     pub(crate) fn emptied_by(&self, register: Register) -> Option<&'a Instr> {
-        let at = self.last_so(Fact::Full(register))?;
+        let at = self.last_so(&Fact::Full(register))?;
         self.code.get(at as usize)
+    }
+
+    /// The instruction that filled a register, if one did.
+    pub(crate) fn filled_by(&self, register: Register) -> Option<&'a Instr> {
+        let at = self.last_so(&Fact::Blank(register))?;
+        self.code.get(at as usize)
+    }
+
+    /// The first register that names a packet which still stands in a list, if there is one.
+    pub(crate) fn named_in(&self, queue: QueueName) -> Option<(usize, Stage)> {
+        for (number, kind) in self.state().kinds.iter().enumerate() {
+            if let Kind::Queued(list, stage) = *kind
+                && list == queue
+                && stage != Stage::Taken
+            {
+                return Some((number, stage));
+            }
+        }
+        None
     }
 
     /// The lock that guards a list.
     pub(crate) fn guard(&self, list: QueueName) -> Option<Guard> {
         self.set.guard_named(self.driver, list)
+    }
+
+    /// The register of which the instruction wants a packet.
+    pub(crate) fn register(&self) -> usize {
+        packet_of(self.instr).index()
+    }
+
+    /// A register, a list of which it has a packet, and the lock that guards the list.
+    pub(crate) fn about(&self, number: usize, list: QueueName) -> About {
+        About {
+            register: Some(number),
+            queue: Some(list),
+            lock: match self.guard(list) {
+                Some(lock) => spin_number(&lock),
+                None => None,
+            },
+        }
+    }
+
+    /// Whether a lock guards a list.
+    fn is_guard(&self, list: QueueName, lock: &Guard) -> bool {
+        match self.guard(list) {
+            Some(guard) => spin_number(&guard) == spin_number(lock),
+            None => false,
+        }
     }
 
     /// Whether packets of a queue can't be cancelled.
@@ -70,11 +119,11 @@ impl<'a> Case<'a> {
 
     /// The first register that has a packet of a list with this guard which stays there while the
     /// guard is held, if there is one.
-    pub(crate) fn kept_by(&self, lock: Guard) -> Option<(usize, QueueName, Stage)> {
+    pub(crate) fn kept_by(&self, lock: &Guard) -> Option<(usize, QueueName, Stage)> {
         for (number, kind) in self.state().kinds.iter().enumerate() {
             if let Kind::Queued(list, stage) = *kind
                 && stays(list, stage)
-                && self.guard(list).is_some_and(|guard| is_same(guard, lock))
+                && self.is_guard(list, lock)
             {
                 return Some((number, list, stage));
             }
@@ -96,12 +145,21 @@ impl<'a> Case<'a> {
     }
 }
 
+/// The position of a step where something is so there, and else the one before.
+fn later(fact: &Fact, step: &Step, before: Option<u16>) -> Option<u16> {
+    if is_so(fact, &step.state) {
+        Some(step.at)
+    } else {
+        before
+    }
+}
+
 /// Whether a state says something.
-pub(crate) fn is_so(fact: Fact, state: &Abs) -> bool {
+fn is_so(fact: &Fact, state: &Abs) -> bool {
     match fact {
-        Fact::Blank(register) => kind_of(state, register) == Kind::Blank,
-        Fact::Full(register) => kind_of(state, register) != Kind::Blank,
-        Fact::Armed(number) => match state.kinds.get(number) {
+        Fact::Blank(register) => kind_of(state, *register) == Kind::Blank,
+        Fact::Full(register) => kind_of(state, *register) != Kind::Blank,
+        Fact::Armed(number) => match state.kinds.get(*number) {
             Some(Kind::Queued(_, stage)) => *stage == Stage::Armed,
             _ => false,
         },
@@ -118,7 +176,7 @@ pub(crate) fn kind_of(state: &Abs, register: Register) -> Kind {
 }
 
 /// Whether a lock is held.
-pub(crate) fn is_held(state: &Abs, lock: Guard) -> bool {
+pub(crate) fn is_held(state: &Abs, lock: &Guard) -> bool {
     match lock {
         Guard::DeviceLock(lock) => state.locks[lock.index()],
         Guard::CancelLock => state.cancel,
@@ -146,13 +204,5 @@ fn stays(list: QueueName, stage: Stage) -> bool {
         Stage::Listed | Stage::Taken => true,
         Stage::Armed => false,
         Stage::Cancelling => matches!(list, QueueName::DeviceQueue),
-    }
-}
-
-fn is_same(one: Guard, other: Guard) -> bool {
-    match (one, other) {
-        (Guard::DeviceLock(one), Guard::DeviceLock(other)) => one.index() == other.index(),
-        (Guard::CancelLock, Guard::CancelLock) => true,
-        _ => false,
     }
 }

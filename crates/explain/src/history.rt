@@ -1,9 +1,9 @@
 //! What became of a register that is blank where something is wanted of it, and which loops make a
 //! count.
 
-use crate::case::{Case, Fact, is_so};
+use crate::case::{Case, Fact, is_held};
 use crate::kinds::blank_register;
-use crate::lesson::add_lock;
+use crate::lesson::{add_lock, spin_number};
 use crate::locks::lock_meant;
 use crate::place::Scene;
 use model::instr::Instr;
@@ -20,21 +20,23 @@ pub(crate) fn add_blanking(
         return Ok(());
     };
     let number = register.index();
-    match case.last_so(Fact::Full(register)) {
+    match case.last_so(&Fact::Full(register)) {
         None => write!(prose, "r{number} was never set on this path\n"),
         Some(at) => {
             let why = match case.code.get(at as usize) {
                 Some(emptying) => why_blank(emptying),
                 None => "",
             };
-            write!(prose, "r{number} went blank{why} ")?;
-            add_end(prose, scene, at)
+            write!(prose, "r{number} went blank")?;
+            prose.push_str(why)?;
+            add_end(prose, scene, " ", at)
         }
     }
 }
 
-/// Adds a position behind what is said of it.
-fn add_end(prose: &mut String, scene: &Scene<'_>, at: u16) -> Result<(), AllocError> {
+/// Adds words and the position that they are about.
+fn add_end(prose: &mut String, scene: &Scene<'_>, words: &str, at: u16) -> Result<(), AllocError> {
+    prose.push_str(words)?;
     scene.add_position(prose, at)?;
     prose.push_str("\n")
 }
@@ -48,24 +50,17 @@ pub(crate) fn add_lock_history(
     let Some(lock) = lock_meant(case) else {
         return Ok(());
     };
-    add_lock(prose, lock)?;
-    let held = is_so(Fact::Held(lock), case.state());
-    let other = if held {
-        Fact::Unheld(lock)
+    add_lock(prose, spin_number(&lock))?;
+    if is_held(case.state(), &lock) {
+        match case.last_so(&Fact::Unheld(lock)) {
+            Some(at) => add_end(prose, scene, " was acquired ", at),
+            None => prose.push_str(" was held when the routine was called\n"),
+        }
     } else {
-        Fact::Held(lock)
-    };
-    match (case.last_so(other), held) {
-        (Some(at), true) => {
-            prose.push_str(" was acquired ")?;
-            add_end(prose, scene, at)
+        match case.last_so(&Fact::Held(lock)) {
+            Some(at) => add_end(prose, scene, " was released ", at),
+            None => prose.push_str(" wasn't acquired on this path\n"),
         }
-        (Some(at), false) => {
-            prose.push_str(" was released ")?;
-            add_end(prose, scene, at)
-        }
-        (None, true) => prose.push_str(" was held when the routine was called\n"),
-        (None, false) => prose.push_str(" wasn't acquired on this path\n"),
     }
 }
 
@@ -75,22 +70,16 @@ pub(crate) fn add_token(
     scene: &Scene<'_>,
     case: &Case<'_>,
 ) -> Result<(), AllocError> {
-    let title = if case.state().token {
-        "the token was taken "
-    } else {
-        "the token was spent "
-    };
-    match (
-        case.state().token,
-        case.last_so(Fact::NoToken),
-        case.last_so(Fact::Token),
-    ) {
-        (true, Some(at), _) | (false, _, Some(at)) => {
-            prose.push_str(title)?;
-            add_end(prose, scene, at)
+    if case.state().token {
+        match case.last_so(&Fact::NoToken) {
+            Some(at) => add_end(prose, scene, "the token was taken ", at),
+            None => prose.push_str("the routine was called with the token\n"),
         }
-        (true, None, _) => prose.push_str("the routine was called with the token\n"),
-        (false, _, None) => Ok(()),
+    } else {
+        match case.last_so(&Fact::Token) {
+            Some(at) => add_end(prose, scene, "the token was spent ", at),
+            None => Ok(()),
+        }
     }
 }
 

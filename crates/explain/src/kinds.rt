@@ -1,7 +1,7 @@
 //! Registers that have something else than an instruction wants of them, in words.
 
 use crate::case::{Case, first_packet, is_packet, kind_of};
-use crate::lesson::Lesson;
+use crate::lesson::{About, Lesson};
 use crate::returns::no_lower;
 use model::abs::{Abs, Duty, Kind};
 use model::instr::{Instr, Register, Return};
@@ -156,20 +156,25 @@ fn is_look(case: &Case<'_>) -> bool {
 /// What is for packets that can be cancelled is done with a packet of a queue without a cancel
 /// routine.
 pub(crate) fn no_cancel_routine(queue: u8) -> Lesson {
-    Lesson::of(
+    Lesson::about(
         "queue $Q has no cancel routine, so its packets can't be cancelled: `insert` gives one \
          away, and `remove` takes one as the routine's own",
         "the Driver Kit on driver-managed IRP queues and IoSetCancelRoutine",
         "take it out, or name a cancel routine on the `queue` line",
+        About::queue(QueueName::Declared(queue)),
     )
-    .at(QueueName::Declared(queue))
 }
 
 /// A register never had a packet on this path.
 pub(crate) fn never_there(case: &Case<'_>, source: &'static str) -> Lesson {
     let why = "a packet is wanted, and the register is blank: it never had one on this path";
     match first_packet(case.state()) {
-        Some(number) => Lesson::of(why, source, "name `$R`, which has a packet").on(number),
+        Some(number) => Lesson::about(
+            why,
+            source,
+            "name `$R`, which has a packet",
+            About::register(number),
+        ),
         None => Lesson::of(
             why,
             source,

@@ -9,43 +9,79 @@ use std::alloc::AllocError;
 /// `$E` for what acquires and releases it.
 #[derive(Clone, Copy)]
 pub(crate) struct Lesson {
-    pub(crate) why: &'static str,
-    pub(crate) source: &'static str,
-    pub(crate) mend: &'static str,
-    register: Option<usize>,
-    queue: Option<QueueName>,
-    lock: Option<Guard>,
+    why: &'static str,
+    source: &'static str,
+    mend: &'static str,
+    about: About,
 }
 
-impl Lesson {
-    /// One whose words are about no register, queue or lock.
-    pub(crate) fn of(why: &'static str, source: &'static str, mend: &'static str) -> Lesson {
-        Lesson {
-            why,
-            source,
-            mend,
-            register: None,
+/// What words are about, where they name it. Without the number of a spin lock, their lock is the
+/// system cancel spin lock.
+#[derive(Clone, Copy)]
+pub(crate) struct About {
+    pub(crate) register: Option<usize>,
+    pub(crate) queue: Option<QueueName>,
+    pub(crate) lock: Option<usize>,
+}
+
+impl About {
+    /// A register, and nothing else.
+    pub(crate) fn register(number: usize) -> About {
+        About {
+            register: Some(number),
             queue: None,
             lock: None,
         }
     }
 
-    /// The same about a register.
-    pub(crate) fn on(mut self, register: usize) -> Lesson {
-        self.register = Some(register);
-        self
+    /// A queue, and nothing else.
+    pub(crate) fn queue(name: QueueName) -> About {
+        About {
+            register: None,
+            queue: Some(name),
+            lock: None,
+        }
     }
 
-    /// The same about a queue.
-    pub(crate) fn at(mut self, queue: QueueName) -> Lesson {
-        self.queue = Some(queue);
-        self
+    /// A lock, and nothing else.
+    pub(crate) fn lock(lock: &Guard) -> About {
+        About {
+            register: None,
+            queue: None,
+            lock: spin_number(lock),
+        }
+    }
+}
+
+impl Lesson {
+    /// One whose words are about no register, queue or lock.
+    pub(crate) fn of(why: &'static str, source: &'static str, mend: &'static str) -> Lesson {
+        let about = About {
+            register: None,
+            queue: None,
+            lock: None,
+        };
+        Lesson {
+            why,
+            source,
+            mend,
+            about,
+        }
     }
 
-    /// The same about a lock.
-    pub(crate) fn under(mut self, lock: Guard) -> Lesson {
-        self.lock = Some(lock);
-        self
+    /// One whose words are about something.
+    pub(crate) fn about(
+        why: &'static str,
+        source: &'static str,
+        mend: &'static str,
+        about: About,
+    ) -> Lesson {
+        Lesson {
+            why,
+            source,
+            mend,
+            about,
+        }
     }
 
     /// Adds its three lines.
@@ -82,13 +118,13 @@ impl Lesson {
         piece: &str,
     ) -> Result<(), AllocError> {
         if let Some(rest) = piece.strip_prefix('R') {
-            match self.register {
+            match self.about.register {
                 Some(number) => write!(prose, "r{number}")?,
                 None => prose.push_str("the register")?,
             }
             prose.push_str(rest)
         } else if let Some(rest) = piece.strip_prefix('Q') {
-            if let Some(queue) = self.queue {
+            if let Some(queue) = self.about.queue {
                 names.add_queue_alone(prose, queue)?;
             }
             prose.push_str(rest)
@@ -100,13 +136,13 @@ impl Lesson {
     /// The same of a piece about the lock.
     fn add_lock_piece(&self, prose: &mut String, piece: &str) -> Result<(), AllocError> {
         if let Some(rest) = piece.strip_prefix('A') {
-            add_taking(prose, "acquire", "acqc", self.lock)?;
+            add_taking(prose, "acquire", "acqc", self.about.lock)?;
             prose.push_str(rest)
         } else if let Some(rest) = piece.strip_prefix('E') {
-            add_taking(prose, "release", "relc", self.lock)?;
+            add_taking(prose, "release", "relc", self.about.lock)?;
             prose.push_str(rest)
         } else if let Some(rest) = piece.strip_prefix('L') {
-            add_lock(prose, self.lock.unwrap_or(Guard::CancelLock))?;
+            add_lock(prose, self.about.lock)?;
             prose.push_str(rest)
         } else {
             prose.push_str(piece)
@@ -114,23 +150,31 @@ impl Lesson {
     }
 }
 
-/// Adds the name of a lock.
-pub(crate) fn add_lock(prose: &mut String, lock: Guard) -> Result<(), AllocError> {
+/// The number of a spin lock, where a lock is one of the device.
+pub(crate) fn spin_number(lock: &Guard) -> Option<usize> {
     match lock {
-        Guard::DeviceLock(lock) => write!(prose, "l{}", lock.index()),
-        Guard::CancelLock => prose.push_str("the system cancel spin lock"),
+        Guard::DeviceLock(spin) => Some(spin.index()),
+        Guard::CancelLock => None,
+    }
+}
+
+/// Adds the name of the spin lock of a number, or of the system cancel spin lock.
+pub(crate) fn add_lock(prose: &mut String, spin: Option<usize>) -> Result<(), AllocError> {
+    match spin {
+        Some(number) => write!(prose, "l{number}"),
+        None => prose.push_str("the system cancel spin lock"),
     }
 }
 
 /// Adds the instruction that acquires or releases a lock, by its words for either kind of lock.
 fn add_taking(
     prose: &mut String,
-    spin: &str,
+    device: &str,
     cancel: &str,
-    lock: Option<Guard>,
+    spin: Option<usize>,
 ) -> Result<(), AllocError> {
-    match lock {
-        Some(Guard::DeviceLock(lock)) => write!(prose, "`{spin} l{}`", lock.index()),
-        _ => write!(prose, "`{cancel}`"),
+    match spin {
+        Some(number) => write!(prose, "`{device} l{number}`"),
+        None => write!(prose, "`{cancel}`"),
     }
 }

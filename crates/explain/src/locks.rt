@@ -1,8 +1,8 @@
 //! The rules on locks in words: who holds them, and what isn't done while one is held.
 
-use crate::case::{Case, Fact, is_so, kind_of};
+use crate::case::{Case, Fact, kind_of};
 use crate::kinds::packet_of;
-use crate::lesson::Lesson;
+use crate::lesson::{About, Lesson};
 use crate::returns::sent_down;
 use model::abs::{Kind, Rule, Stage};
 use model::instr::Instr;
@@ -12,35 +12,35 @@ use model::set::{Guard, QueueName, Sort};
 pub(crate) fn of_locks(case: &Case<'_>) -> Lesson {
     let source = "Static Driver Verifier, SpinLock and CancelSpinLock; bug checks 0x0F and 0x10";
     match (*case.instr, lock_of(case.instr)) {
-        (Instr::Acquire(_) | Instr::AcquireCancel, Some(lock)) => Lesson::of(
+        (Instr::Acquire(_) | Instr::AcquireCancel, Some(lock)) => Lesson::about(
             "the lock is held already, and would be waited for without an end",
             source,
             "take it out, or $E before it",
-        )
-        .under(lock),
-        (_, Some(lock)) => not_held(case, source).under(lock),
-        (_, None) => Lesson::of(
+            About::lock(&lock),
+        ),
+        (_, Some(lock)) => not_held(case, lock, source),
+        (_, None) => Lesson::about(
             "the routine returns while $L is held",
             source,
             "$E before the return",
-        )
-        .under(case.held()),
+            About::lock(&case.held()),
+        ),
     }
 }
 
 /// A lock is released that isn't held.
-fn not_held(case: &Case<'_>, source: &'static str) -> Lesson {
+fn not_held(case: &Case<'_>, lock: Guard, source: &'static str) -> Lesson {
     let why = "the lock isn't held where it is released";
-    match lock_of(case.instr) {
-        Some(lock) if case.last_so(Fact::Held(lock)).is_some() => {
-            Lesson::of(why, source, "take it out: the lock was released before")
-        }
-        _ => Lesson::of(
-            why,
-            source,
-            "$A before what the lock guards, or take it out",
-        ),
+    let about = About::lock(&lock);
+    if case.was_so(&Fact::Held(lock)) {
+        return Lesson::of(why, source, "take it out: the lock was released before");
     }
+    Lesson::about(
+        why,
+        source,
+        "$A before what the lock guards, or take it out",
+        about,
+    )
 }
 
 /// The lock that an instruction acquires or releases.
@@ -83,7 +83,7 @@ pub(crate) fn list_of(instr: &Instr) -> Option<QueueName> {
 /// cancelled, has to be made the routine's own before its guard is released.
 pub(crate) fn lock_held(case: &Case<'_>) -> Lesson {
     let source = "the Driver Kit on IoCompleteRequest, IoCallDriver and spin locks";
-    let why = if is_so(Fact::Held(Guard::CancelLock), case.state()) {
+    let why = if case.state().cancel {
         "a packet is completed or sent down while the system cancel spin lock is held"
     } else {
         "a packet is completed or sent down while $L is held"
@@ -91,14 +91,13 @@ pub(crate) fn lock_held(case: &Case<'_>) -> Lesson {
     let register = packet_of(case.instr);
     match kind_of(case.state(), register) {
         _ if is_sent_elsewhere(case) => sent_down(case.sort),
-        Kind::Queued(list, stage) => {
-            let lesson = Lesson::of(why, source, owned_and_released(case, list, stage));
-            lesson
-                .on(register.index())
-                .at(list)
-                .under(case.guard(list).unwrap_or(Guard::CancelLock))
-        }
-        _ => Lesson::of(why, source, "$E before it").under(case.held()),
+        Kind::Queued(list, stage) => Lesson::about(
+            why,
+            source,
+            owned_and_released(case, list, stage),
+            case.about(register.index(), list),
+        ),
+        _ => Lesson::about(why, source, "$E before it", About::lock(&case.held())),
     }
 }
 
@@ -110,7 +109,7 @@ pub(crate) fn is_sent_elsewhere(case: &Case<'_>) -> bool {
 
 /// How a packet of a list is made the routine's own and the lock is released.
 fn owned_and_released(case: &Case<'_>, list: QueueName, stage: Stage) -> &'static str {
-    let cancel = is_so(Fact::Held(Guard::CancelLock), case.state());
+    let cancel = case.state().cancel;
     match (stage, list) {
         (Stage::Listed, _) => "`unlink $R $Q` and $E before it",
         (Stage::Armed, _) => {

@@ -1,8 +1,8 @@
 //! The rules on packets in words: whose they are, and what is owed for them.
 
-use crate::case::{Case, Fact, is_packet, is_so, kind_of};
+use crate::case::{Case, Fact, is_held, is_packet, kind_of};
 use crate::kinds::{never_there, no_cancel_routine, packet_of};
-use crate::lesson::Lesson;
+use crate::lesson::{About, Lesson};
 use crate::locks::{is_sent_elsewhere, list_of, lock_of};
 use crate::returns::{is_lent_still, of_form, of_marks, sent_down};
 use crate::tokens::of_token;
@@ -27,12 +27,12 @@ pub(crate) fn doubled(case: &Case<'_>) -> Lesson {
             source,
             "take it out, and leave the packet to its cancel routine",
         ),
-        Some(Instr::Move(to, _)) => Lesson::of(
+        Some(Instr::Move(to, _)) => Lesson::about(
             "the register is blank: what it had was moved to another one",
             source,
             "name the register that it was moved to, $R",
-        )
-        .on(to.index()),
+            About::register(to.index()),
+        ),
         _ => Lesson::of(
             "the register is blank: its packet was completed or given away before",
             source,
@@ -61,18 +61,16 @@ pub(crate) fn of_guards(case: &Case<'_>) -> Lesson {
 
 /// A queue is touched while its lock isn't held.
 fn unguarded(case: &Case<'_>) -> Lesson {
-    let lesson = Lesson::of(
+    let list = list_of(case.instr).unwrap_or(QueueName::DeviceQueue);
+    if !stands_there(case, list) {
+        return of_cancellation(case);
+    }
+    Lesson::about(
         "queue $Q is touched while its lock, $L, isn't held",
         QUEUES,
         "$A before it",
-    );
-    match list_of(case.instr) {
-        Some(list) if stands_there(case, list) => lesson
-            .at(list)
-            .under(case.guard(list).unwrap_or(Guard::CancelLock)),
-        Some(_) => of_cancellation(case),
-        None => lesson,
-    }
+        case.about(case.register(), list),
+    )
 }
 
 /// Whether the packet that an instruction takes off a queue or arms stands there.
@@ -91,38 +89,41 @@ fn stands_there(case: &Case<'_>, list: QueueName) -> bool {
 /// A lock is released while a register has a packet that stays where it is under the lock.
 fn let_go(case: &Case<'_>) -> Lesson {
     let lock = lock_of(case.instr).unwrap_or(Guard::CancelLock);
-    let Some((number, list, stage)) = case.kept_by(lock) else {
+    let Some((number, list, stage)) = case.kept_by(&lock) else {
         return Lesson::of(
             "the lock is released while a register has a packet that it guards",
             QUEUES,
             "finish with the packet first",
         );
     };
-    let disarmed = case.last_so(Fact::Armed(number)).is_some();
-    let lesson = match stage {
-        Stage::Listed if disarmed => Lesson::of(
+    let about = case.about(number, list);
+    match stage {
+        Stage::Listed if case.was_so(&Fact::Armed(number)) => Lesson::about(
             "$L is released while the packet in $R, which was disarmed, still stands in queue $Q",
             QUEUES,
             "`unlink $R $Q` before the release",
+            about,
         ),
-        Stage::Listed => Lesson::of(
+        Stage::Listed => Lesson::about(
             "$L is released while the packet in $R stands in queue $Q with no cancel routine set",
             QUEUES,
             "`arm $R $Q` behind its `insert`, or `unlink $R $Q` before the release",
+            about,
         ),
-        Stage::Cancelling => Lesson::of(
+        Stage::Cancelling => Lesson::about(
             "the lock is released while the packet that is being cancelled is in the device queue",
             WAITING,
             "`dequeue $R` before `relc`",
+            about,
         ),
-        _ => Lesson::of(
+        _ => Lesson::about(
             "$L is released while the packet in $R, taken off queue $Q, may still be cancelled",
             QUEUES,
             "`disarm $R L` behind the `remove`, with the same label: there the packet is left to \
              its cancel routine",
+            about,
         ),
-    };
-    lesson.on(number).at(list).under(lock)
+    }
 }
 
 /// A packet is taken off the device queue that isn't one of it.
@@ -130,10 +131,10 @@ fn of_another_list(case: &Case<'_>) -> Lesson {
     let why = "the packet isn't one of the device queue that is being cancelled";
     let register = packet_of(case.instr);
     match kind_of(case.state(), register) {
-        Kind::Queued(list, Stage::Cancelling) => Lesson::of(why, QUEUES, unlinked(case, list))
-            .on(register.index())
-            .at(list)
-            .under(case.guard(list).unwrap_or(Guard::CancelLock)),
+        Kind::Queued(list, Stage::Cancelling) => {
+            let about = case.about(register.index(), list);
+            Lesson::about(why, QUEUES, unlinked(case, list), about)
+        }
         _ => Lesson::of(
             why,
             QUEUES,
@@ -159,19 +160,12 @@ pub(crate) fn of_cancellation(case: &Case<'_>) -> Lesson {
         (Instr::Dequeue(_), _) => of_another_list(case),
         (Instr::Unlink(_, queue) | Instr::Arm(_, queue), Kind::Queued(list, _))
             if list != QueueName::Declared(queue) => { in_another(case, list) }
-        (Instr::Unlink(_, queue), kind) => not_unlinked(kind)
-            .on(register.index())
-            .at(QueueName::Declared(queue)),
-        (Instr::Arm(_, queue), kind) => not_armed(case, kind)
-            .on(register.index())
-            .at(QueueName::Declared(queue)),
-        (Instr::Disarm(_, _), kind) => not_disarmed(case, kind).on(register.index()),
+        (Instr::Unlink(_, _), kind) => not_unlinked(case, kind),
+        (Instr::Arm(_, queue), kind) => not_armed(case, kind, QueueName::Declared(queue)),
+        (Instr::Disarm(_, _), kind) => not_disarmed(case, kind),
         (Instr::Mark(_), _) => of_marks(case),
         _ if is_sent_elsewhere(case) => { sent_down(case.sort) }
-        (_, Kind::Queued(list, stage)) => not_own(case, list, stage)
-            .on(register.index())
-            .at(list)
-            .under(case.guard(list).unwrap_or(Guard::CancelLock)),
+        (_, Kind::Queued(list, stage)) => not_own(case, list, stage),
         _ => Lesson::of(
             "the packet may still be cancelled, so it isn't the routine's own",
             QUEUES,
@@ -183,51 +177,43 @@ pub(crate) fn of_cancellation(case: &Case<'_>) -> Lesson {
 /// A packet of a queue is taken while a register still names another one that stands there.
 fn named_still(case: &Case<'_>, queue: QueueName) -> Lesson {
     let why = "a second packet of queue $Q is taken while $R still names one there";
-    for (number, kind) in case.state().kinds.iter().enumerate() {
-        if let Kind::Queued(list, stage) = *kind
-            && list == queue
-            && stage != Stage::Taken
-        {
-            let mend = match stage {
-                Stage::Armed => "$E before it, which leaves that one to the queue, and $A again",
-                _ => "`unlink $R $Q` before it",
-            };
-            return Lesson::of(why, QUEUES, mend)
-                .on(number)
-                .at(queue)
-                .under(case.guard(queue).unwrap_or(Guard::CancelLock));
-        }
-    }
-    Lesson::of(why, QUEUES, "finish with that one before it").at(queue)
+    let Some((number, stage)) = case.named_in(queue) else {
+        let mend = "finish with that one before it";
+        return Lesson::about(why, QUEUES, mend, About::queue(queue));
+    };
+    let mend = match stage {
+        Stage::Armed => "$E before it, which leaves that one to the queue, and $A again",
+        _ => "`unlink $R $Q` before it",
+    };
+    Lesson::about(why, QUEUES, mend, case.about(number, queue))
 }
 
 /// A packet of one list is unlinked from another one, or armed for it.
 fn in_another(case: &Case<'_>, list: QueueName) -> Lesson {
     let why = "the packet is one of another list";
-    let register = packet_of(case.instr);
     let mend = match (list, case.instr) {
         (QueueName::DeviceQueue, _) => "`dequeue $R` instead, before `relc`",
         (_, Instr::Arm(_, _)) => "`arm $R $Q` instead",
         _ => unlinked(case, list),
     };
-    Lesson::of(why, QUEUES, mend)
-        .on(register.index())
-        .at(list)
-        .under(case.guard(list).unwrap_or(Guard::CancelLock))
+    Lesson::about(why, QUEUES, mend, case.about(case.register(), list))
 }
 
 /// A packet is unlinked that doesn't stand in the queue, or that may still be cancelled.
-fn not_unlinked(kind: Kind) -> Lesson {
+fn not_unlinked(case: &Case<'_>, kind: Kind) -> Lesson {
+    let about = About::register(case.register());
     match kind {
-        Kind::Queued(_, Stage::Armed) => Lesson::of(
+        Kind::Queued(_, Stage::Armed) => Lesson::about(
             "the packet is armed: its cancel routine is set, and may have been called",
             QUEUES,
             "`disarm $R L` before it; at L, leave the packet to its cancel routine",
+            about,
         ),
-        Kind::Queued(_, Stage::Taken) => Lesson::of(
+        Kind::Queued(_, Stage::Taken) => Lesson::about(
             "the packet was taken off the queue by `remove`",
             QUEUES,
             "`disarm $R L` instead; at L, leave the packet to its cancel routine",
+            about,
         ),
         _ => Lesson::of(
             "the packet is the routine's own, and doesn't stand in the queue",
@@ -238,48 +224,48 @@ fn not_unlinked(kind: Kind) -> Lesson {
 }
 
 /// A cancel routine is set for a packet that doesn't stand in the queue, or that has one.
-fn not_armed(case: &Case<'_>, kind: Kind) -> Lesson {
+fn not_armed(case: &Case<'_>, kind: Kind, list: QueueName) -> Lesson {
+    let about = case.about(case.register(), list);
     match kind {
         Kind::New | Kind::Own if !matches!(case.rule, Rule::CancelState) => Lesson::of(
             "the packet doesn't stand in the queue",
             QUEUES,
             "take it out: a packet is armed behind its `insert`, under the same lock",
         ),
-        Kind::New => Lesson::of(
+        Kind::New => Lesson::about(
             "the packet doesn't stand in the queue",
             QUEUES,
             "`mark $R` and `insert $R $Q` before it",
+            about,
         ),
         Kind::Queued(_, Stage::Armed) => {
             Lesson::of("the packet was armed before", QUEUES, "take it out")
         }
-        Kind::Queued(_, Stage::Taken) => Lesson::of(
+        Kind::Queued(_, Stage::Taken) => Lesson::about(
             "the packet was taken off the queue by `remove`",
             QUEUES,
             "`disarm $R L` and `insert $R $Q` before it",
+            about,
         ),
-        Kind::Queued(_, _) => Lesson::of(
+        Kind::Queued(_, _) => Lesson::about(
             "the packet is being cancelled",
             QUEUES,
             "take it out, and `unlink $R $Q`",
+            about,
         ),
-        _ => Lesson::of(
+        _ => Lesson::about(
             "the packet is the routine's own, and doesn't stand in the queue",
             QUEUES,
             "`insert $R $Q` before it",
+            about,
         ),
     }
 }
 
 /// The cancel routine is taken away of a packet that has none set.
 fn not_disarmed(case: &Case<'_>, kind: Kind) -> Lesson {
-    let register = packet_of(case.instr);
-    let taken = case.last_so(Fact::Blank(register));
-    match (kind, taken.and_then(|at| case.code.get(at as usize))) {
-        (Kind::Queued(list, Stage::Listed), _) => {
-            let armed = case.last_so(Fact::Armed(register.index())).is_some();
-            of_listed(armed).at(list)
-        }
+    match (kind, case.filled_by(packet_of(case.instr))) {
+        (Kind::Queued(list, Stage::Listed), _) => of_listed(case, list),
         (Kind::Queued(_, _), _) => Lesson::of(
             "the packet is being cancelled, and its cancel routine isn't set any more",
             QUEUES,
@@ -297,27 +283,29 @@ fn not_disarmed(case: &Case<'_>, kind: Kind) -> Lesson {
 }
 
 /// A packet that stands in its queue is disarmed: before it was armed, or once more.
-fn of_listed(armed: bool) -> Lesson {
-    if armed {
-        Lesson::of("the packet was disarmed before", QUEUES, "take it out")
-    } else {
-        Lesson::of(
-            "the packet wasn't armed: no cancel routine is set for it",
-            QUEUES,
-            "`arm $R $Q` behind its `insert`, or take this out",
-        )
+fn of_listed(case: &Case<'_>, list: QueueName) -> Lesson {
+    if case.was_so(&Fact::Armed(case.register())) {
+        return Lesson::of("the packet was disarmed before", QUEUES, "take it out");
     }
+    Lesson::about(
+        "the packet wasn't armed: no cancel routine is set for it",
+        QUEUES,
+        "`arm $R $Q` behind its `insert`, or take this out",
+        case.about(case.register(), list),
+    )
 }
 
 /// A packet of a list is used as the routine's own.
 fn not_own(case: &Case<'_>, list: QueueName, stage: Stage) -> Lesson {
+    let about = case.about(case.register(), list);
     match (stage, list) {
-        (Stage::Cancelling, QueueName::DeviceQueue) => Lesson::of(
+        (Stage::Cancelling, QueueName::DeviceQueue) => Lesson::about(
             "the packet still stands in the device queue, so it isn't the cancel routine's own",
             QUEUES,
             "`dequeue $R` before it, and before `relc`",
+            about,
         ),
-        (Stage::Cancelling, _) => Lesson::of(
+        (Stage::Cancelling, _) => Lesson::about(
             "the packet may still stand in queue $Q, so it isn't the cancel routine's own",
             QUEUES,
             if holds_guard(case, list) {
@@ -325,21 +313,25 @@ fn not_own(case: &Case<'_>, list: QueueName, stage: Stage) -> Lesson {
             } else {
                 "$A, `unlink $R $Q` and $E before it"
             },
+            about,
         ),
-        (Stage::Listed, _) => Lesson::of(
+        (Stage::Listed, _) => Lesson::about(
             "the packet stands in queue $Q",
             QUEUES,
             "`unlink $R $Q` before it, or take this out",
+            about,
         ),
-        (Stage::Armed, _) => Lesson::of(
+        (Stage::Armed, _) => Lesson::about(
             "the packet stands in queue $Q, and its cancel routine is set",
             QUEUES,
             "`disarm $R L` and `unlink $R $Q` before it, or take this out",
+            about,
         ),
-        (Stage::Taken, _) => Lesson::of(
+        (Stage::Taken, _) => Lesson::about(
             "the packet was taken off queue $Q, and its cancel routine may still be set",
             QUEUES,
             "`disarm $R L` before it; at L, leave the packet to its cancel routine",
+            about,
         ),
     }
 }
@@ -347,7 +339,7 @@ fn not_own(case: &Case<'_>, list: QueueName, stage: Stage) -> Lesson {
 /// Whether the guard of a list is held.
 fn holds_guard(case: &Case<'_>, list: QueueName) -> bool {
     match case.guard(list) {
-        Some(lock) => is_so(Fact::Held(lock), case.state()),
+        Some(lock) => is_held(case.state(), &lock),
         None => false,
     }
 }
@@ -355,7 +347,7 @@ fn holds_guard(case: &Case<'_>, list: QueueName) -> bool {
 /// The rule on packets that a routine still has.
 pub(crate) fn dropped(case: &Case<'_>) -> Lesson {
     let source = "the Driver Kit on dispatch routines";
-    match *case.instr {
+    match case.instr {
         Instr::Ret(_) if is_lent_still(case) => of_form(case),
         Instr::Ret(form) => left_behind(case, form),
         Instr::Clear(_) => Lesson::of(
@@ -372,35 +364,36 @@ pub(crate) fn dropped(case: &Case<'_>) -> Lesson {
 }
 
 /// A routine returns while a register still has a packet.
-fn left_behind(case: &Case<'_>, form: Return) -> Lesson {
+fn left_behind(case: &Case<'_>, form: &Return) -> Lesson {
     let Some(number) = first_left(case, form) else {
-        return lost(
+        return Lesson::of(
+            "the routine returns while the register still has a packet, which would be lost",
             "the Driver Kit on dispatch routines",
             "finish with the packet first",
         );
     };
-    let kinds = &case.state().kinds;
-    let lesson = match (kinds.get(number).copied(), case.sort) {
-        (Some(Kind::Queued(list, _)), _) => being_cancelled(list)
-            .at(list)
-            .under(case.guard(list).unwrap_or(Guard::CancelLock)),
-        (_, Sort::StartIo | Sort::Dpc) => of_started(case),
-        (Some(kind), Sort::Hold | Sort::Propagate) => of_completing(kind, form),
+    let kind = case.state().kinds.get(number).copied();
+    let dispatch = "the Driver Kit on dispatch routines";
+    match (kind, case.sort) {
+        (Some(Kind::Queued(list, _)), _) => being_cancelled(case.about(number, list), list),
+        (_, Sort::StartIo | Sort::Dpc) => of_started(case, number),
+        (Some(kind), Sort::Hold | Sort::Propagate) => of_completing(kind, form, number),
         (_, Sort::Cancel) => lost(
+            number,
             "the Driver Kit on cancel routines",
             "`complete $R CANCELLED` before the return",
         ),
         (Some(Kind::New), _) => lost(
-            "the Driver Kit on dispatch routines",
+            number,
+            dispatch,
             "`complete $R` with the returned status, `pass` it on, or `mark` and `insert` it",
         ),
-        _ => lost("the Driver Kit on dispatch routines", FINISH),
-    };
-    lesson.on(number)
+        _ => lost(number, dispatch, FINISH),
+    }
 }
 
 /// The first register whose packet a return in this form leaves behind.
-fn first_left(case: &Case<'_>, form: Return) -> Option<usize> {
+fn first_left(case: &Case<'_>, form: &Return) -> Option<usize> {
     let back = matches!((case.sort, form), (Sort::Hold, Return::Continue));
     let kinds = &case.state().kinds;
     kinds.iter().position(|kind| {
@@ -409,25 +402,28 @@ fn first_left(case: &Case<'_>, form: Return) -> Option<usize> {
 }
 
 /// A packet would be lost where a routine returns.
-fn lost(source: &'static str, mend: &'static str) -> Lesson {
+fn lost(number: usize, source: &'static str, mend: &'static str) -> Lesson {
     let why = "the routine returns while $R still has a packet, which would be lost";
-    Lesson::of(why, source, mend)
+    Lesson::about(why, source, mend, About::register(number))
 }
 
 /// A completion routine returns while it has a packet of a kind.
-fn of_completing(kind: Kind, form: Return) -> Lesson {
+fn of_completing(kind: Kind, form: &Return, number: usize) -> Lesson {
     let source = "the Driver Kit on IoCompletion routines and IoMarkIrpPending";
     match (kind, form) {
-        (Kind::New, _) => Lesson::of(
+        (Kind::New, _) => Lesson::about(
             "the routine stops the completion of a packet that it didn't keep",
             source,
             "`ret continue`, or `mark $R` and put it into a queue before `ret stop`",
+            About::register(number),
         ),
         (_, Return::Stop) => lost(
+            number,
             source,
             "put it into a queue, under its lock, before the return",
         ),
         _ => lost(
+            number,
             source,
             "put it into a queue, under its lock, and `ret stop`",
         ),
@@ -435,34 +431,38 @@ fn of_completing(kind: Kind, form: Return) -> Lesson {
 }
 
 /// A cancel routine leaves its packet where it is.
-fn being_cancelled(list: QueueName) -> Lesson {
+fn being_cancelled(about: About, list: QueueName) -> Lesson {
     let why =
         "the routine returns, and nobody completes the packet in $R, which is being cancelled";
     let source = "the Driver Kit on cancel routines";
     match list {
-        QueueName::DeviceQueue => Lesson::of(
+        QueueName::DeviceQueue => Lesson::about(
             why,
             source,
             "`dequeue $R` before `relc`, and `complete $R CANCELLED` before the return",
+            about,
         ),
-        QueueName::Declared(_) => Lesson::of(
+        QueueName::Declared(_) => Lesson::about(
             why,
             source,
             "$A, `unlink $R $Q`, $E and `complete $R CANCELLED` before the return",
+            about,
         ),
     }
 }
 
 /// A StartIo or DPC routine returns while it has a packet.
-fn of_started(case: &Case<'_>) -> Lesson {
+fn of_started(case: &Case<'_>, number: usize) -> Lesson {
     let source = "the Driver Kit on IoStartPacket, IoStartNextPacket and StartIo routines";
     match case.sort {
-        _ if !case.state().token => lost(source, FINISH),
+        _ if !case.state().token => lost(number, source, FINISH),
         Sort::StartIo => lost(
+            number,
             source,
             "`begin $R` before the return, or `complete` it and start the `next`",
         ),
         _ => lost(
+            number,
             source,
             "start the `next` and `complete $R`, or `begin $R` again, before the return",
         ),

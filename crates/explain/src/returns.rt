@@ -1,8 +1,7 @@
 //! The rules on pending marks and on what a routine returns, in words.
 
 use crate::case::Case;
-use crate::kinds::packet_of;
-use crate::lesson::Lesson;
+use crate::lesson::{About, Lesson};
 use model::abs::{Duty, Kind};
 use model::instr::{Instr, Return};
 use model::set::Sort;
@@ -10,7 +9,7 @@ use model::set::Sort;
 /// The rule on pending marks.
 pub(crate) fn of_marks(case: &Case<'_>) -> Lesson {
     let source = "Static Driver Verifier, MarkIrpPending; IoMarkIrpPending";
-    match *case.instr {
+    match case.instr {
         Instr::Mark(_) => Lesson::of(
             "the packet was marked before",
             source,
@@ -22,20 +21,28 @@ pub(crate) fn of_marks(case: &Case<'_>) -> Lesson {
             source,
             "complete it with its final status",
         ),
-        Instr::Ret(returned) if fits(case.sort, returned) => of_status(case, returned),
-        Instr::Ret(_) => of_form(case),
-        Instr::Begin(_) => Lesson::of(
+        Instr::Ret(returned) => of_returned(case, returned),
+        Instr::Begin(_) => Lesson::about(
             "the packet wasn't marked and started, and the routine has no token of a busy device",
             source,
             "`mark $R` and `start $R` instead",
-        )
-        .on(packet_of(case.instr).index()),
-        _ => Lesson::of(
+            About::register(case.register()),
+        ),
+        _ => Lesson::about(
             "the packet wasn't marked before it is kept or started",
             source,
             "`mark $R` before it",
-        )
-        .on(packet_of(case.instr).index()),
+            About::register(case.register()),
+        ),
+    }
+}
+
+/// The rule on what a routine returns.
+fn of_returned(case: &Case<'_>, returned: &Return) -> Lesson {
+    if fits(case.sort, returned) {
+        of_status(case, returned)
+    } else {
+        of_form(case)
     }
 }
 
@@ -67,7 +74,7 @@ pub(crate) fn sent_down(sort: Sort) -> Lesson {
 }
 
 /// The rule on the status that a dispatch routine returns.
-fn of_status(case: &Case<'_>, returned: Return) -> Lesson {
+fn of_status(case: &Case<'_>, returned: &Return) -> Lesson {
     let source = "Static Driver Verifier, MarkIrpPending; \"Returning STATUS_PENDING\"";
     match (returned, case.state().duty) {
         (_, Duty::Pending) => Lesson::of(
@@ -102,7 +109,7 @@ fn of_status(case: &Case<'_>, returned: Return) -> Lesson {
 fn owed_lower(case: &Case<'_>, why: &'static str, source: &'static str) -> Lesson {
     let kinds = &case.state().kinds;
     match kinds.iter().position(|kind| *kind == Kind::Lower) {
-        Some(number) => Lesson::of(why, source, "`ret lower $R`").on(number),
+        Some(number) => { Lesson::about(why, source, "`ret lower $R`", About::register(number)) }
         None => Lesson::of(
             why,
             source,
@@ -138,7 +145,7 @@ pub(crate) fn no_lower(case: &Case<'_>) -> Lesson {
 }
 
 /// Whether a routine of a sort returns in this form.
-pub(crate) fn fits(sort: Sort, form: Return) -> bool {
+fn fits(sort: Sort, form: &Return) -> bool {
     match sort {
         Sort::Dispatch => matches!(form, Return::WithStatus(_) | Return::Lower(_)),
         Sort::Propagate => matches!(form, Return::Continue),
@@ -189,7 +196,7 @@ fn returned_status(case: &Case<'_>, source: &'static str) -> Lesson {
 /// that it was lent.
 pub(crate) fn is_lent_still(case: &Case<'_>) -> bool {
     let lent = case.state().kinds.iter().any(|kind| *kind == Kind::New);
-    match *case.instr {
+    match case.instr {
         Instr::Ret(form) => matches!(case.sort, Sort::Hold) && lent && !fits(case.sort, form),
         _ => false,
     }

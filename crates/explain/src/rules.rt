@@ -1,8 +1,8 @@
 //! The rules in words: why an instruction breaks one, where that is written, and how to mend it.
 
 use crate::case::Case;
-use crate::kinds::{packet_of, wrong_kind};
-use crate::lesson::Lesson;
+use crate::kinds::wrong_kind;
+use crate::lesson::{About, Lesson};
 use crate::locks::{lock_held, of_locks};
 use crate::packets::{doubled, dropped, of_cancellation, of_guards};
 use crate::returns::{of_form, of_marks, sent_down};
@@ -151,12 +151,12 @@ fn of_completion(case: &Case<'_>) -> Lesson {
     let source = "the Driver Kit on IoCompletion routines and IoMarkIrpPending";
     match *case.instr {
         Instr::Ret(form) => of_return(case, form, source),
-        Instr::Call(_, Some(_)) if matches!(case.sort, Sort::Dispatch) => Lesson::of(
+        Instr::Call(_, Some(_)) if matches!(case.sort, Sort::Dispatch) => Lesson::about(
             "an unmarked packet is sent down with a routine that may hold it",
             source,
             "`mark $R` before it, and `ret PENDING`",
-        )
-        .on(packet_of(case.instr).index()),
+            About::register(case.register()),
+        ),
         Instr::Complete(_, _) | Instr::Pass(_) | Instr::Call(_, _) => Lesson::of(
             "a completion routine neither completes a packet nor sends it down",
             source,
@@ -191,12 +191,12 @@ fn of_look(case: &Case<'_>, source: &'static str) -> Lesson {
 /// A completion routine marks a packet without having seen that it has to.
 fn of_carried_mark(case: &Case<'_>, source: &'static str) -> Lesson {
     match case.state().settled {
-        Settled::Open => Lesson::of(
+        Settled::Open => Lesson::about(
             "the packet is marked before the routine has looked at Irp->PendingReturned",
             source,
             "`ifpending $R L` before it, so that it is marked at L alone",
-        )
-        .on(packet_of(case.instr).index()),
+            About::register(case.register()),
+        ),
         _ => Lesson::of(
             "the packet is marked where Irp->PendingReturned isn't set, or once more",
             source,
@@ -207,21 +207,21 @@ fn of_carried_mark(case: &Case<'_>, source: &'static str) -> Lesson {
 
 /// What a completion routine returns isn't what it did with the packet.
 fn of_return(case: &Case<'_>, form: Return, source: &'static str) -> Lesson {
-    let viewed = case
-        .state()
-        .kinds
-        .iter()
-        .position(|kind| *kind == Kind::View);
-    let lesson = match (form, case.state().settled) {
-        (_, Settled::Open) => Lesson::of(
+    let kinds = &case.state().kinds;
+    let viewed = kinds.iter().position(|kind| *kind == Kind::View);
+    let about = About::register(viewed.unwrap_or(0));
+    match (form, case.state().settled) {
+        (_, Settled::Open) => Lesson::about(
             "the completion routine doesn't look at Irp->PendingReturned",
             source,
             "`ifpending $R L` before it, and at L `mark $R` and `ret continue`",
+            about,
         ),
-        (_, Settled::NeedMark) => Lesson::of(
+        (_, Settled::NeedMark) => Lesson::about(
             "Irp->PendingReturned was set, and the packet isn't marked",
             source,
             "`mark $R` before the return",
+            about,
         ),
         (Return::Stop, _) => Lesson::of(
             "the routine keeps a packet that it didn't mark",
@@ -233,8 +233,7 @@ fn of_return(case: &Case<'_>, form: Return, source: &'static str) -> Lesson {
             source,
             "`ret stop`",
         ),
-    };
-    lesson.on(viewed.unwrap_or(0))
+    }
 }
 
 /// The rules on the devices under a driver.

@@ -39,7 +39,7 @@ pub(crate) fn not_taken() -> Lesson {
 
 /// The routine hasn't the token.
 fn no_token(case: &Case<'_>, source: &'static str) -> Lesson {
-    if case.last_so(Fact::Token).is_some() {
+    if case.was_so(&Fact::Token) {
         return Lesson::of(
             "the routine has spent its token: one token begins one packet, or starts the next one",
             source,
