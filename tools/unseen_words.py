@@ -17,6 +17,7 @@ import stored_runs
 TOP = stored_runs.TOP
 CRATES = {
     'explain': ('explain',),
+    'explain_rules': ('explain',),
     'told': ('tell', 'draw'),
     'fault_words': ('check', 'explain', 'trace', 'tell', 'draw', 'host', 'list'),
     'drawn_parts': ('draw',),

@@ -1,11 +1,10 @@
 //! The `device` and `queue` lines that a rule is about.
 
-use crate::case::Case;
-use crate::locks::list_of;
 use crate::place::Scene;
 use asm_line::{Body, read_line};
 use driver_set::DriverSet;
 use excerpt::{Spot, add_line, line_at};
+use explain_rules::{Case, list_of};
 use model::abs::Rule;
 use model::instr::Instr;
 use model::set::{Device, QueueName};

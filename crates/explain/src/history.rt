@@ -1,11 +1,8 @@
 //! What became of a register that is blank where something is wanted of it, and which loops make a
 //! count.
 
-use crate::case::{Case, Fact, is_held};
-use crate::kinds::blank_register;
-use crate::lesson::{add_lock, spin_number};
-use crate::locks::lock_meant;
 use crate::place::Scene;
+use explain_rules::{Case, Fact, add_lock, blank_register, is_held, lock_meant, spin_number};
 use model::instr::Instr;
 use std::alloc::{AllocError, Global};
 

@@ -4,23 +4,14 @@
 //! code, which takes what memory it needs and writes nothing itself.
 #![tactic(auto)]
 
-mod case;
 mod devices;
 mod history;
-mod kinds;
-mod lesson;
 mod listing;
-mod locks;
-mod names;
-mod packets;
 pub mod pages;
 mod path;
 mod place;
-mod returns;
-mod rules;
 mod state;
 mod telling;
-mod tokens;
 
 pub use pages::rule_words;
 pub use telling::{Origin, Told, explanation, explanations, roll};

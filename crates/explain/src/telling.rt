@@ -6,18 +6,16 @@ ghost use Rattle.explain.specs.Faults.{AddsFaults, AreFaults, IsFound, own_fault
 ghost use Rattle.model.specs.Sound.{DriverFits};
 ghost use Rattle.model.specs.Typable.{IsFirstFault, IsFirstFaultOf, at_start};
 
-use crate::case::Case;
 use crate::devices::{add_devices, add_queue_line};
 use crate::history::{add_blanking, add_lock_history, add_loops, add_token};
 use crate::listing::{listed_devices, listed_routine};
-use crate::names::{Names, SetNames};
 use crate::path::add_path;
 use crate::place::{Scene, Source};
-use crate::rules::{lesson_of, lesson_of_code, not_entered, of_set};
 use crate::state::{add_differences, add_state};
 use asm_source::{outline, routine_source};
 use driver_set::DriverSet;
 use evidence::{Evidence, Path, Subject, evidence_at, evidence_of};
+use explain_rules::{Case, Names, SetNames, lesson_of, lesson_of_code, not_entered, of_set};
 use model::abs::{Refusal, Rule};
 use model::set::{Driver, Routine};
 use std::alloc::{AllocError, Global};

@@ -52,7 +52,7 @@ pub(crate) fn packet_of(instr: &Instr) -> Register {
 }
 
 /// The register that is blank where an instruction wants something of it, if there is one.
-pub(crate) fn blank_register(instr: &Instr, state: &Abs) -> Option<Register> {
+pub fn blank_register(instr: &Instr, state: &Abs) -> Option<Register> {
     let register = match lack_of(instr, state) {
         Lack::Lower(register) | Lack::Number(register) | Lack::Packet(register) => register,
     };

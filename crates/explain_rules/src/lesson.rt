@@ -8,7 +8,7 @@ use std::alloc::AllocError;
 /// the register that they are about, `$Q` for the name of the queue, `$L` for the lock, `$A` and
 /// `$E` for what acquires and releases it.
 #[derive(Clone, Copy)]
-pub(crate) struct Lesson {
+pub struct Lesson {
     why: &'static str,
     source: &'static str,
     mend: &'static str,
@@ -85,7 +85,7 @@ impl Lesson {
     }
 
     /// Adds its three lines.
-    pub(crate) fn add(&self, prose: &mut String, names: Names<'_, '_>) -> Result<(), AllocError> {
+    pub fn add(&self, prose: &mut String, names: Names<'_, '_>) -> Result<(), AllocError> {
         prose.push_str("why: ")?;
         self.add_words(prose, names, self.why)?;
         write!(prose, "\nsee: {}\nmend it: ", self.source)?;
@@ -151,7 +151,7 @@ impl Lesson {
 }
 
 /// The number of a spin lock, where a lock is one of the device.
-pub(crate) fn spin_number(lock: &Guard) -> Option<usize> {
+pub fn spin_number(lock: &Guard) -> Option<usize> {
     match lock {
         Guard::DeviceLock(spin) => Some(spin.index()),
         Guard::CancelLock => None,
@@ -159,7 +159,7 @@ pub(crate) fn spin_number(lock: &Guard) -> Option<usize> {
 }
 
 /// Adds the name of the spin lock of a number, or of the system cancel spin lock.
-pub(crate) fn add_lock(prose: &mut String, spin: Option<usize>) -> Result<(), AllocError> {
+pub fn add_lock(prose: &mut String, spin: Option<usize>) -> Result<(), AllocError> {
     match spin {
         Some(number) => write!(prose, "l{number}"),
         None => prose.push_str("the system cancel spin lock"),

@@ -53,7 +53,7 @@ pub(crate) fn lock_of(instr: &Instr) -> Option<Guard> {
 }
 
 /// The lock that a rule on locks or on what they guard is about at an instruction.
-pub(crate) fn lock_meant(case: &Case<'_>) -> Option<Guard> {
+pub fn lock_meant(case: &Case<'_>) -> Option<Guard> {
     match (case.rule, *case.instr) {
         (Rule::LockHeld, _) | (Rule::SpinLock | Rule::CancelSpinLock, Instr::Ret(_)) => {
             Some(case.held())
@@ -68,7 +68,7 @@ pub(crate) fn lock_meant(case: &Case<'_>) -> Option<Guard> {
 }
 
 /// The list that an instruction touches, if it touches one.
-pub(crate) fn list_of(instr: &Instr) -> Option<QueueName> {
+pub fn list_of(instr: &Instr) -> Option<QueueName> {
     match *instr {
         Instr::Insert(_, queue)
         | Instr::Remove(_, queue, _)

@@ -12,7 +12,7 @@ use model::instr::{Instr, Return};
 use model::set::{Driver, Sort};
 
 /// What a rule says at an instruction, in the state that arrives there.
-pub(crate) fn lesson_of(case: &Case<'_>) -> Lesson {
+pub fn lesson_of(case: &Case<'_>) -> Lesson {
     match case.rule {
         Rule::WrongKind => wrong_kind(case),
         Rule::DoubleCompletion => doubled(case),
@@ -32,7 +32,7 @@ pub(crate) fn lesson_of(case: &Case<'_>) -> Lesson {
 }
 
 /// What a rule on the code of a routine says at an instruction, if there is one.
-pub(crate) fn lesson_of_code(rule: Rule, instr: Option<&Instr>) -> Lesson {
+pub fn lesson_of_code(rule: Rule, instr: Option<&Instr>) -> Lesson {
     match (rule, instr) {
         (Rule::Malformed, Some(instr)) => malformed(instr),
         (Rule::Malformed, None) => Lesson::of(
@@ -253,7 +253,7 @@ fn of_devices(rule: Rule) -> Lesson {
 }
 
 /// Why a cancel routine of a number can't be entered.
-pub(crate) fn not_entered(driver: Option<&Driver>, routine: u8) -> Lesson {
+pub fn not_entered(driver: Option<&Driver>, routine: u8) -> Lesson {
     let source = "the Driver Kit on cancel routines";
     match driver {
         Some(driver) if names(driver, routine) => Lesson::of(
@@ -277,7 +277,7 @@ fn names(driver: &Driver, routine: u8) -> bool {
 }
 
 /// Why a set is refused where no routine of it is at fault.
-pub(crate) fn of_set(rule: Rule) -> Lesson {
+pub fn of_set(rule: Rule) -> Lesson {
     match rule {
         Rule::Memory => of_paths(rule),
         _ => Lesson::of(

@@ -12,19 +12,19 @@ use model::spin_lock::SpinLock;
 
 /// An instruction of a routine of a driver of a set, that breaks a rule where a path leads.
 #[derive(Drop)]
-pub(crate) struct Case<'a> {
-    pub(crate) rule: Rule,
-    pub(crate) driver: u8,
-    pub(crate) set: &'a DriverSet,
-    pub(crate) sort: Sort,
-    pub(crate) code: &'a [Instr],
-    pub(crate) path: &'a Path,
-    pub(crate) instr: &'a Instr,
+pub struct Case<'a> {
+    pub rule: Rule,
+    pub driver: u8,
+    pub set: &'a DriverSet,
+    pub sort: Sort,
+    pub code: &'a [Instr],
+    pub path: &'a Path,
+    pub instr: &'a Instr,
 }
 
 /// Something that a state says.
 #[derive(Clone, Copy)]
-pub(crate) enum Fact {
+pub enum Fact {
     Blank(Register),
     /// The register isn't blank.
     Full(Register),
@@ -38,13 +38,13 @@ pub(crate) enum Fact {
 
 impl<'a> Case<'a> {
     /// What is known where the instruction stands.
-    pub(crate) fn state(&self) -> &'a Abs {
+    pub fn state(&self) -> &'a Abs {
         &self.path.last.state
     }
 
     /// The position on the path before this one at which something was so for the last time, if it
     /// was. Where it isn't so any more, the instruction there has ended it.
-    pub(crate) fn last_so(&self, fact: &Fact) -> Option<u16> {
+    pub fn last_so(&self, fact: &Fact) -> Option<u16> {
         let mut last: Option<u16> = None;
         for step in self.path.before.as_slice() {
             last = later(fact, step, last);
@@ -176,7 +176,7 @@ pub(crate) fn kind_of(state: &Abs, register: Register) -> Kind {
 }
 
 /// Whether a lock is held.
-pub(crate) fn is_held(state: &Abs, lock: &Guard) -> bool {
+pub fn is_held(state: &Abs, lock: &Guard) -> bool {
     match lock {
         Guard::DeviceLock(lock) => state.locks[lock.index()],
         Guard::CancelLock => state.cancel,
