@@ -16,8 +16,7 @@ import stored_runs
 
 TOP = stored_runs.TOP
 CRATES = {
-    'explain': ('explain',),
-    'explain_rules': ('explain',),
+    'explain explain_rules': ('explain',),
     'told': ('tell', 'draw'),
     'fault_words': ('check', 'explain', 'trace', 'tell', 'draw', 'host', 'list'),
     'drawn_parts': ('draw',),
@@ -34,6 +33,7 @@ LEFT_OUT = {
     'the register',
     'the lock is released while a register has a packet that it guards',
     'finish with the packet first',
+    'the routine returns while the register still has a packet, which would be lost',
     'finish with that one before it',
     # What is used as the routine's own and isn't is a packet of a list.
     "the packet may still be cancelled, so it isn't the routine's own",
@@ -129,16 +129,16 @@ def times_told(text, texts, answers):
         answers = answers.replace(part, '\0')
     return len(text.pattern().findall(answers))
 
-def counted(groups, crate):
-    """The texts of a crate, each with how often it is told."""
-    texts, answers = list(texts_of(crate)), answers_to(groups, CRATES[crate])
+def counted(groups, crates):
+    """The texts of crates, each with how often it is told."""
+    texts, answers = [text for crate in crates.split() for text in texts_of(crate)], answers_to(groups, CRATES[crates])
     for text in texts:
         yield text, times_told(text, texts, answers)
 
 def main():
     groups, count, unseen = stored_runs.groups(), 0, 0
-    for crate in CRATES:
-        for text, times in counted(groups, crate):
+    for crates in CRATES:
+        for text, times in counted(groups, crates):
             count += 1
             missing = (times > 0) == (text.literal in LEFT_OUT)
             unseen += missing
