@@ -86,7 +86,7 @@ a path there:
 what is known where it arrives:
   nothing: each register is blank, and no lock is held
 r0 went blank, since its packet was completed, at 4, line 26: complete r0 SUCCESS
-why: the register is blank: its packet was completed or given away before, or never there
+why: the register is blank: its packet was completed or given away before
 see: Static Driver Verifier, DoubleCompletion; IoCompleteRequest; bug check 0x44
 mend it: complete a packet once, and before it is handed on
 '''

@@ -45,7 +45,7 @@ a path there:
 what is known where it arrives:
   owed: the final status, since the packet was completed unmarked
 r0 went blank, since its packet was completed, at 0, line 4: complete r0 SUCCESS
-why: the register is blank: its packet was completed or given away before, or never there
+why: the register is blank: its packet was completed or given away before
 see: Static Driver Verifier, DoubleCompletion; IoCompleteRequest; bug check 0x44
 mend it: complete a packet once, and before it is handed on
 '''

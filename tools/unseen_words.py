@@ -3,7 +3,7 @@
 
 It reads the string literals of these crates' sources, but for comments and clauses, and looks for each in the answers of
 the stored runs (crates/stored_runs/runs, and the groups that tools/stored_runs.py makes) to the commands that tell it: the
-constant parts of a form in their order, with anything of the same line between them. What a longer text of the same crate
+constant parts of a form in their order, with anything of the same line between them (explain has `$R` and its kin there). What a longer text of the same crate
 has in common with it doesn't count, nor do lines that are quoted from a set. A word of the language, which stands in a
 table of its own, is looked for where a text asks whether it is meant. Literals without three letters in a row are left out.
 
@@ -16,7 +16,7 @@ import stored_runs
 
 TOP = stored_runs.TOP
 CRATES = {
-    'explain': ('explain',),
+    'explain explain_rules': ('explain',),
     'told': ('tell', 'draw'),
     'fault_words': ('check', 'explain', 'trace', 'tell', 'draw', 'host', 'list'),
     'drawn_parts': ('draw',),
@@ -28,8 +28,18 @@ LEFT_OUT = {
     # Memory runs out in no stored run.
     'memory ran out before there was a verdict',
     'try again with more memory',
-    # A path leads to each instruction that wants another kind of thing, and the state that arrives along it is known.
-    'a register has no number or no packet where one is wanted',
+    # A lesson that names a register is given one; a lock that is released too early has a register that says why; a second
+    # packet is taken while a register names the first; a packet is left behind in a register.
+    'the register',
+    'the lock is released while a register has a packet that it guards',
+    'finish with the packet first',
+    'the routine returns while the register still has a packet, which would be lost',
+    'finish with that one before it',
+    # What is used as the routine's own and isn't is a packet of a list.
+    "the packet may still be cancelled, so it isn't the routine's own",
+    '`disarm` and `unlink` it under the lock of its queue first',
+    # The cancel routine of the device queue can't release the lock before it has dequeued its packet, nor return with it.
+    '`dequeue $R` before `relc`, and `complete $R CANCELLED` before the return',
     # A register has a lower driver's status only from `pass` and `call` of the packet that was handed in, after which the
     # lower driver's status is owed; that a register hasn't it is told by another rule, which comes first.
     "a lower driver's status is returned for a packet that wasn't sent down",
@@ -50,7 +60,7 @@ LITERAL = re.compile(r'''(?P<byte>b)?"(?P<text>(?:[^"\\]|\\.)*)"|'(?:[^'\\]|\\.)
 ESCAPES = {'n': '\n', 't': '\t', 'r': '\r', '0': '\0', '"': '"', "'": "'", '\\': '\\'}
 # Lines of a set that are quoted: those round a place, and the one behind the number of a position or of a device's line.
 AROUND = re.compile(r'^  [> ] +[0-9]+  .*$', re.M)
-BEHIND = re.compile(r'(at [0-9]+, line [0-9]+|^the device, line [0-9]+|^under it, line [0-9]+): .*$', re.M)
+BEHIND = re.compile(r'(at [0-9]+, line [0-9]+|^(?:the device|under it|the queue), line [0-9]+): .*$', re.M)
 
 def plain(raw):
     """A literal without its escapes, and without line ends that are escaped."""
@@ -64,7 +74,7 @@ class Text:
         self.crate, self.path, self.line, self.literal = crate, path, line, literal
         self.is_word = path in TABLES and re.fullmatch(r'\w+', literal)
         unfolded = literal.replace('{{', '\1').replace('}}', '\2')
-        self.parts = [part.replace('\1', '{').replace('\2', '}') for part in re.split(r'\{[^{}]*\}', unfolded)]
+        self.parts = [part.replace('\1', '{').replace('\2', '}') for part in re.split(r'\{[^{}]*\}|\$[RQLAE]', unfolded)]
         self.longest = max(self.parts, key=len)
 
     def pattern(self):
@@ -119,16 +129,16 @@ def times_told(text, texts, answers):
         answers = answers.replace(part, '\0')
     return len(text.pattern().findall(answers))
 
-def counted(groups, crate):
-    """The texts of a crate, each with how often it is told."""
-    texts, answers = list(texts_of(crate)), answers_to(groups, CRATES[crate])
+def counted(groups, crates):
+    """The texts of crates, each with how often it is told."""
+    texts, answers = [text for crate in crates.split() for text in texts_of(crate)], answers_to(groups, CRATES[crates])
     for text in texts:
         yield text, times_told(text, texts, answers)
 
 def main():
     groups, count, unseen = stored_runs.groups(), 0, 0
-    for crate in CRATES:
-        for text, times in counted(groups, crate):
+    for crates in CRATES:
+        for text, times in counted(groups, crates):
             count += 1
             missing = (times > 0) == (text.literal in LEFT_OUT)
             unseen += missing

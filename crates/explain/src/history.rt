@@ -1,11 +1,9 @@
 //! What became of a register that is blank where something is wanted of it, and which loops make a
 //! count.
 
-use crate::kinds::{blank_register, kind_of};
 use crate::place::Scene;
-use evidence::{Path, Step};
-use model::abs::Kind;
-use model::instr::{Instr, Register};
+use explain_rules::{Case, Fact, add_lock, blank_register, is_held, lock_meant, spin_number};
+use model::instr::Instr;
 use std::alloc::{AllocError, Global};
 
 /// Adds where the register went blank of which an instruction wants something, and why, where it
@@ -13,56 +11,73 @@ use std::alloc::{AllocError, Global};
 pub(crate) fn add_blanking(
     prose: &mut String,
     scene: &Scene<'_>,
-    code: &[Instr],
-    path: &Path,
+    case: &Case<'_>,
 ) -> Result<(), AllocError> {
-    let Some(instr) = code.get(path.last.at as usize) else {
-        return Ok(());
-    };
-    let Some(register) = blank_register(instr, &path.last.state) else {
+    let Some(register) = blank_register(case.instr, case.state()) else {
         return Ok(());
     };
     let number = register.index();
-    match blanked_at(path, register) {
+    match case.last_so(&Fact::Full(register)) {
         None => write!(prose, "r{number} was never set on this path\n"),
         Some(at) => {
-            let why = match code.get(at as usize) {
+            let why = match case.code.get(at as usize) {
                 Some(emptying) => why_blank(emptying),
                 None => "",
             };
-            write!(prose, "r{number} went blank{why} ")?;
-            scene.add_position(prose, at)?;
-            prose.push_str("\n")
+            write!(prose, "r{number} went blank")?;
+            prose.push_str(why)?;
+            add_end(prose, scene, " ", at)
         }
     }
 }
 
-/// The position on a path whose instruction left a register blank for good, if one did.
-fn blanked_at(path: &Path, register: Register) -> Option<u16> {
-    let mut emptied: Option<u16> = None;
-    let mut full: Option<u16> = None;
-    for step in path.before.as_slice() {
-        full = note_kind(step, register, full, &mut emptied);
-    }
-    let _ = note_kind(&path.last, register, full, &mut emptied);
-    emptied
+/// Adds words and the position that they are about.
+fn add_end(prose: &mut String, scene: &Scene<'_>, words: &str, at: u16) -> Result<(), AllocError> {
+    prose.push_str(words)?;
+    scene.add_position(prose, at)?;
+    prose.push_str("\n")
 }
 
-/// Notes whether a register is blank where a step arrives, after a step at which it was not, if it
-/// was not. Answers the same for the next step.
-fn note_kind(
-    step: &Step,
-    register: Register,
-    full: Option<u16>,
-    emptied: &mut Option<u16>,
-) -> Option<u16> {
-    if kind_of(&step.state, register) != Kind::Blank {
-        return Some(step.at);
+/// Adds where the lock was acquired or released that a rule is about.
+pub(crate) fn add_lock_history(
+    prose: &mut String,
+    scene: &Scene<'_>,
+    case: &Case<'_>,
+) -> Result<(), AllocError> {
+    let Some(lock) = lock_meant(case) else {
+        return Ok(());
+    };
+    add_lock(prose, spin_number(&lock))?;
+    if is_held(case.state(), &lock) {
+        match case.last_so(&Fact::Unheld(lock)) {
+            Some(at) => add_end(prose, scene, " was acquired ", at),
+            None => prose.push_str(" was held when the routine was called\n"),
+        }
+    } else {
+        match case.last_so(&Fact::Held(lock)) {
+            Some(at) => add_end(prose, scene, " was released ", at),
+            None => prose.push_str(" wasn't acquired on this path\n"),
+        }
     }
-    if full.is_some() {
-        *emptied = full;
+}
+
+/// Adds what became of the token of the busy device, where there was one.
+pub(crate) fn add_token(
+    prose: &mut String,
+    scene: &Scene<'_>,
+    case: &Case<'_>,
+) -> Result<(), AllocError> {
+    if case.state().token {
+        match case.last_so(&Fact::NoToken) {
+            Some(at) => add_end(prose, scene, "the token was taken ", at),
+            None => prose.push_str("the routine was called with the token\n"),
+        }
+    } else {
+        match case.last_so(&Fact::Token) {
+            Some(at) => add_end(prose, scene, "the token was spent ", at),
+            None => Ok(()),
+        }
     }
-    None
 }
 
 /// Why an instruction left a register blank.

@@ -6,13 +6,10 @@
 
 mod devices;
 mod history;
-mod kinds;
 mod listing;
-mod names;
 pub mod pages;
 mod path;
 mod place;
-mod rules;
 mod state;
 mod telling;
 

@@ -1,7 +1,7 @@
 //! Where a refusal stands.
 
-use crate::names::{Names, SetNames};
 use excerpt::{Spot, Spots, add_excerpt, add_line};
+use explain_rules::{Names, SetNames};
 use model::abs::Refusal;
 use model::set::Sort;
 use std::alloc::AllocError;

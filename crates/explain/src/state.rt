@@ -1,6 +1,6 @@
 //! What is known of registers and locks, in words.
 
-use crate::names::Names;
+use explain_rules::Names;
 use model::abs::{Abs, Duty, Kind, Settled, Stage};
 use std::alloc::AllocError;
 

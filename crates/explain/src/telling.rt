@@ -6,20 +6,17 @@ ghost use Rattle.explain.specs.Faults.{AddsFaults, AreFaults, IsFound, own_fault
 ghost use Rattle.model.specs.Sound.{DriverFits};
 ghost use Rattle.model.specs.Typable.{IsFirstFault, IsFirstFaultOf, at_start};
 
-use crate::devices::add_devices;
-use crate::history::{add_blanking, add_loops};
+use crate::devices::{add_devices, add_queue_line};
+use crate::history::{add_blanking, add_lock_history, add_loops, add_token};
 use crate::listing::{listed_devices, listed_routine};
-use crate::names::{Names, SetNames};
 use crate::path::add_path;
 use crate::place::{Scene, Source};
-use crate::rules::{Lesson, lesson_of, not_entered, of_set};
 use crate::state::{add_differences, add_state};
-use absstate::Abs;
 use asm_source::{outline, routine_source};
 use driver_set::DriverSet;
 use evidence::{Evidence, Path, Subject, evidence_at, evidence_of};
+use explain_rules::{Case, Names, SetNames, lesson_of, lesson_of_code, not_entered, of_set};
 use model::abs::{Refusal, Rule};
-use model::instr::Instr;
 use model::set::{Driver, Routine};
 use std::alloc::{AllocError, Global};
 
@@ -48,7 +45,7 @@ pub fn explanation(
 {
     let mut prose = String::new(alloc);
     let Some(evidence) = evidence_of(alloc, set, refusal)? else {
-        add_lesson(&mut prose, of_set(refusal.rule))?;
+        of_set(refusal.rule).add(&mut prose, Names::Listed)?;
         return Ok(prose);
     };
     if let Some(routine) = routine_of(set, refusal) {
@@ -92,7 +89,7 @@ fn own_fault(alloc: Global, set: &DriverSet) -> Result<Vec<Told>, AllocError>
     let mut all = Vec::new(alloc);
     if set.devices().is_empty() {
         let mut words = String::new(alloc);
-        add_lesson(&mut words, of_set(Rule::Malformed))?;
+        of_set(Rule::Malformed).add(&mut words, Names::Listed)?;
         all.push(Told {
             refusal: at_start(Rule::Malformed),
             words,
@@ -247,12 +244,14 @@ fn add_evidence(
 ) -> Result<(), AllocError> {
     scene.add_place(prose)?;
     match evidence {
-        Evidence::Misplaced | Evidence::Unreached => add_why(prose, scene, routine, None),
-        Evidence::NotEntered => add_lesson(prose, not_entered()),
+        Evidence::Misplaced | Evidence::Unreached => add_why(prose, scene, routine),
+        Evidence::NotEntered => {
+            let driver = set.drivers().get(scene.refusal.driver as usize);
+            not_entered(driver, scene.refusal.routine).add(prose, scene.names())
+        }
         Evidence::Broken(path) => {
             add_arrival(prose, scene, "a path there:\n", path)?;
-            add_details(prose, scene, set, routine, path)?;
-            add_why(prose, scene, routine, Some(&path.last.state))
+            add_breach(prose, scene, set, routine, path)
         }
         Evidence::TooLong(path, count) => {
             add_arrival(prose, scene, "a path there:\n", path)?;
@@ -261,25 +260,35 @@ fn add_evidence(
                 "up to there: {count} instructions, by these loops:\n"
             )?;
             add_loops(alloc, prose, scene, routine.code.as_slice(), path.last.at)?;
-            add_why(prose, scene, routine, None)
+            add_why(prose, scene, routine)
         }
         Evidence::Differing(one, other) => {
             add_arrival(prose, scene, "one path there:\n", one)?;
             add_arrival(prose, scene, "another path there:\n", other)?;
-            add_differences(prose, scene.names(), &one.last.state, &other.last.state)?;
-            add_why(prose, scene, routine, None)
+            add_difference(prose, scene, routine, one, other)
         }
         Evidence::Unlike(start, end) => {
             add_arrival(prose, scene, "the path to the loop:\n", start)?;
             add_arrival(prose, scene, "the path to its end:\n", end)?;
-            add_differences(prose, scene.names(), &start.last.state, &end.last.state)?;
-            add_why(prose, scene, routine, None)
+            add_difference(prose, scene, routine, start, end)
         }
     }
 }
 
-/// Adds where a blank register went blank, or which devices a rule on devices is about.
-fn add_details(
+/// Adds what differs where two paths arrive, and why that breaks a rule.
+fn add_difference(
+    prose: &mut String,
+    scene: &Scene<'_>,
+    routine: &Routine,
+    one: &Path,
+    other: &Path,
+) -> Result<(), AllocError> {
+    add_differences(prose, scene.names(), &one.last.state, &other.last.state)?;
+    add_why(prose, scene, routine)
+}
+
+/// Adds what the instruction at the end of a path breaks there, and what led to it.
+fn add_breach(
     prose: &mut String,
     scene: &Scene<'_>,
     set: &DriverSet,
@@ -287,12 +296,36 @@ fn add_details(
     path: &Path,
 ) -> Result<(), AllocError> {
     let code = routine.code.as_slice();
-    match scene.refusal.rule {
-        Rule::WrongKind | Rule::DoubleCompletion => add_blanking(prose, scene, code, path),
-        Rule::StackTooSmall | Rule::NoLower => match code.get(path.last.at as usize) {
-            Some(instr) => add_devices(prose, scene, set, instr),
-            None => Ok(()),
-        },
+    let Some(instr) = code.get(path.last.at as usize) else {
+        return Ok(());
+    };
+    let case = Case {
+        rule: scene.refusal.rule,
+        driver: scene.refusal.driver,
+        set,
+        sort: routine.sort,
+        code,
+        path,
+        instr,
+    };
+    add_details(prose, scene, &case)?;
+    lesson_of(&case).add(prose, scene.names())
+}
+
+/// Adds what led to it that a rule is broken: where a register went blank, a lock was acquired or
+/// a token spent, and which queue or devices the rule is about.
+fn add_details(prose: &mut String, scene: &Scene<'_>, case: &Case<'_>) -> Result<(), AllocError> {
+    match case.rule {
+        Rule::WrongKind | Rule::DoubleCompletion => add_blanking(prose, scene, case),
+        Rule::CancelSpinLock | Rule::SpinLock | Rule::LockHeld => {
+            add_lock_history(prose, scene, case)
+        }
+        Rule::Guard => {
+            add_queue_line(prose, scene, case)?;
+            add_lock_history(prose, scene, case)
+        }
+        Rule::Token => add_token(prose, scene, case),
+        Rule::StackTooSmall | Rule::NoLower => add_devices(prose, scene, case),
         _ => Ok(()),
     }
 }
@@ -310,26 +343,10 @@ fn add_arrival(
     add_state(prose, scene.names(), &path.last.state)
 }
 
-/// Adds why the rule is broken by the instruction at the place.
-fn add_why(
-    prose: &mut String,
-    scene: &Scene<'_>,
-    routine: &Routine,
-    state: Option<&Abs>,
-) -> Result<(), AllocError> {
-    let Refusal { at, rule, .. } = scene.refusal;
-    match routine.code.as_slice().get(at as usize) {
-        Some(instr) => add_lesson(prose, lesson_of(rule, instr, routine.sort, state)),
-        None => add_lesson(prose, lesson_of(rule, &Instr::Next, routine.sort, state)),
-    }
-}
-
-/// Adds why a rule is broken, where that is written, and how to mend it.
-fn add_lesson(prose: &mut String, lesson: Lesson) -> Result<(), AllocError> {
-    let Lesson { why, source, mend } = lesson;
-    write!(prose, "why: {why}\n")?;
-    write!(prose, "see: {source}\n")?;
-    write!(prose, "mend it: {mend}\n")
+/// Adds why a rule on the code of a routine is broken at the place.
+fn add_why(prose: &mut String, scene: &Scene<'_>, routine: &Routine) -> Result<(), AllocError> {
+    let instr = routine.code.as_slice().get(scene.refusal.at as usize);
+    lesson_of_code(scene.refusal.rule, instr).add(prose, scene.names())
 }
 
 /// The routines of a set, a line each: where they stand, their sort and their names.

@@ -47,9 +47,9 @@ const FIRST_TOLD: &[u8] = b"refused V13 Dropped driver 0 routine 0 at 0\n\
       what is known where it arrives:\n\
       \x20 r0: the packet as it was handed in\n\
       \x20 owed: the packet that was handed in, with which nothing was done\n\
-      why: the routine returns while a register still has a packet, which would be lost\n\
+      why: the routine returns while r0 still has a packet, which would be lost\n\
       see: the Driver Kit on dispatch routines\n\
-      mend it: complete the packet, pass it on, or mark it and put it into a queue\n";
+      mend it: `complete r0` with the returned status, `pass` it on, or `mark` and `insert` it\n";
 
 /// What is told of the other one, behind that.
 const OTHER_TOLD: &[u8] = b"\n\
@@ -65,9 +65,10 @@ const OTHER_TOLD: &[u8] = b"\n\
       \x20    at 0, line 7: relc\n\
       what is known where it arrives:\n\
       \x20 nothing: each register is blank, and no lock is held\n\
+      the system cancel spin lock wasn't acquired on this path\n\
       why: the lock isn't held where it is released\n\
       see: Static Driver Verifier, SpinLock and CancelSpinLock; bug checks 0x0F and 0x10\n\
-      mend it: acquire it first, or leave it alone\n";
+      mend it: `acqc` before what the lock guards, or take it out\n";
 
 const ONE_READ: &[u8] = b"threads 1\nissue 0 0 READ 7\nstep 0 3\n";
 

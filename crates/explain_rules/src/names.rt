@@ -8,7 +8,7 @@ use text::piece::Piece;
 
 /// The name of a driver, and those of its routines and queues, in order.
 #[derive(Drop)]
-pub(crate) struct DriverNames<'a> {
+pub struct DriverNames<'a> {
     driver: Piece<'a>,
     routines: Vec<Piece<'a>>,
     queues: Vec<Piece<'a>>,
@@ -16,7 +16,7 @@ pub(crate) struct DriverNames<'a> {
 
 /// What the drivers of a set are called, and the things in them.
 #[derive(Drop)]
-pub(crate) enum SetNames<'a> {
+pub enum SetNames<'a> {
     /// As a text names them.
     Given(Vec<DriverNames<'a>>),
     /// By a letter and their numbers.
@@ -25,11 +25,7 @@ pub(crate) enum SetNames<'a> {
 
 impl<'a> SetNames<'a> {
     /// As the lines of a text name them that are its outline.
-    pub(crate) fn of(
-        alloc: Global,
-        text: &'a [u8],
-        outline: &Spots,
-    ) -> Result<SetNames<'a>, AllocError> {
+    pub fn of(alloc: Global, text: &'a [u8], outline: &Spots) -> Result<SetNames<'a>, AllocError> {
         let mut drivers = Vec::new(alloc);
         for spot in outline.as_slice() {
             if let Some(raw) = line_at(text, *spot) {
@@ -40,7 +36,7 @@ impl<'a> SetNames<'a> {
     }
 
     /// The names in the driver of a number.
-    pub(crate) fn in_driver(&self, driver: u8) -> Names<'_, 'a> {
+    pub fn in_driver(&self, driver: u8) -> Names<'_, 'a> {
         match self {
             SetNames::Given(drivers) => Names::Given(drivers.get(driver as usize)),
             SetNames::Listed => Names::Listed,
@@ -80,7 +76,7 @@ fn note<'a>(
 
 /// What a driver and the things in it are called.
 #[derive(Clone, Copy)]
-pub(crate) enum Names<'n, 'a> {
+pub enum Names<'n, 'a> {
     /// As a text names them, if it has the driver.
     Given(Option<&'n DriverNames<'a>>),
     /// By a letter and their numbers.
@@ -89,7 +85,7 @@ pub(crate) enum Names<'n, 'a> {
 
 impl Names<'_, '_> {
     /// Adds the name of the driver, which has this number.
-    pub(crate) fn add_driver(self, prose: &mut String, number: u8) -> Result<(), AllocError> {
+    pub fn add_driver(self, prose: &mut String, number: u8) -> Result<(), AllocError> {
         match self {
             Names::Given(Some(names)) => add_name(prose, Some(&names.driver), "driver", number),
             Names::Given(None) => add_name(prose, None, "driver", number),
@@ -98,10 +94,28 @@ impl Names<'_, '_> {
     }
 
     /// Adds the name of a queue, or that it is the device queue.
-    pub(crate) fn add_queue(self, prose: &mut String, name: QueueName) -> Result<(), AllocError> {
+    pub fn add_queue(self, prose: &mut String, name: QueueName) -> Result<(), AllocError> {
         match name {
             QueueName::Declared(number) => self.add_declared(prose, number),
             QueueName::DeviceQueue => prose.push_str("the device queue"),
+        }
+    }
+
+    /// Adds the name of a queue as an instruction has it.
+    pub(crate) fn add_queue_alone(
+        self,
+        prose: &mut String,
+        name: QueueName,
+    ) -> Result<(), AllocError> {
+        let QueueName::Declared(number) = name else {
+            return prose.push_str("the device queue");
+        };
+        match self {
+            Names::Given(Some(names)) => match names.queues.get(number as usize) {
+                Some(name) => add_bytes(prose, name.bytes()),
+                None => write!(prose, "q{number}"),
+            },
+            _ => write!(prose, "q{number}"),
         }
     }
 
@@ -117,7 +131,7 @@ impl Names<'_, '_> {
     }
 
     /// Adds the name of a routine.
-    pub(crate) fn add_routine(self, prose: &mut String, number: u8) -> Result<(), AllocError> {
+    pub fn add_routine(self, prose: &mut String, number: u8) -> Result<(), AllocError> {
         match self {
             Names::Given(Some(names)) => {
                 let name = names.routines.get(number as usize);

@@ -1,0 +1,20 @@
+//! The rules in words, by what led to it that one is broken: why, where that is written, and how to
+//! mend it. The words are plain code, which takes what memory it needs and writes nothing itself.
+#![tactic(auto)]
+
+mod case;
+mod kinds;
+mod lesson;
+mod locks;
+mod names;
+mod packets;
+mod returns;
+mod rules;
+mod tokens;
+
+pub use case::{Case, Fact, is_held};
+pub use kinds::blank_register;
+pub use lesson::{Lesson, add_lock, spin_number};
+pub use locks::{list_of, lock_meant};
+pub use names::{Names, SetNames};
+pub use rules::{lesson_of, lesson_of_code, not_entered, of_set};
