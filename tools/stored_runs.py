@@ -1,12 +1,12 @@
 #!/usr/bin/env python3
-"""stored_runs.py [--check | --cases | --show GROUP | run [PROGRAM]]: what the program of crates/stored_runs runs, and what it has to write.
+"""stored_runs.py [--check | --cases | --show GROUP | run [PROGRAM]]: what the program of crates/tests_stored runs, and what it has to write.
 
-A file of crates/stored_runs/runs is a group of cases. A case is a line `# NAME` and the runs behind it: a line `$ WORDS`,
+A file of crates/tests_stored/runs is a group of cases. A case is a line `# NAME` and the runs behind it: a line `$ WORDS`,
 what drvhost answers to these words, what the error writer is told behind a line `told:`, and a line with the exit status,
 the number of files that are opened, and of reads of them that fail. The files that the words name lie in
-crates/stored_runs/data. The group of the wrong drivers is made of the folder gallery, whose texts are copied to data/gallery;
+crates/tests_stored/data. The group of the wrong drivers is made of the folder gallery, whose texts are copied to data/gallery;
 texts of the folder examples that are named are copied to data/examples. The group of the rules' pages is made of
-crates/explain/src/pages.rt and, with what `check` says of a page's example, of docs/RULES.md; the examples are data/pages.
+crates/verifier_words/src/pages.rt and, with what `check` says of a page's example, of docs/RULES.md; the examples are data/pages.
 
 Without a flag it writes from these the list of the runs (data/runs.txt), the copies, and what the program has to write
 (stdout). With --check it writes nothing, and tells what it would write otherwise; it also tells of a text in data that no
@@ -22,7 +22,7 @@ from compare_pages import pages, sections, titles
 
 TOP = os.path.dirname(os.path.dirname(os.path.abspath(__file__)))
 GALLERY, EXAMPLES = os.path.join(TOP, 'gallery'), os.path.join(TOP, 'examples')
-CRATE = os.path.join(TOP, 'crates/stored_runs')
+CRATE = os.path.join(TOP, 'crates/tests_stored')
 RUNS, DATA = os.path.join(CRATE, 'runs'), os.path.join(CRATE, 'data')
 LIST, STDOUT = 'data/runs.txt', 'stdout'
 COPIED = 'driver.drv', 'events.sched', 'mended.drv'

@@ -1,6 +1,6 @@
 #!/usr/bin/env python3
 """try_random_told.py [--seed N] [--runs N] [PROGRAM]: random schedules (5,000, if no number is given) on all accepted texts of
-examples, gallery and crates/stored_runs/data, told and traced by the program (crates/drvhost/out/drvhost, if none is named). Of
+examples, gallery and crates/tests_stored/data, told and traced by the program (crates/drvhost/out/drvhost, if none is named). Of
 each run every told line has to begin with the trace's line, both have to end alike, and the audit may find no packet that is
 lost, no lock left behind and no stack location returned from otherwise than it was marked; each live packet has one holder by
 right; and with --quiet the same is told but for the lines of events that only step or find nothing to do. Threads may wait in a
@@ -8,7 +8,7 @@ ring, since no rule forbids that, and the told run ends with exit status 1 then.
 import argparse, glob, os, random, re, subprocess, sys, tempfile
 
 TOP = os.path.dirname(os.path.dirname(os.path.abspath(__file__)))
-PLACES = 'examples/*.drv', 'gallery/*/*.drv', 'crates/stored_runs/data/**/*.drv'
+PLACES = 'examples/*.drv', 'gallery/*/*.drv', 'crates/tests_stored/data/**/*.drv'
 AMISS = re.compile(r'lost|left behind|completion left it|stopped by')
 LEFT_OUT = re.compile(r'[0-9]+ (stepped|idle)\b')
 

@@ -2,7 +2,7 @@
 """unseen_words.py [--all]: the texts of explain, told, fault_words and drawn_parts that no stored answer has.
 
 It reads the string literals of these crates' sources, but for comments and clauses, and looks for each in the answers of
-the stored runs (crates/stored_runs/runs, and the groups that tools/stored_runs.py makes) to the commands that tell it: the
+the stored runs (crates/tests_stored/runs, and the groups that tools/stored_runs.py makes) to the commands that tell it: the
 constant parts of a form in their order, with anything of the same line between them (explain has `$R` and its kin there). What a longer text of the same crate
 has in common with it doesn't count, nor do lines that are quoted from a set. A word of the language, which stands in a
 table of its own, is looked for where a text asks whether it is meant. Literals without three letters in a row are left out.

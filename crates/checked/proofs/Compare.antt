@@ -32,8 +32,8 @@ use Rattle.checked.proofs.Stacks.{finished_more, root_more}
 use Rattle.checked.proofs.Known.{known, runs}
 use Rattle.checked.proofs.Effects.{Fine, is_bug, fine_frame}
 use Rattle.irql_locks.specs.Owns.{OwningTells}
-use Rattle.run_laws.specs.PastTells.{PastTells}
-use Rattle.run_laws.proofs.Lists.{last_split}
+use Rattle.laws_runs.specs.PastTells.{PastTells}
+use Rattle.laws_runs.proofs.Lists.{last_split}
 
 -- the run answers as the machine ends
 pub record Same (a : Answered) (e : Ended) : Type 0 where

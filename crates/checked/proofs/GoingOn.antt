@@ -16,8 +16,8 @@ use Rattle.model.specs.Set.{Set, instruction_at}
 use Rattle.model.specs.Sound.{IsSound}
 use Rattle.model.specs.World.{Shared, World}
 use Rattle.irql_locks.specs.Owns.{OwningTells}
-use Rattle.run_laws.specs.PastTells.{PastTellsOfTheWorld}
-use Rattle.run_laws.proofs.Lists.{before_last, last_of}
+use Rattle.laws_runs.specs.PastTells.{PastTellsOfTheWorld}
+use Rattle.laws_runs.proofs.Lists.{before_last, last_of}
 use Rattle.checked.specs.GoingOn.{FrameGoes, GoesAlone, GoesOn, RoutineGoes, SameRoutine, ThreadGoes, WorldGoes, frame_rests, frame_runs, more, none, rests, runs, stays, steps, with_top, world_rests, world_runs}
 use Rattle.checked.specs.Step.{State, machine_of, state_now}
 use Rattle.checked.proofs.Compare.{put_back}

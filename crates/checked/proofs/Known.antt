@@ -11,7 +11,7 @@ use Rattle.model.specs.Fault.{bug_if, first_or, completion_fault, holds, holds_a
 use Rattle.model.specs.Run.{Run}
 use Rattle.model.specs.Trace.{Actor, Entry}
 use Rattle.model.specs.World.{Shared, packet_of}
-use Rattle.run_laws.specs.PastTells.{PastTells, TellsOfPacket}
+use Rattle.laws_runs.specs.PastTells.{PastTells, TellsOfPacket}
 use Rattle.irql_locks.specs.Owns.{owns, owns_any, OwningTells, OwnsSome}
 use Rattle.checked_parts.specs.declared.ran.Runner.{Runner}
 use Rattle.checked_parts.specs.Left.{is_gone, is_held, is_armed, is_full, is_raised}

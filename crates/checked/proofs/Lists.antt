@@ -3,7 +3,7 @@ use Rattle.std.proofs.Common.{◌≡◌, ◌<◌, ◌-◌, ℕ, List, [], ◌∷
 use Rattle.std.specs.Prelude.{slice_get, slice_set}
 use Rattle.std.proofs.lemmas.List.{length_push}
 use Rattle.std.proofs.lemmas.Option.{slice_get-get_or}
-use Rattle.run_laws.proofs.Lists.{before_last, last_split}
+use Rattle.laws_runs.proofs.Lists.{before_last, last_split}
 
 -- what is read at the last place
 pub found_last : {A : Type 0} (xs : List A) (i : ℕ) (x : A) → i ≡ length xs - 1 → i < length xs

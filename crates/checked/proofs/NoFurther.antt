@@ -27,7 +27,7 @@ use Rattle.model.specs.Set.{Set, default_number, instruction_at, routine_of, sor
 use Rattle.model.specs.World.{World, number_in, packet_in, register, status_in, unused}
 use Rattle.checked.specs.GoingOn.{FrameGoesNoFurther, Makes, MakesAlone, RoutineGoesNoFurther, ThreadGoesNoFurther, WorldGoesNoFurther}
 use Rattle.checked.proofs.GoingOn.{found_set}
-use Rattle.run_laws.proofs.Lists.{last_of}
+use Rattle.laws_runs.proofs.Lists.{last_of}
 
 -- no value refers to a packet there
 no_packet : (v : Value) → packet_in (unused 0) v ≡ None

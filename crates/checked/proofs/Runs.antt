@@ -9,7 +9,7 @@ use Rattle.model.specs.Run.{Run, Answered, answered_on, begun, refused, thread_o
 use Rattle.model.specs.Set.{Set}
 use Rattle.model.specs.Sound.{IsSound}
 use Rattle.irql_locks.specs.Owns.{OwningTells}
-use Rattle.run_laws.specs.PastTells.{PastTells, PastTellsOfTheWorld}
+use Rattle.laws_runs.specs.PastTells.{PastTells, PastTellsOfTheWorld}
 use Rattle.checked.specs.Step.{State, Taken, event_now, machine_of, state_now, taken}
 use Rattle.checked.proofs.Compare.{Same, compare_event}
 

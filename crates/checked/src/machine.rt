@@ -7,16 +7,16 @@ ghost use Rattle.model.specs.Machine.{ShowsWhole, AppliesWhole};
 ghost use Rattle.model.specs.Sound.{IsSound};
 ghost use Rattle.model.specs.Typable.{IsTypable};
 ghost use Rattle.model.specs.View.{due_at, packet_at, thread_at};
-ghost use Rattle.run_laws.specs.Rules.{KeepsTheRules};
+ghost use Rattle.laws_runs.specs.Rules.{KeepsTheRules};
 
 use crate::state::State;
 use crate::thread::Thread;
 use checked_parts::Shared;
 use driver_set::DriverSet;
+use laws_runs::accepted_runs_keep_the_rules;
 use model::event::{Event, Reply};
 use model::memory::OutOfMemory;
 use model::view::{PacketView, ThreadView};
-use run_laws::accepted_runs_keep_the_rules;
 use std::alloc::Global;
 use std::marker::Model;
 

@@ -13,10 +13,10 @@ use crate::thread::Thread;
 use checked_parts::Shared;
 use driver_set::DriverSet;
 use irql_locks::owning_tells;
+use laws_runs::the_past_tells_of_the_world;
 use model::event::{Event, Reply};
 use model::memory::OutOfMemory;
 use model::view::{PacketView, ThreadView};
-use run_laws::the_past_tells_of_the_world;
 use std::alloc::Global;
 use std::marker::Model;
 

@@ -2,9 +2,9 @@
 //! library for what it answers.
 #![tactic(auto)]
 
-use command_line::answer::answer;
-use command_line::files::Disk;
-use inputs_outputs::device::Writer;
+use drvhost_devices::device::Writer;
+use drvhost_words::answer::answer;
+use drvhost_words::files::Disk;
 use std::env;
 use std::io::ErrorKind;
 use std::process::ExitCode;

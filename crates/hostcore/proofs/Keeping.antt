@@ -16,8 +16,8 @@ use Rattle.model.specs.Run.{Run, begun, run, run_from, step}
 use Rattle.model.specs.Set.{Set}
 use Rattle.model.specs.Shown.{Shown, ShowsWorld}
 use Rattle.model.specs.World.{World}
-use Rattle.run_laws.specs.Rules.{KeepsTheRules}
-use Rattle.run_laws.specs.Waits.{WaitingChangesNothing, says_unchanged}
+use Rattle.laws_runs.specs.Rules.{KeepsTheRules}
+use Rattle.laws_runs.specs.Waits.{WaitingChangesNothing, says_unchanged}
 use Rattle.hostcore.specs.Core.{Log, counted, counted_at}
 use Rattle.hostcore.specs.Kept.{IsKept}
 

@@ -10,7 +10,7 @@ use Rattle.model.specs.declared.history.Outcome.{Outcome}
 use Rattle.model.specs.declared.history.TopOut.{TopOut}
 use Rattle.model.specs.History.{IsLegal, entry_named, outcome_by, outcome_named, outcome_with, replies_of, request_started, top_out_of, with_top_out, world_after_all}
 use Rattle.model.specs.World.{packet_of}
-use Rattle.run_laws.specs.ToldTops.{TopOutsAreTold}
+use Rattle.laws_runs.specs.ToldTops.{TopOutsAreTold}
 use Rattle.hostcore.specs.Core.{CoreState, IsOwed, StartedLive, WaitsForPacket}
 
 -- what is found stands at a place

@@ -17,7 +17,7 @@ use Rattle.model.specs.Shown.{Shown}
 use Rattle.model.specs.View.{busy_at, has_frames, thread_view}
 use Rattle.model.specs.World.{World}
 use Rattle.machine.specs.Runs.{TellsOf}
-use Rattle.run_laws.specs.Waits.{WaitingChangesNothing, says_unchanged}
+use Rattle.laws_runs.specs.Waits.{WaitingChangesNothing, says_unchanged}
 use Rattle.hostcore.specs.Core.{CoreState, Log, counted}
 use Rattle.hostcore.specs.Kept.{IsKept}
 use Rattle.hostcore.specs.Stepping.{Makes, Steps, is_of_none}

@@ -5,7 +5,7 @@ use Rattle.model.specs.declared.limits.TheConstants.{MAX_HISTORY}
 use Rattle.model.specs.History.{IsLegal, events_of}
 use Rattle.model.specs.Machine.{Shows}
 use Rattle.model.specs.Shown.{Shown}
-use Rattle.run_laws.specs.Rules.{KeepsTheRules}
+use Rattle.laws_runs.specs.Rules.{KeepsTheRules}
 use Rattle.hostcore.specs.Core.{Log}
 
 -- its world is that of the run of its history, which is legal; its runs keep the rules; the history

@@ -8,16 +8,16 @@ ghost use Rattle.machine.specs.Runs.{TellsOf};
 ghost use Rattle.model.specs.History.{IsLegal, entry_named, event_of, events_of, is_kept, outcome_named};
 ghost use Rattle.model.specs.Run.{thread_of};
 ghost use Rattle.model.specs.View.{busy_at, due_at};
-ghost use Rattle.run_laws.specs.Rules.{KeepsTheRules};
+ghost use Rattle.laws_runs.specs.Rules.{KeepsTheRules};
 
 use crate::log::Log;
 use crate::seat::Seat;
 use crate::ticket::{Taken, Ticket};
+use laws_runs::{top_outs_are_told, waiting_changes_nothing};
 use machine::World;
 use model::event::{Event, Reply};
 use model::history::{Command, Entry, Name, Outcome};
 use model::memory::OutOfMemory;
-use run_laws::{top_outs_are_told, waiting_changes_nothing};
 use std::alloc::Global;
 use std::marker::Model;
 use verifier::Accepted;

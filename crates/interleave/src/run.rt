@@ -3,7 +3,7 @@
 ghost use Rattle.std.specs.Prelude.{◌≡◌, ◌≤◌, IfOk, IfErr};
 ghost use Rattle.model.specs.declared.limits.TheConstants.{MAX_THREADS};
 ghost use Rattle.model.specs.Machine.{Shows};
-ghost use Rattle.run_laws.specs.Rules.{KeepsTheRules};
+ghost use Rattle.laws_runs.specs.Rules.{KeepsTheRules};
 
 use machine::World;
 use model::event::Event;

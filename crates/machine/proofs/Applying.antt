@@ -9,13 +9,13 @@ use Rattle.model.specs.Set.{Set}
 use Rattle.model.specs.Sound.{IsSound}
 use Rattle.model.specs.Typable.{IsTypable}
 use Rattle.machine.specs.Runs.{GoesOn, IsMeant, StepsThreads}
-use Rattle.run_laws.specs.NeverStops.{LetsGoOn}
-use Rattle.run_laws.specs.Rules.{AcceptedRunsKeepTheRules}
-use Rattle.word_laws.specs.WordsDone.{WordEventsShowRuns, WordEventDone, WordsMeanAfter}
-use Rattle.word_laws.specs.WordsFit.{WordEventFits, WordEventsFit}
-use Rattle.word_laws.specs.ShownWords.{WordsMeanWhatTheyShow, WordsShowWhatTheyMean, shown_words}
-use Rattle.word_laws.specs.WordStep.{WordAnswer}
-use Rattle.word_laws.specs.Words.{WordWorld}
+use Rattle.laws_runs.specs.NeverStops.{LetsGoOn}
+use Rattle.laws_runs.specs.Rules.{AcceptedRunsKeepTheRules}
+use Rattle.laws_words.specs.WordsDone.{WordEventsShowRuns, WordEventDone, WordsMeanAfter}
+use Rattle.laws_words.specs.WordsFit.{WordEventFits, WordEventsFit}
+use Rattle.laws_words.specs.ShownWords.{WordsMeanWhatTheyShow, WordsShowWhatTheyMean, shown_words}
+use Rattle.laws_words.specs.WordStep.{WordAnswer}
+use Rattle.laws_words.specs.Words.{WordWorld}
 
 -- what an event left, and the reply
 abbrev pub answered : WordWorld → Reply → WordAnswer

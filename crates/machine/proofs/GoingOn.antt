@@ -9,11 +9,11 @@ use Rattle.machine.proofs.Applying.{applies_shown, meant_after}
 use Rattle.machine.proofs.Stepping.{none_made, stepped_on}
 use Rattle.machine.specs.Runs.{IsMeant}
 use Rattle.machine.specs.Steps.{Stepping}
-use Rattle.word_laws.specs.WordsDone.{WordEventsShowRuns}
-use Rattle.word_laws.specs.WordsFit.{WordEventFits, WordEventsFit}
-use Rattle.word_laws.specs.ShownWords.{WordsMeanWhatTheyShow, WordsShowWhatTheyMean, shown_words}
-use Rattle.word_laws.specs.Words.{WordWorld}
-use Rattle.slot_world.specs.GoingOn.{after, reply_after}
+use Rattle.laws_words.specs.WordsDone.{WordEventsShowRuns}
+use Rattle.laws_words.specs.WordsFit.{WordEventFits, WordEventsFit}
+use Rattle.laws_words.specs.ShownWords.{WordsMeanWhatTheyShow, WordsShowWhatTheyMean, shown_words}
+use Rattle.laws_words.specs.Words.{WordWorld}
+use Rattle.machine_world.specs.GoingOn.{after, reply_after}
 
 module _ (law : WordEventsShowRuns) (same : WordsMeanWhatTheyShow) (set : Set)
     (typable : IsTypable set) (sound : IsSound set)

@@ -19,14 +19,14 @@ use Rattle.machine.proofs.Whole.{run_shown}
 use Rattle.machine.specs.Registers.{LendsWords, WordIs, WordsOfRoutine, routine_at}
 use Rattle.machine.specs.Runs.{IsMeant, IsShown}
 use Rattle.machine.specs.Slots.{HasSlots, IsLive, number_at}
-use Rattle.run_laws.specs.Rules.{AcceptedRunsKeepTheRules}
-use Rattle.slot_laws.proofs.Keys.{Keyed}
-use Rattle.slot_laws.proofs.Laws.{keyed_before}
-use Rattle.slot_laws.specs.Rep.{named}
-use Rattle.slot_laws.specs.Slots.{SlotShared}
-use Rattle.word_laws.specs.Reads.{WordsMean}
-use Rattle.word_laws.specs.ShownWords.{TellsRegisters, WordsMeanWhatTheyShow, WordsShowWhatTheyMean, WordsTellRegisters, shown_word, shown_words, words_at}
-use Rattle.word_laws.specs.Words.{WordWorld}
+use Rattle.laws_runs.specs.Rules.{AcceptedRunsKeepTheRules}
+use Rattle.laws_slots.proofs.Keys.{Keyed}
+use Rattle.laws_slots.proofs.Laws.{keyed_before}
+use Rattle.laws_slots.specs.Rep.{named}
+use Rattle.laws_slots.specs.Slots.{SlotShared}
+use Rattle.laws_words.specs.Reads.{WordsMean}
+use Rattle.laws_words.specs.ShownWords.{TellsRegisters, WordsMeanWhatTheyShow, WordsShowWhatTheyMean, WordsTellRegisters, shown_word, shown_words, words_at}
+use Rattle.laws_words.specs.Words.{WordWorld}
 
 -- a word by what is shown of it
 word_is : (name : ℕ → ℕ) (m : Shown) (s : Shared) (word : ℕ) (v : Value)

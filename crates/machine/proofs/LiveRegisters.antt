@@ -19,7 +19,7 @@ use Rattle.model.specs.Set.{Set}
 use Rattle.model.specs.Shown.{MayBeTaken}
 use Rattle.model.specs.World.{Shared, World, register}
 use Rattle.machine.specs.Slots.{IsLive}
-use Rattle.run_laws.specs.KindsAgree.{IsOfKind, NamesLive, RegistersAreOfTheirKinds}
+use Rattle.laws_runs.specs.KindsAgree.{IsOfKind, NamesLive, RegistersAreOfTheirKinds}
 
 live_named : (s : Shared) (n : ℕ) → NamesLive s (Ref n) → IsLive s n
 live_named s n h =

@@ -6,14 +6,14 @@ use Rattle.model.specs.Set.{Set}
 use Rattle.model.specs.Shown.{Shown, ShownPacket, shown_packet}
 use Rattle.model.specs.World.{Shared, place_of}
 use Rattle.machine.specs.Slots.{AreSlots, HasPacket, IsLive, number_at}
-use Rattle.run_laws.proofs.Past.LivePackets.{find_place}
-use Rattle.run_laws.proofs.Past.Packets.{found_lt}
-use Rattle.slot_laws.proofs.Keys.{Found, Keyed, found_alone, found_name, found_used}
-use Rattle.slot_laws.proofs.Words.{map_get}
-use Rattle.slot_laws.specs.Rep.{named, number_in_slot, packets_in, then_packet}
-use Rattle.slot_laws.specs.Slots.{packet_at, slot_at}
-use Rattle.word_laws.specs.ShownWords.{shown_slot, shown_words}
-use Rattle.word_laws.specs.Words.{WordWorld}
+use Rattle.laws_runs.proofs.Past.LivePackets.{find_place}
+use Rattle.laws_runs.proofs.Past.Packets.{found_lt}
+use Rattle.laws_slots.proofs.Keys.{Found, Keyed, found_alone, found_name, found_used}
+use Rattle.laws_slots.proofs.Words.{map_get}
+use Rattle.laws_slots.specs.Rep.{named, number_in_slot, packets_in, then_packet}
+use Rattle.laws_slots.specs.Slots.{packet_at, slot_at}
+use Rattle.laws_words.specs.ShownWords.{shown_slot, shown_words}
+use Rattle.laws_words.specs.Words.{WordWorld}
 
 -- what is shown of a slot is the number of its packet
 pub slot_shown : (slots : List (Option Packet)) (k : ℕ)

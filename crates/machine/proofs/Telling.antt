@@ -13,8 +13,8 @@ use Rattle.model.specs.Shown.{ShowsFrame, ShowsFrames, ShowsThread, ShowsThreads
 use Rattle.model.specs.View.{due_at, frame_view, packet_at, thread_at, thread_view, view_of}
 use Rattle.model.specs.World.{Shared, World, packet_of, place_of}
 use Rattle.machine.proofs.Walking.{top_above, top_walk_live}
-use Rattle.run_laws.specs.ArrivingStates.{States}
-use Rattle.run_laws.specs.Holder.{HasOneHolder}
+use Rattle.laws_runs.specs.ArrivingStates.{States}
+use Rattle.laws_runs.specs.Holder.{HasOneHolder}
 
 -- the I/O manager's packet, where its frame is on top, is live
 abbrev TopLive : Shared → List Frame → Type 0

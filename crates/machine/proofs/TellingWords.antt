@@ -8,15 +8,15 @@ use Rattle.model.specs.Shown.{ShowsWorld}
 use Rattle.model.specs.Sound.{IsSound}
 use Rattle.model.specs.Typable.{IsTypable}
 use Rattle.model.specs.View.{due_at, due_view, packet_at, packet_view, thread_at}
-use Rattle.run_laws.specs.ArrivingStates.{States}
-use Rattle.run_laws.specs.Holder.{HasOneHolder}
-use Rattle.slot_laws.specs.ShownSlots.{SlotsShowWhatTheyMean, meant, meant_shared, shown_slots}
+use Rattle.laws_runs.specs.ArrivingStates.{States}
+use Rattle.laws_runs.specs.Holder.{HasOneHolder}
+use Rattle.laws_slots.specs.ShownSlots.{SlotsShowWhatTheyMean, meant, meant_shared, shown_slots}
 use Rattle.machine.proofs.Telling.{tells_due, tells_packet, tells_thread}
 use Rattle.machine.specs.Runs.{IsMeant}
-use Rattle.word_laws.specs.Reads.{WordsMean}
-use Rattle.word_laws.specs.ShownWords.{WordsMeanWhatTheyShow, shown_words}
-use Rattle.word_laws.specs.WordViews.{TellsAsSlots, WordsTellAsSlots, word_thread_at}
-use Rattle.word_laws.specs.Words.{WordWorld}
+use Rattle.laws_words.specs.Reads.{WordsMean}
+use Rattle.laws_words.specs.ShownWords.{WordsMeanWhatTheyShow, shown_words}
+use Rattle.laws_words.specs.WordViews.{TellsAsSlots, WordsTellAsSlots, word_thread_at}
+use Rattle.laws_words.specs.Words.{WordWorld}
 
 module _ (same : WordsMeanWhatTheyShow) (slots : SlotsShowWhatTheyMean) (tell : WordsTellAsSlots)
     (set : Set) (typable : IsTypable set) (sound : IsSound set) (w : WordWorld)

@@ -10,8 +10,8 @@ use Rattle.model.specs.Effect.{top_of}
 use Rattle.model.specs.Run.{Run, run}
 use Rattle.model.specs.Set.{Set}
 use Rattle.model.specs.World.{packet_of}
-use Rattle.run_laws.specs.ArrivingStates.{States}
-use Rattle.run_laws.specs.Holder.{HasOneHolder, alive, all_walking, frame_walks, is_live, walking}
+use Rattle.laws_runs.specs.ArrivingStates.{States}
+use Rattle.laws_runs.specs.Holder.{HasOneHolder, alive, all_walking, frame_walks, is_live, walking}
 
 -- the top frame of two or more is that of those above the lowest
 pub top_above : (f g : Frame) (frames : List Frame) → top_of (f ∷ g ∷ frames) ≡ top_of (g ∷ frames)

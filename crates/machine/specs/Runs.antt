@@ -9,10 +9,10 @@ use Rattle.model.specs.Run.{run}
 use Rattle.model.specs.Set.{Set}
 use Rattle.model.specs.Shown.{Shown}
 use Rattle.model.specs.World.{World}
-use Rattle.run_laws.specs.NeverStops.{LetsGoOn}
-use Rattle.run_laws.specs.Rules.{KeepsTheRules}
-use Rattle.word_laws.specs.Reads.{WordsMean}
-use Rattle.word_laws.specs.Words.{WordWorld}
+use Rattle.laws_runs.specs.NeverStops.{LetsGoOn}
+use Rattle.laws_runs.specs.Rules.{KeepsTheRules}
+use Rattle.laws_words.specs.Reads.{WordsMean}
+use Rattle.laws_words.specs.Words.{WordWorld}
 
 -- words mean the world of some run of a set
 pub record IsMeant (set : Set) (v : WordWorld) : Type 0 where

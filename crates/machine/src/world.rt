@@ -11,23 +11,23 @@ ghost use Rattle.model.specs.declared.event.Reply.TheVariants.{Stepped};
 ghost use Rattle.model.specs.declared.limits.TheConstants.{MAX_THREADS};
 ghost use Rattle.model.specs.Machine.{Applies, Shows};
 ghost use Rattle.model.specs.View.{due_at, packet_at, thread_at};
-ghost use Rattle.run_laws.specs.Rules.{KeepsTheRules};
+ghost use Rattle.laws_runs.specs.Rules.{KeepsTheRules};
 
-use model::event::{Event, Reply};
-use model::limits::REGISTERS;
-use model::memory::OutOfMemory;
-use model::view::{PacketView, ThreadView};
-use run_laws::accepted_runs_keep_the_rules;
-use slot_laws::slots_show_what_they_mean;
-use slot_world::Slots;
-use std::alloc::Global;
-use std::marker::Model;
-use verifier::Accepted;
-use word_laws::{
+use laws_runs::accepted_runs_keep_the_rules;
+use laws_slots::slots_show_what_they_mean;
+use laws_words::{
     free_words_mean_the_beginning, word_events_fit, word_events_show_runs,
     words_mean_what_they_show, words_show_what_they_mean, words_tell_as_slots,
     words_tell_registers,
 };
+use machine_world::Slots;
+use model::event::{Event, Reply};
+use model::limits::REGISTERS;
+use model::memory::OutOfMemory;
+use model::view::{PacketView, ThreadView};
+use std::alloc::Global;
+use std::marker::Model;
+use verifier::Accepted;
 
 /// Fewer steps than these are made one by one: in so few a routine seldom goes on by itself for long
 /// enough to be worth the look.
@@ -55,7 +55,7 @@ impl Model for World {
     ghost use Rattle.model.specs.Shown.{Shown};
     ghost use Rattle.model.specs.Sound.{IsSound};
     ghost use Rattle.model.specs.Typable.{IsTypable};
-    ghost use Rattle.word_laws.specs.ShownWords.{shown_words};
+    ghost use Rattle.laws_words.specs.ShownWords.{shown_words};
 
     ghost Value = { Shown };
 

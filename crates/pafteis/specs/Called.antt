@@ -1,13 +1,13 @@
 -- What the exported functions answer.
 use Rattle.std.specs.Prelude.{ℕ, ◌≡◌, ◌⊎◌, List, length, nat_eq, if◌then◌else◌, Option, None, Some, Result, Ok, Err}
-use Rattle.inputs_outputs.specs.declared.verification.Verification.{Verification}
-use Rattle.inputs_outputs.specs.declared.verification.Verification.TheVariants.{Required, Skipped}
-use Rattle.inputs_outputs.specs.Answer.{Answer, IsRuleExplained}
-use Rattle.inputs_outputs.specs.Device.{Bytes}
-use Rattle.inputs_outputs.specs.Ends.{IsTraceOf}
-use Rattle.set_answers.specs.declared.explaining.Extent.{Extent}
-use Rattle.set_answers.specs.declared.explaining.Extent.TheVariants.{First, Each}
-use Rattle.set_answers.specs.Explained.{IsExplainedOf}
+use Rattle.drvhost_devices.specs.declared.verification.Verification.{Verification}
+use Rattle.drvhost_devices.specs.declared.verification.Verification.TheVariants.{Required, Skipped}
+use Rattle.drvhost_devices.specs.Answer.{Answer, IsRuleExplained}
+use Rattle.drvhost_devices.specs.Device.{Bytes}
+use Rattle.drvhost_devices.specs.Ends.{IsTraceOf}
+use Rattle.drvhost_sets.specs.declared.explaining.Extent.{Extent}
+use Rattle.drvhost_sets.specs.declared.explaining.Extent.TheVariants.{First, Each}
+use Rattle.drvhost_sets.specs.Explained.{IsExplainedOf}
 use Rattle.model.specs.declared.abs.Rule.{Rule}
 use Rattle.model.specs.declared.memory.OutOfMemory.{OutOfMemory}
 use Rattle.pafteis_parts.specs.Delivery.{bytes_of, placed}

@@ -1,12 +1,13 @@
 //! Bytes in, bytes out.
 
 ghost use Rattle.std.specs.Prelude.{◌≡◌};
-ghost use Rattle.inputs_outputs.specs.Answer.{IsVersion};
-ghost use Rattle.inputs_outputs.specs.Device.{Bytes};
-ghost use Rattle.inputs_outputs.specs.Ends.{IsCheckOf, IsListOf, IsRewriteOf};
+ghost use Rattle.drvhost_devices.specs.Answer.{IsVersion};
+ghost use Rattle.drvhost_devices.specs.Device.{Bytes};
+ghost use Rattle.drvhost_devices.specs.Ends.{IsCheckOf, IsListOf, IsRewriteOf};
 ghost use Rattle.pafteis.specs.Called.{Answers, ExplainsRule, ExplainsSet, IsCheckedAs, Puts, Traces};
 
-use inputs_outputs::verification::Verification;
+use drvhost_devices::verification::Verification;
+use drvhost_sets::explaining::Extent;
 use model::memory::OutOfMemory;
 use pafteis_parts::answers;
 use pafteis_parts::delivery::deliver;
@@ -14,7 +15,6 @@ use pafteis_parts::returned::Told;
 use pafteis_values::rule::rule_of;
 use pafteis_values::verdict::VerdictValue;
 use pafteis_world::admitting::judge;
-use set_answers::explaining::Extent;
 use std::alloc::Global;
 
 /// The status where an argument is a number that names nothing.

@@ -1,9 +1,9 @@
 -- What a command wrote in memory, where nothing failed, is its answer.
 use Rattle.std.proofs.Common.{◌≡◌, ◌≢◌, ◌∙◌, ◌+◌, ℕ, List, [], Option, Some, IfOk, Result, Ok, Err, inl, inr, sym, subst, arith}
 use Rattle.std.specs.Io.KnownBytes.{Appends}
-use Rattle.inputs_outputs.specs.Answer.{Answer}
-use Rattle.inputs_outputs.specs.Device.{Says}
-use Rattle.inputs_outputs.specs.Ends.{Answers, Ends, OutOfMemory, ReadFailed, Rightly, WriteFailed}
+use Rattle.drvhost_devices.specs.Answer.{Answer}
+use Rattle.drvhost_devices.specs.Device.{Says}
+use Rattle.drvhost_devices.specs.Ends.{Answers, Ends, OutOfMemory, ReadFailed, Rightly, WriteFailed}
 use Rattle.pafteis_parts.specs.Told.{Collects}
 
 not_both : (n : ℕ) → n ≡ 1 → n ≡ 0 → ⊥

@@ -1,6 +1,6 @@
 -- How an answer comes into a buffer.
 use Rattle.std.specs.Prelude.{ℕ, ◌≡◌, ◌++◌, drop, if◌then◌else◌, length, List, nat_le, Result, Ok, Err}
-use Rattle.inputs_outputs.specs.Answer.{Answer}
+use Rattle.drvhost_devices.specs.Answer.{Answer}
 use Rattle.model.specs.declared.memory.OutOfMemory.{OutOfMemory}
 use Rattle.pafteis_parts.specs.declared.delivery.Delivered.{Delivered}
 

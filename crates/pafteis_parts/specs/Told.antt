@@ -1,6 +1,6 @@
 -- An answer that was collected in memory.
 use Rattle.std.specs.Prelude.{ℕ, ◌≡◌, ◌≢◌, List, Option, Some}
-use Rattle.inputs_outputs.specs.Answer.{Answer}
+use Rattle.drvhost_devices.specs.Answer.{Answer}
 
 -- nothing failed and memory was found, and the answer is what was written
 pub record Collects (exit unread unscheduled unwritten : ℕ) (written : Option (List ℕ)) (untold : ℕ)

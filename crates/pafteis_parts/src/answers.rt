@@ -2,17 +2,17 @@
 //! whatever it is asked.
 
 ghost use Rattle.std.specs.Prelude.{IfOk};
-ghost use Rattle.inputs_outputs.specs.Answer.{IsRuleExplained, IsVersion};
-ghost use Rattle.inputs_outputs.specs.Device.{Bytes};
-ghost use Rattle.inputs_outputs.specs.Ends.{IsCheckOf, IsListOf, IsRewriteOf, IsTraceOf};
-ghost use Rattle.set_answers.specs.Explained.{IsExplainedOf};
+ghost use Rattle.drvhost_devices.specs.Answer.{IsRuleExplained, IsVersion};
+ghost use Rattle.drvhost_devices.specs.Device.{Bytes};
+ghost use Rattle.drvhost_devices.specs.Ends.{IsCheckOf, IsListOf, IsRewriteOf, IsTraceOf};
+ghost use Rattle.drvhost_sets.specs.Explained.{IsExplainedOf};
 
 use crate::returned::{Told, collected};
-use inputs_outputs::device::{Reader, Source, Writer};
-use inputs_outputs::verification::Verification;
+use drvhost_devices::device::{Reader, Source, Writer};
+use drvhost_devices::verification::Verification;
+use drvhost_sets::explaining::Extent;
 use model::abs::Rule;
 use model::memory::OutOfMemory;
-use set_answers::explaining::Extent;
 use std::alloc::Global;
 
 /// The verdict on the set that a text or an image names.
@@ -22,7 +22,7 @@ pub fn check(alloc: Global, set: &[u8]) -> Result<Told, OutOfMemory>
     let mut source = Reader::new(Some(set));
     let mut output = Writer::new(Vec::new(alloc));
     let mut errors = Writer::new(Vec::new(alloc));
-    let exit = set_answers::check::check(alloc, &mut source, &mut output, &mut errors);
+    let exit = drvhost_sets::check::check(alloc, &mut source, &mut output, &mut errors);
     collected(exit, source.failures(), 0, output, errors)
 }
 
@@ -33,7 +33,7 @@ pub fn explain(alloc: Global, extent: Extent, set: &[u8]) -> Result<Told, OutOfM
     let mut source = Reader::new(Some(set));
     let mut output = Writer::new(Vec::new(alloc));
     let mut errors = Writer::new(Vec::new(alloc));
-    let exit = set_answers::explaining::explain(
+    let exit = drvhost_sets::explaining::explain(
         alloc,
         extent,
         &mut source,
@@ -49,7 +49,7 @@ pub fn explain_rule(alloc: Global, rule: Rule) -> Result<Told, OutOfMemory>
 {
     let mut output = Writer::new(Vec::new(alloc));
     let mut errors = Writer::new(Vec::new(alloc));
-    let exit = set_answers::rule::explain_rule(alloc, rule, &mut output, &mut errors);
+    let exit = drvhost_sets::rule::explain_rule(alloc, rule, &mut output, &mut errors);
     collected(exit, 0, 0, output, errors)
 }
 
@@ -66,7 +66,7 @@ pub fn trace(
     let mut events = Reader::new(Some(schedule));
     let mut output = Writer::new(Vec::new(alloc));
     let mut errors = Writer::new(Vec::new(alloc));
-    let exit = drvhost_parts::trace::trace(
+    let exit = drvhost_runs::trace::trace(
         alloc,
         &mut source,
         &mut events,
@@ -84,7 +84,7 @@ pub fn list(alloc: Global, set: &[u8]) -> Result<Told, OutOfMemory>
     let mut source = Reader::new(Some(set));
     let mut output = Writer::new(Vec::new(alloc));
     let mut errors = Writer::new(Vec::new(alloc));
-    let exit = set_answers::list::list(alloc, &mut source, &mut output, &mut errors);
+    let exit = drvhost_sets::list::list(alloc, &mut source, &mut output, &mut errors);
     collected(exit, source.failures(), 0, output, errors)
 }
 
@@ -95,7 +95,7 @@ pub fn rewrite(alloc: Global, set: &[u8]) -> Result<Told, OutOfMemory>
     let mut source = Reader::new(Some(set));
     let mut output = Writer::new(Vec::new(alloc));
     let mut errors = Writer::new(Vec::new(alloc));
-    let exit = set_answers::rewriting::rewrite(alloc, &mut source, &mut output, &mut errors);
+    let exit = drvhost_sets::rewriting::rewrite(alloc, &mut source, &mut output, &mut errors);
     collected(exit, source.failures(), 0, output, errors)
 }
 
@@ -105,6 +105,6 @@ pub fn version(alloc: Global) -> Result<Told, OutOfMemory>
 {
     let mut output = Writer::new(Vec::new(alloc));
     let mut errors = Writer::new(Vec::new(alloc));
-    let exit = set_answers::version::version(&mut output, &mut errors);
+    let exit = drvhost_sets::version::version(&mut output, &mut errors);
     collected(exit, 0, 0, output, errors)
 }

@@ -3,7 +3,7 @@
 ghost use Rattle.std.specs.Prelude.{◌≡◌, IfOk};
 ghost use Rattle.pafteis_parts.specs.Told.{Collects};
 
-use inputs_outputs::device::{Sink, Writer};
+use drvhost_devices::device::{Sink, Writer};
 use model::memory::OutOfMemory;
 use std::marker::Model;
 
@@ -17,7 +17,7 @@ pub struct Told {
 }
 
 impl Model for Told {
-    ghost use Rattle.inputs_outputs.specs.Answer.{Answer};
+    ghost use Rattle.drvhost_devices.specs.Answer.{Answer};
 
     ghost Value = { Answer };
 

@@ -4,7 +4,7 @@ use Rattle.model.specs.declared.event.Event.{Event}
 use Rattle.model.specs.Machine.{Shows}
 use Rattle.model.specs.Set.{Set}
 use Rattle.model.specs.Shown.{Shown}
-use Rattle.run_laws.specs.Rules.{KeepsTheRules}
+use Rattle.laws_runs.specs.Rules.{KeepsTheRules}
 use Rattle.pafteis_world.specs.Driven.{Does, Holds, IsOpened, shown_if}
 use Rattle.pafteis_world.specs.Judged.{Names}
 

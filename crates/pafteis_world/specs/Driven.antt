@@ -10,7 +10,7 @@ use Rattle.model.specs.declared.event.Reply.TheVariants.{Stepped as OnlyStepped}
 use Rattle.model.specs.Machine.{Applies, Shows}
 use Rattle.model.specs.Shown.{Shown}
 use Rattle.model.specs.World.{World}
-use Rattle.run_laws.specs.Rules.{KeepsTheRules}
+use Rattle.laws_runs.specs.Rules.{KeepsTheRules}
 use Rattle.pafteis_values.specs.declared.verdict.Verdict.{Verdict}
 use Rattle.pafteis_values.specs.declared.verdict.Verdict.TheVariants.{Accepted, Refused, Text, Image, NoMemory}
 use Rattle.pafteis_world.specs.declared.handle.Handle.{Handle}

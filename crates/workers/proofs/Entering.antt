@@ -5,7 +5,7 @@ use Rattle.std.proofs.lemmas.Bool.Decides.{eqb_tells}
 use Rattle.std.proofs.Math.ListN.{length-set}
 use Rattle.std.proofs.lemmas.List.Elements.{All-push}
 use Rattle.std.proofs.lemmas.Option.{slice_get_within}
-use Rattle.run_laws.proofs.Lists.{set_other, set_same}
+use Rattle.laws_runs.proofs.Lists.{set_other, set_same}
 use Rattle.model.specs.declared.history.Entry.{Entry}
 use Rattle.model.specs.History.{NamedCommand}
 use Rattle.hostcore.specs.Core.{CoreState, counted, with_entry}

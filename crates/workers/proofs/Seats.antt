@@ -6,7 +6,7 @@ use Rattle.std.proofs.lemmas.Bool.Decides.{eqb_tells}
 use Rattle.std.proofs.lemmas.List.FromFn.{map-range_with_len_more}
 use Rattle.std.proofs.lemmas.Option.{slice_get-get_or}
 use Rattle.std.proofs.Math.ListN.{length-set}
-use Rattle.run_laws.proofs.Lists.{set_other, set_same}
+use Rattle.laws_runs.proofs.Lists.{set_other, set_same}
 use Rattle.hostcore.specs.Core.{CoreState, count_of}
 use Rattle.workers.specs.Kept.{AreBack, AreGiven, counts_of}
 

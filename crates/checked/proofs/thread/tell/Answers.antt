@@ -1,5 +1,5 @@
 use Rattle.std.proofs.Common.{◌≡◌, ◌∷◌, [], ◌++◌, List}
-use Rattle.run_laws.proofs.Lists.{last_of}
+use Rattle.laws_runs.proofs.Lists.{last_of}
 use Rattle.model.specs.declared.world.Frame.{Frame}
 use Rattle.checked.proofs.Stacks.{told_on_top}
 use Rattle.checked.proofs.thread.tell.Goals as goal

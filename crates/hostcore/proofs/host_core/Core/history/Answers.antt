@@ -1,6 +1,6 @@
 use Rattle.std.proofs.Common.{subst}
 use Rattle.model.specs.History.{events_of}
-use Rattle.run_laws.specs.Rules.{KeepsTheRules}
+use Rattle.laws_runs.specs.Rules.{KeepsTheRules}
 use Rattle.hostcore.specs.Core.{CoreState}
 use Rattle.hostcore.proofs.host_core.Core.history.Goals as goal
 

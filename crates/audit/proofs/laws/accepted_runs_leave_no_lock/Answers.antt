@@ -1,5 +1,0 @@
-use Rattle.audit.proofs.Leaving.{leaves_none}
-use Rattle.audit.proofs.laws.accepted_runs_leave_no_lock.Goals as goal
-
-pub returns : goal.returns
-returns c = leaves_none

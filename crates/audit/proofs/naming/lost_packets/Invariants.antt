@@ -1,6 +1,0 @@
-use Rattle.std.proofs.Common.{◌≡◌}
-use Rattle.audit.specs.Naming.{lost_below}
-use Rattle.audit.proofs.naming.lost_packets.Given as goal
-
-abbrev pub invariant-loop-packet : goal.invariant-loop-packet
-invariant-loop-packet l = l.lost.items ≡ lost_below l.machine.world l.packet

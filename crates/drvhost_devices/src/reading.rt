@@ -1,0 +1,61 @@
+//! Driver sets, read from files: images and texts.
+
+ghost use Rattle.std.specs.Prelude.{◌≡◌, ◌+◌, Err, IfErr, IfOk};
+ghost use Rattle.drvhost_devices.specs.Answer.{ImageSays, TextSays, is_image};
+ghost use Rattle.drvhost_devices.specs.Device.{Bytes, CanCount};
+ghost use Rattle.drvhost_devices.specs.Fault.{ReadsSet, SaysImage, SaysText, reads_failed};
+
+use crate::device::Source;
+use crate::fault::{Fault, of_image, of_text};
+use crate::transfer::read_whole;
+use image::DriverSet;
+use std::alloc::Global;
+
+/// The set that the bytes of a source name: those of an image, or of a text.
+pub fn read_set<S: Source>(alloc: Global, source: &mut S) -> Result<DriverSet, Fault>
+    requires { CanCount (S.failures source.old) }
+    ensures set { ReadsSet (S.supply source.old) result }
+    ensures reads { S.failures source.new ≡ S.failures source.old + reads_failed result }
+{
+    let bytes = read_whole(alloc, source)?;
+    set_of(alloc, bytes.as_slice())
+}
+
+/// The set that bytes name: those of an image, or of a text.
+pub fn set_of(alloc: Global, bytes: &[u8]) -> Result<DriverSet, Fault>
+    ensures set { ReadsSet (Bytes bytes.now) result }
+    ensures reads { reads_failed result ≡ 0 }
+{
+    if begins_image(bytes) {
+        set_of_image(alloc, bytes)
+    } else {
+        set_of_text(alloc, bytes)
+    }
+}
+
+/// Whether the bytes of a file are those of an image.
+pub fn begins_image(bytes: &[u8]) -> bool
+    ensures { result ≡ is_image bytes.now }
+{
+    bytes.starts_with(&[0x44, 0x56, 0x42])
+}
+
+/// The set that an image spells.
+fn set_of_image(alloc: Global, bytes: &[u8]) -> Result<DriverSet, Fault>
+    ensures { SaysImage bytes.now result }
+{
+    match image::decode(alloc, bytes) {
+        Ok(set) => Ok(set),
+        Err(fault) => Err(of_image(fault)),
+    }
+}
+
+/// The set that a text names.
+fn set_of_text(alloc: Global, bytes: &[u8]) -> Result<DriverSet, Fault>
+    ensures { SaysText bytes.now result }
+{
+    match asm::assemble(alloc, bytes) {
+        Ok(set) => Ok(set),
+        Err(fault) => Err(of_text(fault)),
+    }
+}

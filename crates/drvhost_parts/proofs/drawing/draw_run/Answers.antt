@@ -1,5 +1,0 @@
-use Rattle.drvhost_parts.proofs.DrawnRuns.{run_drawn}
-use Rattle.drvhost_parts.proofs.drawing.draw_run.Goals as goal
-
-pub returns : goal.returns
-returns c = rw c.end_of.ensures (run_drawn _ _ _ _ _ c.in_ok-stopped.ensures)

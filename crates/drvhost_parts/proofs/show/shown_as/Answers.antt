@@ -1,4 +1,0 @@
-use Rattle.drvhost_parts.proofs.show.shown_as.Goals as goal
-
-pub returns-in-Required-clause-tells : goal.returns-in-Required-clause-tells
-returns-in-Required-clause-tells g c = rw c.in-Required.is c.shown_verified.ensures.tells

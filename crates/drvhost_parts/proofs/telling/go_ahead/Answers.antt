@@ -1,9 +1,0 @@
-use Rattle.drvhost_parts.proofs.ToldAlone.{goes_nowhere, told_quiet}
-use Rattle.drvhost_parts.proofs.telling.go_ahead.Goals as goal
-
-pub returns-in-Quiet-clause-goes : goal.returns-in-Quiet-clause-goes
-returns-in-Quiet-clause-goes c = goes_nowhere _ _
-
-pub returns-in-Quiet-2-clause-told : goal.returns-in-Quiet-2-clause-told
-returns-in-Quiet-2-clause-told c some =
-    rw c.in-Quiet-2.is (told_quiet c.args.number.now c.go_on-made.result c.args.text.now)

@@ -1,0 +1,714 @@
+-- How the telling of a run goes on.
+use Rattle.std.proofs.Common.{◌≡◌, ◌∙◌, ℕ, zero, suc, ◌+◌, ◌-◌, ◌≤◌, Bool, true, false, ◌||◌, List, [], ◌∷◌, ◌++◌, ◌⊎◌, inl, inr, Option, None, Some, Result, Ok, Err, IfErr, IfOk, OnOk, ◌≢◌, refl, sym, ap, arith, length, replicate, subst, append_assoc, if◌then◌else◌}
+use Rattle.std.proofs.lemmas.Bool.{cases_Bool, false≢true}
+use Rattle.std.proofs.lemmas.List.{append-nil}
+use Rattle.std.specs.List.{list_any}
+use Rattle.std.specs.Prelude.{IfSome, codes}
+use Rattle.std.specs.Io.KnownBytes.{Appends}
+use Rattle.tell_audit.specs.declared.findings.Findings.{Findings}
+use Rattle.tell_audit.specs.Findings.{AreFindings, any_of, has_findings}
+use Rattle.tell_uses.specs.Ledger.{LedgerState, Tells as TellsRun}
+use Rattle.interleave.specs.declared.read.Repeated.{Repeated}
+use Rattle.interleave.specs.declared.schedule.Schedule.{Schedule}
+use Rattle.interleave.specs.declared.schedule.ScheduleFault.{ScheduleFault}
+use Rattle.model.specs.declared.abs.Refusal.{Refusal}
+use Rattle.model.specs.declared.abs.Rule.TheVariants as Rule
+use Rattle.model.specs.declared.event.Bug.{Bug as BugOf}
+use Rattle.model.specs.declared.event.Event.{Event}
+use Rattle.model.specs.declared.event.Reply.{Reply}
+use Rattle.model.specs.declared.event.Reply.TheVariants.{Started, Stepped, Finished, Topped, Waited, Idle, Refused, Bug, Wrong}
+use Rattle.model.specs.Events.{Change, effect}
+use Rattle.model.specs.Fault.{first_fault}
+use Rattle.model.specs.Machine.{AppliesWhole, Machine, ShowsWhole, reply_to}
+use Rattle.model.specs.Run.{Run, actor_on, answered_on, begun, goes, refused, run, step, thread_of, unless_fault, unless_wrong}
+use Rattle.model.specs.Set.{Set}
+use Rattle.model.specs.Trace.{Entry, recorded}
+use Rattle.model.specs.Typable.{IsFirstFault, at_start}
+use Rattle.model.specs.World.{World}
+use Rattle.report.specs.Fault.{schedule_fault_line}
+use Rattle.report.specs.Reply.{worded_line}
+use Rattle.laws_runs.specs.Waits.{WaitingChangesNothing, says_unchanged}
+use Rattle.report.specs.Verdict.{refusal_line}
+use Rattle.drvhost_devices.specs.declared.fault.End.TheVariants.{Complete, Stopped}
+use Rattle.drvhost_devices.specs.declared.fault.Fault.{Fault}
+use Rattle.drvhost_devices.specs.declared.fault.Fault.TheVariants.{Read, Write, Memory, Text, Image, Schedule as OfSchedule, Script as OfScript}
+use Rattle.drvhost_runs.specs.declared.show.Showing.{Showing}
+use Rattle.drvhost_runs.specs.declared.tell.Detail.{Detail}
+use Rattle.drvhost_runs.specs.declared.tell.Detail.TheVariants.{Quiet}
+use Rattle.drvhost_runs.specs.declared.telling.Told.{Told}
+use Rattle.drvhost_devices.specs.Answer.{Answer, IsRefused, IsToRun, ended, faulty, is_last, shown_replies}
+use Rattle.drvhost_devices.specs.Device.{Supply, TakesBeginning}
+use Rattle.drvhost_devices.specs.declared.verification.Verification.{Verification}
+use Rattle.drvhost_devices.specs.Ends.{HoldsRun}
+use Rattle.drvhost_devices.specs.Fault.{Goes, ReadsSchedule, ReadsSet}
+use Rattle.drvhost_runs.specs.Repeats.{awaited}
+use Rattle.tell_lines.specs.Lines.{worded_lines}
+use Rattle.drvhost_runs.specs.Told.{HasTold, LedgerGoesOn, IsRunShown, IsRunTold, IsScheduleShown, IsShownRunOf, IsTold, Tells, ToldNext, count_left, happens_again, is_left_out, left_again, past_by, replies_by, run_to_end, times_again, told_line, world_by}
+use Rattle.drvhost_runs.proofs.Following.{counted, run_more}
+use Rattle.drvhost_devices.proofs.Writing.{keeps_same}
+
+-- a machine shows a run of which these events are still to come: what is told of their replies
+-- behind a text tells the whole run
+pub record Telling (detail : Detail) (set : Set) (threads : ℕ) (events : List Event) (m : Machine)
+    (ledger : LedgerState) (number : ℕ) (rest : List Event) (text : List ℕ) : Type 0 where
+  pub past : List Event
+  pub same : m.set ≡ set
+  pub shows : ShowsWhole m threads past
+  pub tells : TellsRun (run set threads past) ledger
+  pub told : (later : List ℕ)
+      → IsTold detail number (shown_replies set (run set threads past) rest) later
+      → IsTold detail 0 (replies_by set threads events) (text ++ later)
+  pub last : list_any is_last (replies_by set threads events)
+      ≡ list_any is_last (shown_replies set (run set threads past) rest)
+  pub ends : run_to_end set (begun set threads) events
+      ≡ run_to_end set (run set threads past) rest
+
+pub telling_first : (detail : Detail) (m : Machine) (l : LedgerState) (threads : ℕ)
+    (events : List Event)
+    → ShowsWhole m threads [] → TellsRun (begun m.set threads) l
+    → Telling detail m.set threads events m l 0 events []
+telling_first detail m l threads events shows tells =
+    record {
+      past = [];
+      same = refl;
+      shows = shows;
+      tells = tells;
+      told = λ later h. h;
+      last = refl;
+      ends = refl;
+    }
+
+-- the replies to an event and to those after it, and what they leave
+module _ (set : Set) (threads : ℕ) (past : List Event) (e : Event) (rest : List Event)
+    (reply : Reply) (is : reply ≡ reply_to set threads past e) where
+  abbrev after : Run
+  after = run set threads (past ++ e ∷ [])
+
+  pub next_replies : shown_replies set (run set threads past) (e ∷ rest)
+      ≡ reply ∷ (if is_last reply then [] else shown_replies set after rest)
+  next_replies =
+      let answered = step set (run set threads past) e in
+      ap (λ (x : Reply). x ∷ (if is_last x then [] else shown_replies set answered.run rest)) (sym is)
+      ∙ ap (λ (r : Run). reply ∷ (if is_last reply then [] else shown_replies set r rest))
+      (sym (run_more set (begun set threads) past e))
+
+  next_end : run_to_end set (run set threads past) (e ∷ rest)
+      ≡ (if is_last reply then after else run_to_end set after rest)
+  next_end =
+      let answered = step set (run set threads past) e in
+      ap (λ (x : Reply). if is_last x then answered.run else run_to_end set answered.run rest)
+      (sym is)
+      ∙ ap (λ (r : Run). if is_last reply then r else run_to_end set r rest)
+      (sym (run_more set (begun set threads) past e))
+
+module _ (detail : Detail) (set : Set) (threads : ℕ) (events : List Event) (m n : Machine)
+    (l k : LedgerState) (number : ℕ) (e : Event) (rest : List Event) (text more words : List ℕ)
+    (reply : Reply)
+    (t : Telling detail set threads events m l number (e ∷ rest) text)
+    (ran : AppliesWhole m e n reply)
+    (noted : LedgerGoesOn m e l k)
+    (is : more ≡ text ++ told_line detail number reply words) where
+  replied : reply ≡ reply_to set threads t.past e
+  replied =
+      subst (λ (s : Set). reply ≡ reply_to s threads t.past e) t.same
+      (ran.replies threads t.past t.shows)
+
+  -- the ledger tells the run with the event added
+  noted_on : TellsRun (run set threads (t.past ++ e ∷ [])) k
+  noted_on =
+      let before : TellsRun (run m.set threads t.past) l =
+      subst (λ (s : Set). TellsRun (run s threads t.past) l) (sym t.same) t.tells in
+      subst (λ (s : Set). TellsRun (run s threads (t.past ++ e ∷ [])) k) t.same
+      (noted threads t.past t.shows before)
+
+  told_behind : (tail : List Reply)
+      → shown_replies set (run set threads t.past) (e ∷ rest) ≡ reply ∷ tail → (later : List ℕ)
+      → IsTold detail (number + 1) tail later
+      → IsTold detail 0 (replies_by set threads events) (more ++ later)
+  told_behind tail are later h =
+      let line = told_line detail number reply words in
+      let P : List Reply → Type 0 = λ x. IsTold detail number x (line ++ later) in
+      let Q : List ℕ → Type 0 = λ x. IsTold detail 0 (replies_by set threads events) x in
+      let whole : IsTold detail 0 (replies_by set threads events) (text ++ (line ++ later)) =
+      t.told (line ++ later) (subst P (sym are) (words, (later, refl, h))) in
+      subst Q (sym (append_assoc text line later) ∙ ap (λ x. x ++ later) (sym is)) whole
+
+  -- the run goes on
+  pub telling_on : is_last reply ≡ false
+      → Telling detail set threads events n k (number + 1) rest more
+  telling_on goes =
+      let past = t.past ++ e ∷ [] in
+      let tail = shown_replies set (run set threads past) rest in
+      let are : shown_replies set (run set threads t.past) (e ∷ rest) ≡ reply ∷ tail =
+      next_replies set threads t.past e rest reply replied
+      ∙ ap (λ (b : Bool). reply ∷ (if b then [] else tail)) goes in
+      record {
+        past = past;
+        same = ran.set ∙ t.same;
+        shows = ran.shows threads t.past t.shows;
+        tells = noted_on;
+        told = told_behind tail are;
+        last = t.last ∙ ap (λ x. list_any is_last x) are
+            ∙ ap (λ (b : Bool). b || list_any is_last tail) goes;
+        ends = t.ends ∙ next_end set threads t.past e rest reply replied
+            ∙ ap (λ (b : Bool). if b then run set threads past
+            else run_to_end set (run set threads past) rest) goes;
+      }
+
+  -- or ends with it
+  pub told_last : is_last reply ≡ true
+      → HasTold detail set threads events n.set n.world k true more
+  told_last ends =
+      let past = t.past ++ e ∷ [] in
+      let tail = shown_replies set (run set threads past) rest in
+      let are : shown_replies set (run set threads t.past) (e ∷ rest) ≡ reply ∷ [] =
+      next_replies set threads t.past e rest reply replied
+      ∙ ap (λ (b : Bool). reply ∷ (if b then [] else tail)) ends in
+      let same : n.set ≡ set = ran.set ∙ t.same in
+      let shows : ShowsWhole n threads past = ran.shows threads t.past t.shows in
+      let end : run_to_end set (begun set threads) events ≡ run set threads past =
+      t.ends ∙ next_end set threads t.past e rest reply replied
+      ∙ ap (λ (b : Bool). if b then run set threads past
+      else run_to_end set (run set threads past) rest) ends in
+      let Q : List ℕ → Type 0 = λ x. IsTold detail 0 (replies_by set threads events) x in
+      record {
+        same = same;
+        told = subst Q (append-nil more) (told_behind [] are [] refl);
+        last = t.last ∙ ap (λ x. list_any is_last x) are ∙ ap (λ (b : Bool). b || false) ends;
+        left = shows.world ∙ ap (λ (s : Set). (run s threads past).world) same
+            ∙ ap (λ (r : Run). r.world) (sym end);
+        reached = past;
+        ends = sym end;
+        tells = noted_on;
+      }
+
+-- an event that leaves a run's world as it was doesn't stop it either
+module _ (set : Set) (r : Run) where
+  stopped_over : (t : ℕ) (past : List Entry) (c : Change) (over : Bool) → r.stopped ≡ false
+      → (if over then refused r else goes set r t past c).run.stopped ≡ r.stopped
+  stopped_over t past c true is = refl
+  stopped_over t past c false is = sym is
+
+  stopped_wrong : (t : ℕ) (past : List Entry) (c : Change) (reply : Reply) → r.stopped ≡ false
+      → says_unchanged (unless_wrong set r t past c reply).reply ≡ true
+      → (unless_wrong set r t past c reply).run.stopped ≡ r.stopped
+  stopped_wrong t past c (Wrong place) is same = absurd (false≢true same)
+  stopped_wrong t past c (Started packet) is same = stopped_over t past c c.over is
+  stopped_wrong t past c Stepped is same = stopped_over t past c c.over is
+  stopped_wrong t past c Finished is same = stopped_over t past c c.over is
+  stopped_wrong t past c (Topped packet status info) is same = stopped_over t past c c.over is
+  stopped_wrong t past c Waited is same = stopped_over t past c c.over is
+  stopped_wrong t past c Idle is same = stopped_over t past c c.over is
+  stopped_wrong t past c Refused is same = stopped_over t past c c.over is
+  stopped_wrong t past c (Bug bug) is same = stopped_over t past c c.over is
+
+  stopped_fault : (t : ℕ) (past : List Entry) (c : Change) (fault : Option BugOf)
+      → r.stopped ≡ false → says_unchanged (unless_fault set r t past c fault).reply ≡ true
+      → (unless_fault set r t past c fault).run.stopped ≡ r.stopped
+  stopped_fault t past c (Some bug) is same = absurd (false≢true same)
+  stopped_fault t past c None is same = stopped_wrong t past c c.reply is same
+
+  stopped_on : (c : Change) (thread : Option ℕ) → r.stopped ≡ false
+      → says_unchanged (answered_on set r c thread).reply ≡ true
+      → (answered_on set r c thread).run.stopped ≡ r.stopped
+  stopped_on c None is same = refl
+  stopped_on c (Some t) is same =
+      let actor = actor_on r t in
+      stopped_fault actor.thread (recorded r.past actor c.actions) c
+      (first_fault r.past actor c.actions) is same
+
+  stopped_by : (e : Event) (stopped : Bool) → r.stopped ≡ stopped
+      → says_unchanged (if stopped then refused r
+      else answered_on set r (effect set r.world e) (thread_of e)).reply ≡ true
+      → (if stopped then refused r
+      else answered_on set r (effect set r.world e) (thread_of e)).run.stopped ≡ r.stopped
+  stopped_by e true is same = refl
+  stopped_by e false is same = stopped_on (effect set r.world e) (thread_of e) is same
+
+  stopped_same : (e : Event) → says_unchanged (step set r e).reply ≡ true
+      → (step set r e).run.stopped ≡ r.stopped
+  stopped_same e same = stopped_by e r.stopped refl same
+
+-- so a machine that showed the run before it shows the run after it too
+shown_same : (m : Machine) (threads : ℕ) (past : List Event) (e : Event)
+    → WaitingChangesNothing → ShowsWhole m threads past
+    → says_unchanged (reply_to m.set threads past e) ≡ true
+    → ShowsWhole m threads (past ++ e ∷ [])
+shown_same m threads past e law shows same =
+    let more : run m.set threads (past ++ e ∷ []) ≡ (step m.set (run m.set threads past) e).run =
+    run_more m.set (begun m.set threads) past e in
+    record {
+      world = shows.world ∙ sym (law m.set threads past e same);
+      stopped = shows.stopped ∙ sym (stopped_same m.set (run m.set threads past) e same)
+          ∙ sym (ap (λ (r : Run). r.stopped) more);
+    }
+
+unchanged_again : (reply : Reply) → happens_again reply ≡ true → says_unchanged reply ≡ true
+unchanged_again Waited is = refl
+unchanged_again Idle is = refl
+unchanged_again (Started packet) is = absurd (false≢true is)
+unchanged_again Stepped is = absurd (false≢true is)
+unchanged_again Finished is = absurd (false≢true is)
+unchanged_again (Topped packet status info) is = absurd (false≢true is)
+unchanged_again Refused is = absurd (false≢true is)
+unchanged_again (Bug bug) is = absurd (false≢true is)
+unchanged_again (Wrong place) is = absurd (false≢true is)
+
+-- the same event several times in a row
+module _ (detail : Detail) (set : Set) (threads : ℕ) (events : List Event) (m n : Machine)
+    (l k : LedgerState) (e : Event) (reply : Reply) (ran : AppliesWhole m e n reply)
+    (noted : LedgerGoesOn m e l k) (kept : k ≡ l)
+    (law : WaitingChangesNothing) (same : says_unchanged reply ≡ true)
+    (on : is_last reply ≡ false) where
+  -- the machine and the ledger as they were before the event show the run with it
+  telling_same : (number : ℕ) (rest : List Event) (text more words : List ℕ)
+      → Telling detail set threads events m l number (e ∷ rest) text
+      → more ≡ text ++ told_line detail number reply words
+      → Telling detail set threads events m l (number + 1) rest more
+  unfolding telling_on
+  telling_same number rest text more words t is =
+      let next : Telling detail set threads events n k (number + 1) rest more =
+      telling_on detail set threads events m n l k number e rest text more words reply t ran noted
+      is on in
+      let unchanged : says_unchanged (reply_to m.set threads t.past e) ≡ true =
+      ap (λ r. says_unchanged r) (sym (ran.replies threads t.past t.shows)) ∙ same in
+      record {
+        past = t.past ++ e ∷ [];
+        same = t.same;
+        shows = shown_same m threads t.past e law t.shows unchanged;
+        tells = subst (λ (x : LedgerState). TellsRun (run set threads (t.past ++ e ∷ [])) x) kept
+            next.tells;
+        told = next.told;
+        last = next.last;
+        ends = next.ends;
+      }
+
+  telling_more : (count number : ℕ) (rest : List Event) (text added : List ℕ)
+      → Telling detail set threads events m l number (e ∷ (replicate count e ++ rest)) text
+      → IsTold detail number (reply ∷ replicate count reply) added
+      → Telling detail set threads events n k (number + 1 + count) rest (text ++ added)
+  telling_more zero number rest text added t (words, (later, is, none)) =
+      let line = told_line detail number reply words in
+      let whole : text ++ added ≡ text ++ line =
+      ap (λ x. text ++ x) (is ∙ ap (λ x. line ++ x) none ∙ append-nil line) in
+      let numbers : number + 1 ≡ number + 1 + 0 = omega arith in
+      subst (λ (j : ℕ). Telling detail set threads events n k j rest (text ++ added)) numbers
+      (telling_on detail set threads events m n l k number e rest text (text ++ added) words reply
+      t ran noted whole on)
+  telling_more (suc count) number rest text added t (words, (later, is, told)) =
+      let line = told_line detail number reply words in
+      let whole : (text ++ line) ++ later ≡ text ++ added =
+      append_assoc text line later ∙ ap (λ x. text ++ x) (sym is) in
+      let numbers : number + 1 + 1 + count ≡ number + 1 + suc count = omega arith in
+      let next : Telling detail set threads events m l (number + 1)
+      (e ∷ (replicate count e ++ rest)) (text ++ line) =
+      telling_same number (e ∷ (replicate count e ++ rest)) text (text ++ line) words t refl in
+      let all : Telling detail set threads events n k (number + 1 + 1 + count) rest
+      ((text ++ line) ++ later) =
+      telling_more count (number + 1) rest (text ++ line) later next told in
+      subst (λ (j : ℕ). Telling detail set threads events n k j rest (text ++ added)) numbers
+      (subst (λ (x : List ℕ). Telling detail set threads events n k (number + 1 + 1 + count) rest
+      x) whole all)
+
+-- what is left of a run of equal events
+pub left_events : (e : Event) (rest : Option Repeated) (later : List Event)
+    → IfSome rest (λ run. run.event ≡ e)
+    → awaited rest later ≡ replicate (count_left rest) e ++ later
+left_events e None later equal = refl
+left_events e (Some left) later equal = ap (λ (x : Event). replicate left.count x ++ later) equal
+
+pub left_length : (rest : Option Repeated) (later : List Event)
+    → count_left rest + length later ≡ length (awaited rest later)
+left_length None later = omega arith
+left_length (Some equal) later = sym (counted equal.count equal.event later)
+
+-- an event is told, and those behind it that are told again
+pub telling_rest : (detail : Detail) (set : Set) (threads : ℕ) (events : List Event) (m n : Machine)
+    (l k : LedgerState) (number : ℕ) (e : Event) (rest : Option Repeated) (later : List Event)
+    (text more words added : List ℕ) (reply : Reply)
+    → Telling detail set threads events m l number (e ∷ awaited rest later) text
+    → AppliesWhole m e n reply → LedgerGoesOn m e l k
+    → (says_unchanged reply ≡ true → k ≡ l) → WaitingChangesNothing → is_last reply ≡ false
+    → IfSome rest (λ run. run.event ≡ e)
+    → more ≡ text ++ told_line detail number reply words
+    → IsTold detail (number + 1) (replicate (times_again reply rest) reply) added
+    → Telling detail set threads events n k (number + 1 + times_again reply rest)
+    (awaited (left_again reply rest) later) (more ++ added)
+telling_rest detail set threads events m n l k number e rest later text more words added reply t
+    ran noted kept law on equal is told =
+    let line = told_line detail number reply words in
+    elim (cases_Bool (happens_again reply)) [
+      | inl again ↦ (let counted : IsTold detail (number + 1) (replicate (count_left rest) reply)
+          added =
+          subst (λ (b : Bool). IsTold detail (number + 1)
+          (replicate (if b then count_left rest else 0) reply) added) again told in
+          let awaits : Telling detail set threads events m l number
+          (e ∷ (replicate (count_left rest) e ++ later)) text =
+          subst (λ (x : List Event). Telling detail set threads events m l number (e ∷ x) text)
+          (left_events e rest later equal) t in
+          let all : Telling detail set threads events n k (number + 1 + count_left rest) later
+          (text ++ (line ++ added)) =
+          telling_more detail set threads events m n l k e reply ran noted
+          (kept (unchanged_again reply again)) law (unchanged_again reply again) on
+          (count_left rest) number later text (line ++ added) awaits
+          (words, (added, refl, counted)) in
+          let whole : text ++ (line ++ added) ≡ more ++ added =
+          sym (append_assoc text line added) ∙ ap (λ x. x ++ added) (sym is) in
+          rw again
+          (subst (λ (x : List ℕ). Telling detail set threads events n k
+          (number + 1 + count_left rest) later x) whole all))
+      | inr other ↦ (let none : added ≡ [] =
+          subst (λ (b : Bool). IsTold detail (number + 1)
+          (replicate (if b then count_left rest else 0) reply) added) other told in
+          let whole : more ++ added ≡ text ++ line =
+          ap (λ x. more ++ x) none ∙ append-nil more ∙ is in
+          let numbers : number + 1 ≡ number + 1 + 0 = omega arith in
+          rw other
+          (subst (λ (j : ℕ). Telling detail set threads events n k j (awaited rest later)
+          (more ++ added)) numbers
+          (telling_on detail set threads events m n l k number e (awaited rest later) text
+          (more ++ added) words reply t ran noted whole on)))
+    ]
+
+-- how many are left, and that a run that is left has an event
+rest_length : (reply : Reply) (rest : Option Repeated) (later : List Event)
+    → times_again reply rest + length (awaited (left_again reply rest) later)
+    ≡ length (awaited rest later)
+rest_length reply rest later =
+    elim (cases_Bool (happens_again reply)) [
+      | inl again ↦ rw again (left_length rest later)
+      | inr other ↦ rw other (omega arith)
+    ]
+
+pub length_on : (reply : Reply) (all : List Event) (e : Event) (rest : Option Repeated)
+    (later : List Event) → all ≡ e ∷ awaited rest later
+    → length all ≡ 1 + times_again reply rest + length (awaited (left_again reply rest) later)
+length_on reply all e rest later is =
+    omega (arith, ap (λ (x : List Event). length x) is, rest_length reply rest later)
+
+pub left_some : (reply : Reply) (rest : Option Repeated) → IfSome rest (λ run. 1 ≤ run.count)
+    → IfSome (left_again reply rest) (λ run. 1 ≤ run.count)
+left_some reply rest some =
+    elim (cases_Bool (happens_again reply)) [
+      | inl again ↦ rw again tt
+      | inr other ↦ rw other some
+    ]
+
+-- one more of the same
+pub told_again : (detail : Detail) (count number : ℕ) (reply : Reply) (added words : List ℕ)
+    → IsTold detail number (replicate count reply) added
+    → IsTold detail number (replicate (suc count) reply)
+    (added ++ told_line detail (number + count) reply words)
+told_again detail zero number reply added words none =
+    let line = told_line detail (number + 0) reply words in
+    let numbers : number + 0 ≡ number = omega arith in
+    let whole : added ++ line ≡ told_line detail number reply words ++ [] =
+    ap (λ x. x ++ line) none ∙ ap (λ k. told_line detail k reply words) numbers
+    ∙ sym (append-nil (told_line detail number reply words)) in
+    (words, ([], whole, refl))
+told_again detail (suc count) number reply added words (first, (later, is, told)) =
+    let line = told_line detail number reply first in
+    let last = told_line detail (number + 1 + count) reply words in
+    let numbers : number + 1 + count ≡ number + suc count = omega arith in
+    let more : IsTold detail (number + 1) (replicate (suc count) reply) (later ++ last) =
+    told_again detail count (number + 1) reply later words told in
+    let whole : added ++ last ≡ line ++ (later ++ last) =
+    ap (λ x. x ++ last) is ∙ append_assoc line later last in
+    let all : IsTold detail number (reply ∷ replicate (suc count) reply) (added ++ last) =
+    (first, (later ++ last, whole, more)) in
+    subst (λ (k : ℕ). IsTold detail number (reply ∷ replicate (suc count) reply)
+    (added ++ told_line detail k reply words)) numbers all
+
+-- lines with the same words are told behind so many of the same
+told_lines : (detail : Detail) (some count number : ℕ) (reply : Reply) (added words : List ℕ)
+    → is_left_out detail reply ≡ false → IsTold detail number (replicate count reply) added
+    → IsTold detail number (replicate (count + some) reply)
+    (added ++ worded_lines (number + count) reply words some)
+told_lines detail zero count number reply added words told all =
+    let none : count + 0 ≡ count = omega arith in
+    rw (append-nil added, none) all
+told_lines detail (suc some) count number reply added words told all =
+    let line : List ℕ = worded_line (number + count) reply words in
+    let later : List ℕ = worded_lines (number + count + 1) reply words some in
+    let counts : suc count + some ≡ count + suc some = omega arith in
+    let numbers : number + suc count ≡ number + count + 1 = omega arith in
+    let is : told_line detail (number + count) reply words ≡ line =
+    ap (λ (b : Bool). if b then [] else worded_line (number + count) reply words) told in
+    let once : IsTold detail number (replicate (suc count) reply) (added ++ line) =
+    subst (λ (l : List ℕ). IsTold detail number (replicate (suc count) reply) (added ++ l)) is
+    (told_again detail count number reply added words all) in
+    let whole : (added ++ line) ++ worded_lines (number + suc count) reply words some
+    ≡ added ++ (line ++ later) =
+    ap (λ n. (added ++ line) ++ worded_lines n reply words some) numbers
+    ∙ append_assoc added line later in
+    subst (λ (k : ℕ). IsTold detail number (replicate k reply) (added ++ (line ++ later))) counts
+    (subst (λ (l : List ℕ). IsTold detail number (replicate (suc count + some) reply) l) whole
+    (told_lines detail some (suc count) number reply (added ++ line) words told once))
+
+pub lines_told : (detail : Detail) (number count left some at : ℕ) (reply : Reply)
+    (words text before beyond : List ℕ) → is_left_out detail reply ≡ false
+    → at + left ≡ number + count → left ≤ count → some ≤ left
+    → (added : List ℕ) × (before ≡ text ++ added)
+    × IsTold detail number (replicate (count - left) reply) added
+    → beyond ≡ before ++ worded_lines at reply words some
+    → (added : List ℕ) × (beyond ≡ text ++ added)
+    × IsTold detail number (replicate (count - (left - some)) reply) added
+lines_told detail number count left some at reply words text before beyond told is few most
+    (added, holds, all) more =
+    let place : at ≡ number + (count - left) = omega (arith, is, few) in
+    let counts : count - left + some ≡ count - (left - some) = omega (arith, few, most) in
+    let lines : List ℕ = worded_lines (number + (count - left)) reply words some in
+    let whole : beyond ≡ text ++ (added ++ lines) =
+    more ∙ ap (λ n. before ++ worded_lines n reply words some) place ∙ ap (λ x. x ++ lines) holds
+    ∙ append_assoc text added lines in (
+      added ++ lines,
+      whole,
+      subst (λ (k : ℕ). IsTold detail number (replicate k reply) (added ++ lines)) counts
+          (told_lines detail some (count - left) number reply added words told all),
+    )
+
+-- none of them is told yet
+pub none_told : (detail : Detail) (number count : ℕ) (reply : Reply) (text : List ℕ)
+    → (added : List ℕ) × (text ≡ text ++ added)
+    × IsTold detail number (replicate (count - count) reply) added
+none_told detail number count reply text =
+    let none : count - count ≡ 0 = omega arith in
+    ([], sym (append-nil text), rw none refl)
+
+-- nothing is told of any that are left out
+pub none_left : (detail : Detail) (count number : ℕ) (reply : Reply)
+    → is_left_out detail reply ≡ true → IsTold detail number (replicate count reply) []
+none_left detail zero number reply out = refl
+none_left detail (suc count) number reply out =
+    let nothing : [] ≡ told_line detail number reply [] ++ [] =
+    ap (λ (b : Bool). (if b then [] else worded_line number reply []) ++ []) (sym out) in
+    ([], ([], nothing, none_left detail count (number + 1) reply out))
+
+-- a step that is passed over in quiet is told by nothing
+pub passed_over : (detail : Detail) (number : ℕ) (reply : Reply) (rest : Option Repeated)
+    (text : List ℕ) → detail ≡ Quiet → reply ≡ Stepped
+    → ToldNext detail number reply rest text text
+passed_over detail number reply rest text quiet stepped =
+    let here : ToldNext Quiet number Stepped rest text text =
+    record {
+      words = [];
+      added = [];
+      whole = sym (append-nil text) ∙ sym (append-nil (text ++ []));
+      again = refl;
+    } in
+    subst (λ (d : Detail). ToldNext d number reply rest text text) (sym quiet)
+    (subst (λ (r : Reply). ToldNext Quiet number r rest text text) (sym stepped) here)
+
+-- a reply that ends the run isn't told again
+pub last_once : (reply : Reply) → is_last reply ≡ true → happens_again reply ≡ false
+last_once (Bug bug) is = refl
+last_once (Wrong place) is = refl
+last_once (Started packet) is = absurd (false≢true is)
+last_once Stepped is = absurd (false≢true is)
+last_once Finished is = absurd (false≢true is)
+last_once (Topped packet status info) is = absurd (false≢true is)
+last_once Waited is = absurd (false≢true is)
+last_once Idle is = absurd (false≢true is)
+last_once Refused is = absurd (false≢true is)
+
+-- so nothing is told behind it
+pub next_last : (detail : Detail) (number : ℕ) (reply : Reply) (rest : Option Repeated)
+    (text more : List ℕ) → ToldNext detail number reply rest text more → is_last reply ≡ true
+    → (words : List ℕ) × (more ≡ text ++ told_line detail number reply words)
+next_last detail number reply rest text more told is =
+    let none : told.added ≡ [] =
+    subst (λ (b : Bool). IsTold detail (number + 1)
+    (replicate (if b then count_left rest else 0) reply) told.added) (last_once reply is)
+    told.again in
+    let line = told_line detail number reply told.words in
+    (told.words, told.whole ∙ ap (λ x. (text ++ line) ++ x) none ∙ append-nil (text ++ line))
+
+-- and else the run goes on behind it
+pub next_on : (detail : Detail) (set : Set) (threads : ℕ) (events : List Event) (m n : Machine)
+    (l k : LedgerState) (number : ℕ) (e : Event) (rest : Option Repeated) (later : List Event)
+    (text more : List ℕ) (reply : Reply)
+    → Telling detail set threads events m l number (e ∷ awaited rest later) text
+    → AppliesWhole m e n reply → LedgerGoesOn m e l k
+    → (says_unchanged reply ≡ true → k ≡ l) → WaitingChangesNothing → is_last reply ≡ false
+    → IfSome rest (λ run. run.event ≡ e) → ToldNext detail number reply rest text more
+    → Telling detail set threads events n k (number + 1 + times_again reply rest)
+    (awaited (left_again reply rest) later) more
+next_on detail set threads events m n l k number e rest later text more reply t ran noted kept law
+    on equal told =
+    let line = told_line detail number reply told.words in
+    let next : Telling detail set threads events n k (number + 1 + times_again reply rest)
+    (awaited (left_again reply rest) later) ((text ++ line) ++ told.added) =
+    telling_rest detail set threads events m n l k number e rest later text (text ++ line) told.words
+    told.added reply t ran noted kept law on equal refl told.again in
+    subst (λ (x : List ℕ). Telling detail set threads events n k
+    (number + 1 + times_again reply rest) (awaited (left_again reply rest) later) x)
+    (sym told.whole) next
+
+-- a line is told of an event
+pub line_told : (detail : Detail) (number : ℕ) (reply : Reply) (text more words : List ℕ)
+    → is_left_out detail reply ≡ false → more ≡ text ++ worded_line number reply words
+    → more ≡ text ++ told_line detail number reply words
+line_told detail number reply text more words told added =
+    added
+    ∙ ap (λ (b : Bool). text ++ (if b then [] else worded_line number reply words)) (sym told)
+
+pub lines_of : {T E : Type 0} (r : Result T E) (detail : Detail) (number : ℕ) (reply : Reply)
+    (text more : List ℕ) → is_left_out detail reply ≡ false
+    → OnOk r ((words : List ℕ) × (more ≡ text ++ worded_line number reply words))
+    → OnOk r ((words : List ℕ) × (more ≡ text ++ told_line detail number reply words))
+lines_of (Ok x) detail number reply text more told (words, added) =
+    (words, line_told detail number reply text more words told added)
+lines_of (Err e) detail number reply text more told h = tt
+
+-- or nothing is
+pub nothing_told : (detail : Detail) (number : ℕ) (reply : Reply) (text : List ℕ)
+    → is_left_out detail reply ≡ true
+    → (words : List ℕ) × (text ≡ text ++ told_line detail number reply words)
+nothing_told detail number reply text left = (
+  [],
+  sym (append-nil text)
+      ∙ ap (λ (b : Bool). text ++ (if b then [] else worded_line number reply []))
+      (sym left),
+)
+
+-- no event is left
+pub told_all : (detail : Detail) (set : Set) (threads : ℕ) (events : List Event) (m : Machine)
+    (l : LedgerState) (number : ℕ) (text : List ℕ)
+    → Telling detail set threads events m l number [] text
+    → HasTold detail set threads events m.set m.world l false text
+told_all detail set threads events m l number text t =
+    let Q : List ℕ → Type 0 = λ x. IsTold detail 0 (replies_by set threads events) x in
+    record {
+      same = t.same;
+      told = subst Q (append-nil text) (t.told [] refl);
+      last = t.last;
+      left = t.shows.world ∙ ap (λ (s : Set). (run s threads t.past).world) t.same
+          ∙ ap (λ (r : Run). r.world) (sym t.ends);
+      reached = t.past;
+      ends = sym t.ends;
+      tells = t.tells;
+    }
+
+-- what was found is all that there is
+all_found : (set : Set) (w : World) (l : LedgerState) (found : Findings) (threads : ℕ)
+    (events : List Event) → AreFindings set w l found → TellsRun (run set threads events) l
+    → any_of found.lost.items found.left.items found.ringed.items found.disagreeing.items
+    ≡ has_findings set w (run set threads events).past
+all_found set w l found threads events are tells =
+    rw (are.lost, are.left, are.ringed, are.disagreeing set threads events tells) refl
+
+-- the events are told, and the audit behind them
+pub run_told : (detail : Detail) (set : Set) (threads : ℕ) (events : List Event) (after : Set)
+    (world : World) (l : LedgerState) (stopped amiss : Bool) (text words : List ℕ)
+    (found : Findings)
+    → HasTold detail set threads events after world l stopped text
+    → AreFindings after world l found
+    → amiss ≡ any_of found.lost.items found.left.items found.ringed.items found.disagreeing.items
+    → IsRunTold detail set threads events
+    (ended (if stopped || amiss then Stopped else Complete)
+    (text ++ (codes "\naudit\n" ++ words)))
+run_told detail set threads events shown world l stopped amiss text words found h are any =
+    let all = text ++ (codes "\naudit\n" ++ words) in
+    let found_in : AreFindings set world l found =
+    subst (λ (s : Set). AreFindings s world l found) h.same are in
+    let same : amiss ≡ has_findings set (world_by set threads events) (past_by set threads events) =
+    any ∙ all_found set world l found threads h.reached found_in h.tells
+    ∙ ap (λ (w : World). has_findings set w (run set threads h.reached).past) h.left
+    ∙ ap (λ (r : Run). has_findings set (world_by set threads events) r.past) h.ends in
+    record {
+      lines = text;
+      words = words;
+      told = h.told;
+      is = ap (λ (b : Bool). ended (if b || amiss then Stopped else Complete) all) (sym h.last)
+          ∙ ap (λ (b : Bool). ended (if list_any is_last (replies_by set threads events) || b
+          then Stopped else Complete) all) same;
+    }
+
+-- a schedule was read, and its run is shown
+pub schedule_shown : (showing : Showing) (held : Supply) (set : Set) (schedule : Schedule)
+    (told : Told) → ReadsSchedule held (Ok schedule)
+    → IsRunShown showing set schedule.threads schedule.events (ended told.end told.text)
+    → Tells (IsShownRunOf showing held set) (Ok told)
+schedule_shown showing held set schedule told (text, holds, lists) right =
+    let P : Result Schedule ScheduleFault → Type 0 = λ s.
+    IsScheduleShown showing set s (ended told.end told.text) in
+    (text, holds, subst P (sym lists) right)
+
+-- it can't be read
+pub schedule_unread : (showing : Showing) (held : Supply) (set : Set) (fault : Fault)
+    → ReadsSchedule held (Err fault) → Tells (IsShownRunOf showing held set) (Err fault)
+schedule_unread showing held set (OfSchedule fault) (text, holds, lists) =
+    let P : Result Schedule ScheduleFault → Type 0 = λ s.
+    IsScheduleShown showing set s (faulty (schedule_fault_line fault)) in
+    (text, holds, subst P (sym lists) refl)
+schedule_unread showing held set Read h = tt
+schedule_unread showing held set Memory h = tt
+schedule_unread showing held set Write h = absurd h
+schedule_unread showing held set (Text fault) h = absurd h
+schedule_unread showing held set (Image fault) h = absurd h
+schedule_unread showing held set (OfScript fault) h = absurd h
+
+pub tells_nothing : (R : Answer → Type 0) (fault : Fault) → fault ≡ Memory → Tells R (Err fault)
+tells_nothing R fault is =
+    let P : Fault → Type 0 = λ f. Tells R (Err f) in subst P (sym is) tt
+
+-- where more answers are right
+pub tells_rightly : (R Q : Answer → Type 0) (told : Result Told Fault)
+    → ((answer : Answer) → R answer → Q answer) → Tells R told → Tells Q told
+tells_rightly R Q (Ok told) on h = on _ h
+tells_rightly R Q (Err (OfSchedule fault)) on h = on _ h
+tells_rightly R Q (Err Read) on h = h
+tells_rightly R Q (Err Memory) on h = h
+tells_rightly R Q (Err Write) on h = h
+tells_rightly R Q (Err (Text fault)) on h = h
+tells_rightly R Q (Err (Image fault)) on h = h
+tells_rightly R Q (Err (OfScript fault)) on h = h
+
+-- a refusal is told, unless there was no memory for a verdict
+pub refusal_told : (set : Set) (refusal : Refusal) (told : Result Told Fault)
+    → (refusal ≡ at_start Rule.Memory) ⊎ IsFirstFault set refusal
+    → IfOk told (λ t. (t.end ≡ Stopped) × (refusal.rule ≢ Rule.Memory)
+    × (t.text ≡ refusal_line refusal))
+    → IfErr told (λ fault. fault ≡ Memory)
+    → Tells (IsRefused set) told
+refusal_told set refusal (Ok told) (inl e) h i = absurd (h.1 (ap (λ r. r.rule) e))
+refusal_told set refusal (Ok told) (inr first) h i =
+    record {
+      refusal = refusal;
+      first = first;
+      is = ap (λ x. ended x told.text) h.0 ∙ ap (λ x. ended Stopped x) h.2;
+    }
+refusal_told set refusal (Err fault) e h i = tells_nothing (IsRefused set) fault i
+
+-- the text is written, or a beginning of it, or there is none
+pub told_written : (R : Answer → Type 0) (b n : Option (List ℕ)) (told : Told)
+    → Tells R (Ok told) → Appends b n told.text → Goes R b n [] [] (Ok told.end)
+told_written R b n told h p = (
+  told.text,
+  h,
+  record {
+    written = told.text;
+    appended = p;
+    whole = sym (append-nil told.text);
+  },
+)
+
+pub told_broken : (R : Answer → Type 0) (b n : Option (List ℕ)) (told : Told)
+    → Tells R (Ok told) → TakesBeginning b n told.text → Goes R b n [] [] (Err Write)
+told_broken R b n told h p = (ended told.end told.text, h, p)
+
+pub untold : (R : Answer → Type 0) (b : Option (List ℕ)) (fault : Fault)
+    → Tells R (Err fault) → Goes R b b [] [] (Err fault)
+untold R b (OfSchedule fault) h = (h, keeps_same b)
+untold R b Read h = keeps_same b
+untold R b Memory h = keeps_same b
+untold R b Write h = absurd h
+untold R b (Text fault) h = absurd h
+untold R b (Image fault) h = absurd h
+untold R b (OfScript fault) h = absurd h
+
+-- a source has a set that is run
+pub holds_run : {A : Type 0} (v : Verification) (held : Supply) (set : Set)
+    → ReadsSet held (Ok set) → A ⊎ IsToRun v set → A ⊎ HoldsRun v held
+holds_run v held set read (inl same) = inl same
+holds_run v held set (bytes, holds, says) (inr such) = inr (bytes, holds, (set, says, such))

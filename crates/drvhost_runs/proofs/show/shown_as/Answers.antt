@@ -1,0 +1,4 @@
+use Rattle.drvhost_runs.proofs.show.shown_as.Goals as goal
+
+pub returns-in-Required-clause-tells : goal.returns-in-Required-clause-tells
+returns-in-Required-clause-tells g c = rw c.in-Required.is c.shown_verified.ensures.tells

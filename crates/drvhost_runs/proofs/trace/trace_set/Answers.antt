@@ -1,0 +1,67 @@
+use Rattle.std.proofs.Common.{[], Err, Ok}
+use Rattle.std.proofs.lemmas.Result.{err_from_is_err_and}
+use Rattle.drvhost_devices.specs.Answer.{IsTraced}
+use Rattle.drvhost_devices.specs.Ends.{IsRunOf, IsTraceOf}
+use Rattle.drvhost_devices.proofs.Jobs.{goes_broken, goes_left, goes_rightly, goes_written, right_on, set_unread}
+use Rattle.drvhost_runs.proofs.trace.trace_set.Goals as goal
+
+pub returns-in_err-set-clause-goes : goal.returns-in_err-set-clause-goes
+returns-in_err-set-clause-goes g c =
+    let p = err_from_is_err_and c.from_residual.result c.from_residual.ensures.1 in
+    let v = c.args.verification in
+    let held = g.S.Source.supply c.args.set.now in
+    let scheduled = g.P.Source.supply c.args.schedule.now in
+    rw (p.1, p.2)
+    (set_unread (IsTraced v (IsRunOf scheduled)) held (g.O.Sink.contents c.args.out.now) [] []
+    c.in_err-set.field-0.0 c.in_err-set.ensures.set)
+
+pub returns-in_err-end-clause-goes : goal.returns-in_err-end-clause-goes
+returns-in_err-end-clause-goes g c =
+    let p = err_from_is_err_and c.from_residual-in_err-end.result
+    c.from_residual-in_err-end.ensures.1 in
+    let v = c.args.verification in
+    let held = g.S.Source.supply c.args.set.now in
+    let scheduled = g.P.Source.supply c.args.schedule.now in
+    let set = c.in_ok-set.set in
+    let before = g.O.Sink.contents c.args.out.now in
+    let after = g.O.Sink.contents c.trace_as.new.out in
+    rw (p.1, p.2)
+    (goes_rightly (IsTraced v (IsRunOf scheduled) set) (IsTraceOf v held scheduled) before after [] []
+    (Err c.in_err-end.field-0.0) (right_on (IsTraced v (IsRunOf scheduled)) held set c.in_ok-set.ensures.set)
+    (goes_left (IsTraced v (IsRunOf scheduled) set) before after c.trace_as.new.lines []
+    c.in_err-end.field-0.0 c.in_err-end.ensures.goes))
+
+pub returns-in_err-write_lines-clause-goes : goal.returns-in_err-write_lines-clause-goes
+returns-in_err-write_lines-clause-goes g c =
+    let p = err_from_is_err_and c.from_residual-in_err-write_lines.result
+    c.from_residual-in_err-write_lines.ensures.1 in
+    let v = c.args.verification in
+    let held = g.S.Source.supply c.args.set.now in
+    let scheduled = g.P.Source.supply c.args.schedule.now in
+    let set = c.in_ok-set.set in
+    let before = g.O.Sink.contents c.args.out.now in
+    let between = g.O.Sink.contents c.trace_as.new.out in
+    let end = c.in_ok-end.end in
+    rw (p.1, p.2, c.in_err-write_lines.ensures.fault)
+    (goes_broken (IsTraceOf v held scheduled) before between
+    (g.O.Sink.contents c.write_lines.new.sink) c.trace_as.new.lines end
+    (goes_rightly (IsTraced v (IsRunOf scheduled) set) (IsTraceOf v held scheduled) before between []
+    c.trace_as.new.lines (Ok end) (right_on (IsTraced v (IsRunOf scheduled)) held set c.in_ok-set.ensures.set)
+    c.in_ok-end.ensures.goes)
+    c.in_err-write_lines.ensures.written)
+
+pub returns-clause-goes : goal.returns-clause-goes
+returns-clause-goes g c =
+    let v = c.args.verification in
+    let held = g.S.Source.supply c.args.set.now in
+    let scheduled = g.P.Source.supply c.args.schedule.now in
+    let set = c.in_ok-set.set in
+    let before = g.O.Sink.contents c.args.out.now in
+    let between = g.O.Sink.contents c.trace_as.new.out in
+    let end = c.in_ok-end.end in
+    goes_written (IsTraceOf v held scheduled) before between
+    (g.O.Sink.contents c.write_lines.new.sink) c.trace_as.new.lines end
+    (goes_rightly (IsTraced v (IsRunOf scheduled) set) (IsTraceOf v held scheduled) before between []
+    c.trace_as.new.lines (Ok end) (right_on (IsTraced v (IsRunOf scheduled)) held set c.in_ok-set.ensures.set)
+    c.in_ok-end.ensures.goes)
+    c.in_ok-write_lines.ensures.written

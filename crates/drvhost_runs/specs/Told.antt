@@ -1,0 +1,211 @@
+-- What `tell` answers: the trace of a run with words behind the reply of each event, and its audit;
+-- and what `draw` does: a picture of the run.
+use Rattle.std.specs.Prelude.{ℕ, ⊤, ◌≡◌, ◌+◌, ◌++◌, ◌||◌, Bool, true, false, if◌then◌else◌, List, [], ◌∷◌, codes, replicate, Option, None, Some, Result, Ok, Err}
+use Rattle.std.specs.List.{list_any}
+use Rattle.tell_audit.specs.Findings.{has_findings}
+use Rattle.tell_uses.specs.Ledger.{LedgerState, Tells as TellsRun}
+use Rattle.checked.specs.GoingOn.{GoesOn}
+use Rattle.interleave.specs.declared.read.Repeated.{Repeated}
+use Rattle.interleave.specs.declared.schedule.Schedule.{Schedule}
+use Rattle.interleave.specs.declared.schedule.ScheduleFault.{ScheduleFault}
+use Rattle.interleave.specs.Listing.{schedule_in}
+use Rattle.model.specs.declared.event.Event.{Event}
+use Rattle.model.specs.declared.event.Event.TheVariants.{Step}
+use Rattle.model.specs.declared.event.Reply.{Reply}
+use Rattle.model.specs.declared.event.Reply.TheVariants.{Started, Stepped, Finished, Topped, Waited, Idle, Refused, Bug, Wrong}
+use Rattle.model.specs.Machine.{Machine, ShowsWhole}
+use Rattle.model.specs.Run.{Run, begun, run, step}
+use Rattle.model.specs.Set.{Set}
+use Rattle.model.specs.Trace.{Entry}
+use Rattle.model.specs.World.{World}
+use Rattle.report.specs.Fault.{schedule_fault_line}
+use Rattle.report.specs.Reply.{worded_line}
+use Rattle.drvhost_devices.specs.declared.fault.End.{End}
+use Rattle.drvhost_devices.specs.declared.fault.End.TheVariants.{Complete, Stopped}
+use Rattle.drvhost_devices.specs.declared.fault.Fault.{Fault}
+use Rattle.drvhost_devices.specs.declared.fault.Fault.TheVariants.{Read, Write, Memory, Text, Image, Schedule as OfSchedule, Script as OfScript}
+use Rattle.drvhost_runs.specs.declared.show.Showing.{Showing}
+use Rattle.drvhost_runs.specs.declared.show.Showing.TheVariants.{InWords, AsPicture}
+use Rattle.drvhost_runs.specs.declared.tell.Detail.{Detail}
+use Rattle.drvhost_runs.specs.declared.tell.Detail.TheVariants.{Whole, Quiet}
+use Rattle.drvhost_runs.specs.declared.telling.Told.{Told}
+use Rattle.drvhost_devices.specs.declared.verification.Verification.{Verification}
+use Rattle.drvhost_devices.specs.Answer.{Answer, IsTraced, ended, faulty, is_last, shown_replies}
+use Rattle.drvhost_devices.specs.Device.{Holds, Supply}
+use Rattle.drvhost_devices.specs.Ends.{IsOfSupply}
+
+-- a reply that only says that a step was made, or that there was nothing to do
+abbrev pub is_quiet : Reply → Bool
+is_quiet Stepped = true
+is_quiet Idle = true
+is_quiet (Started packet) = false
+is_quiet Finished = false
+is_quiet (Topped packet status info) = false
+is_quiet Waited = false
+is_quiet Refused = false
+is_quiet (Bug bug) = false
+is_quiet (Wrong place) = false
+
+-- whether no line is told of it
+abbrev pub is_left_out : Detail → Reply → Bool
+is_left_out Whole reply = false
+is_left_out Quiet reply = is_quiet reply
+
+-- what is told of an event, with these words: a line, or nothing
+abbrev pub told_line : Detail → ℕ → Reply → List ℕ → List ℕ
+told_line detail number reply words =
+    if is_left_out detail reply then [] else worded_line number reply words
+
+-- what is told of events with these replies, the first of which has this number: of each a line
+-- with some words, or nothing
+abbrev pub IsTold : Detail → ℕ → List Reply → List ℕ → Type 0
+IsTold detail number [] text = text ≡ []
+IsTold detail number (reply ∷ rest) text =
+    (words : List ℕ) × ((later : List ℕ)
+    × (text ≡ told_line detail number reply words ++ later)
+    × IsTold detail (number + 1) rest later)
+
+-- a reply that an event has again where it happens again, without doing anything
+abbrev pub happens_again : Reply → Bool
+happens_again Waited = true
+happens_again Idle = true
+happens_again (Started packet) = false
+happens_again Stepped = false
+happens_again Finished = false
+happens_again (Topped packet status info) = false
+happens_again Refused = false
+happens_again (Bug bug) = false
+happens_again (Wrong place) = false
+
+-- how often it is told again of what is left of a run, and what is left to be run then
+abbrev pub count_left : Option Repeated → ℕ
+count_left None = 0
+count_left (Some run) = run.count
+
+abbrev pub times_again : Reply → Option Repeated → ℕ
+times_again reply rest = if happens_again reply then count_left rest else 0
+
+abbrev pub left_again : Reply → Option Repeated → Option Repeated
+left_again reply rest = if happens_again reply then None else rest
+
+-- an event is told, and those behind it that are told again
+pub record ToldNext (detail : Detail) (number : ℕ) (reply : Reply) (rest : Option Repeated)
+    (text more : List ℕ) : Type 0 where
+  pub words : List ℕ
+  pub added : List ℕ
+  pub whole : more ≡ (text ++ told_line detail number reply words) ++ added
+  pub again : IsTold detail (number + 1) (replicate (times_again reply rest) reply) added
+
+-- a ledger that tells a run that a machine shows becomes one that tells it with an event added
+abbrev pub LedgerGoesOn : Machine → Event → LedgerState → LedgerState → Type 0
+LedgerGoesOn m e l k =
+    (threads : ℕ) (events : List Event) → ShowsWhole m threads events
+    → TellsRun (run m.set threads events) l → TellsRun (run m.set threads (events ++ e ∷ [])) k
+
+-- an event was applied so many times, each time as a step that changes nothing but the activation
+-- on its thread's top; never, where it is no step
+abbrev pub GoesAlone : Event → Machine → ℕ → Machine → Type 0
+GoesAlone (Step t) m k n = GoesOn t m k n
+GoesAlone e m k n = (k ≡ 0) × (n ≡ m)
+
+-- so many such steps are told, the first of which has this number
+abbrev pub ToldAlone : Detail → ℕ → ℕ → List ℕ → List ℕ → Type 0
+ToldAlone detail number k text more =
+    (added : List ℕ) × (more ≡ text ++ added) × IsTold detail number (replicate k Stepped) added
+
+-- a run after these events, or after the first of them that stops it
+abbrev pub run_to_end : Set → Run → List Event → Run
+run_to_end set r [] = r
+run_to_end set r (e ∷ events) =
+    if is_last (step set r e).reply then (step set r e).run
+    else run_to_end set (step set r e).run events
+
+-- the replies to the events of a schedule, and the world that they leave
+abbrev pub replies_by : Set → ℕ → List Event → List Reply
+replies_by set threads events = shown_replies set (begun set threads) events
+
+abbrev pub world_by : Set → ℕ → List Event → World
+world_by set threads events = (run_to_end set (begun set threads) events).world
+
+-- and the trace
+abbrev pub past_by : Set → ℕ → List Event → List Entry
+past_by set threads events = (run_to_end set (begun set threads) events).past
+
+-- how a run that is told ends: stopped also where its audit finds anything amiss
+abbrev pub told_end : Set → ℕ → List Event → End
+told_end set threads events =
+    if list_any is_last (replies_by set threads events)
+    || has_findings set (world_by set threads events) (past_by set threads events)
+    then Stopped else Complete
+
+-- a run by a schedule is told: the lines of its events, and then some words on its audit
+pub record IsRunTold (detail : Detail) (set : Set) (threads : ℕ) (events : List Event)
+    (answer : Answer) : Type 0 where
+  pub lines : List ℕ
+  pub words : List ℕ
+  pub told : IsTold detail 0 (replies_by set threads events) lines
+  pub is : answer ≡ ended (told_end set threads events) (lines ++ (codes "\naudit\n" ++ words))
+
+-- a run by a schedule is drawn: a picture, and the run's end
+pub record IsRunDrawn (set : Set) (threads : ℕ) (events : List Event) (answer : Answer)
+    : Type 0 where
+  pub picture : List ℕ
+  pub is : answer ≡ ended (if list_any is_last (replies_by set threads events)
+      then Stopped else Complete) picture
+
+-- a run is shown in words, or as a picture
+abbrev pub IsRunShown : Showing → Set → ℕ → List Event → Answer → Type 0
+IsRunShown (InWords detail) set threads events answer = IsRunTold detail set threads events answer
+IsRunShown AsPicture set threads events answer = IsRunDrawn set threads events answer
+
+-- or the fault of the schedule is told
+abbrev pub IsScheduleShown : Showing → Set → Result Schedule ScheduleFault → Answer → Type 0
+IsScheduleShown showing set (Ok schedule) answer =
+    IsRunShown showing set schedule.threads schedule.events answer
+IsScheduleShown showing set (Err fault) answer = answer ≡ faulty (schedule_fault_line fault)
+
+-- what is shown of a run of a set by the schedule that a source has
+abbrev pub IsShownRunOf : Showing → Supply → Set → Answer → Type 0
+IsShownRunOf showing supply set answer =
+    (schedule : List ℕ) × Holds supply schedule
+    × IsScheduleShown showing set (schedule_in schedule) answer
+
+-- what is answered for what the sources have where a run is shown: the schedule's is read for a
+-- run alone
+abbrev pub IsShownOf : Verification → Showing → Supply → Supply → Answer → Type 0
+IsShownOf verification showing supply schedule answer =
+    IsOfSupply (IsTraced verification (IsShownRunOf showing schedule)) supply answer
+
+-- what `tell` answers, and what `draw` does
+abbrev pub IsTellOf : Verification → Detail → Supply → Supply → Answer → Type 0
+IsTellOf verification detail supply schedule answer =
+    IsShownOf verification (InWords detail) supply schedule answer
+
+abbrev pub IsDrawOf : Verification → Supply → Supply → Answer → Type 0
+IsDrawOf verification supply schedule answer =
+    IsShownOf verification AsPicture supply schedule answer
+
+-- a text was made, and with the way that the job ends it is a right answer; or an input is rightly
+-- told as faulty, or a read failed or memory ran out
+abbrev pub Tells : (Answer → Type 0) → Result Told Fault → Type 0
+Tells Right (Ok told) = Right (ended told.end told.text)
+Tells Right (Err (OfSchedule fault)) = Right (faulty (schedule_fault_line fault))
+Tells Right (Err Read) = ⊤
+Tells Right (Err Memory) = ⊤
+Tells Right (Err Write) = ⊥
+Tells Right (Err (Text fault)) = ⊥
+Tells Right (Err (Image fault)) = ⊥
+Tells Right (Err (OfScript fault)) = ⊥
+
+-- the events of a run over so many threads were told: what they left in a machine's set and world,
+-- a ledger that tells the run up to the last of them that was told, whether that one stopped the run,
+-- and the text
+pub record HasTold (detail : Detail) (set : Set) (threads : ℕ) (events : List Event) (after : Set)
+    (world : World) (ledger : LedgerState) (stopped : Bool) (text : List ℕ) : Type 0 where
+  pub same : after ≡ set
+  pub told : IsTold detail 0 (replies_by set threads events) text
+  pub last : list_any is_last (replies_by set threads events) ≡ stopped
+  pub left : world ≡ world_by set threads events
+  pub reached : List Event
+  pub ends : run set threads reached ≡ run_to_end set (begun set threads) events
+  pub tells : TellsRun (run set threads reached) ledger

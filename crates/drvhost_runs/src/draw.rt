@@ -1,0 +1,42 @@
+//! A run drawn as a picture.
+
+ghost use Rattle.std.specs.Prelude.{◌≡◌, ◌+◌, ◌⊎◌};
+ghost use Rattle.drvhost_devices.specs.Device.{CanCount, Says};
+ghost use Rattle.drvhost_devices.specs.Ends.{Answers, HoldsRun};
+ghost use Rattle.drvhost_runs.specs.Told.{IsDrawOf};
+
+use crate::show::{Showing, show};
+use drvhost_devices::device::{Sink, Source};
+use drvhost_devices::verification::Verification;
+use std::alloc::Global;
+
+/// Runs a driver set by a schedule as [`trace`](crate::trace::trace) does, and writes the run as
+/// one SVG picture: a lane for each thread, device and list, a line for each packet, and a row of
+/// words for each event of interest, at most 500. Where verification is required, a refused set
+/// isn't run, and what is written is the line of its refusal. The answer is the exit status of the
+/// trace, and faults are told on the error writer as there. Nothing is written before the whole
+/// picture stands in memory.
+pub fn draw<S: Source, P: Source, O: Sink, E: Sink>(
+    alloc: Global,
+    set: &mut S,
+    schedule: &mut P,
+    verification: Verification,
+    out: &mut O,
+    err: &mut E,
+) -> u8
+    requires set { CanCount (S.failures set.old) }
+    requires schedule { CanCount (P.failures schedule.old) }
+    requires out { CanCount (O.failures out.old) }
+    requires err { CanCount (E.failures err.old) }
+    ensures unread { (schedule.new ≡ schedule.old) ⊎ HoldsRun verification (S.supply set.old) }
+    ensures answers { Answers
+        (IsDrawOf verification (S.supply set.old) (P.supply schedule.old))
+        (S.failures set.old + P.failures schedule.old)
+        (S.failures set.new + P.failures schedule.new)
+        (O.failures out.old) (O.failures out.new) (O.contents out.old) (O.contents out.new)
+        (Says (E.failures err.old) (E.failures err.new) (E.contents err.old) (E.contents err.new))
+        result }
+{
+    let showing = Showing::AsPicture;
+    show(alloc, set, schedule, verification, showing, out, err)
+}

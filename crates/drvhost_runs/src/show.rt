@@ -1,0 +1,240 @@
+//! A run shown to people, in words or as a picture.
+
+ghost use Rattle.std.specs.Prelude.{◌≡◌, ◌≢◌, ◌+◌, ◌⊎◌, [], IfErr, IfOk};
+ghost use Rattle.interleave.specs.Listing.{IsWithinLimits};
+ghost use Rattle.model.specs.Machine.{ShowsWhole};
+ghost use Rattle.model.specs.Typable.{IsTypable};
+ghost use Rattle.report.specs.Verdict.{refusal_line};
+ghost use Rattle.drvhost_devices.specs.Answer.{IsIfAccepted, IsToRun, IsTraced, ended};
+ghost use Rattle.drvhost_devices.specs.Device.{CanCount, Says};
+ghost use Rattle.drvhost_devices.specs.Ends.{Answers, HoldsRun};
+ghost use Rattle.drvhost_devices.specs.Fault.{Goes, reads_failed, writes_failed};
+ghost use Rattle.drvhost_runs.specs.Told.{IsRunShown, IsShownOf, IsShownRunOf, Tells};
+
+use crate::drawing::draw_run;
+use crate::tell::Detail;
+use crate::telling::{Told, tell_run};
+use crate::trace::read_schedule;
+use asm::disassemble;
+use checked::Checked;
+use drvhost_devices::device::{Sink, Source};
+use drvhost_devices::fault::{End, Fault, finish, no_memory};
+use drvhost_devices::reading::{begins_image, set_of};
+use drvhost_devices::transfer::read_whole;
+use drvhost_devices::verification::Verification;
+use drvhost_sets::check::refuse;
+use image::DriverSet;
+use interleave::schedule::Schedule;
+use model::abs::{Refusal, Rule};
+use report::lines::Lines;
+use std::alloc::{AllocError, Global};
+use tell_lines::kept::ToldLines;
+use verifier::{Accepted, verify};
+
+/// How a run is shown to people.
+#[derive(Clone, Copy)]
+pub(crate) enum Showing {
+    /// In words, with an audit.
+    InWords(Detail),
+    /// As a picture.
+    AsPicture,
+}
+
+/// Runs a driver set by a schedule as [`trace`](crate::trace::trace) does, and shows the run.
+pub(crate) fn show<S: Source, P: Source, O: Sink, E: Sink>(
+    alloc: Global,
+    set: &mut S,
+    schedule: &mut P,
+    verification: Verification,
+    showing: Showing,
+    out: &mut O,
+    err: &mut E,
+) -> u8
+    requires set { CanCount (S.failures set.old) }
+    requires schedule { CanCount (P.failures schedule.old) }
+    requires out { CanCount (O.failures out.old) }
+    requires err { CanCount (E.failures err.old) }
+    ensures unread { (schedule.new ≡ schedule.old) ⊎ HoldsRun verification (S.supply set.old) }
+    ensures answers { Answers
+        (IsShownOf verification showing (S.supply set.old) (P.supply schedule.old))
+        (S.failures set.old + P.failures schedule.old)
+        (S.failures set.new + P.failures schedule.new)
+        (O.failures out.old) (O.failures out.new) (O.contents out.old) (O.contents out.new)
+        (Says (E.failures err.old) (E.failures err.new) (E.contents err.old) (E.contents err.new))
+        result }
+{
+    match Lines::new(alloc) {
+        Ok(mut lines) => {
+            let end = show_set(alloc, set, schedule, verification, showing, &mut lines, out);
+            finish(end, &mut lines, err)
+        }
+        Err(AllocError) => no_memory(err),
+    }
+}
+
+fn show_set<S: Source, P: Source, O: Sink>(
+    alloc: Global,
+    set: &mut S,
+    schedule: &mut P,
+    verification: Verification,
+    showing: Showing,
+    lines: &mut Lines,
+    out: &mut O,
+) -> Result<End, Fault>
+    requires set { CanCount (S.failures set.old) }
+    requires schedule { CanCount (P.failures schedule.old) }
+    requires out { CanCount (O.failures out.old) }
+    requires empty { lines.old ≡ [] }
+    ensures unread { (schedule.new ≡ schedule.old) ⊎ HoldsRun verification (S.supply set.old) }
+    ensures goes { Goes (IsShownOf verification showing (S.supply set.old) (P.supply schedule.old))
+        (O.contents out.old) (O.contents out.new) [] [] result }
+    ensures reads { S.failures set.new + P.failures schedule.new ≡ S.failures set.old + P.failures
+        schedule.old + reads_failed result }
+    ensures writes { O.failures out.new ≡ O.failures out.old + writes_failed result }
+{
+    let bytes = read_whole(alloc, set)?;
+    let bytes = bytes.as_slice();
+    let set = set_of(alloc, bytes)?;
+    let told = shown_as(alloc, bytes, set, schedule, verification, showing, lines)?;
+    told.text.write_to(lines, out)?;
+    Ok(told.end)
+}
+
+/// Shows the run of a set, if it needn't be accepted or is.
+fn shown_as<P: Source>(
+    alloc: Global,
+    bytes: &[u8],
+    set: DriverSet,
+    schedule: &mut P,
+    verification: Verification,
+    showing: Showing,
+    lines: &mut Lines,
+) -> Result<Told, Fault>
+    requires schedule { CanCount (P.failures schedule.old) }
+    requires empty { lines.old ≡ [] }
+    ensures unread { (schedule.new ≡ schedule.old) ⊎ IsToRun verification set }
+    ensures tells { Tells (IsTraced verification (IsShownRunOf showing (P.supply schedule.old)) set)
+        result }
+    ensures reads { P.failures schedule.new ≡ P.failures schedule.old + reads_failed result }
+    ensures writes { writes_failed result ≡ 0 }
+{
+    match verification {
+        Verification::Required => shown_verified(alloc, bytes, set, schedule, showing, lines),
+        Verification::Skipped => shown_run(alloc, bytes, set, schedule, showing, lines),
+    }
+}
+
+/// Shows the run of a set if it is accepted, and else tells its refusal.
+fn shown_verified<P: Source>(
+    alloc: Global,
+    bytes: &[u8],
+    set: DriverSet,
+    schedule: &mut P,
+    showing: Showing,
+    lines: &mut Lines,
+) -> Result<Told, Fault>
+    requires schedule { CanCount (P.failures schedule.old) }
+    requires empty { lines.old ≡ [] }
+    ensures unread { (schedule.new ≡ schedule.old) ⊎ IsTypable set }
+    ensures tells { Tells (IsIfAccepted (IsShownRunOf showing (P.supply schedule.old)) set) result }
+    ensures reads { P.failures schedule.new ≡ P.failures schedule.old + reads_failed result }
+    ensures writes { writes_failed result ≡ 0 }
+{
+    match verify(alloc, set) {
+        Ok(accepted) => shown_accepted(alloc, bytes, &accepted, schedule, showing, lines),
+        Err((_set, refusal)) => shown_refusal(alloc, &refusal, lines),
+    }
+}
+
+/// Tells a refusal; one for want of memory is no verdict.
+fn shown_refusal(alloc: Global, refusal: &Refusal, lines: &mut Lines) -> Result<Told, Fault>
+    requires { lines.old ≡ [] }
+    ensures refused { IfOk result (λ told. (told.end ≡ End.Stopped)
+        × (refusal.now.rule ≢ Rule.Memory) × (told.text ≡ refusal_line refusal.now)) }
+    ensures memory { IfErr result (λ fault. fault ≡ Fault.Memory) }
+{
+    let end = refuse(refusal, lines)?;
+    let mut text = ToldLines::new(alloc, 1)?;
+    text.add_bytes(lines.bytes())?;
+    Ok(Told { text, end })
+}
+
+/// Shows the run of an accepted set.
+fn shown_accepted<P: Source>(
+    alloc: Global,
+    bytes: &[u8],
+    accepted: &Accepted,
+    schedule: &mut P,
+    showing: Showing,
+    lines: &mut Lines,
+) -> Result<Told, Fault>
+    requires schedule { CanCount (P.failures schedule.old) }
+    ensures tells { Tells (IsShownRunOf showing (P.supply schedule.old) accepted.now) result }
+    ensures reads { P.failures schedule.new ≡ P.failures schedule.old + reads_failed result }
+    ensures writes { writes_failed result ≡ 0 }
+{
+    // The machine that looks at each step wants a set of its own.
+    match accepted.set().copy(alloc) {
+        Ok(set) => shown_run(alloc, bytes, set, schedule, showing, lines),
+        Err(_refused) => Err(Fault::Memory),
+    }
+}
+
+/// Shows the run of any set.
+fn shown_run<P: Source>(
+    alloc: Global,
+    bytes: &[u8],
+    set: DriverSet,
+    schedule: &mut P,
+    showing: Showing,
+    lines: &mut Lines,
+) -> Result<Told, Fault>
+    requires schedule { CanCount (P.failures schedule.old) }
+    ensures tells { Tells (IsShownRunOf showing (P.supply schedule.old) set) result }
+    ensures reads { P.failures schedule.new ≡ P.failures schedule.old + reads_failed result }
+    ensures writes { writes_failed result ≡ 0 }
+{
+    let schedule = read_schedule(alloc, schedule)?;
+    let source = source_of(alloc, bytes, &set)?;
+    match Checked::new(alloc, set, schedule.threads) {
+        Ok(mut machine) => {
+            let source = source.as_slice();
+            let told = run_shown(alloc, source, &mut machine, &schedule, showing, lines)?;
+            Ok(told)
+        }
+        Err((_set, _refused)) => Err(Fault::Memory),
+    }
+}
+
+/// Shows the run of a machine by a schedule: with the names and the lines of a text that names its
+/// set.
+fn run_shown(
+    alloc: Global,
+    source: &[u8],
+    machine: &mut Checked,
+    schedule: &Schedule,
+    showing: Showing,
+    lines: &mut Lines,
+) -> Result<Told, AllocError>
+    requires begun { ShowsWhole machine.old schedule.now.threads [] }
+    requires limits { IsWithinLimits schedule.now }
+    ensures { IfOk result (λ told. IsRunShown showing machine.old.set schedule.now.threads
+        schedule.now.events (ended told.end told.text)) }
+{
+    match showing {
+        Showing::InWords(detail) => tell_run(alloc, source, machine, schedule, detail, lines),
+        Showing::AsPicture => draw_run(alloc, source, machine, schedule),
+    }
+}
+
+/// A text that names a set: the one that these bytes are, or the listing of the set of an image.
+fn source_of(alloc: Global, bytes: &[u8], set: &DriverSet) -> Result<Vec<u8>, Fault>
+    ensures { IfErr result (λ fault. fault ≡ Fault.Memory) }
+{
+    if begins_image(bytes) {
+        return Ok(disassemble(alloc, set)?.into_bytes());
+    }
+    let mut source = Vec::new(alloc);
+    source.extend_from_slice(bytes)?;
+    Ok(source)
+}

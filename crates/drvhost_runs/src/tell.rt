@@ -1,0 +1,55 @@
+//! A run told for people, and its audit.
+
+ghost use Rattle.std.specs.Prelude.{◌≡◌, ◌+◌, ◌⊎◌};
+ghost use Rattle.drvhost_devices.specs.Device.{CanCount, Says};
+ghost use Rattle.drvhost_devices.specs.Ends.{Answers, HoldsRun};
+ghost use Rattle.drvhost_runs.specs.Told.{IsTellOf};
+
+use crate::show::{Showing, show};
+use drvhost_devices::device::{Sink, Source};
+use drvhost_devices::verification::Verification;
+use std::alloc::Global;
+
+/// Of which events of a run a line is told.
+#[derive(Clone, Copy, Debug, PartialEq, Eq)]
+pub enum Detail {
+    /// Of each.
+    Whole,
+    /// Of those that do more than make a step or find nothing to do.
+    Quiet,
+}
+
+/// Runs a driver set by a schedule as [`trace`](crate::trace::trace) does, and tells the run in
+/// words: for each event, or for those that do more than make a step or find nothing to do, the
+/// line of the trace with words behind it, and then an audit of what the run has left. Where
+/// verification is required, a refused set isn't run, and what is written is the line of its
+/// refusal. The answer is the exit status: that of the trace, but 1 also where the audit finds a
+/// packet that no place names, a lock that an idle thread owns, threads that wait in a ring, or a
+/// stack location that was returned from otherwise than it was marked.
+/// Faults are told on the error writer, in the order of the trace. Nothing is written before the
+/// whole text stands in memory.
+pub fn tell<S: Source, P: Source, O: Sink, E: Sink>(
+    alloc: Global,
+    set: &mut S,
+    schedule: &mut P,
+    verification: Verification,
+    detail: Detail,
+    out: &mut O,
+    err: &mut E,
+) -> u8
+    requires set { CanCount (S.failures set.old) }
+    requires schedule { CanCount (P.failures schedule.old) }
+    requires out { CanCount (O.failures out.old) }
+    requires err { CanCount (E.failures err.old) }
+    ensures unread { (schedule.new ≡ schedule.old) ⊎ HoldsRun verification (S.supply set.old) }
+    ensures answers { Answers
+        (IsTellOf verification detail (S.supply set.old) (P.supply schedule.old))
+        (S.failures set.old + P.failures schedule.old)
+        (S.failures set.new + P.failures schedule.new)
+        (O.failures out.old) (O.failures out.new) (O.contents out.old) (O.contents out.new)
+        (Says (E.failures err.old) (E.failures err.new) (E.contents err.old) (E.contents err.new))
+        result }
+{
+    let showing = Showing::InWords(detail);
+    show(alloc, set, schedule, verification, showing, out, err)
+}

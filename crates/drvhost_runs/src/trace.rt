@@ -1,0 +1,192 @@
+//! The trace of a run.
+
+ghost use Rattle.std.specs.Prelude.{◌≡◌, ◌+◌, ◌⊎◌, [], IfOk};
+ghost use Rattle.interleave.specs.Listing.{IsWithinLimits};
+ghost use Rattle.drvhost_devices.specs.Device.{CanCount, Says};
+ghost use Rattle.model.specs.Typable.{IsTypable};
+ghost use Rattle.drvhost_devices.specs.Answer.{IsIfAccepted, IsToRun, IsTraced};
+ghost use Rattle.drvhost_devices.specs.Ends.{Answers, HoldsRun, IsRunOf, IsTraceOf};
+ghost use Rattle.drvhost_devices.specs.Fault.{Goes, ReadsSchedule, reads_failed, writes_failed};
+
+use crate::follow::follow;
+use checked::Checked;
+use drvhost_devices::device::{Sink, Source};
+use drvhost_devices::fault::{End, Fault, finish, no_memory, of_schedule};
+use drvhost_devices::reading::read_set;
+use drvhost_devices::transfer::{read_whole, write_lines};
+use drvhost_devices::verification::Verification;
+use drvhost_sets::check::refuse;
+use image::DriverSet;
+use interleave::parse::parse_schedule;
+use interleave::schedule::Schedule;
+use machine::World;
+use report::lines::Lines;
+use std::alloc::{AllocError, Global};
+use verifier::{Accepted, verify};
+
+/// Runs a driver set by a schedule, and writes a line for each event, up to the first bug check or
+/// wrong operand. Where verification is required, a refused set isn't run, and what is written is
+/// the line of its refusal. The answer is the exit status: 0 where the run came to the end of its
+/// schedule, 1 where the set was refused or the run stopped, 2 where an input is faulty or a read
+/// or a write failed, 3 where memory ran out. Faults are told on the error writer: those of the set
+/// before a refusal, and a refusal before those of the schedule, which is read for a run alone.
+pub fn trace<S: Source, P: Source, O: Sink, E: Sink>(
+    alloc: Global,
+    set: &mut S,
+    schedule: &mut P,
+    verification: Verification,
+    out: &mut O,
+    err: &mut E,
+) -> u8
+    requires set { CanCount (S.failures set.old) }
+    requires schedule { CanCount (P.failures schedule.old) }
+    requires out { CanCount (O.failures out.old) }
+    requires err { CanCount (E.failures err.old) }
+    ensures unread { (schedule.new ≡ schedule.old) ⊎ HoldsRun verification (S.supply set.old) }
+    ensures answers { Answers (IsTraceOf verification (S.supply set.old) (P.supply schedule.old))
+        (S.failures set.old + P.failures schedule.old)
+        (S.failures set.new + P.failures schedule.new)
+        (O.failures out.old) (O.failures out.new) (O.contents out.old) (O.contents out.new)
+        (Says (E.failures err.old) (E.failures err.new) (E.contents err.old) (E.contents err.new))
+        result }
+{
+    match Lines::new(alloc) {
+        Ok(mut lines) => {
+            let end = trace_set(alloc, set, schedule, verification, &mut lines, out);
+            finish(end, &mut lines, err)
+        }
+        Err(AllocError) => no_memory(err),
+    }
+}
+
+fn trace_set<S: Source, P: Source, O: Sink>(
+    alloc: Global,
+    set: &mut S,
+    schedule: &mut P,
+    verification: Verification,
+    lines: &mut Lines,
+    out: &mut O,
+) -> Result<End, Fault>
+    requires set { CanCount (S.failures set.old) }
+    requires schedule { CanCount (P.failures schedule.old) }
+    requires out { CanCount (O.failures out.old) }
+    requires empty { lines.old ≡ [] }
+    ensures unread { (schedule.new ≡ schedule.old) ⊎ HoldsRun verification (S.supply set.old) }
+    ensures goes { Goes (IsTraceOf verification (S.supply set.old) (P.supply schedule.old))
+        (O.contents out.old) (O.contents out.new) [] [] result }
+    ensures reads { S.failures set.new + P.failures schedule.new ≡ S.failures set.old + P.failures
+        schedule.old + reads_failed result }
+    ensures writes { O.failures out.new ≡ O.failures out.old + writes_failed result }
+{
+    let set = read_set(alloc, set)?;
+    let end = trace_as(alloc, set, schedule, verification, lines, out)?;
+    write_lines(lines, out)?;
+    Ok(end)
+}
+
+/// Runs a set, if it needn't be accepted or is.
+fn trace_as<P: Source, O: Sink>(
+    alloc: Global,
+    set: DriverSet,
+    schedule: &mut P,
+    verification: Verification,
+    lines: &mut Lines,
+    out: &mut O,
+) -> Result<End, Fault>
+    requires schedule { CanCount (P.failures schedule.old) }
+    requires out { CanCount (O.failures out.old) }
+    requires empty { lines.old ≡ [] }
+    ensures unread { (schedule.new ≡ schedule.old) ⊎ IsToRun verification set }
+    ensures goes { Goes (IsTraced verification (IsRunOf (P.supply schedule.old)) set)
+        (O.contents out.old) (O.contents out.new) [] lines.new result }
+    ensures reads { P.failures schedule.new ≡ P.failures schedule.old + reads_failed result }
+    ensures writes { O.failures out.new ≡ O.failures out.old + writes_failed result }
+{
+    match verification {
+        Verification::Required => trace_verified(alloc, set, schedule, lines, out),
+        Verification::Skipped => trace_unverified(alloc, set, schedule, lines, out),
+    }
+}
+
+/// Runs a set if it is accepted, to the end of its schedule.
+fn trace_verified<P: Source, O: Sink>(
+    alloc: Global,
+    set: DriverSet,
+    schedule: &mut P,
+    lines: &mut Lines,
+    out: &mut O,
+) -> Result<End, Fault>
+    requires schedule { CanCount (P.failures schedule.old) }
+    requires out { CanCount (O.failures out.old) }
+    requires empty { lines.old ≡ [] }
+    ensures unread { (schedule.new ≡ schedule.old) ⊎ IsTypable set }
+    ensures goes { Goes (IsIfAccepted (IsRunOf (P.supply schedule.old)) set)
+        (O.contents out.old) (O.contents out.new) [] lines.new result }
+    ensures reads { P.failures schedule.new ≡ P.failures schedule.old + reads_failed result }
+    ensures writes { O.failures out.new ≡ O.failures out.old + writes_failed result }
+{
+    match verify(alloc, set) {
+        Ok(accepted) => trace_accepted(alloc, accepted, schedule, lines, out),
+        Err((_set, refusal)) => refuse(&refusal, lines),
+    }
+}
+
+/// Runs an accepted set to the end of its schedule.
+fn trace_accepted<P: Source, O: Sink>(
+    alloc: Global,
+    accepted: Accepted,
+    schedule: &mut P,
+    lines: &mut Lines,
+    out: &mut O,
+) -> Result<End, Fault>
+    requires schedule { CanCount (P.failures schedule.old) }
+    requires out { CanCount (O.failures out.old) }
+    requires empty { lines.old ≡ [] }
+    ensures goes { Goes (IsRunOf (P.supply schedule.old) accepted) (O.contents out.old)
+        (O.contents out.new) [] lines.new result }
+    ensures reads { P.failures schedule.new ≡ P.failures schedule.old + reads_failed result }
+    ensures writes { O.failures out.new ≡ O.failures out.old + writes_failed result }
+{
+    let schedule = read_schedule(alloc, schedule)?;
+    match World::new(alloc, accepted, schedule.threads) {
+        Ok(mut world) => follow(&mut world, &schedule, lines, out),
+        Err((_accepted, _refused)) => Err(Fault::Memory),
+    }
+}
+
+/// Runs any set, up to the first bug check or wrong operand.
+fn trace_unverified<P: Source, O: Sink>(
+    alloc: Global,
+    set: DriverSet,
+    schedule: &mut P,
+    lines: &mut Lines,
+    out: &mut O,
+) -> Result<End, Fault>
+    requires schedule { CanCount (P.failures schedule.old) }
+    requires out { CanCount (O.failures out.old) }
+    requires empty { lines.old ≡ [] }
+    ensures goes { Goes (IsRunOf (P.supply schedule.old) set) (O.contents out.old)
+        (O.contents out.new) [] lines.new result }
+    ensures reads { P.failures schedule.new ≡ P.failures schedule.old + reads_failed result }
+    ensures writes { O.failures out.new ≡ O.failures out.old + writes_failed result }
+{
+    let schedule = read_schedule(alloc, schedule)?;
+    match Checked::new(alloc, set, schedule.threads) {
+        Ok(mut machine) => follow(&mut machine, &schedule, lines, out),
+        Err((_set, _refused)) => Err(Fault::Memory),
+    }
+}
+
+/// The schedule that the text of a source lists.
+pub(crate) fn read_schedule<P: Source>(alloc: Global, source: &mut P) -> Result<Schedule, Fault>
+    requires { CanCount (P.failures source.old) }
+    ensures schedule { ReadsSchedule (P.supply source.old) result }
+    ensures reads { P.failures source.new ≡ P.failures source.old + reads_failed result }
+    ensures limits { IfOk result IsWithinLimits }
+{
+    let text = read_whole(alloc, source)?;
+    match parse_schedule(alloc, text.as_slice()) {
+        Ok(schedule) => Ok(schedule),
+        Err(fault) => Err(of_schedule(fault)),
+    }
+}

@@ -1,0 +1,148 @@
+//! The verdict on a driver set.
+
+ghost use Rattle.std.specs.Prelude.{◌≡◌, ◌≢◌, ◌+◌, ◌++◌, [], IfErr, IfOk, OnErr, OnOk, Some, slice_get};
+ghost use Rattle.model.specs.Sound.{DriverFits};
+ghost use Rattle.report.specs.Lines.{HasRoom};
+ghost use Rattle.report.specs.Verdict.{refusal_line};
+ghost use Rattle.drvhost_devices.specs.Answer.{IsVerdict, acceptance, routine_lines};
+ghost use Rattle.drvhost_devices.specs.Device.{Adds, CanCount, Says, TakesBeginning};
+ghost use Rattle.drvhost_devices.specs.Ends.{Answers, IsCheckOf};
+ghost use Rattle.drvhost_devices.specs.Fault.{Goes, reads_failed, writes_failed};
+
+use crate::task::{Task, answer};
+use drvhost_devices::device::{Sink, Source};
+use drvhost_devices::fault::{End, Fault};
+use drvhost_devices::transfer::make_room;
+use image::DriverSet;
+use model::abs::{Refusal, Rule};
+use model::set::Driver;
+use report::lines::Lines;
+use std::alloc::Global;
+use verifier::{Accepted, verify};
+
+/// Writes whether a driver set is accepted, with the certificates of its routines, or why it is
+/// refused. The answer is the exit status: 0 accepted, 1 refused, 2 where its text or its image is
+/// faulty or a read or a write failed, 3 where memory ran out. Faults are told on the error writer.
+pub fn check<S: Source, O: Sink, E: Sink>(
+    alloc: Global,
+    set: &mut S,
+    out: &mut O,
+    err: &mut E,
+) -> u8
+    requires set { CanCount (S.failures set.old) }
+    requires out { CanCount (O.failures out.old) }
+    requires err { CanCount (E.failures err.old) }
+    ensures { Answers (IsCheckOf (S.supply set.old))
+        (S.failures set.old) (S.failures set.new) (O.failures out.old) (O.failures out.new)
+        (O.contents out.old) (O.contents out.new)
+        (Says (E.failures err.old) (E.failures err.new) (E.contents err.old) (E.contents err.new))
+        result }
+{
+    answer(&Judgement, alloc, set, out, err)
+}
+
+/// The task of judging a set.
+struct Judgement;
+
+impl Task for Judgement {
+    ghost use Rattle.drvhost_devices.specs.Answer.{IsVerdict};
+
+    ghost right = { IsVerdict };
+
+    fn perform<O: Sink>(
+        &self,
+        alloc: Global,
+        _bytes: &[u8],
+        set: DriverSet,
+        lines: &mut Lines,
+        out: &mut O,
+    ) -> Result<End, Fault> {
+        judge(alloc, set, lines, out)
+    }
+}
+
+/// Judges a set: adds the lines of an accepted one, or the line of a refusal.
+fn judge<O: Sink>(
+    alloc: Global,
+    set: DriverSet,
+    lines: &mut Lines,
+    out: &mut O,
+) -> Result<End, Fault>
+    requires out { CanCount (O.failures out.old) }
+    requires empty { lines.old ≡ [] }
+    ensures goes { Goes (IsVerdict set) (O.contents out.old) (O.contents out.new) [] lines.new
+        result }
+    ensures reads { reads_failed result ≡ 0 }
+    ensures writes { O.failures out.new ≡ O.failures out.old + writes_failed result }
+{
+    match verify(alloc, set) {
+        Ok(accepted) => {
+            accept(&accepted, lines, out)?;
+            Ok(End::Complete)
+        }
+        Err((_set, refusal)) => refuse(&refusal, lines),
+    }
+}
+
+/// Adds the line of a refusal; one for want of memory is no verdict.
+pub fn refuse(refusal: &Refusal, lines: &mut Lines) -> Result<End, Fault>
+    requires { HasRoom lines.old }
+    ensures refused { IfOk result (λ end. (end ≡ End.Stopped) × (refusal.now.rule ≢ Rule.Memory)
+        × (lines.new ≡ lines.old ++ refusal_line refusal.now)) }
+    ensures memory { IfErr result (λ fault. fault ≡ Fault.Memory) }
+{
+    if refusal.rule == Rule::Memory {
+        return Err(Fault::Memory);
+    }
+    lines.refusal(refusal);
+    Ok(End::Stopped)
+}
+
+/// Adds the lines of an accepted set: a line for each routine, in order.
+pub(crate) fn accept<O: Sink>(
+    accepted: &Accepted,
+    lines: &mut Lines,
+    out: &mut O,
+) -> Result<(), Fault>
+    requires out { CanCount (O.failures out.old) }
+    requires empty { lines.old ≡ [] }
+    ensures added { OnOk result
+        (Adds (O.contents out.old) (O.contents out.new) [] lines.new (acceptance accepted.now)) }
+    ensures broken { OnErr result
+        (TakesBeginning (O.contents out.old) (O.contents out.new) (acceptance accepted.now)) }
+    ensures fault { IfErr result (λ fault. fault ≡ Fault.Write) }
+    ensures writes { O.failures out.new ≡ O.failures out.old + writes_failed result }
+{
+    lines.accepted();
+    for (number, driver) in accepted.set().drivers().iter().enumerate() {
+        certify(accepted, number as u8, driver, lines, out)?;
+    }
+    Ok(())
+}
+
+/// Adds the lines of the routines of the driver of a number.
+fn certify<O: Sink>(
+    accepted: &Accepted,
+    number: u8,
+    driver: &Driver,
+    lines: &mut Lines,
+    out: &mut O,
+) -> Result<(), Fault>
+    requires driver { slice_get accepted.now.drivers number ≡ Some driver.now }
+    requires fits { DriverFits driver.now }
+    requires out { CanCount (O.failures out.old) }
+    ensures added { OnOk result (Adds (O.contents out.old) (O.contents out.new) lines.old lines.new
+        (routine_lines accepted.now number 0 driver.now.routines)) }
+    ensures broken { OnErr result (TakesBeginning (O.contents out.old) (O.contents out.new)
+        (lines.old ++ routine_lines accepted.now number 0 driver.now.routines)) }
+    ensures fault { IfErr result (λ fault. fault ≡ Fault.Write) }
+    ensures writes { O.failures out.new ≡ O.failures out.old + writes_failed result }
+{
+    let routines = driver.routines.as_slice();
+    for (place, routine) in routines.iter().enumerate() {
+        make_room(lines, out)?;
+        let certificate = accepted.cert(number, place as u8);
+        lines.certificate(number, place as u8, routine.sort, certificate);
+    }
+    Ok(())
+}

@@ -1,0 +1,64 @@
+//! The listing of a driver set.
+
+ghost use Rattle.std.specs.Prelude.{◌≡◌, ◌+◌, []};
+ghost use Rattle.drvhost_devices.specs.Answer.{IsListing};
+ghost use Rattle.drvhost_devices.specs.Device.{CanCount, Says};
+ghost use Rattle.drvhost_devices.specs.Ends.{Answers, IsListOf};
+ghost use Rattle.drvhost_devices.specs.Fault.{Goes, reads_failed, writes_failed};
+
+use crate::task::{Task, answer};
+use asm::disassemble;
+use drvhost_devices::device::{Sink, Source};
+use drvhost_devices::fault::{End, Fault};
+use drvhost_devices::transfer::write_bytes;
+use image::DriverSet;
+use report::lines::Lines;
+use std::alloc::Global;
+
+/// Writes the listing of a driver set: a text that names the same set, with names of its own. The
+/// answer is the exit status: 0 where it was written, 2 where the set's text or its image is faulty
+/// or a read or a write failed, 3 where memory ran out. Faults are told on the error writer.
+pub fn list<S: Source, O: Sink, E: Sink>(alloc: Global, set: &mut S, out: &mut O, err: &mut E) -> u8
+    requires set { CanCount (S.failures set.old) }
+    requires out { CanCount (O.failures out.old) }
+    requires err { CanCount (E.failures err.old) }
+    ensures { Answers (IsListOf (S.supply set.old))
+        (S.failures set.old) (S.failures set.new) (O.failures out.old) (O.failures out.new)
+        (O.contents out.old) (O.contents out.new)
+        (Says (E.failures err.old) (E.failures err.new) (E.contents err.old) (E.contents err.new))
+        result }
+{
+    answer(&Listing, alloc, set, out, err)
+}
+
+/// The task of listing a set.
+struct Listing;
+
+impl Task for Listing {
+    ghost use Rattle.drvhost_devices.specs.Answer.{IsListing};
+
+    ghost right = { IsListing };
+
+    fn perform<O: Sink>(
+        &self,
+        alloc: Global,
+        _bytes: &[u8],
+        set: DriverSet,
+        _lines: &mut Lines,
+        out: &mut O,
+    ) -> Result<End, Fault> {
+        write_listing(alloc, &set, out)
+    }
+}
+
+/// Writes the listing of a set.
+fn write_listing<O: Sink>(alloc: Global, set: &DriverSet, out: &mut O) -> Result<End, Fault>
+    requires { CanCount (O.failures out.old) }
+    ensures goes { Goes (IsListing set.now) (O.contents out.old) (O.contents out.new) [] [] result }
+    ensures reads { reads_failed result ≡ 0 }
+    ensures writes { O.failures out.new ≡ O.failures out.old + writes_failed result }
+{
+    let listing = disassemble(alloc, set)?;
+    write_bytes(listing.as_bytes(), out)?;
+    Ok(End::Complete)
+}

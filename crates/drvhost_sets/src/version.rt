@@ -1,0 +1,34 @@
+//! Which program this is.
+
+ghost use Rattle.std.specs.Prelude.{ℕ};
+ghost use Rattle.drvhost_devices.specs.Answer.{IsVersion};
+ghost use Rattle.drvhost_devices.specs.Device.{CanCount, Says};
+ghost use Rattle.drvhost_devices.specs.Ends.{Answers};
+
+use drvhost_devices::device::{Failed, Sink};
+use drvhost_devices::fault::say;
+use drvhost_devices::transfer::write_whole;
+use report::fault::WRITE_FAILED;
+
+/// The program's name and its version.
+const VERSION: &[u8] = b"drvhost 0.1.0\n";
+
+/// Writes the program's name and its version. The answer is the exit status: 0, or 2 where the
+/// write failed, which is told on the error writer.
+pub fn version<O: Sink, E: Sink>(out: &mut O, err: &mut E) -> u8
+    requires out { CanCount (O.failures out.old) }
+    requires err { CanCount (E.failures err.old) }
+    ensures { (reads : ℕ) → Answers IsVersion
+        reads reads (O.failures out.old) (O.failures out.new)
+        (O.contents out.old) (O.contents out.new)
+        (Says (E.failures err.old) (E.failures err.new) (E.contents err.old) (E.contents err.new))
+        result }
+{
+    match write_whole(out, VERSION) {
+        Ok(()) => 0,
+        Err(Failed) => {
+            say(err, WRITE_FAILED.as_bytes());
+            2
+        }
+    }
+}

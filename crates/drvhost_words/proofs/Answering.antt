@@ -1,0 +1,235 @@
+-- What is right for files is right for what is known of them, and how words are answered.
+use Rattle.std.proofs.Common.{◌≡◌, ◌≢◌, ◌∙◌, ◌⊎◌, ap, ℕ, ◌+◌, List, [], ◌∷◌, Option, None, true, string_bytes, arith, inl, inr, refl, subst}
+use Rattle.std.proofs.KnownBytes.{Appends-nil, Keeps-refl}
+use Rattle.clap.specs.Words.{Text, subcommand_of, takes}
+use Rattle.drvhost_devices.specs.Answer.{Answer}
+use Rattle.drvhost_devices.specs.Device.{Bytes, Closed, Holds, IsSuppliedAs, MayBeClosed, Supply, Unknown}
+use Rattle.drvhost_devices.specs.Ends.{Answers, Ends, HoldsRun, IsCheckOf, IsListOf, IsRewriteOf, IsTraceOf, OutOfMemory, ReadFailed, Rightly, WriteFailed}
+use Rattle.drvhost_sets.specs.declared.explaining.Extent.{Extent}
+use Rattle.drvhost_sets.specs.Explained.{IsExplainedOf}
+use Rattle.drvhost_runs.specs.Served.{IsHostOf}
+use Rattle.drvhost_runs.specs.Told.{IsDrawOf, IsTellOf}
+use Rattle.drvhost_runs.specs.declared.tell.Detail.{Detail}
+use Rattle.drvhost_devices.specs.declared.verification.Verification.{Verification}
+use Rattle.drvhost_words.specs.declared.job.Job.{Job}
+use Rattle.drvhost_words.specs.declared.job.JobFault.{JobFault}
+use Rattle.drvhost_words.specs.declared.job.JobFault.TheVariants.{Memory, Usage}
+use Rattle.drvhost_words.specs.CommandLine.{Names, job_fault_status, job_fault_told, program, text_told}
+use Rattle.drvhost_words.specs.Files.{supply_of}
+use Rattle.drvhost_words.specs.declared.answer.Way.{Way}
+use Rattle.drvhost_words.specs.declared.answer.Way.TheVariants.{BySchedule, InWords, AsPicture}
+use Rattle.drvhost_words.specs.Program.{IsAnswerTo, IsQuietly, IsRunBy}
+
+-- where more answers are right
+ends_rightly : (R Q : Answer → Type 0) (reads writes : ℕ) (b n : Option (List ℕ)) (status : ℕ)
+    (told : List ℕ) → ((answer : Answer) → R answer → Q answer)
+    → Ends R reads writes b n status told → Ends Q reads writes b n status told
+ends_rightly R Q reads writes b n status told on (Rightly answer right r w s t out) =
+    Rightly answer (on answer right) r w s t out
+ends_rightly R Q reads writes b n status told on (ReadFailed r w s t out) = ReadFailed r w s t out
+ends_rightly R Q reads writes b n status told on (WriteFailed answer right r w s t out) =
+    WriteFailed answer (on answer right) r w s t out
+ends_rightly R Q reads writes b n status told on (OutOfMemory r w s t out) = OutOfMemory r w s t out
+
+-- and as many reads failed by another count
+pub answers_rightly : (R Q : Answer → Type 0) (k m i j w x : ℕ) (b n : Option (List ℕ))
+    (Tells : List ℕ → Type 0) (status : ℕ) → Answers R k m w x b n Tells status
+    → ((answer : Answer) → R answer → Q answer) → j + k ≡ i + m
+    → Answers Q i j w x b n Tells status
+answers_rightly R Q k m i j w x b n Tells status a on same =
+    record {
+      reads = a.reads;
+      writes = a.writes;
+      told = a.told;
+      reads_are = let are : m ≡ k + a.reads = a.reads_are in omega arith;
+      writes_are = a.writes_are;
+      tells = a.tells;
+      ends = ends_rightly R Q a.reads a.writes b n status a.told on a.ends;
+    }
+
+-- where nothing was written to the files beside
+pub answers_beside : (R : Answer → Type 0) (k m w x u v : ℕ) (b n : Option (List ℕ))
+    (Tells : List ℕ → Type 0) (status : ℕ) → Answers R k m w x b n Tells status → v ≡ u
+    → Answers R k m (u + w) (v + x) b n Tells status
+answers_beside R k m w x u v b n Tells status a same =
+    record {
+      reads = a.reads;
+      writes = a.writes;
+      told = a.told;
+      reads_are = a.reads_are;
+      writes_are = let are : x ≡ w + a.writes = a.writes_are in omega arith;
+      tells = a.tells;
+      ends = a.ends;
+    }
+
+-- where the output goes to a file, and nothing to the standard output
+ends_quietly : (R Q : Answer → Type 0) (reads writes : ℕ) (b n c : Option (List ℕ)) (status : ℕ)
+    (told : List ℕ) → ((answer : Answer) → R answer → Q answer)
+    → Ends R reads writes b n status told → Ends (IsQuietly Q) reads writes c c status told
+ends_quietly R Q reads writes b n c status told on (Rightly answer right r w s t out) =
+    Rightly (record answer { output = [] }) (answer, on answer right, refl) r w s t (Appends-nil c)
+ends_quietly R Q reads writes b n c status told on (ReadFailed r w s t out) =
+    ReadFailed r w s t (Keeps-refl c)
+ends_quietly R Q reads writes b n c status told on (WriteFailed answer right r w s t out) =
+    WriteFailed (record answer { output = [] }) (answer, on answer right, refl) r w s t
+    (record { part = []; rest = []; split = refl; appended = Appends-nil c })
+ends_quietly R Q reads writes b n c status told on (OutOfMemory r w s t out) =
+    OutOfMemory r w s t (Keeps-refl c)
+
+pub answers_quietly : (R Q : Answer → Type 0) (k m i j w x u v p : ℕ) (b n c : Option (List ℕ))
+    (Tells : List ℕ → Type 0) (status : ℕ) → Answers R k m w x b n Tells status
+    → ((answer : Answer) → R answer → Q answer) → j + k ≡ i + m → v + w ≡ u + x
+    → Answers (IsQuietly Q) i j (u + p) (v + p) c c Tells status
+answers_quietly R Q k m i j w x u v p b n c Tells status a on same moved =
+    record {
+      reads = a.reads;
+      writes = a.writes;
+      told = a.told;
+      reads_are = let are : m ≡ k + a.reads = a.reads_are in omega arith;
+      writes_are = let are : x ≡ w + a.writes = a.writes_are in omega arith;
+      tells = a.tells;
+      ends = ends_quietly R Q a.reads a.writes b n c status a.told on a.ends;
+    }
+
+-- what a file holds, what is known of it holds
+holds_known : (known supply : Supply) (bytes : List ℕ) → IsSuppliedAs known supply
+    → Holds supply bytes → Holds known bytes
+holds_known Unknown supply bytes h p = tt
+holds_known Closed supply bytes h p = let P : Supply → Type 0 = λ s. Holds s bytes in subst P h p
+holds_known (Bytes held) supply bytes h p =
+    let P : Supply → Type 0 = λ s. Holds s bytes in subst P h p
+
+pub check_known : (known supply : Supply) → IsSuppliedAs known supply → (answer : Answer)
+    → IsCheckOf supply answer → IsCheckOf known answer
+check_known known supply h answer (bytes, holds, right) =
+    (bytes, holds_known known supply bytes h holds, right)
+
+pub explain_known : (extent : Extent) (known supply : Supply) → IsSuppliedAs known supply
+    → (answer : Answer) → IsExplainedOf extent supply answer → IsExplainedOf extent known answer
+explain_known extent known supply h answer (bytes, holds, right) =
+    (bytes, holds_known known supply bytes h holds, right)
+
+pub list_known : (known supply : Supply) → IsSuppliedAs known supply → (answer : Answer)
+    → IsListOf supply answer → IsListOf known answer
+list_known known supply h answer (bytes, holds, right) =
+    (bytes, holds_known known supply bytes h holds, right)
+
+pub rewrite_known : (known supply : Supply) → IsSuppliedAs known supply → (answer : Answer)
+    → IsRewriteOf supply answer → IsRewriteOf known answer
+rewrite_known known supply h answer (bytes, holds, right) =
+    (bytes, holds_known known supply bytes h holds, right)
+
+trace_known : (v : Verification) (known supply schedule other : Supply)
+    → IsSuppliedAs known supply → other ≡ schedule → (answer : Answer)
+    → IsTraceOf v supply other answer → IsTraceOf v known schedule answer
+trace_known v known supply schedule other h e answer (bytes, holds, right) =
+    let P : Supply → Type 0 = λ s. IsTraceOf v known s answer in
+    subst P e (bytes, holds_known known supply bytes h holds, right)
+
+tell_known : (v : Verification) (d : Detail) (known supply schedule other : Supply)
+    → IsSuppliedAs known supply → other ≡ schedule → (answer : Answer)
+    → IsTellOf v d supply other answer → IsTellOf v d known schedule answer
+tell_known v d known supply schedule other h e answer (bytes, holds, right) =
+    let P : Supply → Type 0 = λ s. IsTellOf v d known s answer in
+    subst P e (bytes, holds_known known supply bytes h holds, right)
+
+draw_known : (v : Verification) (known supply schedule other : Supply)
+    → IsSuppliedAs known supply → other ≡ schedule → (answer : Answer)
+    → IsDrawOf v supply other answer → IsDrawOf v known schedule answer
+draw_known v known supply schedule other h e answer (bytes, holds, right) =
+    let P : Supply → Type 0 = λ s. IsDrawOf v known s answer in
+    subst P e (bytes, holds_known known supply bytes h holds, right)
+
+pub host_known : (workers : ℕ) (known supply script other : Supply)
+    → IsSuppliedAs known supply → other ≡ script → (answer : Answer)
+    → IsHostOf workers supply other answer → IsHostOf workers known script answer
+host_known workers known supply script other h e answer (bytes, holds, right) =
+    let P : Supply → Type 0 = λ s. IsHostOf workers known s answer in
+    subst P e (bytes, holds_known known supply bytes h holds, right)
+
+pub way_known : (way : Way) (known supply input other : Supply)
+    → IsSuppliedAs known supply → other ≡ input → (answer : Answer)
+    → IsRunBy way supply other answer → IsRunBy way known input answer
+way_known (BySchedule v) known supply input other h e answer right =
+    trace_known v known supply input other h e answer right
+way_known (InWords v d) known supply input other h e answer right =
+    tell_known v d known supply input other h e answer right
+way_known (AsPicture v) known supply input other h e answer right =
+    draw_known v known supply input other h e answer right
+
+pub run_known : {A : Type 0} (v : Verification) (known supply : Supply)
+    → IsSuppliedAs known supply → A ⊎ HoldsRun v supply → (A → ⊥) → HoldsRun v known
+run_known v known supply h (inl a) never = absurd (never a)
+run_known v known supply h (inr (bytes, holds, right)) never =
+    (bytes, holds_known known supply bytes h holds, right)
+
+-- a file that is closed may be so, for what is known of it
+pub closed_known : (known supply : Supply) → IsSuppliedAs known supply → supply ≡ Closed
+    → MayBeClosed known
+closed_known Unknown supply h closed = tt
+closed_known Closed supply h closed = tt
+closed_known (Bytes held) supply h closed = cc
+
+-- a file that wasn't opened yet has what its name is known to have
+pub unopened : {A N M : Type 0} (f : A → Supply) (k : N → M → Supply) (a c : N) (b d : M)
+    (file : Option A) → a ≡ c → b ≡ d → file ≡ None → supply_of f (k a b) file ≡ k c d
+unopened f k a c b d file p q r =
+    ap (supply_of f (k a b)) r ∙ ap (λ x. k x b) p ∙ ap (k c) q
+
+-- a text for the user isn't empty
+told_something : (text : List ℕ) → text_told text ≢ []
+told_something [] e = cc
+told_something (byte ∷ text) e = cc
+
+-- a text is told, and nothing else is done
+pub told_alone : (R : Answer → Type 0) (k w : ℕ) (b : Option (List ℕ)) (Tells : List ℕ → Type 0)
+    (status : ℕ) (text : List ℕ) → R (record { status = 2; output = []; told = text })
+    → status ≡ 2 → Tells text → Answers R k k w w b b Tells status
+told_alone R k w b Tells status text right is tells =
+    record {
+      reads = 0;
+      writes = 0;
+      told = text;
+      reads_are = omega arith;
+      writes_are = omega arith;
+      tells = tells;
+      ends = Rightly _ right refl refl is refl (Appends-nil b);
+    }
+
+pub out_of_memory : (R : Answer → Type 0) (k w : ℕ) (b : Option (List ℕ))
+    (Tells : List ℕ → Type 0) (status : ℕ) → status ≡ job_fault_status Memory
+    → Tells (job_fault_told Memory) → Answers R k k w w b b Tells status
+out_of_memory R k w b Tells status is tells =
+    record {
+      reads = 0;
+      writes = 0;
+      told = job_fault_told Memory;
+      reads_are = omega arith;
+      writes_are = omega arith;
+      tells = tells;
+      ends = OutOfMemory refl refl is refl (Keeps-refl b);
+    }
+
+-- words are refused
+pub refused_words : (supply : List ℕ → Supply) (words : List Text) (fault : JobFault) (k w : ℕ)
+    (b : Option (List ℕ)) (Tells : List ℕ → Type 0) (status : ℕ)
+    → (takes program words ≡ true → (job : Job) → Names (subcommand_of program words) job
+    → fault ≡ Memory)
+    → status ≡ job_fault_status fault → Tells (job_fault_told fault)
+    → Answers (IsAnswerTo supply words) k k w w b b Tells status
+refused_words supply words (Usage text) k w b Tells status refused is tells =
+    told_alone (IsAnswerTo supply words) k w b Tells status (text_told (string_bytes text))
+    (inr (record {
+      none = λ taken job names. let e : Usage text ≡ Memory = refused taken job names in cc;
+      status = refl;
+      output = refl;
+      told = told_something (string_bytes text);
+    }))
+    is tells
+refused_words supply words Memory k w b Tells status refused is tells =
+    out_of_memory (IsAnswerTo supply words) k w b Tells status is tells
+
+-- then the program doesn't succeed
+pub refused_status : (fault : JobFault) → job_fault_status fault ≢ 0
+refused_status (Usage text) e = cc
+refused_status Memory e = cc

@@ -1,0 +1,11 @@
+use Rattle.std.proofs.Common.{arith}
+use Rattle.drvhost_devices.specs.Ends.{IsCheckOf}
+use Rattle.drvhost_words.proofs.Answering.{answers_rightly, check_known}
+use Rattle.drvhost_words.proofs.answer.check_file.Goals as goal
+
+pub returns-clause-answers : goal.returns-clause-answers
+returns-clause-answers g c =
+    let supply = g.F.File.Source.supply c.open-file.result in
+    let known = g.F.Files.supply c.args.files.now c.args.set.now in
+    answers_rightly (IsCheckOf supply) (IsCheckOf known) _ _ _ _ _ _ _ _ _ _
+    c.check-status.ensures (check_known known supply c.open-file.ensures.supply) (omega arith)

@@ -1,0 +1,63 @@
+use Rattle.std.proofs.Common.{◌≡◌, ◌∙◌, None, Some, arith, ap, inr, refl, sym}
+use Rattle.drvhost_runs.specs.Served.{IsHostOf}
+use Rattle.drvhost_devices.specs.declared.verification.Verification.TheVariants.{Required}
+use Rattle.drvhost_words.specs.Files.{failures_of}
+use Rattle.drvhost_words.proofs.Answering.{answers_rightly, host_known, run_known, unopened}
+use Rattle.drvhost_words.proofs.answer.host_files.Goals as goal
+
+pub returns-in-Some-clause-answers : goal.returns-in-Some-clause-answers
+returns-in-Some-clause-answers g c =
+    let failures = g.F.File.Source.failures in
+    let named = g.F.Files.supply in
+    let supply = g.F.File.Source.supply c.open-file.result in
+    let known = named c.args.files.now c.args.set.now in
+    let later = c.new-later.ensures in
+    let scheduled =
+    unopened g.F.File.Source.supply named _ _ _ _ _ later.files later.name later.unopened in
+    let before : failures_of failures c.new-later.result.file ≡ 0 =
+    ap (failures_of failures) later.unopened in
+    let after : failures_of failures c.host-status.new.script.file ≡ failures c.in-Some.commands =
+    ap (failures_of failures) (sym c.into_file-commands.ensures ∙ c.in-Some.is) in
+    answers_rightly (IsHostOf c.args.workers supply _)
+    (IsHostOf c.args.workers known (named c.args.files.now c.args.script.now))
+    _ _ _ _ _ _ _ _ _ _ (rw c.count-count.ensures.count at c.host-status.ensures.answers)
+    (host_known c.args.workers known supply _ _ c.open-file.ensures.supply scheduled)
+    (omega arith)
+
+pub returns-in-Some-clause-opened : goal.returns-in-Some-clause-opened
+returns-in-Some-clause-opened g c =
+    let supply = g.F.File.Source.supply c.open-file.result in
+    let known = g.F.Files.supply c.args.files.now c.args.set.now in
+    let never : (c.host-status.new.script ≡ c.new-later.result) → ⊥ =
+    λ same.
+    let gone : Some c.in-Some.commands ≡ None =
+    sym c.in-Some.is ∙ (rw same at c.into_file-commands.ensures) ∙ c.new-later.ensures.unopened
+    in cc
+    in (
+      2,
+      inr (
+        refl,
+        run_known Required known supply c.open-file.ensures.supply
+            c.host-status.ensures.unread never,
+      ),
+      omega arith,
+    )
+
+pub returns-in_default-clause-answers : goal.returns-in_default-clause-answers
+returns-in_default-clause-answers g c =
+    let failures = g.F.File.Source.failures in
+    let named = g.F.Files.supply in
+    let supply = g.F.File.Source.supply c.open-file.result in
+    let known = named c.args.files.now c.args.set.now in
+    let later = c.new-later.ensures in
+    let scheduled =
+    unopened g.F.File.Source.supply named _ _ _ _ _ later.files later.name later.unopened in
+    let before : failures_of failures c.new-later.result.file ≡ 0 =
+    ap (failures_of failures) later.unopened in
+    let after : failures_of failures c.host-status.new.script.file ≡ 0 =
+    ap (failures_of failures) (sym c.into_file-commands.ensures ∙ c.in_default.is) in
+    answers_rightly (IsHostOf c.args.workers supply _)
+    (IsHostOf c.args.workers known (named c.args.files.now c.args.script.now))
+    _ _ _ _ _ _ _ _ _ _ (rw c.count-count.ensures.count at c.host-status.ensures.answers)
+    (host_known c.args.workers known supply _ _ c.open-file.ensures.supply scheduled)
+    (omega arith)

@@ -1,0 +1,18 @@
+use Rattle.drvhost_words.proofs.Answering.{answers_beside}
+use Rattle.drvhost_words.proofs.answer.perform.Goals as goal
+
+pub returns-in-Alone : goal.returns-in-Alone
+returns-in-Alone g c = rw c.in-Alone.is c.perform_alone.ensures
+
+pub returns-in-Host-clause-answers : goal.returns-in-Host-clause-answers
+returns-in-Host-clause-answers g c =
+    rw c.in-Host.is
+    (answers_beside _ _ _ _ _ _ _ _ _ _ _ c.host_files.ensures.answers c.host_files.ensures.unwritten)
+
+pub returns-in-Host-clause-stores : goal.returns-in-Host-clause-stores
+returns-in-Host-clause-stores g c =
+    rw c.in-Host.is
+    (record { supply = c.host_files.ensures.supply; none = c.host_files.ensures.created })
+
+pub returns-in-Host-clause-opened : goal.returns-in-Host-clause-opened
+returns-in-Host-clause-opened g c = rw c.in-Host.is c.host_files.ensures.opened

@@ -1,0 +1,101 @@
+use Rattle.std.proofs.Common.{refl}
+use Rattle.drvhost_words.proofs.Answering.{answers_beside}
+use Rattle.drvhost_words.proofs.answer.perform_alone.Goals as goal
+
+pub returns-in-Check-clause-answers : goal.returns-in-Check-clause-answers
+returns-in-Check-clause-answers g c =
+    rw c.in-Check.is
+    (answers_beside _ _ _ _ _ _ _ _ _ _ _ c.check_file.ensures.answers c.check_file.ensures.unwritten)
+
+pub returns-in-Check-clause-stores : goal.returns-in-Check-clause-stores
+returns-in-Check-clause-stores g c =
+    rw c.in-Check.is
+    (record { supply = c.check_file.ensures.supply; none = c.check_file.ensures.created })
+
+pub returns-in-Explain-clause-answers : goal.returns-in-Explain-clause-answers
+returns-in-Explain-clause-answers g c =
+    rw c.in-Explain.is
+    (answers_beside _ _ _ _ _ _ _ _ _ _ _ c.explain_file.ensures.answers c.explain_file.ensures.unwritten)
+
+pub returns-in-Explain-clause-stores : goal.returns-in-Explain-clause-stores
+returns-in-Explain-clause-stores g c =
+    rw c.in-Explain.is
+    (record { supply = c.explain_file.ensures.supply; none = c.explain_file.ensures.created })
+
+pub returns-in-ExplainRule-clause-answers : goal.returns-in-ExplainRule-clause-answers
+returns-in-ExplainRule-clause-answers g c =
+    rw c.in-ExplainRule.is
+    (answers_beside _ _ _ _ _ _ _ _ _ _ _ (c.explain_rule.ensures (g.F.Files.failures c.args.files.now))
+    refl)
+
+pub returns-in-ExplainRule-clause-stores : goal.returns-in-ExplainRule-clause-stores
+returns-in-ExplainRule-clause-stores g c =
+    rw c.in-ExplainRule.is (record { supply = refl; none = refl })
+
+pub returns-in-List-clause-answers : goal.returns-in-List-clause-answers
+returns-in-List-clause-answers g c =
+    rw c.in-List.is
+    (answers_beside _ _ _ _ _ _ _ _ _ _ _ c.list_file.ensures.answers c.list_file.ensures.unwritten)
+
+pub returns-in-List-clause-stores : goal.returns-in-List-clause-stores
+returns-in-List-clause-stores g c =
+    rw c.in-List.is
+    (record { supply = c.list_file.ensures.supply; none = c.list_file.ensures.created })
+
+pub returns-in-Rewrite-clause-answers : goal.returns-in-Rewrite-clause-answers
+returns-in-Rewrite-clause-answers g c =
+    rw c.in-Rewrite.is
+    (c.rewrite_file.ensures.answers (g.O.Sink.failures c.args.out.now)
+    (g.O.Sink.contents c.args.out.now))
+
+pub returns-in-Rewrite-clause-stores : goal.returns-in-Rewrite-clause-stores
+returns-in-Rewrite-clause-stores g c = rw c.in-Rewrite.is c.rewrite_file.ensures.stores
+
+pub returns-in-Version-clause-answers : goal.returns-in-Version-clause-answers
+returns-in-Version-clause-answers g c =
+    rw c.in-Version.is
+    (answers_beside _ _ _ _ _ _ _ _ _ _ _ (c.version.ensures (g.F.Files.failures c.args.files.now))
+    refl)
+
+pub returns-in-Version-clause-stores : goal.returns-in-Version-clause-stores
+returns-in-Version-clause-stores g c =
+    rw c.in-Version.is (record { supply = refl; none = refl })
+
+pub returns-in-Trace-clause-answers : goal.returns-in-Trace-clause-answers
+returns-in-Trace-clause-answers g c =
+    rw c.in-Trace.is
+    (answers_beside _ _ _ _ _ _ _ _ _ _ _ c.run_files.ensures.answers c.run_files.ensures.unwritten)
+
+pub returns-in-Trace-clause-stores : goal.returns-in-Trace-clause-stores
+returns-in-Trace-clause-stores g c =
+    rw c.in-Trace.is
+    (record { supply = c.run_files.ensures.supply; none = c.run_files.ensures.created })
+
+pub returns-in-Trace-clause-opened : goal.returns-in-Trace-clause-opened
+returns-in-Trace-clause-opened g c = rw c.in-Trace.is c.run_files.ensures.opened
+
+pub returns-in-Tell-clause-answers : goal.returns-in-Tell-clause-answers
+returns-in-Tell-clause-answers g c =
+    rw c.in-Tell.is
+    (answers_beside _ _ _ _ _ _ _ _ _ _ _ c.run_files-in-Tell.ensures.answers c.run_files-in-Tell.ensures.unwritten)
+
+pub returns-in-Tell-clause-stores : goal.returns-in-Tell-clause-stores
+returns-in-Tell-clause-stores g c =
+    rw c.in-Tell.is
+    (record { supply = c.run_files-in-Tell.ensures.supply; none = c.run_files-in-Tell.ensures.created })
+
+pub returns-in-Tell-clause-opened : goal.returns-in-Tell-clause-opened
+returns-in-Tell-clause-opened g c = rw c.in-Tell.is c.run_files-in-Tell.ensures.opened
+
+pub returns-in-Draw-clause-answers : goal.returns-in-Draw-clause-answers
+returns-in-Draw-clause-answers g c =
+    rw c.in-Draw.is
+    (answers_beside _ _ _ _ _ _ _ _ _ _ _ c.run_files-in-Draw.ensures.answers c.run_files-in-Draw.ensures.unwritten)
+
+pub returns-in-Draw-clause-stores : goal.returns-in-Draw-clause-stores
+returns-in-Draw-clause-stores g c =
+    rw c.in-Draw.is
+    (record { supply = c.run_files-in-Draw.ensures.supply; none = c.run_files-in-Draw.ensures.created })
+
+pub returns-in-Draw-clause-opened : goal.returns-in-Draw-clause-opened
+returns-in-Draw-clause-opened g c = rw c.in-Draw.is c.run_files-in-Draw.ensures.opened

@@ -1,0 +1,182 @@
+-- What the program answers for the words of its command line, which files it opens, and what it
+-- writes to one.
+use Rattle.std.specs.Prelude.{ℕ, ◌≡◌, ◌≢◌, ◌+◌, ◌++◌, ◌⊎◌, List, [], map, true, Result, Ok, Err, String, drop, string_bytes}
+use Rattle.std.specs.Global.{Global, Vec}
+use Rattle.std.specs.declared.io.ErrorKind.{ErrorKind}
+use Rattle.std.specs.declared.io.ErrorKind.TheVariants.{OutOfMemory}
+use Rattle.clap.specs.Words.{Text, fault_of, subcommand_of, takes}
+use Rattle.drvhost_devices.specs.Answer.{Answer, IsRuleExplained, IsUnopened, IsVersion}
+use Rattle.drvhost_devices.specs.Device.{MayBeClosed, Supply}
+use Rattle.drvhost_devices.specs.declared.verification.Verification.{Verification}
+use Rattle.drvhost_devices.specs.declared.verification.Verification.TheVariants.{Required}
+use Rattle.drvhost_devices.specs.Ends.{HoldsRun, IsCheckOf, IsListOf, IsRewriteOf, IsTraceOf}
+use Rattle.drvhost_sets.specs.Explained.{IsExplainedOf}
+use Rattle.drvhost_runs.specs.Served.{IsHostOf}
+use Rattle.drvhost_runs.specs.Told.{IsDrawOf, IsTellOf}
+use Rattle.drvhost_words.specs.declared.answer.Way.{Way}
+use Rattle.drvhost_words.specs.declared.answer.Way.TheVariants.{BySchedule, InWords, AsPicture}
+use Rattle.drvhost_words.specs.declared.job.Job.{Job}
+use Rattle.drvhost_words.specs.declared.job.Job.TheVariants.{Alone, Host}
+use Rattle.drvhost_words.specs.declared.job.AloneJob.TheVariants.{Check, Explain, ExplainRule, List as ListJob, Rewrite, Version, Trace, Tell, Draw}
+use Rattle.drvhost_words.specs.CommandLine.{Names, program, usage}
+use Rattle.drvhost_words.specs.Files.{Has}
+
+-- what a run of a set by an input answers, where these are what their files have
+abbrev pub IsRunBy : Way → Supply → Supply → Answer → Type 0
+IsRunBy (BySchedule verification) set schedule answer = IsTraceOf verification set schedule answer
+IsRunBy (InWords verification detail) set schedule answer =
+    IsTellOf verification detail set schedule answer
+IsRunBy (AsPicture verification) set schedule answer = IsDrawOf verification set schedule answer
+
+-- whether the set has to be accepted
+abbrev pub verification_of : Way → Verification
+verification_of (BySchedule verification) = verification
+verification_of (InWords verification detail) = verification
+verification_of (AsPicture verification) = verification
+
+-- what is right for what the file of a name has, or where it can't be opened: its name is told
+abbrev pub IsOfNamed : (Supply → Answer → Type 0) → (List ℕ → Supply) → List ℕ → Answer → Type 0
+IsOfNamed Right supply name answer =
+    Right (supply name) answer ⊎ (MayBeClosed (supply name) × IsUnopened name answer)
+
+-- what is right where the output goes to a file: the same, with nothing on the standard output
+abbrev pub IsQuietly : (Answer → Type 0) → Answer → Type 0
+IsQuietly Right answer =
+    (whole : Answer) × Right whole × (answer ≡ record whole { output = [] })
+
+-- what is right for a job, where the files of these names have this to give
+abbrev pub IsJobOf : (List ℕ → Supply) → Job → Answer → Type 0
+IsJobOf supply (Alone (Check set)) answer = IsCheckOf (supply set.now) answer
+IsJobOf supply (Alone (Explain set extent)) answer = IsOfNamed (IsExplainedOf extent) supply set.now answer
+IsJobOf supply (Alone (ExplainRule rule)) answer = IsRuleExplained rule answer
+IsJobOf supply (Alone (ListJob set)) answer = IsOfNamed IsListOf supply set.now answer
+IsJobOf supply (Alone (Rewrite set output)) answer = IsQuietly (IsRewriteOf (supply set.now)) answer
+IsJobOf supply (Alone Version) answer = IsVersion answer
+IsJobOf supply (Alone (Trace set schedule verification)) answer =
+    IsTraceOf verification (supply set.now) (supply schedule.now) answer
+IsJobOf supply (Alone (Tell set schedule verification detail)) answer =
+    IsTellOf verification detail (supply set.now) (supply schedule.now) answer
+IsJobOf supply (Alone (Draw set schedule verification)) answer =
+    IsDrawOf verification (supply set.now) (supply schedule.now) answer
+IsJobOf supply (Host set script workers) answer =
+    IsHostOf workers (supply set.now) (supply script.now) answer
+
+-- how many files are opened for a run: that of its input for a set that is run alone
+abbrev pub OpensToTrace : Verification → Supply → ℕ → Type 0
+OpensToTrace verification set count =
+    (count ≡ 1) ⊎ ((count ≡ 2) × HoldsRun verification set)
+
+-- how many files a job opens to read them
+abbrev pub Opens : (List ℕ → Supply) → Job → ℕ → Type 0
+Opens supply (Alone (Check set)) count = count ≡ 1
+Opens supply (Alone (Explain set extent)) count = count ≡ 1
+Opens supply (Alone (ExplainRule rule)) count = count ≡ 0
+Opens supply (Alone (ListJob set)) count = count ≡ 1
+Opens supply (Alone (Rewrite set output)) count = count ≡ 1
+Opens supply (Alone Version) count = count ≡ 0
+Opens supply (Alone (Trace set schedule verification)) count =
+    OpensToTrace verification (supply set.now) count
+Opens supply (Alone (Tell set schedule verification detail)) count =
+    OpensToTrace verification (supply set.now) count
+Opens supply (Alone (Draw set schedule verification)) count =
+    OpensToTrace verification (supply set.now) count
+Opens supply (Host set script workers) count = OpensToTrace Required (supply set.now) count
+
+-- words name a job: the command line takes them, and their matches name it
+pub record NamesJob (words : List Text) (job : Job) : Type 0 where
+  pub taken : fault_of program words ≡ []
+  pub named : Names (subcommand_of program words) job
+
+-- words that name no job are answered with a text on how the program is used
+pub record IsUsage (words : List Text) (answer : Answer) : Type 0 where
+  pub none : takes program words ≡ true → (job : Job) → Names (subcommand_of program words) job → ⊥
+  pub status : answer.status ≡ 2
+  pub output : answer.output ≡ []
+  pub told : answer.told ≢ []
+
+-- what is right for the words of a command line
+abbrev pub IsAnswerTo : (List ℕ → Supply) → List Text → Answer → Type 0
+IsAnswerTo supply words answer =
+    ((job : Job) × NamesJob words job × IsJobOf supply job answer) ⊎ IsUsage words answer
+
+-- what is right where the words can't be had, since some of them aren't text
+abbrev pub IsAnswerToLost : ErrorKind → Answer → Type 0
+IsAnswerToLost kind answer =
+    (kind ≢ OutOfMemory) × (answer ≡ record { status = 2; output = []; told = usage })
+
+-- the words after the program's name
+abbrev pub arguments : Vec (String Global) → List Text
+arguments words = map string_bytes (drop 1 words.items)
+
+-- what is right for all words of a command line, the program's name first
+abbrev pub IsProgram : (List ℕ → Supply) → Result (Vec (String Global)) ErrorKind → Answer → Type 0
+IsProgram supply (Ok words) answer = IsAnswerTo supply (arguments words) answer
+IsProgram supply (Err kind) answer = IsAnswerToLost kind answer
+
+-- how many files the program opens to read them, for these words: none, or those of a job that they
+-- name
+abbrev pub OpensFor : (List ℕ → Supply) → List Text → ℕ → Type 0
+OpensFor supply words count =
+    (count ≡ 0) ⊎ ((job : Job) × NamesJob words job × Opens supply job count)
+
+abbrev pub ProgramOpens : (List ℕ → Supply) → Result (Vec (String Global)) ErrorKind → ℕ → Type 0
+ProgramOpens supply (Ok words) count = OpensFor supply (arguments words) count
+ProgramOpens supply (Err kind) count = count ≡ 0
+
+-- what the files of names have to give before and after, and how many were written until then and
+-- since: none was, and all have what they had
+pub record LeavesFiles (before after : List ℕ → Supply) (old new : ℕ) : Type 0 where
+  pub supply : after ≡ before
+  pub none : new ≡ old
+
+-- one was written, which is opened for the image of this set alone: it has that image, or a
+-- beginning of it, or what it had if it couldn't be opened; and the others have what they had
+pub record WritesFile (set : Supply) (name : List ℕ) (before after : List ℕ → Supply) (old new : ℕ)
+    (status : ℕ) : Type 0 where
+  pub one : new ≡ old + 1
+  pub image : Answer
+  pub right : IsRewriteOf set image
+  pub is : image.status ≡ 0
+  pub part : List ℕ
+  pub rest : List ℕ
+  pub split : image.output ≡ part ++ rest
+  pub has : Has (before name) (after name) part ⊎ (after name ≡ before name)
+  pub others : (other : List ℕ) → other ≢ name → after other ≡ before other
+  pub status_is : (status ≡ 0) ⊎ (status ≡ 2)
+
+-- what a rewrite does to the file of a name: where it succeeds, that file has the image of the set
+pub record RewritesFile (set : Supply) (name : List ℕ) (before after : List ℕ → Supply)
+    (old new : ℕ) (status : ℕ) : Type 0 where
+  pub whole : status ≡ 0 → (image : Answer) × IsRewriteOf set image × (image.status ≡ 0)
+      × Has (before name) (after name) image.output
+  pub touched : LeavesFiles before after old new ⊎ WritesFile set name before after old new status
+
+-- what a job does to the files
+abbrev pub JobStores : Job → (List ℕ → Supply) → (List ℕ → Supply) → ℕ → ℕ → ℕ → Type 0
+JobStores (Alone (Rewrite set output)) before after old new status =
+    RewritesFile (before set.now) output.now before after old new status
+JobStores (Alone (Check set)) before after old new status = LeavesFiles before after old new
+JobStores (Alone (Explain set extent)) before after old new status = LeavesFiles before after old new
+JobStores (Alone (ExplainRule rule)) before after old new status = LeavesFiles before after old new
+JobStores (Alone (ListJob set)) before after old new status = LeavesFiles before after old new
+JobStores (Alone Version) before after old new status = LeavesFiles before after old new
+JobStores (Alone (Trace set schedule verification)) before after old new status =
+    LeavesFiles before after old new
+JobStores (Alone (Tell set schedule verification detail)) before after old new status =
+    LeavesFiles before after old new
+JobStores (Alone (Draw set schedule verification)) before after old new status =
+    LeavesFiles before after old new
+JobStores (Host set script workers) before after old new status = LeavesFiles before after old new
+
+-- what the program does to the files for these words: nothing where it names no job, and then it
+-- doesn't succeed, or what that job does
+abbrev pub WordsStore : List Text → (List ℕ → Supply) → (List ℕ → Supply) → ℕ → ℕ → ℕ → Type 0
+WordsStore words before after old new status =
+    (LeavesFiles before after old new × (status ≢ 0))
+    ⊎ ((job : Job) × NamesJob words job × JobStores job before after old new status)
+
+abbrev pub ProgramStores : Result (Vec (String Global)) ErrorKind → (List ℕ → Supply)
+    → (List ℕ → Supply) → ℕ → ℕ → ℕ → Type 0
+ProgramStores (Ok words) before after old new status =
+    WordsStore (arguments words) before after old new status
+ProgramStores (Err kind) before after old new status = LeavesFiles before after old new

@@ -1,0 +1,480 @@
+//! What the program answers.
+
+ghost use Rattle.std.specs.Prelude.{◌≡◌, ◌+◌, ◌<◌, ◌^◌, ◌⊎◌, ℕ, List, Option, drop, map, string_bytes, true};
+ghost use Rattle.drvhost_words.specs.Program.{IsAnswerTo, IsAnswerToLost, IsJobOf, IsOfNamed, IsProgram, IsRunBy, Opens, OpensFor, OpensToTrace, IsQuietly, JobStores, ProgramOpens, ProgramStores, RewritesFile, WordsStore, verification_of};
+ghost use Rattle.drvhost_devices.specs.Device.{CanCount, Says};
+ghost use Rattle.drvhost_devices.specs.Ends.{Answers, HoldsRun, IsCheckOf, IsListOf, IsRewriteOf};
+ghost use Rattle.drvhost_sets.specs.Explained.{IsExplainedOf};
+ghost use Rattle.drvhost_runs.specs.Served.{IsHostOf};
+
+use crate::files::{Files, Later, Pending};
+use crate::job::{AloneJob, Job, JobFault, Workers, refuse_unknown_words, refuse_words};
+use drvhost_devices::device::{Sink, Source};
+use drvhost_devices::unopened::tell_unopened;
+use drvhost_devices::verification::Verification;
+use drvhost_runs::draw::draw;
+use drvhost_runs::host::host;
+use drvhost_runs::tell::{Detail, tell};
+use drvhost_runs::trace::trace;
+use drvhost_sets::check::check;
+use drvhost_sets::explaining::{Extent, explain};
+use drvhost_sets::list::list;
+use drvhost_sets::rewriting::rewrite;
+use drvhost_sets::rule::explain_rule;
+use drvhost_sets::version::version;
+use std::alloc::Global;
+use std::io::ErrorKind;
+use std::sync::Wait;
+use std::thread::Threads;
+use workers::Gate;
+
+/// Does what the words of a command line ask for, the program's own name first, or says why they
+/// can't be had. Each file that they name is opened, read and handed back when its turn comes. The
+/// answer is the exit status: that of the job that they name; 2 where they name none, and the
+/// writer for errors is then told how the program is used; 3 where memory ran out.
+pub fn answer<F: Files, O: Sink, E: Sink, R: Threads + Wait + Sync>(
+    rt: &R,
+    alloc: Global,
+    words: Result<Vec<String>, ErrorKind>,
+    files: &mut F,
+    out: &mut O,
+    err: &mut E,
+) -> u8
+    requires opened { F.opened files.old + 2 < 2 ^ 64 }
+    requires files { CanCount (F.failures files.old) }
+    requires created { F.created files.old + 1 < 2 ^ 64 }
+    requires unwritten { CanCount (F.unwritten files.old) }
+    requires out { CanCount (O.failures out.old) }
+    requires err { CanCount (E.failures err.old) }
+    ensures answers { Answers (IsProgram (F.supply files.old) words)
+        (F.failures files.old) (F.failures files.new)
+        (F.unwritten files.old + O.failures out.old) (F.unwritten files.new + O.failures out.new)
+        (O.contents out.old) (O.contents out.new)
+        (Says (E.failures err.old) (E.failures err.new) (E.contents err.old) (E.contents err.new))
+        result }
+    ensures opened { (count : ℕ) × ProgramOpens (F.supply files.old) words count
+        × (F.opened files.new ≡ F.opened files.old + count) }
+    ensures stores { ProgramStores words (F.supply files.old) (F.supply files.new)
+        (F.created files.old) (F.created files.new) result }
+{
+    match words {
+        Ok(words) => answer_words(rt, alloc, arguments(words.as_slice()), files, out, err),
+        Err(kind) => refuse_lost_words(kind, err),
+    }
+}
+
+/// The words after the program's name.
+fn arguments(words: &[String]) -> &[String]
+    ensures { result.now ≡ drop 1 words.entry.now }
+{
+    match words.split_first() {
+        Some((_name, arguments)) => arguments,
+        None => &[],
+    }
+}
+
+/// Answers words that can't be had: memory ran out, or some of them aren't text, and they are wrong
+/// ones.
+fn refuse_lost_words<E: Sink>(kind: ErrorKind, err: &mut E) -> u8
+    requires { CanCount (E.failures err.old) }
+    ensures { (reads writes : ℕ) (written : Option (List ℕ))
+        → Answers (IsAnswerToLost kind) reads reads writes writes written written
+        (Says (E.failures err.old) (E.failures err.new) (E.contents err.old) (E.contents err.new))
+        result }
+{
+    if kind == ErrorKind::OutOfMemory {
+        refuse_words(&JobFault::Memory, err)
+    } else {
+        refuse_unknown_words(err)
+    }
+}
+
+/// Does what the words ask for, without the program's name.
+fn answer_words<F: Files, O: Sink, E: Sink, R: Threads + Wait + Sync>(
+    rt: &R,
+    alloc: Global,
+    words: &[String],
+    files: &mut F,
+    out: &mut O,
+    err: &mut E,
+) -> u8
+    requires opened { F.opened files.old + 2 < 2 ^ 64 }
+    requires files { CanCount (F.failures files.old) }
+    requires created { F.created files.old + 1 < 2 ^ 64 }
+    requires unwritten { CanCount (F.unwritten files.old) }
+    requires out { CanCount (O.failures out.old) }
+    requires err { CanCount (E.failures err.old) }
+    ensures answers { Answers (IsAnswerTo (F.supply files.old) (map string_bytes words.now))
+        (F.failures files.old) (F.failures files.new)
+        (F.unwritten files.old + O.failures out.old) (F.unwritten files.new + O.failures out.new)
+        (O.contents out.old) (O.contents out.new)
+        (Says (E.failures err.old) (E.failures err.new) (E.contents err.old) (E.contents err.new))
+        result }
+    ensures opened { (count : ℕ) × OpensFor (F.supply files.old) (map string_bytes words.now) count
+        × (F.opened files.new ≡ F.opened files.old + count) }
+    ensures stores { WordsStore (map string_bytes words.now) (F.supply files.old) (F.supply files.new)
+        (F.created files.old) (F.created files.new) result }
+{
+    match Job::of(alloc, words) {
+        Ok(job) => perform(rt, alloc, &job, files, out, err),
+        Err(fault) => refuse_words(&fault, err),
+    }
+}
+
+/// Does a job with the files that it names. Only what does `host` is given the runtime: nothing else
+/// starts a thread, or waits.
+fn perform<F: Files, O: Sink, E: Sink, R: Threads + Wait + Sync>(
+    rt: &R,
+    alloc: Global,
+    job: &Job<'_>,
+    files: &mut F,
+    out: &mut O,
+    err: &mut E,
+) -> u8
+    requires opened { F.opened files.old + 2 < 2 ^ 64 }
+    requires files { CanCount (F.failures files.old) }
+    requires created { F.created files.old + 1 < 2 ^ 64 }
+    requires unwritten { CanCount (F.unwritten files.old) }
+    requires out { CanCount (O.failures out.old) }
+    requires err { CanCount (E.failures err.old) }
+    ensures answers { Answers (IsJobOf (F.supply files.old) job.now)
+        (F.failures files.old) (F.failures files.new)
+        (F.unwritten files.old + O.failures out.old) (F.unwritten files.new + O.failures out.new)
+        (O.contents out.old) (O.contents out.new)
+        (Says (E.failures err.old) (E.failures err.new) (E.contents err.old) (E.contents err.new))
+        result }
+    ensures opened { (count : ℕ) × Opens (F.supply files.old) job.now count
+        × (F.opened files.new ≡ F.opened files.old + count) }
+    ensures stores { JobStores job.now (F.supply files.old) (F.supply files.new)
+        (F.created files.old) (F.created files.new) result }
+{
+    match *job {
+        Job::Alone(job) => perform_alone(alloc, job, files, out, err),
+        Job::Host {
+            set,
+            script,
+            workers,
+        } => host_files(rt, alloc, set, script, workers, files, out, err),
+    }
+}
+
+/// Does a job that waits for no other thread.
+fn perform_alone<F: Files, O: Sink, E: Sink>(
+    alloc: Global,
+    job: AloneJob<'_>,
+    files: &mut F,
+    out: &mut O,
+    err: &mut E,
+) -> u8
+    requires opened { F.opened files.old + 2 < 2 ^ 64 }
+    requires files { CanCount (F.failures files.old) }
+    requires created { F.created files.old + 1 < 2 ^ 64 }
+    requires unwritten { CanCount (F.unwritten files.old) }
+    requires out { CanCount (O.failures out.old) }
+    requires err { CanCount (E.failures err.old) }
+    ensures answers { Answers (IsJobOf (F.supply files.old) (Job.Alone job.entry))
+        (F.failures files.old) (F.failures files.new)
+        (F.unwritten files.old + O.failures out.old) (F.unwritten files.new + O.failures out.new)
+        (O.contents out.old) (O.contents out.new)
+        (Says (E.failures err.old) (E.failures err.new) (E.contents err.old) (E.contents err.new))
+        result }
+    ensures opened { (count : ℕ) × Opens (F.supply files.old) (Job.Alone job.entry) count
+        × (F.opened files.new ≡ F.opened files.old + count) }
+    ensures stores { JobStores (Job.Alone job.entry) (F.supply files.old) (F.supply files.new)
+        (F.created files.old) (F.created files.new) result }
+{
+    match job {
+        AloneJob::Check { set } => check_file(alloc, set, files, out, err),
+        AloneJob::Explain { set, extent } => explain_file(alloc, extent, set, files, out, err),
+        AloneJob::ExplainRule { rule } => explain_rule(alloc, rule, out, err),
+        AloneJob::List { set } => list_file(alloc, set, files, out, err),
+        AloneJob::Rewrite { set, output } => rewrite_file(alloc, set, output, files, err),
+        AloneJob::Version => version(out, err),
+        AloneJob::Trace {
+            set,
+            schedule,
+            verification,
+        } => {
+            let way = Way::BySchedule(verification);
+            run_files(alloc, set, schedule, way, files, out, err)
+        }
+        AloneJob::Tell {
+            set,
+            schedule,
+            verification,
+            detail,
+        } => {
+            let way = Way::InWords(verification, detail);
+            run_files(alloc, set, schedule, way, files, out, err)
+        }
+        AloneJob::Draw {
+            set,
+            schedule,
+            verification,
+        } => {
+            let way = Way::AsPicture(verification);
+            run_files(alloc, set, schedule, way, files, out, err)
+        }
+    }
+}
+
+/// Judges the set of a file.
+fn check_file<F: Files, O: Sink, E: Sink>(
+    alloc: Global,
+    set: &str,
+    files: &mut F,
+    out: &mut O,
+    err: &mut E,
+) -> u8
+    requires opened { F.opened files.old + 1 < 2 ^ 64 }
+    requires files { CanCount (F.failures files.old) }
+    requires out { CanCount (O.failures out.old) }
+    requires err { CanCount (E.failures err.old) }
+    ensures answers { Answers (IsCheckOf (F.supply files.old set.now))
+        (F.failures files.old) (F.failures files.new) (O.failures out.old) (O.failures out.new)
+        (O.contents out.old) (O.contents out.new)
+        (Says (E.failures err.old) (E.failures err.new) (E.contents err.old) (E.contents err.new))
+        result }
+    ensures opened { F.opened files.new ≡ F.opened files.old + 1 }
+    ensures supply { F.supply files.new ≡ F.supply files.old }
+    ensures created { F.created files.new ≡ F.created files.old }
+    ensures unwritten { F.unwritten files.new ≡ F.unwritten files.old }
+{
+    let mut file = files.open(set);
+    let status = check(alloc, &mut file, out, err);
+    files.close(file);
+    status
+}
+
+/// Judges the set of a file, and explains the verdict. A file that can't be opened is named.
+fn explain_file<F: Files, O: Sink, E: Sink>(
+    alloc: Global,
+    extent: Extent,
+    set: &str,
+    files: &mut F,
+    out: &mut O,
+    err: &mut E,
+) -> u8
+    requires opened { F.opened files.old + 1 < 2 ^ 64 }
+    requires files { CanCount (F.failures files.old) }
+    requires out { CanCount (O.failures out.old) }
+    requires err { CanCount (E.failures err.old) }
+    ensures answers { Answers (IsOfNamed (IsExplainedOf extent) (F.supply files.old) set.now)
+        (F.failures files.old) (F.failures files.new) (O.failures out.old) (O.failures out.new)
+        (O.contents out.old) (O.contents out.new)
+        (Says (E.failures err.old) (E.failures err.new) (E.contents err.old) (E.contents err.new))
+        result }
+    ensures opened { F.opened files.new ≡ F.opened files.old + 1 }
+    ensures supply { F.supply files.new ≡ F.supply files.old }
+    ensures created { F.created files.new ≡ F.created files.old }
+    ensures unwritten { F.unwritten files.new ≡ F.unwritten files.old }
+{
+    let mut file = files.open(set);
+    if files.is_closed(&file) {
+        files.close(file);
+        return tell_unopened(alloc, set, err);
+    }
+    let status = explain(alloc, extent, &mut file, out, err);
+    files.close(file);
+    status
+}
+
+/// Writes the listing of the set of a file. One that can't be opened is named.
+fn list_file<F: Files, O: Sink, E: Sink>(
+    alloc: Global,
+    set: &str,
+    files: &mut F,
+    out: &mut O,
+    err: &mut E,
+) -> u8
+    requires opened { F.opened files.old + 1 < 2 ^ 64 }
+    requires files { CanCount (F.failures files.old) }
+    requires out { CanCount (O.failures out.old) }
+    requires err { CanCount (E.failures err.old) }
+    ensures answers { Answers (IsOfNamed IsListOf (F.supply files.old) set.now)
+        (F.failures files.old) (F.failures files.new) (O.failures out.old) (O.failures out.new)
+        (O.contents out.old) (O.contents out.new)
+        (Says (E.failures err.old) (E.failures err.new) (E.contents err.old) (E.contents err.new))
+        result }
+    ensures opened { F.opened files.new ≡ F.opened files.old + 1 }
+    ensures supply { F.supply files.new ≡ F.supply files.old }
+    ensures created { F.created files.new ≡ F.created files.old }
+    ensures unwritten { F.unwritten files.new ≡ F.unwritten files.old }
+{
+    let mut file = files.open(set);
+    if files.is_closed(&file) {
+        files.close(file);
+        return tell_unopened(alloc, set, err);
+    }
+    let status = list(alloc, &mut file, out, err);
+    files.close(file);
+    status
+}
+
+/// Writes the image of the set of a file to another one, which is opened only once the image stands
+/// in memory, and may be the same.
+fn rewrite_file<F: Files, E: Sink>(
+    alloc: Global,
+    set: &str,
+    output: &str,
+    files: &mut F,
+    err: &mut E,
+) -> u8
+    requires opened { F.opened files.old + 1 < 2 ^ 64 }
+    requires files { CanCount (F.failures files.old) }
+    requires created { F.created files.old + 1 < 2 ^ 64 }
+    requires unwritten { CanCount (F.unwritten files.old) }
+    requires err { CanCount (E.failures err.old) }
+    ensures answers { (writes : ℕ) (written : Option (List ℕ))
+        → Answers (IsQuietly (IsRewriteOf (F.supply files.old set.now)))
+        (F.failures files.old) (F.failures files.new)
+        (F.unwritten files.old + writes) (F.unwritten files.new + writes) written written
+        (Says (E.failures err.old) (E.failures err.new) (E.contents err.old) (E.contents err.new))
+        result }
+    ensures opened { F.opened files.new ≡ F.opened files.old + 1 }
+    ensures stores { RewritesFile (F.supply files.old set.now) output.now
+        (F.supply files.old) (F.supply files.new) (F.created files.old) (F.created files.new)
+        result }
+{
+    let mut file = files.open(set);
+    let mut pending = Pending::new(files, output);
+    let status = rewrite(alloc, &mut file, &mut pending, err);
+    let target = pending.into_target();
+    files.close(file);
+    if let Some(target) = target {
+        files.keep(output, target);
+    }
+    status
+}
+
+/// How a set is run by an input.
+#[derive(Clone, Copy)]
+pub(crate) enum Way {
+    /// By the events of a schedule.
+    BySchedule(Verification),
+    /// By the events of a schedule, and it is told in words.
+    InWords(Verification, Detail),
+    /// By the events of a schedule, and it is drawn.
+    AsPicture(Verification),
+}
+
+/// Runs the set of a file by the input of another one, which is opened for a run alone.
+fn run_files<F: Files, O: Sink, E: Sink>(
+    alloc: Global,
+    set: &str,
+    input: &str,
+    way: Way,
+    files: &mut F,
+    out: &mut O,
+    err: &mut E,
+) -> u8
+    requires opened { F.opened files.old + 2 < 2 ^ 64 }
+    requires files { CanCount (F.failures files.old) }
+    requires out { CanCount (O.failures out.old) }
+    requires err { CanCount (E.failures err.old) }
+    ensures answers { Answers (IsRunBy way (F.supply files.old set.now)
+        (F.supply files.old input.now))
+        (F.failures files.old) (F.failures files.new) (O.failures out.old) (O.failures out.new)
+        (O.contents out.old) (O.contents out.new)
+        (Says (E.failures err.old) (E.failures err.new) (E.contents err.old) (E.contents err.new))
+        result }
+    ensures opened { (count : ℕ)
+        × OpensToTrace (verification_of way) (F.supply files.old set.now) count
+        × (F.opened files.new ≡ F.opened files.old + count) }
+    ensures supply { F.supply files.new ≡ F.supply files.old }
+    ensures created { F.created files.new ≡ F.created files.old }
+    ensures unwritten { F.unwritten files.new ≡ F.unwritten files.old }
+{
+    let mut file = files.open(set);
+    let mut later = Later::new(files, input);
+    let status = run(alloc, &mut file, &mut later, way, out, err);
+    let inputs = later.into_file();
+    files.close(file);
+    if let Some(inputs) = inputs {
+        files.close(inputs);
+    }
+    status
+}
+
+/// Runs the set of a source by the input of another one.
+fn run<S: Source, P: Source, O: Sink, E: Sink>(
+    alloc: Global,
+    set: &mut S,
+    input: &mut P,
+    way: Way,
+    out: &mut O,
+    err: &mut E,
+) -> u8
+    requires set { CanCount (S.failures set.old) }
+    requires input { CanCount (P.failures input.old) }
+    requires out { CanCount (O.failures out.old) }
+    requires err { CanCount (E.failures err.old) }
+    ensures unread { (input.new ≡ input.old)
+        ⊎ HoldsRun (verification_of way) (S.supply set.old) }
+    ensures answers { Answers (IsRunBy way (S.supply set.old) (P.supply input.old))
+        (S.failures set.old + P.failures input.old) (S.failures set.new + P.failures input.new)
+        (O.failures out.old) (O.failures out.new) (O.contents out.old) (O.contents out.new)
+        (Says (E.failures err.old) (E.failures err.new) (E.contents err.old) (E.contents err.new))
+        result }
+{
+    match way {
+        Way::BySchedule(verification) => trace(alloc, set, input, verification, out, err),
+        Way::InWords(verification, detail) => {
+            tell(alloc, set, input, verification, detail, out, err)
+        }
+        Way::AsPicture(verification) => draw(alloc, set, input, verification, out, err),
+    }
+}
+
+/// A gate that is always open.
+#[derive(Drop)]
+struct Open;
+
+impl Gate for Open {
+    fn before(&self, _worker: u32, _count: u64) -> bool
+        ensures { result ≡ true }
+    {
+        true
+    }
+}
+
+/// Has workers serve the script of a file on the set of another one. That of the script is opened
+/// for a set that is accepted.
+fn host_files<F: Files, O: Sink, E: Sink, R: Threads + Wait + Sync>(
+    rt: &R,
+    alloc: Global,
+    set: &str,
+    script: &str,
+    workers: Workers,
+    files: &mut F,
+    out: &mut O,
+    err: &mut E,
+) -> u8
+    requires opened { F.opened files.old + 2 < 2 ^ 64 }
+    requires files { CanCount (F.failures files.old) }
+    requires out { CanCount (O.failures out.old) }
+    requires err { CanCount (E.failures err.old) }
+    ensures answers { Answers (IsHostOf workers (F.supply files.old set.now)
+        (F.supply files.old script.now))
+        (F.failures files.old) (F.failures files.new) (O.failures out.old) (O.failures out.new)
+        (O.contents out.old) (O.contents out.new)
+        (Says (E.failures err.old) (E.failures err.new) (E.contents err.old) (E.contents err.new))
+        result }
+    ensures opened { (count : ℕ)
+        × OpensToTrace Verification.Required (F.supply files.old set.now) count
+        × (F.opened files.new ≡ F.opened files.old + count) }
+    ensures supply { F.supply files.new ≡ F.supply files.old }
+    ensures created { F.created files.new ≡ F.created files.old }
+    ensures unwritten { F.unwritten files.new ≡ F.unwritten files.old }
+{
+    let count = workers.count();
+    let mut file = files.open(set);
+    let mut later = Later::new(files, script);
+    let status = host(rt, alloc, &mut file, &mut later, count, &Open, out, err);
+    let commands = later.into_file();
+    files.close(file);
+    if let Some(commands) = commands {
+        files.close(commands);
+    }
+    status
+}

@@ -1,0 +1,335 @@
+//! Files by their names.
+
+ghost use Rattle.std.specs.Prelude.{◌≡◌, ◌+◌, ◌<◌, ◌^◌, ◌↔◌, ℕ, IsTrue, List, None, Option};
+ghost use Rattle.std.specs.Io.KnownBytes.{Keeps};
+ghost use Rattle.drvhost_devices.specs.Device.{Closed, IsSuppliedAs, Supply, Unknown};
+ghost use Rattle.drvhost_words.specs.Files.{blank, contents_given, contents_of, failures_of, supply_of, Stores};
+
+use drvhost_devices::device::{Failed, Reader, Sink, Source, Writer};
+use std::fs::{self, File};
+use std::io::Write;
+
+/// Files by their names.
+pub trait Files {
+    /// A file that was opened to be read. It can't be dropped: it is handed back.
+    type File: Source;
+
+    /// A file that was opened to be written. It can't be dropped: it is handed back.
+    type Target: Sink;
+
+    // What the file of a name has to give, where something is known of it.
+    ghost supply: { Self → List ℕ → Supply };
+
+    // How many files were opened to be read and handed back so far.
+    ghost opened: { Self → ℕ };
+
+    // How many reads of these failed.
+    ghost failures: { Self → ℕ };
+
+    // How many files were opened to be written and handed back so far.
+    ghost created: { Self → ℕ };
+
+    // How many writes to these failed.
+    ghost unwritten: { Self → ℕ };
+
+    /// Opens the file of a name, to read it from its start. One that can't be opened is a source
+    /// that is closed.
+    fn open(&self, name: &str) -> Self::File
+        ensures supply { IsSuppliedAs (supply self.now name.now) (Self.File.supply result) }
+        ensures unread { Self.File.failures result ≡ 0 };
+
+    /// Whether a file is closed, since it can't be opened.
+    fn is_closed(&self, file: &Self::File) -> bool
+        ensures { IsTrue result ↔ (Self.File.supply file.now ≡ Closed) };
+
+    /// Takes a file back.
+    fn close(&mut self, file: Self::File)
+        requires room { opened self.old + 1 < 2 ^ 64 }
+        requires few { failures self.old + Self.File.failures file < 2 ^ 64 }
+        ensures opened { opened self.new ≡ opened self.old + 1 }
+        ensures failures { failures self.new ≡ failures self.old + Self.File.failures file }
+        ensures created { created self.new ≡ created self.old }
+        ensures unwritten { unwritten self.new ≡ unwritten self.old }
+        ensures supply { supply self.new ≡ supply self.old };
+
+    /// Opens the file of a name, to write it from its start: what it had is gone. Each write to one
+    /// that can't be opened fails.
+    fn create(&self, name: &str) -> Self::Target
+        ensures contents { Keeps (blank (supply self.now name.now))
+            (Self.Target.contents result) }
+        ensures unwritten { Self.Target.failures result ≡ 0 };
+
+    /// Takes back the file of a name that was opened to be written.
+    fn keep(&mut self, name: &str, target: Self::Target)
+        requires room { created self.old + 1 < 2 ^ 64 }
+        requires few { unwritten self.old + Self.Target.failures target < 2 ^ 64 }
+        ensures opened { opened self.new ≡ opened self.old }
+        ensures failures { failures self.new ≡ failures self.old }
+        ensures created { created self.new ≡ created self.old + 1 }
+        ensures unwritten { unwritten self.new ≡ unwritten self.old + Self.Target.failures target }
+        ensures stores { Stores (supply self.old) (supply self.new) name.now
+            (Self.Target.contents target) };
+}
+
+/// The files of a system.
+#[derive(Drop)]
+pub struct Disk<'r, R> {
+    system: &'r R,
+    opened: u64,
+    failures: u64,
+    created: u64,
+    unwritten: u64,
+}
+
+impl<'r, R: fs::Files> Disk<'r, R> {
+    /// The files of a system, of which none was opened.
+    pub fn new(system: &'r R) -> Disk<'r, R>
+        ensures opened { ⟦<Disk<'r, R> as Files>⟧.opened result ≡ 0 }
+        ensures failures { ⟦<Disk<'r, R> as Files>⟧.failures result ≡ 0 }
+        ensures created { ⟦<Disk<'r, R> as Files>⟧.created result ≡ 0 }
+        ensures unwritten { ⟦<Disk<'r, R> as Files>⟧.unwritten result ≡ 0 }
+    {
+        Disk {
+            system,
+            opened: 0,
+            failures: 0,
+            created: 0,
+            unwritten: 0,
+        }
+    }
+
+    /// How many were opened to be read and handed back so far.
+    pub fn opened(&self) -> u64
+        ensures { result ≡ ⟦<Disk<'r, R> as Files>⟧.opened self.now }
+    {
+        self.opened
+    }
+
+    /// How many reads of these failed.
+    pub fn failures(&self) -> u64
+        ensures { result ≡ ⟦<Disk<'r, R> as Files>⟧.failures self.now }
+    {
+        self.failures
+    }
+}
+
+impl<R: fs::Files> Files for Disk<'_, R> {
+    type File = Reader<R::File>;
+
+    type Target = Output<R::File>;
+
+    ghost supply = { λ _ _. Unknown };
+
+    ghost opened = { λ disk. disk.opened };
+
+    ghost failures = { λ disk. disk.failures };
+
+    ghost created = { λ disk. disk.created };
+
+    ghost unwritten = { λ disk. disk.unwritten };
+
+    fn open(&self, name: &str) -> Reader<R::File> {
+        Reader::new(File::open(self.system, name).ok())
+    }
+
+    fn is_closed(&self, file: &Reader<R::File>) -> bool {
+        file.is_closed()
+    }
+
+    fn close(&mut self, file: Reader<R::File>) {
+        self.opened += 1;
+        self.failures += file.failures();
+    }
+
+    fn create(&self, name: &str) -> Output<R::File> {
+        Output::new(File::create(self.system, name).ok())
+    }
+
+    fn keep(&mut self, _name: &str, target: Output<R::File>) {
+        self.created += 1;
+        self.unwritten += target.failures();
+    }
+}
+
+/// A writer as a sink. Where there is none, as for a file that can't be opened, each write fails.
+#[derive(Drop)]
+pub struct Output<W> {
+    writer: Option<Writer<W>>,
+    refused: u64,
+}
+
+impl<W: Write> Output<W> {
+    /// The sink over a writer, or over none.
+    pub fn new(writer: Option<W>) -> Output<W>
+        ensures failures { ⟦<Output<W> as Sink>⟧.failures result ≡ 0 }
+        ensures contents { ⟦<Output<W> as Sink>⟧.contents result
+            ≡ contents_given W.contents writer }
+    {
+        match writer {
+            Some(writer) => Output {
+                writer: Some(Writer::new(writer)),
+                refused: 0,
+            },
+            None => Output {
+                writer: None,
+                refused: 0,
+            },
+        }
+    }
+}
+
+impl<W: Write> Output<W> {
+    /// The writer again, with what was written to it, if there is one.
+    pub fn into_inner(self) -> Option<W>
+        ensures { contents_given W.contents result ≡ ⟦<Output<W> as Sink>⟧.contents self }
+    {
+        match self.writer {
+            Some(writer) => Some(writer.into_inner()),
+            None => None,
+        }
+    }
+}
+
+impl<W: Write> Sink for Output<W> {
+    ghost use Rattle.drvhost_words.specs.Outside.{output_contents, output_failures};
+
+    ghost failures = { λ output. output_failures output };
+
+    ghost contents = { λ output. output_contents W.contents output };
+
+    fn failures(&self) -> u64 {
+        match &self.writer {
+            Some(writer) => writer.failures(),
+            None => self.refused,
+        }
+    }
+
+    fn write(&mut self, bytes: &[u8]) -> Result<usize, Failed> {
+        if let Some(writer) = &mut self.writer {
+            return writer.write(bytes);
+        }
+        self.refused += 1;
+        Err(Failed)
+    }
+}
+
+/// A file that is opened when it is first read.
+pub(crate) struct Later<'f, F: Files> {
+    files: &'f F,
+    name: &'f str,
+    file: Option<F::File>,
+}
+
+impl<'f, F: Files> Later<'f, F> {
+    /// The file of a name.
+    pub(crate) fn new(files: &'f F, name: &'f str) -> Later<'f, F>
+        ensures files { result.files.now ≡ files.entry.now }
+        ensures name { result.name.now ≡ name.entry.now }
+        ensures unopened { result.file ≡ None }
+    {
+        Later {
+            files,
+            name,
+            file: None,
+        }
+    }
+
+    /// The file, if it was opened.
+    pub(crate) fn into_file(self) -> Option<F::File>
+        ensures { result ≡ self.entry.file }
+    {
+        let Later {
+            files: _,
+            name: _,
+            file,
+        } = self;
+        file
+    }
+}
+
+impl<F: Files> Source for Later<'_, F> {
+    ghost failures = { λ later. failures_of F.File.failures later.file };
+
+    ghost supply = { λ later.
+        supply_of F.File.supply (F.supply later.files.now later.name.now) later.file };
+
+    fn failures(&self) -> u64 {
+        match &self.file {
+            Some(file) => file.failures(),
+            None => 0,
+        }
+    }
+
+    fn read(&mut self, into: &mut [u8]) -> Result<usize, Failed> {
+        let mut file = match self.file.take() {
+            Some(file) => file,
+            None => self.files.open(self.name),
+        };
+        let read = file.read(into);
+        match self.file.replace(file) {
+            None => read,
+            Some(_) => unreachable!(),
+        }
+    }
+}
+
+/// A file that is opened when it is first written to.
+pub(crate) struct Pending<'f, F: Files> {
+    files: &'f F,
+    name: &'f str,
+    target: Option<F::Target>,
+}
+
+impl<'f, F: Files> Pending<'f, F> {
+    /// The file of a name.
+    pub(crate) fn new(files: &'f F, name: &'f str) -> Pending<'f, F>
+        ensures files { result.files.now ≡ files.entry.now }
+        ensures name { result.name.now ≡ name.entry.now }
+        ensures unopened { result.target ≡ None }
+    {
+        Pending {
+            files,
+            name,
+            target: None,
+        }
+    }
+
+    /// The file, if it was opened.
+    pub(crate) fn into_target(self) -> Option<F::Target>
+        ensures { result ≡ self.entry.target }
+    {
+        let Pending {
+            files: _,
+            name: _,
+            target,
+        } = self;
+        target
+    }
+}
+
+impl<F: Files> Sink for Pending<'_, F> {
+    ghost failures = { λ pending. failures_of F.Target.failures pending.target };
+
+    ghost contents = { λ pending.
+        contents_of F.Target.contents (F.supply pending.files.now pending.name.now)
+        pending.target };
+
+    fn failures(&self) -> u64 {
+        match &self.target {
+            Some(target) => target.failures(),
+            None => 0,
+        }
+    }
+
+    fn write(&mut self, bytes: &[u8]) -> Result<usize, Failed> {
+        let mut target = match self.target.take() {
+            Some(target) => target,
+            None => self.files.create(self.name),
+        };
+        let written = target.write(bytes);
+        match self.target.replace(target) {
+            None => written,
+            Some(_) => unreachable!(),
+        }
+    }
+}

@@ -1,5 +1,0 @@
-use Rattle.evidence.proofs.Others.{NoOther}
-use Rattle.evidence.proofs.differing.other_arrival.Given as goal
-
-abbrev pub invariant-loop-from : goal.invariant-loop-from
-invariant-loop-from l = NoOther l.arrivals.subject l.arrivals.table.items l.at l.state l.from

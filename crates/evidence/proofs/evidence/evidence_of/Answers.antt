@@ -1,6 +1,0 @@
-use Rattle.std.proofs.Common.{inl}
-use Rattle.evidence.proofs.Refusals.{for_memory}
-use Rattle.evidence.proofs.evidence.evidence_of.Goals as goal
-
-pub returns-in-Memory : goal.returns-in-Memory
-returns-in-Memory c = inl (for_memory c.args.set.now c.args.refusal.now c.requires c.in-Memory.is)

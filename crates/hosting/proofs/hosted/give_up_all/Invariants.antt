@@ -1,5 +1,0 @@
-use Rattle.std.proofs.Common.{vec_len}
-use Rattle.hosting.proofs.hosted.give_up_all.Given as goal
-
-abbrev pub decreases-loop-taken : goal.decreases-loop-taken
-decreases-loop-taken l = vec_len l.commands

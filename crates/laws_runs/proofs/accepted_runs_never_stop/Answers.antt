@@ -1,0 +1,5 @@
+use Rattle.laws_runs.proofs.Accepted.Laws.{accepted_go_on}
+use Rattle.laws_runs.proofs.accepted_runs_never_stop.Goals as goal
+
+pub returns : goal.returns
+returns c = accepted_go_on

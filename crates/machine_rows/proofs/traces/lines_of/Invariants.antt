@@ -1,6 +1,0 @@
-use Rattle.std.proofs.Common.{◌≡◌}
-use Rattle.machine_rows.proofs.traces.lines_of.Given as goal
-
--- each line so far has a number of its own
-abbrev pub invariant-loop-reply : goal.invariant-loop-reply
-invariant-loop-reply l = l.number ≡ l.reply-index

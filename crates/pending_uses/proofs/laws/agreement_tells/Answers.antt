@@ -1,5 +1,0 @@
-use Rattle.pending_uses.proofs.Agreement.{agreement}
-use Rattle.pending_uses.proofs.laws.agreement_tells.Goals as goal
-
-pub returns : goal.returns
-returns c = agreement

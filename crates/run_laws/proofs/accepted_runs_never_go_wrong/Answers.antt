@@ -1,5 +1,0 @@
-use Rattle.run_laws.proofs.Accepted.Laws.{accepted_go_right}
-use Rattle.run_laws.proofs.accepted_runs_never_go_wrong.Goals as goal
-
-pub returns : goal.returns
-returns c = accepted_go_right

@@ -1,5 +1,0 @@
-use Rattle.slot_laws.proofs.Shown.{slots_show}
-use Rattle.slot_laws.proofs.slots_show_what_they_mean.Goals as goal
-
-pub returns : goal.returns
-returns c = slots_show

@@ -1,6 +1,0 @@
-use Rattle.std.proofs.Common.{arith}
-use Rattle.slot_parts.proofs.Lists.{list_number}
-use Rattle.slot_parts.proofs.device_lists.device_queue_of.Goals as goal
-
-pub returns : goal.returns
-returns c = omega (arith, list_number c.args.device 5)

@@ -1,6 +1,0 @@
-use Rattle.std.proofs.Common.{sym}
-use Rattle.slot_parts.proofs.Lists.{list_number}
-use Rattle.slot_parts.proofs.device_lists.start_list_of.Goals as goal
-
-pub returns : goal.returns
-returns c = sym (list_number c.args.device 4)

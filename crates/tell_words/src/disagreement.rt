@@ -1,0 +1,78 @@
+//! What the audit says of uses of stack locations, in words.
+
+use crate::book::Book;
+use crate::line::{Happened, Moment};
+use crate::words::status_name;
+use checked::Checked;
+use model::event::Event;
+use model::view::{FrameView, PacketView};
+use std::alloc::AllocError;
+use tell_uses::acts::UseStep;
+use tell_uses::uses::Note;
+
+/// A stack location: the device that is asked there, and its number; the first is the top driver's.
+#[derive(Clone, Copy)]
+pub(crate) struct Place {
+    device: u8,
+    number: u8,
+}
+
+/// The device of the routine that acts, before it does.
+fn acting_device(moment: &Moment) -> Option<u8> {
+    let Some(acting) = moment.acting else {
+        return None;
+    };
+    match acting.frame {
+        FrameView::Routine { device, .. } => Some(device),
+        _ => None,
+    }
+}
+
+/// The location that a routine's `call` made current: the one that is current after it.
+fn called_place(n: u64, moment: &Moment, machine: &Checked) -> Option<Place> {
+    let device = acting_device(moment)?;
+    let device = machine.set().lower(device)?;
+    match machine.packet(n) {
+        PacketView::Live(packet) => Some(Place {
+            device,
+            number: packet.depth,
+        }),
+        _ => None,
+    }
+}
+
+/// The location of which an event opened a use, if it is known.
+pub(crate) fn opened_place(happened: &Happened, machine: &Checked) -> Option<Place> {
+    match (happened.step, happened.event) {
+        (UseStep::Issue(_), Event::Issue { device, .. }) => Some(Place { device, number: 1 }),
+        (UseStep::Call(n), _) => called_place(n, &happened.moment, machine),
+        _ => None,
+    }
+}
+
+/// Adds a location.
+pub(crate) fn add_place(
+    words: &mut String,
+    book: &Book<'_>,
+    place: Place,
+) -> Result<(), AllocError> {
+    write!(words, ", location {} of ", place.number)?;
+    book.add_device(words, place.device)
+}
+
+/// Adds what a use's note says that disagrees.
+pub(crate) fn add_note(words: &mut String, note: &Note) -> Result<(), AllocError> {
+    if note.returned_pending && note.left_unmarked {
+        words.push_str(": STATUS_PENDING was returned, and completion left it unmarked")?;
+    }
+    match note.returned_other {
+        Some(status) if note.left_marked => {
+            let name = status_name(status);
+            write!(
+                words,
+                ": {name} was returned, and completion left it marked"
+            )
+        }
+        _ => Ok(()),
+    }
+}

@@ -1,0 +1,209 @@
+//! The words of an event.
+
+ghost use Rattle.std.specs.Prelude.{◌≡◌};
+ghost use Rattle.tell_uses.specs.Acting.{acting_in};
+
+use crate::book::Book;
+use crate::columns::add_columns;
+use checked::Checked;
+use model::event::{Event, Reply};
+use model::instr::Instr;
+use model::view::{FrameView, PacketView};
+use model::world::CancelStep;
+use std::alloc::AllocError;
+use tell_audit::refusal::{Reason, why_refused};
+use tell_uses::acting::{Acting, acting_in};
+use tell_uses::acts::UseStep;
+
+/// Where the columns, the place and the words begin, if what stands before them is no longer.
+const COLUMNS: usize = 26;
+
+const PLACE: usize = 44;
+
+/// As many blanks as ever stand in a row.
+const BLANKS: &str = "                                            ";
+
+/// What is told of an event, as it is before the event.
+#[derive(Clone, Copy)]
+pub struct Moment {
+    /// The frame that acts, if one does.
+    pub acting: Option<Acting>,
+    /// The packet that it is about, where words on it say how it was.
+    pub packet: Option<PacketView>,
+    /// Whether its step finds what it looks for, where it looks for something.
+    pub found: Option<bool>,
+    /// Why the event can't happen, if it can't.
+    pub reason: Option<Reason>,
+}
+
+impl Moment {
+    /// One before which nothing was looked at.
+    pub fn nothing() -> Moment {
+        Moment {
+            acting: None,
+            packet: None,
+            found: None,
+            reason: None,
+        }
+    }
+
+    /// The one before an event.
+    pub fn before(machine: &Checked, event: &Event) -> Moment
+        ensures { result.acting ≡ acting_in machine.now.set machine.now.world event.now }
+    {
+        let mut moment = Moment::nothing();
+        moment.look(machine, event);
+        moment.look_at_packet(machine);
+        moment
+    }
+
+    /// Becomes the one before an event, but for the packet and what its step looks for.
+    pub fn look(&mut self, machine: &Checked, event: &Event)
+        ensures { self.new.acting ≡ acting_in machine.now.set machine.now.world event.now }
+    {
+        self.acting = acting_in(machine, event);
+        self.packet = None;
+        self.found = None;
+        // Where a frame acts there is its thread, and a step needs nothing else.
+        self.reason = match self.acting {
+            Some(_) => None,
+            None => why_refused(machine, event),
+        };
+    }
+
+    /// Looks at these too, which words tell of on steps that leave a frame where it stands.
+    pub fn look_at_packet(&mut self, machine: &Checked)
+        ensures { self.new.acting ≡ self.old.acting }
+    {
+        let Some(acting) = &self.acting else {
+            return;
+        };
+        self.packet = packet_before(machine, acting);
+        self.found = found_before(machine, acting);
+    }
+}
+
+/// An event that has happened: what it was before, what it did to uses of stack locations, and the
+/// reply to it.
+#[derive(Clone, Copy)]
+pub struct Happened {
+    pub event: Event,
+    pub moment: Moment,
+    pub step: UseStep,
+    pub reply: Reply,
+}
+
+/// The packet that a step is about, if words on it say how the packet was before it.
+fn packet_before(machine: &Checked, acting: &Acting) -> Option<PacketView> {
+    let is_told = match acting.frame {
+        FrameView::Routine { .. } => matches!(
+            acting.instruction,
+            Some(
+                Instr::Mark(_)
+                    | Instr::Arm(_, _)
+                    | Instr::Disarm(_, _)
+                    | Instr::IfCancel(_, _)
+                    | Instr::Start(_)
+                    | Instr::Next
+            )
+        ),
+        FrameView::Walk(_) | FrameView::Cancel(_) => true,
+    };
+    match acting.packet {
+        Some(n) if is_told => Some(machine.packet(n)),
+        _ => None,
+    }
+}
+
+/// Whether a step finds what it looks for: the packet in the list that it is taken off or in the
+/// slot that it is put into, or a busy device where a packet is started.
+fn found_before(machine: &Checked, acting: &Acting) -> Option<bool> {
+    let FrameView::Routine { device, .. } = acting.frame else {
+        return None;
+    };
+    let instruction = acting.instruction;
+    let Some(instr) = instruction else {
+        return None;
+    };
+    let shared = machine.shared();
+    match instr {
+        Instr::Remove(_, _, _) => Some(acting.packet.is_some()),
+        Instr::Unlink(_, queue) => {
+            let n = acting.packet?;
+            Some(shared.queue(device, queue)?.has(n))
+        }
+        Instr::Dequeue(_) => {
+            let n = acting.packet?;
+            Some(shared.start_of(device)?.waiting().has(n))
+        }
+        Instr::Begin(_) => Some(shared.start_of(device)?.current() == acting.packet),
+        Instr::Start(_) | Instr::Next => Some(shared.start_of(device)?.is_busy()),
+        _ => None,
+    }
+}
+
+/// How many blanks stand behind a head of so many bytes, its number and the reply.
+pub(crate) fn blanks_behind(head: usize) -> usize {
+    blanks(head, COLUMNS).len()
+}
+
+/// Adds the columns of an event behind so many blanks.
+pub(crate) fn add_front(
+    front: &mut Vec<u8>,
+    blanks: usize,
+    event: &Event,
+    machine: &Checked,
+) -> Result<(), AllocError> {
+    front.extend_from_slice(BLANKS.get(..blanks).unwrap_or(BLANKS).as_bytes())?;
+    add_columns(front, machine, event)?;
+    front.extend_from_slice(b"  ")?;
+    Ok(())
+}
+
+/// Adds the place of an event, and behind it what the event changed, if these words say anything.
+pub(crate) fn add_rest(
+    words: &mut String,
+    book: &Book<'_>,
+    happened: &Happened,
+    change: &str,
+) -> Result<(), AllocError> {
+    match happened.moment.acting {
+        Some(acting) => add_place(words, book, acting.frame)?,
+        None => words.push_str("-")?,
+    }
+    if change.is_empty() {
+        return Ok(());
+    }
+    let place = words.len();
+    words.push_str(blanks(place, PLACE))?;
+    words.push_str(change)
+}
+
+/// The blanks behind so many bytes, up to a width, and one at least.
+fn blanks(has: usize, width: usize) -> &'static str {
+    let blanks = width.saturating_sub(has).max(1);
+    BLANKS.get(..blanks).unwrap_or(BLANKS)
+}
+
+/// Adds where a frame that acts stands: the routine and the line of its instruction, or what the
+/// I/O manager does.
+pub(crate) fn add_place(
+    words: &mut String,
+    book: &Book<'_>,
+    frame: FrameView,
+) -> Result<(), AllocError> {
+    match frame {
+        FrameView::Routine {
+            driver,
+            routine,
+            position,
+            device: _,
+        } => book.add_place(words, driver, routine, position),
+        FrameView::Walk(_) => words.push_str("IoCompleteRequest"),
+        FrameView::Cancel(canceller) => words.push_str(match canceller.next {
+            CancelStep::Acquire => "IoCancelIrp: acquires",
+            CancelStep::SetFlag => "IoCancelIrp: sets the flag",
+            CancelStep::Exchange => "IoCancelIrp: takes the routine",
+        }),
+    }
+}

@@ -1,0 +1,235 @@
+//! What tells a run.
+
+ghost use Rattle.std.specs.Prelude.{◌≡◌, [], IfOk, OnOk};
+ghost use Rattle.tell_words.specs.Noted.{noted};
+
+use crate::audited::{Audited, add_audit};
+use crate::book::{Book, Place};
+use crate::change::add_change;
+use crate::front::Fronts;
+use crate::line::{Happened, add_place, add_rest};
+use crate::standing::{KeptWords, Standing};
+use checked::Checked;
+use model::event::Event;
+use model::view::FrameView;
+use std::alloc::{AllocError, Global};
+use std::marker::Model;
+use tell_audit::findings::Findings;
+use tell_holders::Rights;
+use tell_uses::ledger::Ledger;
+
+/// Whose columns stand ready: those of a thread's step, behind so many bytes.
+#[derive(Clone, Copy)]
+struct Ahead {
+    head: usize,
+    thread: u8,
+}
+
+/// What tells a run: how the text calls things, what is noted for the audit, and the words that were
+/// made last, in two parts. Contracts see the numbers of the events that were refused, in order.
+#[derive(Drop)]
+pub struct Teller<'a> {
+    book: Book<'a>,
+    audited: Audited,
+    /// How many bytes stand before the words.
+    head: usize,
+    /// The first part: the columns.
+    fronts: Fronts,
+    /// Whose columns stand ready, if they are those of a step that a routine made by itself, and no
+    /// other event came since.
+    ahead: Option<Ahead>,
+    /// The second part, unless it is on the line of an instruction alone.
+    words: String,
+    /// That line.
+    line: Option<Place>,
+    /// What the last event changed.
+    change: String,
+    /// Words that may come again, and what those of the last event hang on, if they are kept.
+    kept: KeptWords,
+    standing: Option<Standing>,
+}
+
+impl<'a> Model for Teller<'a> {
+    ghost use Rattle.std.specs.Prelude.{List, ℕ};
+
+    ghost Value = { List ℕ };
+
+    ghost view = { λ t. t.audited };
+}
+
+impl<'a> Teller<'a> {
+    /// That of a run before the first event, with the names and the lines of the text of its set.
+    ///
+    /// # Errors
+    ///
+    /// When memory runs out.
+    pub fn of(alloc: Global, text: &'a [u8]) -> Result<Teller<'a>, AllocError>
+        ensures { IfOk result (λ teller. teller ≡ []) }
+    {
+        Ok(Teller {
+            book: Book::of(alloc, text)?,
+            audited: Audited::new(alloc),
+            head: 0,
+            fronts: Fronts::new(alloc)?,
+            ahead: None,
+            words: String::new(alloc),
+            line: None,
+            change: String::new(alloc),
+            kept: KeptWords::new(alloc)?,
+            standing: None,
+        })
+    }
+
+    /// Notes the event of a number, by the machine after it.
+    ///
+    /// # Errors
+    ///
+    /// When memory runs out.
+    pub fn note(
+        &mut self,
+        number: u64,
+        happened: &Happened,
+        machine: &Checked,
+    ) -> Result<(), AllocError>
+        ensures { OnOk result (self.new ≡ noted self.old number happened.now.reply) }
+    {
+        self.ahead = None;
+        self.audited.note(number, happened, machine)
+    }
+
+    /// Whether the words that were made last stand behind so many bytes.
+    pub fn is_behind(&self, head: usize) -> bool {
+        self.head == head
+    }
+
+    /// Makes the words that stand behind an event's number and its reply, which are so many bytes, by
+    /// the machine after it.
+    ///
+    /// # Errors
+    ///
+    /// When memory runs out.
+    pub fn tell(
+        &mut self,
+        head: usize,
+        happened: &Happened,
+        machine: &Checked,
+    ) -> Result<(), AllocError>
+        ensures { OnOk result (self.new ≡ self.old) }
+    {
+        self.head = head;
+        self.ahead = None;
+        self.fronts.make(head, &happened.event, machine)?;
+        self.line = None;
+        self.standing = Standing::of(happened, machine);
+        let Some(standing) = self.standing else {
+            return self.make_words(happened, machine);
+        };
+        if self.kept.get(standing).is_some() {
+            return Ok(());
+        }
+        self.make_words(happened, machine)?;
+        self.kept.keep(standing, self.words.as_str())
+    }
+
+    /// Makes the second part of the words of an event, by the machine after it.
+    fn make_words(&mut self, happened: &Happened, machine: &Checked) -> Result<(), AllocError>
+        ensures { OnOk result (self.new ≡ self.old) }
+    {
+        self.change.clear();
+        add_change(
+            &mut self.change,
+            &self.book,
+            &happened.event,
+            &happened.moment,
+            &happened.reply,
+            machine,
+        )?;
+        self.words.clear();
+        let change = self.change.as_str();
+        add_rest(&mut self.words, &self.book, happened, change)
+    }
+
+    /// Makes the words of a step that a thread's routine made by itself, behind a head of so many
+    /// bytes: what it was before, its place, and the machine after it. The columns stay those of the
+    /// step before it, where that was one of the same thread, and no other event came between.
+    ///
+    /// # Errors
+    ///
+    /// When memory runs out.
+    pub fn tell_alone(
+        &mut self,
+        head: usize,
+        thread: u8,
+        place: FrameView,
+        machine: &Checked,
+    ) -> Result<(), AllocError>
+        ensures { OnOk result (self.new ≡ self.old) }
+    {
+        if !self.is_ahead(head, thread) {
+            self.head = head;
+            self.ahead = None;
+            self.fronts.make(head, &Event::Step { thread }, machine)?;
+            self.ahead = Some(Ahead { head, thread });
+        }
+        self.standing = None;
+        self.line = self.book.line_at(place);
+        if self.line.is_none() {
+            self.words.clear();
+            add_place(&mut self.words, &self.book, place)?;
+        }
+        Ok(())
+    }
+
+    /// Whether the columns that were made last are those of a thread behind so many bytes.
+    fn is_ahead(&self, head: usize, thread: u8) -> bool {
+        match self.ahead {
+            Some(ahead) => ahead.head == head && ahead.thread == thread,
+            None => false,
+        }
+    }
+
+    /// Makes the words of the audit, by what was found in the machine and the ledger after the run,
+    /// and by the rights to packets, where the set is accepted.
+    ///
+    /// # Errors
+    ///
+    /// When memory runs out.
+    pub fn tell_audit(
+        &mut self,
+        alloc: Global,
+        machine: &Checked,
+        found: &Findings,
+        ledger: &Ledger,
+        rights: Option<&Rights>,
+    ) -> Result<(), AllocError> {
+        self.line = None;
+        self.standing = None;
+        self.words.clear();
+        add_audit(
+            alloc,
+            &mut self.words,
+            &self.book,
+            machine,
+            &self.audited,
+            found,
+            ledger,
+            rights,
+        )
+    }
+
+    /// The first part of the words that were made last: the columns.
+    pub fn front(&self) -> &[u8] {
+        self.fronts.last()
+    }
+
+    /// The second part: the place, and what changed; or the words of the audit.
+    pub fn words(&self) -> &[u8] {
+        if let Some(place) = self.line {
+            return self.book.words_of(place).as_bytes();
+        }
+        match self.standing.and_then(|standing| self.kept.get(standing)) {
+            Some(words) => words.as_bytes(),
+            None => self.words.as_bytes(),
+        }
+    }
+}

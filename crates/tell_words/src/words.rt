@@ -1,0 +1,136 @@
+//! Words for values.
+
+use crate::book::Book;
+use crate::line::Moment;
+use itoa::Buffer;
+use model::event::{BugCheck, Lock, OfDevice, Subject};
+use model::instr::Instr;
+use model::status::{Major, Status};
+use std::alloc::AllocError;
+use tell_audit::refusal::Reason;
+use tell_uses::acting::Acting;
+
+/// The name of a status value.
+pub(crate) fn status_name(status: Status) -> &'static str {
+    match status {
+        Status::Success => "STATUS_SUCCESS",
+        Status::Pending => "STATUS_PENDING",
+        Status::Busy => "STATUS_DEVICE_BUSY",
+        Status::Unsuccessful => "STATUS_UNSUCCESSFUL",
+        Status::InvalidParameter => "STATUS_INVALID_PARAMETER",
+        Status::InvalidDeviceRequest => "STATUS_INVALID_DEVICE_REQUEST",
+        Status::Cancelled => "STATUS_CANCELLED",
+    }
+}
+
+/// The word of a major function.
+pub(crate) fn major_name(major: Major) -> &'static str {
+    match major {
+        Major::Read => "READ",
+        Major::Write => "WRITE",
+        Major::Control => "CONTROL",
+    }
+}
+
+/// The name of a bug check.
+pub(crate) fn check_name(check: BugCheck) -> &'static str {
+    match check {
+        BugCheck::IrqlNotLessOrEqual => "IRQL_NOT_LESS_OR_EQUAL",
+        BugCheck::SpinLockAlreadyOwned => "SPIN_LOCK_ALREADY_OWNED",
+        BugCheck::SpinLockNotOwned => "SPIN_LOCK_NOT_OWNED",
+        BugCheck::NoMoreIrpStackLocations => "NO_MORE_IRP_STACK_LOCATIONS",
+        BugCheck::MultipleIrpCompleteRequests => "MULTIPLE_IRP_COMPLETE_REQUESTS",
+        BugCheck::CancelStateInCompletedIrp => "CANCEL_STATE_IN_COMPLETED_IRP",
+    }
+}
+
+/// Why a bug check is raised, by what it is about.
+pub(crate) fn cause_of(check: BugCheck, subject: Subject) -> &'static str {
+    match (check, subject) {
+        (BugCheck::IrqlNotLessOrEqual, Subject::Cell(_)) => {
+            "a paged cell is touched at DISPATCH_LEVEL"
+        }
+        (BugCheck::IrqlNotLessOrEqual, _) => "a packet is touched that has topped out",
+        (BugCheck::SpinLockAlreadyOwned, _) => "the thread owns the lock already",
+        (BugCheck::SpinLockNotOwned, _) => "the thread doesn't own the lock that it releases",
+        (BugCheck::NoMoreIrpStackLocations, _) => "no stack location is left for the device below",
+        (BugCheck::MultipleIrpCompleteRequests, _) => "the packet is completed already",
+        (BugCheck::CancelStateInCompletedIrp, _) => "its cancel routine is still set",
+    }
+}
+
+/// Why an event of a run that goes on was refused, by the moment before it: where nothing else
+/// stands against it, what is full.
+pub(crate) fn refusal_words(moment: &Moment) -> &'static str {
+    if let Some(reason) = moment.reason {
+        return reason_words(reason);
+    }
+    match moment.acting {
+        Some(
+            Acting {
+                instruction: Some(Instr::Insert(_, _) | Instr::Start(_) | Instr::Next),
+                ..
+            },
+        ) => "the list is full",
+        _ => "the thread's stack is full",
+    }
+}
+
+/// What would have to be otherwise.
+fn reason_words(reason: Reason) -> &'static str {
+    match reason {
+        Reason::NoThread => "there is no such thread",
+        Reason::NotIdle => "the thread isn't idle",
+        Reason::NoDevice => "there is no such device",
+        Reason::NoRoom => "there is no room for another packet",
+        Reason::NoLevel => "there is no such level",
+        Reason::NotIssued => "no such packet was issued",
+        Reason::NoDpc => "the device has no DPC routine",
+        Reason::NoStartIo => "the device has no StartIo routine",
+    }
+}
+
+/// The numbers of one digit.
+const DIGITS: [&str; 10] = ["0", "1", "2", "3", "4", "5", "6", "7", "8", "9"];
+
+/// Adds a number.
+pub(crate) fn add_number(words: &mut String, number: u64) -> Result<(), AllocError> {
+    if let Some(digit) = DIGITS.get(number as usize) {
+        return words.push_str(digit);
+    }
+    let mut buffer = Buffer::new();
+    words.push_str(buffer.format(number))
+}
+
+/// Adds a packet by its number, and these words behind it.
+pub(crate) fn add_packet(words: &mut String, packet: u64, behind: &str) -> Result<(), AllocError> {
+    words.push_str("packet ")?;
+    add_number(words, packet)?;
+    words.push_str(behind)
+}
+
+/// Adds with what a packet topped out, behind these words.
+pub(crate) fn add_top_out(
+    words: &mut String,
+    packet: u64,
+    before: &str,
+    status: Status,
+    info: u64,
+) -> Result<(), AllocError> {
+    add_packet(words, packet, before)?;
+    words.push_str(status_name(status))?;
+    words.push_str(", information ")?;
+    add_number(words, info)
+}
+
+/// Adds a lock.
+pub(crate) fn add_lock(words: &mut String, book: &Book<'_>, lock: Lock) -> Result<(), AllocError> {
+    match lock {
+        Lock::SystemCancel => words.push_str("the system cancel spin lock"),
+        Lock::Spin(OfDevice { device, number }) => {
+            book.add_device(words, device)?;
+            words.push_str(".l")?;
+            add_number(words, u64::from(number))
+        }
+    }
+}

@@ -1,0 +1,175 @@
+//! What the words of a command line name.
+
+use drvhost_devices::device::Writer;
+use drvhost_devices::verification::Verification;
+use drvhost_runs::tell::Detail;
+use drvhost_sets::explaining::Extent;
+use drvhost_words::job::{AloneJob, Job, JobFault, refuse_words};
+use model::abs::Rule;
+use std::alloc::Global;
+use std::test::Fail;
+
+#[test]
+fn tasks(rt: HostRuntime) -> Result<(), Fail> {
+    let alloc = rt.alloc();
+    let job = Job::of(alloc, &["check", "a.set"])?;
+    assert!(rt; matches!(job, Job::Alone(AloneJob::Check { set: "a.set" })));
+    let job = Job::of(alloc, &["list", "a.set"])?;
+    assert!(rt; matches!(job, Job::Alone(AloneJob::List { set: "a.set" })));
+    let job = Job::of(alloc, &["version"])?;
+    assert!(rt; matches!(job, Job::Alone(AloneJob::Version)));
+    let job = Job::of(alloc, &["trace", "a.set", "b.schedule"])?;
+    assert!(rt;
+        matches!(
+            job,
+            Job::Alone(AloneJob::Trace {
+                set: "a.set",
+                schedule: "b.schedule",
+                verification: Verification::Required
+            })
+        )
+    );
+    let job = Job::of(alloc, &["explain", "a.set"])?;
+    assert!(rt; is_to_explain(&job, "a.set", Extent::First));
+    for words in [["explain", "a.set", "--all"], ["explain", "--all", "a.set"]] {
+        let job = Job::of(alloc, &words)?;
+        assert!(rt; is_to_explain(&job, "a.set", Extent::Each));
+    }
+    for words in [
+        ["trace", "a", "b", "--unchecked"],
+        ["trace", "--unchecked", "a", "b"],
+    ] {
+        let job = Job::of(alloc, &words)?;
+        assert!(rt;
+            matches!(
+                job,
+                Job::Alone(AloneJob::Trace {
+                    set: "a",
+                    schedule: "b",
+                    verification: Verification::Skipped
+                })
+            )
+        );
+    }
+    let job = Job::of(alloc, &["tell", "a", "b"])?;
+    assert!(rt; is_to_tell(&job, Verification::Required, Detail::Whole));
+    let job = Job::of(alloc, &["tell", "a", "--quiet", "b"])?;
+    assert!(rt; is_to_tell(&job, Verification::Required, Detail::Quiet));
+    let job = Job::of(alloc, &["tell", "--unchecked", "a", "b", "--quiet"])?;
+    assert!(rt; is_to_tell(&job, Verification::Skipped, Detail::Quiet));
+    let job = Job::of(alloc, &["draw", "--unchecked", "a", "b"])?;
+    assert!(rt; is_to_draw(&job, Verification::Skipped));
+    Ok(())
+}
+
+/// Whether a job is to tell a run of the set of a file by the schedule of another one so.
+fn is_to_tell(job: &Job<'_>, run: Verification, told: Detail) -> bool {
+    match *job {
+        Job::Alone(
+            AloneJob::Tell {
+                set,
+                schedule,
+                verification,
+                detail,
+            },
+        ) => set == "a" && schedule == "b" && verification == run && detail == told,
+        _ => false,
+    }
+}
+
+/// Whether a job is to draw a run of the set of a file by the schedule of another one so.
+fn is_to_draw(job: &Job<'_>, run: Verification) -> bool {
+    match *job {
+        Job::Alone(
+            AloneJob::Draw {
+                set,
+                schedule,
+                verification,
+            },
+        ) => set == "a" && schedule == "b" && verification == run,
+        _ => false,
+    }
+}
+
+/// Whether a job is to explain the set of a file so.
+fn is_to_explain(job: &Job<'_>, file: &str, all: Extent) -> bool {
+    match *job {
+        Job::Alone(AloneJob::Explain { set, extent }) => set == file && extent == all,
+        _ => false,
+    }
+}
+
+/// The words of rules, and words that are no rule's.
+#[test]
+fn rules_by_their_words(rt: HostRuntime) -> Result<(), Fail> {
+    let alloc = rt.alloc();
+    let job = Job::of(alloc, &["explain", "--rule", "V1"])?;
+    let is_first = matches!(
+        job,
+        Job::Alone(AloneJob::ExplainRule {
+            rule: Rule::Malformed
+        })
+    );
+    assert!(rt; is_first);
+    let job = Job::of(alloc, &["explain", "--rule=V20"])?;
+    assert!(rt;
+        matches!(
+            job,
+            Job::Alone(AloneJob::ExplainRule { rule: Rule::Memory })
+        )
+    );
+    for word in ["V0", "V21", "v1", "V01", "V1 ", "V", "1", "Malformed", ""] {
+        assert!(rt; is_refused(alloc, &["explain", "--rule", word]), "{word}");
+    }
+    Ok(())
+}
+
+/// Whether a fault is answered with a text for the user.
+fn is_for_the_user(alloc: Global, fault: &JobFault) -> bool {
+    let mut err = Writer::new(Vec::<u8>::new(alloc));
+    refuse_words(fault, &mut err) == 2 && !err.into_inner().is_empty()
+}
+
+/// Whether the words are answered with a text for the user.
+fn is_refused(alloc: Global, words: &[&str]) -> bool {
+    match Job::of(alloc, words) {
+        Ok(_) => false,
+        Err(fault) => is_for_the_user(alloc, &fault),
+    }
+}
+
+#[test]
+fn wrong_words(rt: HostRuntime) {
+    let alloc = rt.alloc();
+    assert!(rt; is_refused(alloc, &[]));
+    for word in ["check", "explain", "trace", "run", "help", "--help", ""] {
+        assert!(rt; is_refused(alloc, &[word]), "{word}");
+    }
+    for words in [
+        ["explain", "--all"].as_slice(),
+        &["explain", "--rule"],
+        &["explain", "a", "b"],
+        &["explain", "a", "--unchecked"],
+        &["explain", "a", "--rule", "V1"],
+        &["explain", "--rule", "V1", "--all"],
+        &["explain", "--rule", "V1", "--rule", "V2"],
+        &["explain", "a", "--all", "--all"],
+        &["check", "a", "--all"],
+        &["list", "--rule", "V1"],
+    ] {
+        assert!(rt; is_refused(alloc, words), "{}", words[1]);
+    }
+    assert!(rt; is_refused(alloc, &["trace", "a"]));
+    assert!(rt; is_refused(alloc, &["check", "a", "b"]));
+    assert!(rt; is_refused(alloc, &["check", "a", "--unchecked"]));
+    assert!(rt; is_refused(alloc, &["trace", "a", "b", "c"]));
+    assert!(rt; is_refused(alloc, &["trace", "a", "b", "--checked"]));
+    assert!(rt; is_refused(alloc, &["trace", "a", "b", "--unchecked", "--unchecked"]));
+}
+
+#[test]
+fn want_of_memory(rt: HostRuntime) {
+    let mut err = Writer::new(Vec::<u8>::new(rt.alloc()));
+    assert_eq!(rt; refuse_words(&JobFault::Memory, &mut err), 3);
+    assert!(rt; err.into_inner().as_slice() == b"out of memory\n".as_slice());
+}

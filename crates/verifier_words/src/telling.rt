@@ -1,0 +1,393 @@
+//! Refusals explained, and the routines of an accepted set by name.
+
+ghost use Rattle.std.specs.Prelude.{◌≡◌, ◌++◌, ◌⊎◌, IfOk, IsSome, OnOk, Some, option_map, option_to_list, slice_get};
+ghost use Rattle.verifier_evidence.specs.Path.{member_of};
+ghost use Rattle.verifier_words.specs.Faults.{AddsFaults, AreFaults, IsFound, own_fault, refusals};
+ghost use Rattle.model.specs.Sound.{DriverFits};
+ghost use Rattle.model.specs.Typable.{IsFirstFault, IsFirstFaultOf, at_start};
+
+use crate::devices::{add_devices, add_queue_line};
+use crate::history::{add_blanking, add_lock_history, add_loops, add_token};
+use crate::listing::{listed_devices, listed_routine};
+use crate::path::add_path;
+use crate::place::{Scene, Source};
+use crate::state::{add_differences, add_state};
+use asm_places::{outline, routine_source};
+use driver_set::DriverSet;
+use model::abs::{Refusal, Rule};
+use model::set::{Driver, Routine};
+use std::alloc::{AllocError, Global};
+use verifier_evidence::{Evidence, Path, Subject, evidence_at, evidence_of};
+use verifier_reasons::{Case, Names, SetNames, lesson_of, lesson_of_code, not_entered, of_set};
+
+/// What a set was read from, which is quoted.
+#[derive(Clone, Copy)]
+pub enum Origin<'a> {
+    /// A text, which names what is in the set.
+    Text(&'a [u8]),
+    /// An image: the listing of the set is quoted.
+    Image,
+}
+
+/// A refusal of a set, told in words: where it stands in the text, the path that
+/// leads there with the state that arrives, and why the rule is broken.
+///
+/// # Errors
+///
+/// When memory runs out.
+pub fn explanation(
+    alloc: Global,
+    origin: Origin<'_>,
+    set: &DriverSet,
+    refusal: &Refusal,
+) -> Result<String, AllocError>
+    requires { (refusal.now ≡ at_start Rule.Memory) ⊎ IsFirstFault set.now refusal.now }
+{
+    let mut prose = String::new(alloc);
+    let Some(evidence) = evidence_of(alloc, set, refusal)? else {
+        of_set(refusal.rule).add(&mut prose, Names::Listed)?;
+        return Ok(prose);
+    };
+    if let Some(routine) = routine_of(set, refusal) {
+        let scene = scene_of(alloc, origin, set, refusal, routine)?;
+        add_evidence(alloc, &mut prose, &scene, set, routine, &evidence)?;
+    }
+    Ok(prose)
+}
+
+/// A refusal, and what is told of it.
+#[derive(Drop)]
+pub struct Told {
+    pub refusal: Refusal,
+    pub words: String,
+}
+
+/// The first fault of each routine of a set, told in words as [`explanation`]
+/// tells a refusal: the set's own first, if it has no device, and then in order.
+///
+/// # Errors
+///
+/// When memory runs out.
+pub fn explanations(
+    alloc: Global,
+    origin: Origin<'_>,
+    set: &DriverSet,
+) -> Result<Vec<Told>, AllocError>
+    ensures { IfOk result (λ all. AreFaults set.now (refusals all.items)) }
+{
+    let mut all = own_fault(alloc, set)?;
+    for (number, driver) in set.drivers().iter().enumerate() {
+        add_faults(alloc, &mut all, origin, set, number as u8, driver)?;
+    }
+    Ok(all)
+}
+
+/// The fault of a set without devices.
+fn own_fault(alloc: Global, set: &DriverSet) -> Result<Vec<Told>, AllocError>
+    ensures { IfOk result (λ all. refusals all.items ≡ own_fault set.now) }
+{
+    let mut all = Vec::new(alloc);
+    if set.devices().is_empty() {
+        let mut words = String::new(alloc);
+        of_set(Rule::Malformed).add(&mut words, Names::Listed)?;
+        all.push(Told {
+            refusal: at_start(Rule::Malformed),
+            words,
+        })?;
+    }
+    Ok(all)
+}
+
+/// The refusal of a set that isn't about one of its routines.
+fn at_start(rule: Rule) -> Refusal
+    ensures { result ≡ at_start rule }
+{
+    Refusal {
+        driver: 0,
+        routine: 0,
+        at: 0,
+        rule,
+    }
+}
+
+/// Adds the first fault of each routine of the driver of a number.
+fn add_faults(
+    alloc: Global,
+    all: &mut Vec<Told>,
+    origin: Origin<'_>,
+    set: &DriverSet,
+    number: u8,
+    driver: &Driver,
+) -> Result<(), AllocError>
+    requires driver { slice_get set.now.drivers number ≡ Some driver.now }
+    requires fits { DriverFits driver.now }
+    ensures { OnOk result (AddsFaults set.now number (Some driver.now) all.old.items all.new.items) }
+{
+    let routines = driver.routines.as_slice();
+    for (place, routine) in routines.iter().enumerate() {
+        let found = fault_told(alloc, origin, set, number, place as u8, routine)?;
+        add_told(all, found)?;
+    }
+    Ok(())
+}
+
+/// Adds what is told of a fault, if there is one.
+fn add_told(all: &mut Vec<Told>, found: Option<Told>) -> Result<(), AllocError>
+    ensures { OnOk result (refusals all.new.items ≡ refusals all.old.items
+        ++ option_to_list (option_map (λ told. told.refusal) found)) }
+{
+    if let Some(told) = found {
+        all.push(told)?;
+    }
+    Ok(())
+}
+
+/// The first fault of the routine of a number, of the driver of a number, if it has one.
+fn fault_told(
+    alloc: Global,
+    origin: Origin<'_>,
+    set: &DriverSet,
+    number: u8,
+    place: u8,
+    routine: &Routine,
+) -> Result<Option<Told>, AllocError>
+    requires { IsSome (member_of set.now number place) }
+    ensures { IfOk result (λ found. IsFound (member_of set.now number place) number place
+        (option_map (λ told. told.refusal) found)) }
+{
+    let Some(subject) = Subject::of(set, number, place) else {
+        unreachable!()
+    };
+    let Some(fault) = subject.first_fault(alloc)? else {
+        return Ok(None);
+    };
+    let refusal = Refusal {
+        driver: number,
+        routine: place,
+        at: fault.at,
+        rule: fault.rule,
+    };
+    let words = fault_words(alloc, origin, set, subject, routine, &refusal)?;
+    Ok(Some(Told { refusal, words }))
+}
+
+/// The first fault of a routine in words.
+fn fault_words(
+    alloc: Global,
+    origin: Origin<'_>,
+    set: &DriverSet,
+    subject: Subject<'_>,
+    routine: &Routine,
+    refusal: &Refusal,
+) -> Result<String, AllocError>
+    requires { IsFirstFaultOf subject refusal.now.at refusal.now.rule }
+{
+    let mut prose = String::new(alloc);
+    let evidence = evidence_at(alloc, subject, refusal.at, refusal.rule)?;
+    let scene = scene_of(alloc, origin, set, refusal, routine)?;
+    add_evidence(alloc, &mut prose, &scene, set, routine, &evidence)?;
+    Ok(prose)
+}
+
+/// The routine of a refusal.
+fn routine_of<'s>(set: &'s DriverSet, refusal: &Refusal) -> Option<&'s Routine> {
+    let driver = set.drivers().get(refusal.driver as usize)?;
+    driver.routines.as_slice().get(refusal.routine as usize)
+}
+
+/// The routine of a refusal as its text has it.
+fn scene_of<'t>(
+    alloc: Global,
+    origin: Origin<'t>,
+    set: &DriverSet,
+    refusal: &Refusal,
+    routine: &Routine,
+) -> Result<Scene<'t>, AllocError> {
+    match origin {
+        Origin::Text(text) => {
+            let found = routine_source(alloc, text, refusal.driver, refusal.routine)?;
+            let names = SetNames::of(alloc, text, &found.outline)?;
+            Ok(Scene {
+                refusal: *refusal,
+                sort: routine.sort,
+                source: Source::Text(text),
+                names,
+                lines: found.lines,
+                others: Source::Text(text),
+                outline: found.outline,
+            })
+        }
+        Origin::Image => {
+            let listed = listed_routine(alloc, set, refusal.driver, refusal.routine)?;
+            let devices = listed_devices(alloc, set)?;
+            Ok(Scene {
+                refusal: *refusal,
+                sort: routine.sort,
+                source: Source::Listing(listed.text),
+                names: SetNames::Listed,
+                lines: listed.spots,
+                others: Source::Listing(devices.text),
+                outline: devices.spots,
+            })
+        }
+    }
+}
+
+/// Adds where a refusal stands, what leads there, and why the rule is broken.
+fn add_evidence(
+    alloc: Global,
+    prose: &mut String,
+    scene: &Scene<'_>,
+    set: &DriverSet,
+    routine: &Routine,
+    evidence: &Evidence,
+) -> Result<(), AllocError> {
+    scene.add_place(prose)?;
+    match evidence {
+        Evidence::Misplaced | Evidence::Unreached => add_why(prose, scene, routine),
+        Evidence::NotEntered => {
+            let driver = set.drivers().get(scene.refusal.driver as usize);
+            not_entered(driver, scene.refusal.routine).add(prose, scene.names())
+        }
+        Evidence::Broken(path) => {
+            add_arrival(prose, scene, "a path there:\n", path)?;
+            add_breach(prose, scene, set, routine, path)
+        }
+        Evidence::TooLong(path, count) => {
+            add_arrival(prose, scene, "a path there:\n", path)?;
+            write!(
+                prose,
+                "up to there: {count} instructions, by these loops:\n"
+            )?;
+            add_loops(alloc, prose, scene, routine.code.as_slice(), path.last.at)?;
+            add_why(prose, scene, routine)
+        }
+        Evidence::Differing(one, other) => {
+            add_arrival(prose, scene, "one path there:\n", one)?;
+            add_arrival(prose, scene, "another path there:\n", other)?;
+            add_difference(prose, scene, routine, one, other)
+        }
+        Evidence::Unlike(start, end) => {
+            add_arrival(prose, scene, "the path to the loop:\n", start)?;
+            add_arrival(prose, scene, "the path to its end:\n", end)?;
+            add_difference(prose, scene, routine, start, end)
+        }
+    }
+}
+
+/// Adds what differs where two paths arrive, and why that breaks a rule.
+fn add_difference(
+    prose: &mut String,
+    scene: &Scene<'_>,
+    routine: &Routine,
+    one: &Path,
+    other: &Path,
+) -> Result<(), AllocError> {
+    add_differences(prose, scene.names(), &one.last.state, &other.last.state)?;
+    add_why(prose, scene, routine)
+}
+
+/// Adds what the instruction at the end of a path breaks there, and what led to it.
+fn add_breach(
+    prose: &mut String,
+    scene: &Scene<'_>,
+    set: &DriverSet,
+    routine: &Routine,
+    path: &Path,
+) -> Result<(), AllocError> {
+    let code = routine.code.as_slice();
+    let Some(instr) = code.get(path.last.at as usize) else {
+        return Ok(());
+    };
+    let case = Case {
+        rule: scene.refusal.rule,
+        driver: scene.refusal.driver,
+        set,
+        sort: routine.sort,
+        code,
+        path,
+        instr,
+    };
+    add_details(prose, scene, &case)?;
+    lesson_of(&case).add(prose, scene.names())
+}
+
+/// Adds what led to it that a rule is broken: where a register went blank, a lock was acquired or
+/// a token spent, and which queue or devices the rule is about.
+fn add_details(prose: &mut String, scene: &Scene<'_>, case: &Case<'_>) -> Result<(), AllocError> {
+    match case.rule {
+        Rule::WrongKind | Rule::DoubleCompletion => add_blanking(prose, scene, case),
+        Rule::CancelSpinLock | Rule::SpinLock | Rule::LockHeld => {
+            add_lock_history(prose, scene, case)
+        }
+        Rule::Guard => {
+            add_queue_line(prose, scene, case)?;
+            add_lock_history(prose, scene, case)
+        }
+        Rule::Token => add_token(prose, scene, case),
+        Rule::StackTooSmall | Rule::NoLower => add_devices(prose, scene, case),
+        _ => Ok(()),
+    }
+}
+
+/// Adds a path and the state that arrives along it.
+fn add_arrival(
+    prose: &mut String,
+    scene: &Scene<'_>,
+    title: &str,
+    path: &Path,
+) -> Result<(), AllocError> {
+    prose.push_str(title)?;
+    add_path(prose, scene, path)?;
+    prose.push_str("what is known where it arrives:\n")?;
+    add_state(prose, scene.names(), &path.last.state)
+}
+
+/// Adds why a rule on the code of a routine is broken at the place.
+fn add_why(prose: &mut String, scene: &Scene<'_>, routine: &Routine) -> Result<(), AllocError> {
+    let instr = routine.code.as_slice().get(scene.refusal.at as usize);
+    lesson_of_code(scene.refusal.rule, instr).add(prose, scene.names())
+}
+
+/// The routines of a set, a line each: where they stand, their sort and their names.
+///
+/// # Errors
+///
+/// When memory runs out.
+pub fn roll(alloc: Global, origin: Origin<'_>, set: &DriverSet) -> Result<String, AllocError> {
+    let mut prose = String::new(alloc);
+    let names = names_of(alloc, origin)?;
+    let mut number: u8 = 0;
+    for driver in set.drivers() {
+        add_roll(&mut prose, names.in_driver(number), number, driver)?;
+        number = number.saturating_add(1);
+    }
+    Ok(prose)
+}
+
+/// What the things in a set are called.
+fn names_of<'t>(alloc: Global, origin: Origin<'t>) -> Result<SetNames<'t>, AllocError> {
+    match origin {
+        Origin::Text(text) => SetNames::of(alloc, text, &outline(alloc, text)?),
+        Origin::Image => Ok(SetNames::Listed),
+    }
+}
+
+/// Adds the lines of a driver's routines.
+fn add_roll(
+    prose: &mut String,
+    names: Names<'_, '_>,
+    number: u8,
+    driver: &Driver,
+) -> Result<(), AllocError> {
+    let mut place: u8 = 0;
+    for routine in driver.routines.as_slice() {
+        write!(prose, "driver {number} routine {place}: ")?;
+        names.add_driver(prose, number)?;
+        prose.push_str(", ")?;
+        names.add_routine(prose, place)?;
+        write!(prose, " ({})\n", routine.sort.as_str())?;
+        place = place.saturating_add(1);
+    }
+    Ok(())
+}
