@@ -4,7 +4,7 @@
 use Rattle.std.specs.Prelude.{◌≡◌, ⊤, Bool, true, false, not, List, [], ◌∷◌, None}
 use Rattle.std.specs.List.{list_any}
 use Rattle.model.specs.declared.instr.Instr.{Instr}
-use Rattle.model_forms.specs.InstructionForm.{Operand, ALabel, AQueue, ARoutine, by_form}
+use Rattle.model.specs.InstructionForm.{Operand, ALabel, AQueue, ARoutine, by_form}
 use Rattle.asm.specs.declared.draft.Linked.{Linked}
 use Rattle.asm.specs.declared.draft.Step.{Step}
 

@@ -1,7 +1,7 @@
 //! The sentences of what is told.
 
 use std::alloc::AllocError;
-use text_excerpt::add_bytes;
+use text::add_bytes;
 
 /// Adds the token that is at fault, and what is wrong with it.
 pub(crate) fn add_at_fault(prose: &mut String, token: &[u8], why: &str) -> Result<(), AllocError> {

@@ -3,7 +3,7 @@
 use crate::scope::{Opened, Scope};
 use crate::token::Parts;
 use std::alloc::{AllocError, Global};
-use text_excerpt::{Spot, add_bytes, add_excerpt, line_at};
+use text::{Spot, add_bytes, add_excerpt, line_at};
 
 /// A faulty line in its text.
 #[derive(Drop)]

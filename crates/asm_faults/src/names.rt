@@ -8,7 +8,7 @@ use text::class::{is, label_name};
 use text::cut::Lines;
 use text::piece::Piece;
 use text::token::Tokens;
-use text_excerpt::{PlacedLines, Spot};
+use text::{PlacedLines, Spot};
 
 /// What has a name.
 #[derive(Clone, Copy)]

@@ -3,7 +3,7 @@
 
 ghost use Rattle.std.specs.Prelude.{◌≡◌, ◌+◌, IfOk, length, max, min};
 ghost use Rattle.text.specs.Cut.{lines_of};
-ghost use Rattle.text_excerpt.specs.Places.{IsIn};
+ghost use Rattle.text.specs.Places.{IsIn};
 
 use crate::form::Place;
 use crate::names::Given;
@@ -11,7 +11,7 @@ use std::alloc::{AllocError, Global};
 use text::class::is;
 use text::piece::Piece;
 use text::token::Tokens;
-use text_excerpt::{PlacedLines, Spot};
+use text::{PlacedLines, Spot};
 
 /// A driver or a routine that is open at a line.
 #[derive(Drop)]

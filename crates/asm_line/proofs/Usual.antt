@@ -17,7 +17,7 @@ use Rattle.text.specs.declared.number.Numeral.TheVariants.{Other}
 use Rattle.text.specs.declared.class.TheConstants.{MAX_NAME}
 use Rattle.model.specs.declared.instr.Return.TheVariants.{WithStatus, Lower}
 use Rattle.asm_line.specs.Cursor.{Reading, beginning, called, capped, cell, cell_of, constant, constant_of, field, label, lock_of, major, name, name_of, name_or_end, next_of, number, numbered, one, optional_name, paged_cell, queue, ranged, register, register_of, returned, returned_by, so_far, sort, spin_lock, status, then_read, three, token, turns, turns_of, two, word}
-use Rattle.model_forms.specs.InstructionForm.{Operand, ARegister, ACell, APagedCell, ASpinLock, AConstant, ATurns, AField, AStatus, AQueue, ALabel, ARoutine, AReturn, Form, Makes, forms}
+use Rattle.model.specs.InstructionForm.{Operand, ARegister, ACell, APagedCell, ASpinLock, AConstant, ATurns, AField, AStatus, AQueue, ALabel, ARoutine, AReturn, Form, Makes, forms}
 use Rattle.asm_line.specs.Instruction.{in_forms, instruction, made, operand}
 use Rattle.asm_line.specs.Line.{body, body_of, device, ended, if_ended, if_in_range, labelled, line_of, line_with, queue as queue_line, step}
 use Rattle.asm_line.specs.Words.{field_of, sort_of, status_of}

@@ -1,7 +1,7 @@
 -- The instructions of a driver text, each by its word and what stands behind it, as its form says.
 use Rattle.std.specs.Prelude.{ℕ, List, [], ◌∷◌, bytes_eq, None, if◌then◌else◌}
 use Rattle.model.specs.declared.instr.Instr.{Instr}
-use Rattle.model_forms.specs.InstructionForm.{Operand, ARegister, ACell, APagedCell, ASpinLock, AConstant, ATurns, AField, AStatus, AQueue, ALabel, ARoutine, AReturn, Form, Makes, ValueOf, forms}
+use Rattle.model.specs.InstructionForm.{Operand, ARegister, ACell, APagedCell, ASpinLock, AConstant, ATurns, AField, AStatus, AQueue, ALabel, ARoutine, AReturn, Form, Makes, ValueOf, forms}
 use Rattle.asm_line.specs.Cursor.{Reading, so_far, then_read, called, cell, constant, field, label, paged_cell, queue, register, returned, spin_lock, status, turns}
 use Rattle.asm_line.specs.declared.cursor.Cursor.{Cursor}
 

@@ -3,7 +3,7 @@
 ghost use Rattle.std.specs.Prelude.{IfSome};
 ghost use Rattle.model.specs.Sound.{OperandFits};
 ghost use Rattle.asm_line.specs.Cursor.{Reads};
-ghost use Rattle.model_forms.specs.InstructionForm.{cell_forms, packet_forms, queue_forms};
+ghost use Rattle.model.specs.InstructionForm.{cell_forms, packet_forms, queue_forms};
 ghost use Rattle.asm_line.specs.Instruction.{in_forms, instruction};
 ghost use Rattle.asm_line.specs.Line.{QueueNoted};
 

@@ -2,10 +2,10 @@
 use Rattle.std.proofs.Common.{◌≡◌, ℕ, Bool, true, false, not, ◌&&◌, List, [], ◌∷◌, ◌++◌, Some, None, refl, ap, sym, ◌∙◌, append-nil}
 use Rattle.std.specs.Prelude.{option_map}
 use Rattle.std.proofs.lemmas.Bool.{and_parts, not-true}
-use Rattle.model_forms.proofs.InstructionForm.{AllFit, Fits, all_fit, by_form_said, rebuilt_said}
+use Rattle.model.proofs.InstructionForm.{AllFit, Fits, all_fit, by_form_said, rebuilt_said}
 use Rattle.model.specs.declared.instr.Instr.{Instr}
 use Rattle.model.specs.declared.instr.Instr.TheVariants.{Const}
-use Rattle.model_forms.specs.InstructionForm.{Operand, ARegister, ACell, APagedCell, ASpinLock, AConstant, ATurns, AField, AStatus, AQueue, ALabel, ARoutine, AReturn, Makes, ValueOf, Values, changed, made_of, said}
+use Rattle.model.specs.InstructionForm.{Operand, ARegister, ACell, APagedCell, ASpinLock, AConstant, ATurns, AField, AStatus, AQueue, ALabel, ARoutine, AReturn, Makes, ValueOf, Values, changed, made_of, said}
 use Rattle.asm_line.specs.Cursor as reads
 use Rattle.asm_line.specs.Cursor.{Reading, beginning, so_far, then_read}
 use Rattle.asm_line.specs.Instruction.{instruction}

@@ -1,7 +1,7 @@
 -- What the lines of a listing say, as lines of a driver text.
 use Rattle.std.specs.Prelude.{ℕ, ⊤, List, Option, Some, None, IfSome, option_map}
 use Rattle.model.specs.declared.instr.Instr.{Instr}
-use Rattle.model_forms.specs.InstructionForm.{Operand, AQueue, ALabel, ARoutine, ValueOf, rebuilt}
+use Rattle.model.specs.InstructionForm.{Operand, AQueue, ALabel, ARoutine, ValueOf, rebuilt}
 use Rattle.model.specs.Set.{label_of}
 use Rattle.model.specs.Sound.{completion_named, queue_named, IsSpinLock, OperandFits}
 use Rattle.asm_line.specs.declared.line.Body.{Body}

@@ -20,8 +20,8 @@ use Rattle.model.specs.declared.status.Major.{Major}
 use Rattle.model.specs.declared.status.Major.TheVariants.{Read, Write, Control}
 use Rattle.model.specs.declared.status.Status.{Status}
 use Rattle.model.specs.declared.status.Status.TheVariants.{Success, Pending, Busy, Unsuccessful, InvalidParameter, InvalidDeviceRequest, Cancelled}
-use Rattle.model_forms.proofs.InstructionForm.{AllFit, Fits, all_fit, by_form_said}
-use Rattle.model_forms.specs.InstructionForm.{Operand, ARegister, ACell, APagedCell, ASpinLock, AConstant, ATurns, AField, AStatus, AQueue, ALabel, ARoutine, AReturn, ValueOf, Values, said}
+use Rattle.model.proofs.InstructionForm.{AllFit, Fits, all_fit, by_form_said}
+use Rattle.model.specs.InstructionForm.{Operand, ARegister, ACell, APagedCell, ASpinLock, AConstant, ATurns, AField, AStatus, AQueue, ALabel, ARoutine, AReturn, ValueOf, Values, said}
 use Rattle.model.specs.Sound.{FormFits, IsCell, IsRegister, IsSpinLock}
 use Rattle.asm_listing.specs.Words.{cell, field_text, form_words, instruction_words, label, label_words, major_text, numbered, operand_words, operands_words, optional, paged_cell, queue, register, returned_words, routine, sort_text, spin_lock, status_text}
 use Rattle.asm_listing.proofs.Digits.{decimal_passes, label_back, named, number_token, IsSmall}

@@ -5,8 +5,8 @@ use Rattle.model.specs.declared.status.Major.{Major}
 use Rattle.asm_line.specs.declared.line.Body.{Body}
 use Rattle.asm_line.specs.declared.line.Body.TheVariants.{Blank, OpenDriver, CloseDriver, AddQueue, Handle, HandleStartIo, HandleDpc, OpenRoutine, CloseRoutine, AddDevice, Step}
 use Rattle.asm_line.specs.declared.line.UsedNames.{UsedNames}
-use Rattle.text_excerpt.specs.Places.{IsIn}
-use Rattle.text_excerpt.specs.declared.spot.Spot.{Spot}
+use Rattle.text.specs.Places.{IsIn}
+use Rattle.text.specs.declared.spot.Spot.{Spot}
 use Rattle.asm_places.specs.declared.source.Sought.{Sought}
 use Rattle.asm_places.specs.declared.source.Sought.TheVariants.{Driver as InDriver, Routine as InRoutine, End, Nothing}
 use Rattle.asm_places.specs.Outline.{outline_from, outlines}

@@ -3,13 +3,13 @@
 ghost use Rattle.std.specs.Prelude.{◌≡◌, All, IfOk, false};
 ghost use Rattle.asm_places.specs.Outline.{begins_outline, is_outline_word, may_begin, outline_lines, outlines};
 ghost use Rattle.asm_places.specs.Source.{body_on};
-ghost use Rattle.text_excerpt.specs.Places.{IsIn, numbers};
+ghost use Rattle.text.specs.Places.{IsIn, numbers};
 
 use asm_line::{Body, read_line};
 use std::alloc::{AllocError, Global};
 use text::class::is;
 use text::token::Tokens;
-use text_excerpt::{PlacedLines, Spots};
+use text::{PlacedLines, Spots};
 
 /// Where the lines stand that begin or end a driver or a routine, or add a queue or a device, in
 /// order.

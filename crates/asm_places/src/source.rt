@@ -4,13 +4,13 @@ ghost use Rattle.std.specs.Prelude.{◌≡◌, All, IfOk, false, true};
 ghost use Rattle.asm_places.specs.Outline.{outline_lines, outlines};
 ghost use Rattle.asm_places.specs.Source.{body_on, instruction_lines, past, seeks_end};
 ghost use Rattle.asm_places.specs.Standing.{AreLinesOf, Rises};
-ghost use Rattle.text_excerpt.specs.Places.{IsIn, numbers};
+ghost use Rattle.text.specs.Places.{IsIn, numbers};
 
 use crate::outlining::{body_on, may_outline, outlines};
 use asm::laws::set_is_of_its_lines;
 use asm_line::Body;
 use std::alloc::{AllocError, Global};
-use text_excerpt::{PlacedLines, Spots};
+use text::{PlacedLines, Spots};
 
 /// What is sought in the lines that are left.
 #[derive(Clone, Copy)]

@@ -4,7 +4,7 @@ use Rattle.std.specs.Prelude.{nat_eq, option_map, slice_get, if◌then◌else◌
 use Rattle.std.proofs.lemmas.List.{map-append}
 use Rattle.std.proofs.lemmas.List.Folds.{find-append}
 use Rattle.std.specs.Option.{option_or}
-use Rattle.hostcore_index.specs.Noted.{Noted, get}
+use Rattle.hostcore.specs.Noted.{Noted, get}
 use Rattle.model.specs.declared.event.Reply.{Reply}
 use Rattle.model.specs.declared.event.Reply.TheVariants.{Topped}
 use Rattle.model.specs.declared.history.Entry.{Entry}

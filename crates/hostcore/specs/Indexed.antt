@@ -1,7 +1,7 @@
 -- How a history is indexed.
 use Rattle.std.specs.Prelude.{ℕ, ◌≡◌, Bool, List, Option, None, Some, nat_eq, slice_get, if◌then◌else◌}
 use Rattle.std.specs.Option.{option_or}
-use Rattle.hostcore_index.specs.Noted.{Noted, get}
+use Rattle.hostcore.specs.Noted.{Noted, get}
 use Rattle.model.specs.declared.event.Reply.{Reply}
 use Rattle.model.specs.declared.event.Reply.TheVariants.{Started, Stepped, Finished, Topped, Waited, Idle, Refused, Bug, Wrong}
 use Rattle.model.specs.declared.history.Entry.{Entry}

@@ -2,3 +2,6 @@ pub mod Core
 pub mod Kept
 pub mod Indexed
 pub mod Stepping
+pub mod Noted
+pub mod Linked
+pub mod Numbers

@@ -3,10 +3,14 @@
 #![tactic(auto)]
 
 pub mod host_core;
+pub mod index;
 mod log;
+pub mod numbered;
 pub mod seat;
 pub mod ticket;
 
 pub use host_core::{Core, LogFull, Stepped};
+pub use index::Index;
+pub use numbered::Numbered;
 pub use seat::Seat;
 pub use ticket::{Desk, Queued, Taken, Ticket};

@@ -1,12 +1,12 @@
 //! The stored history of a core.
 
 ghost use Rattle.std.specs.Prelude.{◌≡◌, ◌≤◌, ◌<◌, ◌+◌, ◌++◌, ◌∷◌, [], false, length, nat_eq, option_map, IfOk};
-ghost use Rattle.hostcore_index.specs.Noted.{get, noted, room};
+ghost use Rattle.hostcore.specs.Noted.{get, noted, room};
 ghost use Rattle.model.specs.declared.limits.TheConstants.{MAX_HISTORY};
 ghost use Rattle.model.specs.History.{entry_named, is_name, outcome_named, packet_named, request_started};
 ghost use Rattle.hostcore.specs.Indexed.{IsPlaceOf, Notes, told_top};
 
-use hostcore_index::Index;
+use crate::Index;
 use model::event::{Event, Reply};
 use model::history::{Entry, Name, Outcome, TopOut};
 use model::limits::MAX_ISSUED;
@@ -26,7 +26,7 @@ pub struct Log {
 impl Model for Log {
     ghost use Rattle.std.specs.Prelude.{◌≡◌, ◌≤◌, length};
     ghost use Rattle.std.specs.Vec.{vec_capacity};
-    ghost use Rattle.hostcore_index.specs.Noted.{noted, room};
+    ghost use Rattle.hostcore.specs.Noted.{noted, room};
     ghost use Rattle.hostcore.specs.Core.{Log as LogOf};
     ghost use Rattle.hostcore.specs.Indexed.{IsIndexed};
 

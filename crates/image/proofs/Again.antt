@@ -13,13 +13,13 @@ use Rattle.image.specs.Spelling.{field_number, last_of, last_with, operand_bytes
 use Rattle.image.proofs.Editions.{Has}
 use Rattle.image.proofs.Numbers.{below_again, field_again, none_or_below_again, status_again, turns_again}
 use Rattle.image.proofs.Words.{StandAt, word_said}
-use Rattle.model_forms.proofs.InstructionForm.{AllFit, Fits, all_fit, built_again, forms_tell_editions}
+use Rattle.model.proofs.InstructionForm.{AllFit, Fits, all_fit, built_again, forms_tell_editions}
 use Rattle.model.specs.declared.instr.Instr.{Instr}
 use Rattle.model.specs.declared.instr.Instr.TheVariants.{Const, Ret}
 use Rattle.model.specs.declared.instr.Return.{Return}
 use Rattle.model.specs.declared.instr.Return.TheVariants.{WithStatus, Lower, Continue, Stop, Void}
 use Rattle.model.specs.declared.limits.TheConstants.{CELLS, MAX_INSTRUCTIONS, REGISTERS, SPIN_LOCKS}
-use Rattle.model_forms.specs.InstructionForm.{Editions, Both, SecondAlone, is_second_alone, Operand, ARegister, ACell, APagedCell, ASpinLock, AConstant, ATurns, AField, AStatus, AQueue, ALabel, ARoutine, AReturn, ValueOf, Values, made_of, said}
+use Rattle.model.specs.InstructionForm.{Editions, Both, SecondAlone, is_second_alone, Operand, ARegister, ACell, APagedCell, ASpinLock, AConstant, ATurns, AField, AStatus, AQueue, ALabel, ARoutine, AReturn, ValueOf, Values, made_of, said}
 use Rattle.model.specs.Edition.{is_dequeue}
 use Rattle.model.specs.Sound.{FormFits, OperandFits, LabelFits, QueueFits, completion_named}
 

@@ -12,14 +12,14 @@ use Rattle.image.specs.Reading.{byte_of, edition_had, form_in, in_forms, instruc
 use Rattle.image.specs.Spelling.{form_word, last_of, last_with, operand_bytes, operands_bytes, or_none, return_bytes, word, word_of}
 use Rattle.image.proofs.Numbers.{below_inverse, field_inverse, none_or_below_inverse, status_inverse, turns_inverse, bind_ok, ok_is, one_ok, row_is, zero_test}
 use Rattle.image.proofs.Editions.{Has}
-use Rattle.model_forms.proofs.InstructionForm.{forms_are_inverse, forms_tell_editions}
+use Rattle.model.proofs.InstructionForm.{forms_are_inverse, forms_tell_editions}
 use Rattle.model.specs.declared.instr.Instr.{Instr}
 use Rattle.model.specs.declared.instr.Instr.TheVariants.{Const}
 use Rattle.model.specs.declared.instr.Return.{Return}
 use Rattle.model.specs.declared.instr.Return.TheVariants.{WithStatus, Lower, Continue, Stop, Void}
 use Rattle.model.specs.declared.limits.TheConstants.{CELLS, REGISTERS, SPIN_LOCKS}
 use Rattle.model.specs.Edition.{is_dequeue}
-use Rattle.model_forms.specs.InstructionForm.{Editions, Both, SecondAlone, is_second_alone, Operand, ARegister, ACell, APagedCell, ASpinLock, AConstant, ATurns, AField, AStatus, AQueue, ALabel, ARoutine, AReturn, Form, Said, SaysAgain, ValueOf, Values, forms, made_of, said}
+use Rattle.model.specs.InstructionForm.{Editions, Both, SecondAlone, is_second_alone, Operand, ARegister, ACell, APagedCell, ASpinLock, AConstant, ATurns, AField, AStatus, AQueue, ALabel, ARoutine, AReturn, Form, Said, SaysAgain, ValueOf, Values, forms, made_of, said}
 
 word_is : (w : Word) (number first second third last : ℕ) → w.number ≡ number → first ≡ w.first
     → second ≡ w.second → third ≡ w.third → last ≡ w.last → word number first second third last ≡ w

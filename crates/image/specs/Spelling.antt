@@ -19,7 +19,7 @@ use Rattle.model.specs.declared.set.Sort.{Sort}
 use Rattle.model.specs.declared.set.Sort.TheVariants.{Dispatch, StartIo, Dpc, Cancel, Propagate, Hold}
 use Rattle.model.specs.declared.status.Status.{Status}
 use Rattle.model.specs.declared.status.Status.TheVariants.{Success, Pending, Busy, Unsuccessful, InvalidParameter, InvalidDeviceRequest, Cancelled}
-use Rattle.model_forms.specs.InstructionForm.{Operand, ARegister, ACell, APagedCell, ASpinLock, AConstant, ATurns, AField, AStatus, AQueue, ALabel, ARoutine, AReturn, Form, ValueOf, Values, by_form}
+use Rattle.model.specs.InstructionForm.{Operand, ARegister, ACell, APagedCell, ASpinLock, AConstant, ATurns, AField, AStatus, AQueue, ALabel, ARoutine, AReturn, Form, ValueOf, Values, by_form}
 use Rattle.model.specs.Edition.{edition_of}
 use Rattle.model.specs.Set.{Set}
 

@@ -10,8 +10,8 @@ ghost use Rattle.image.specs.Reading.{stack_in, status_in, turns_in, unused, use
 ghost use Rattle.image.specs.Reading.{waiting_in, word_at, Gives, IsFaultOf};
 ghost use Rattle.image.specs.Spelling.{Spells};
 ghost use Rattle.image.specs.declared.fault.ImageFault.TheVariants.{Memory};
-ghost use Rattle.model_forms.specs.InstructionForm.{AReturn, SecondAlone, cell_forms, packet_forms};
-ghost use Rattle.model_forms.specs.InstructionForm.{queue_forms};
+ghost use Rattle.model.specs.InstructionForm.{AReturn, SecondAlone, cell_forms, packet_forms};
+ghost use Rattle.model.specs.InstructionForm.{queue_forms};
 ghost use Rattle.model.specs.declared.instr.Instr.TheVariants.{Dequeue, Ret};
 ghost use Rattle.model.specs.Set.{Set};
 ghost use Rattle.model.specs.Sound.{IsSound};

@@ -23,3 +23,4 @@ pub mod Shown
 pub mod Machine
 pub mod View
 pub mod History
+pub mod InstructionForm

@@ -5,6 +5,7 @@
 pub mod abs;
 pub mod cell;
 pub mod event;
+pub mod forms;
 pub mod history;
 pub mod instr;
 pub mod items;

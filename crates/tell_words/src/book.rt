@@ -5,7 +5,7 @@ use asm_line::{Body, read_line};
 use model::view::FrameView;
 use std::alloc::{AllocError, Global};
 use text::piece::Piece;
-use text_excerpt::{PlacedLines, add_bytes};
+use text::{PlacedLines, add_bytes};
 
 /// Where an instruction stands.
 #[derive(Clone, Copy)]

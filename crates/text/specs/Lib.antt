@@ -3,3 +3,4 @@ pub mod Class
 pub mod Number
 pub mod Lexical
 pub mod Major
+pub mod Places

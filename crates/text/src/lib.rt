@@ -10,4 +10,13 @@ pub mod cut;
 pub mod major;
 pub mod number;
 pub mod piece;
+mod placed;
+mod quote;
+mod spot;
+mod spots;
 pub mod token;
+
+pub use placed::PlacedLines;
+pub use quote::{add_bytes, add_excerpt, add_line};
+pub use spot::{Spot, line_at};
+pub use spots::Spots;

@@ -4,7 +4,7 @@ use asm_line::{Body, read_line};
 use model::set::QueueName;
 use std::alloc::{AllocError, Global};
 use text::piece::Piece;
-use text_excerpt::{Spots, add_bytes, line_at};
+use text::{Spots, add_bytes, line_at};
 
 /// The name of a driver, and those of its routines and queues, in order.
 #[derive(Drop)]

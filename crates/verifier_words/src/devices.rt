@@ -7,7 +7,7 @@ use model::abs::Rule;
 use model::instr::Instr;
 use model::set::{Device, QueueName};
 use std::alloc::AllocError;
-use text_excerpt::{Spot, add_line, line_at};
+use text::{Spot, add_line, line_at};
 use verifier_reasons::{Case, list_of};
 
 /// Adds the line of the first device of the case's driver that breaks its rule on devices, and that

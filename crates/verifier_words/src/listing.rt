@@ -7,7 +7,7 @@ use model::instr::Instr;
 use model::set::{Driver, Routine};
 use model::status::Major;
 use std::alloc::{AllocError, Global};
-use text_excerpt::{PlacedLines, Spots};
+use text::{PlacedLines, Spots};
 
 /// More lines than stand in a listing.
 const MOST: u64 = 1 << 32;

@@ -3,7 +3,7 @@
 use model::abs::Refusal;
 use model::set::Sort;
 use std::alloc::AllocError;
-use text_excerpt::{Spot, Spots, add_excerpt, add_line};
+use text::{Spot, Spots, add_excerpt, add_line};
 use verifier_reasons::{Names, SetNames};
 
 /// A text that is quoted.

@@ -1,7 +1,7 @@
 use Rattle.std.proofs.Common.{rules, ◌≡◌, ◌∙◌, ◌+◌, ◌++◌, ◌∷◌, [], arith}
 use Rattle.std.proofs.lemmas.List.{append_assoc}
 use Rattle.std.proofs.lemmas.List.Elements.{All-push}
-use Rattle.text_excerpt.specs.Places.{IsIn, numbers}
+use Rattle.text.specs.Places.{IsIn, numbers}
 use Rattle.asm_places.specs.Outline.{outline_from}
 use Rattle.asm_places.proofs.Passing.{moved}
 use Rattle.asm_places.proofs.outlining.outline.Goals as goal

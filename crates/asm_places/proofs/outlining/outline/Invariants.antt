@@ -1,6 +1,6 @@
 use Rattle.std.proofs.Common.{◌≡◌, ◌+◌, ◌++◌, length}
 use Rattle.std.specs.Prelude.{All}
-use Rattle.text_excerpt.specs.Places.{IsIn, numbers}
+use Rattle.text.specs.Places.{IsIn, numbers}
 use Rattle.asm_places.specs.Outline.{outline_from, outline_lines}
 use Rattle.asm_places.proofs.outlining.outline.Given as goal
 

@@ -1,6 +1,6 @@
 use Rattle.std.proofs.Common.{◌≡◌, ℕ, List, subst, sym}
 use Rattle.std.specs.Prelude.{IfOk, Result, Ok, Err}
-use Rattle.text_excerpt.specs.Places.{numbers}
+use Rattle.text.specs.Places.{numbers}
 use Rattle.asm_places.specs.Standing.{AreLinesOf}
 use Rattle.asm_places.proofs.source.instruction_lines.Goals as goal
 

@@ -2,7 +2,7 @@ use Rattle.std.proofs.Common.{rules, ◌≡◌, ◌∙◌, ◌+◌, ◌++◌, �
 use Rattle.std.specs.Prelude.{All}
 use Rattle.std.proofs.lemmas.List.{append-nil, append_assoc}
 use Rattle.std.proofs.lemmas.List.Elements.{All-push}
-use Rattle.text_excerpt.specs.Places.{IsIn, numbers}
+use Rattle.text.specs.Places.{IsIn, numbers}
 use Rattle.asm_places.specs.Outline.{outline_from}
 use Rattle.asm_places.specs.Source.{instruction_lines, lines_from}
 use Rattle.asm_places.specs.Standing.{AreLinesOf, Rises}

@@ -1,7 +1,7 @@
 use Rattle.std.proofs.Common.{◌≡◌, ◌+◌, ◌++◌, length}
 use Rattle.std.specs.Prelude.{All}
 use Rattle.text.specs.Cut.{lines_of}
-use Rattle.text_excerpt.specs.Places.{IsIn, numbers}
+use Rattle.text.specs.Places.{IsIn, numbers}
 use Rattle.asm_places.specs.Outline.{outline_from, outline_lines}
 use Rattle.asm_places.specs.Source.{lines_from}
 use Rattle.asm_places.specs.declared.source.Sought.TheVariants.{Driver}

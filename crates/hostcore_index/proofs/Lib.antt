@@ -1,3 +1,0 @@
-pub mod Links
-pub mod Walk
-pub mod Noting

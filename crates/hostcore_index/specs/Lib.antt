@@ -1,3 +1,0 @@
-pub mod Noted
-pub mod Linked
-pub mod Numbers
