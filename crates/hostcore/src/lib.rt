@@ -1,5 +1,6 @@
 //! The core that threads share under one lock: the world of an accepted set beside the history of
-//! what was done to it, the seats from which threads step it, and the tickets of commands.
+//! what was done to it, the seats from which threads step it, the tickets of commands, and the
+//! index of the history by the names of commands and by packets.
 #![tactic(auto)]
 
 pub mod host_core;

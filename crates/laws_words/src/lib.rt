@@ -1,5 +1,5 @@
 //! Laws of worlds whose registers hold plain words, which don't say whether they are a number, a
-//! status or the key of a packet's slot, over the worlds of `slot_laws`: what an event does to the
+//! status or the key of a packet's slot, over the worlds of `laws_slots`: what an event does to the
 //! words shows what it does in every run of an accepted set. Nothing runs here: each law is the
 //! contract of a function that does nothing.
 #![tactic(auto)]

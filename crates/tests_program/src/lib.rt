@@ -1,4 +1,4 @@
-//! The tests of what `stored_runs` can't show: failing devices, sets and schedules that are
+//! The tests of what `tests_stored` can't show: failing devices, sets and schedules that are
 //! computed, all changes of an image, and values that library calls answer. Their vectors come from
 //! outside, and no clause of a contract says them.
 #![tactic(auto)]
