@@ -201,7 +201,7 @@ def show(group):
         print('\n'.join(part.lines()))
 
 def tried(crate, seconds='600', endless=False):
-    """What the program of a crate stored_runs writes before any proof, or None. Where it may be endless, that is what it
+    """What the program of the crate tests_stored writes before any proof, or None. Where it may be endless, that is what it
     writes up to then."""
     data = os.path.join(crate, 'data')
     names = [os.path.relpath(os.path.join(at, name), data) for at, _, files in os.walk(data) for name in files]

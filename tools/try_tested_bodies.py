@@ -2,7 +2,7 @@
 """try_tested_bodies.py [NAME ..]: a test has to fail for each wrong body of tools/tested_bodies named, or each of all. The
 prover lets most of them through, since it knows neither how much memory there is, nor what a device does, nor what a cell
 holds. An edit there has two lines more than one of tools/wrong_bodies: the test that has to fail, and the crate that is
-changed; and a third where the test isn't one of `tests_program`. Where that crate is stored_runs, the test is a group of its runs, of
+changed; and a third where the test isn't one of `tests_program`. Where that crate is tests_stored, the test is a group of its runs, of
 which the program has to write something else. Each is tried, without a proof, in a copy of the sources; that takes some
 minutes. The last line counts."""
 import glob, os, re, shutil, subprocess, sys, tempfile
@@ -11,8 +11,8 @@ from stored_runs import by_group, tried
 
 TOP = os.path.dirname(os.path.dirname(os.path.abspath(__file__)))
 EDITS = os.path.join(TOP, 'tools/tested_bodies')
-TESTS = 'rows'
-RUNS = 'stored_runs'
+TESTS = 'tests_program'
+RUNS = 'tests_stored'
 
 def fields(edit):
     """The lines of an edit, by their first words."""

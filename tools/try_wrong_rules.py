@@ -1,6 +1,6 @@
 #!/usr/bin/env python3
 """try_wrong_rules.py: the laws of runs have to be refused where a rule is wrong. For each edit of tools/wrong_rules
-it changes the definitions in a copy of the crates model and run_laws, checks both, and says which law's proof is
+it changes the definitions in a copy of the crates model and laws_runs, checks both, and says which law's proof is
 refused, or PROVED where none is. An edit has lines 'file:', 'old:' and 'new:', as those of must-fail."""
 import glob, os, re, shutil, subprocess, sys, tempfile
 
@@ -18,8 +18,8 @@ def check(folder):
     return done.stdout + done.stderr
 
 def refused(folder, edit):
-    """The errors of the crate run_laws with the edit made."""
-    for crate in 'model', 'run_laws':
+    """The errors of the crate laws_runs with the edit made."""
+    for crate in 'model', 'laws_runs':
         shutil.copytree(os.path.join(TOP, 'crates', crate), os.path.join(folder, 'crates', crate))
     with open(os.path.join(folder, 'crates.txt'), 'w') as out:
         out.write('model: arrayvec\nrun_laws: model\n')
@@ -30,8 +30,8 @@ def refused(folder, edit):
         open(path, 'w').write(text.replace(old, new))
     model = check(os.path.join(folder, 'crates', 'model'))
     assert 'logic=proved' in model, (edit, model[-2000:])
-    laws = check(os.path.join(folder, 'crates', 'run_laws'))
-    return None if 'logic=proved' in laws.split('crate run_laws')[-1] else re.findall(r'(\S+\.antt):\d+:\d+: error: `([^`]*)`', laws)
+    laws = check(os.path.join(folder, 'crates', 'laws_runs'))
+    return None if 'logic=proved' in laws.split('crate laws_runs')[-1] else re.findall(r'(\S+\.antt):\d+:\d+: error: `([^`]*)`', laws)
 
 def main():
     wrong = False

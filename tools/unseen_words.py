@@ -1,5 +1,5 @@
 #!/usr/bin/env python3
-"""unseen_words.py [--all]: the texts of explain, told, fault_words and drawn_parts that no stored answer has.
+"""unseen_words.py [--all]: the texts of verifier_words, tell_words, asm_faults and draw_lanes that no stored answer has.
 
 It reads the string literals of these crates' sources, but for comments and clauses, and looks for each in the answers of
 the stored runs (crates/tests_stored/runs, and the groups that tools/stored_runs.py makes) to the commands that tell it: the
@@ -16,12 +16,12 @@ import stored_runs
 
 TOP = stored_runs.TOP
 CRATES = {
-    'explain explain_rules': ('explain',),
-    'told': ('tell', 'draw'),
-    'fault_words': ('check', 'explain', 'trace', 'tell', 'draw', 'host', 'list'),
-    'drawn_parts': ('draw',),
+    'verifier_words verifier_reasons': ('explain',),
+    'tell_words': ('tell', 'draw'),
+    'asm_faults': ('check', 'explain', 'trace', 'tell', 'draw', 'host', 'list'),
+    'draw_lanes': ('draw',),
 }
-TABLES = {'fault_words/src/line_form.rt', 'fault_words/src/operand.rt'}
+TABLES = {'asm_faults/src/line_form.rt', 'asm_faults/src/operand.rt'}
 
 # Texts that no stored run gives, and why not.
 LEFT_OUT = {

@@ -7,7 +7,7 @@ import os, shutil, subprocess, sys, tempfile
 
 TOP = os.path.dirname(os.path.dirname(os.path.abspath(__file__)))
 PLAIN = ['checked', 'checked_parts']
-MACHINE, ROWS = 'machine', 'machine_rows'
+MACHINE, ROWS = 'machine', 'tests_machine'
 
 def listed():
     """The lines of crates.txt: (the crate's name, what it stands on, the line)."""

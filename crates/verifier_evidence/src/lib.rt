@@ -8,6 +8,6 @@ mod evidence;
 mod subject;
 mod trail;
 
+pub use evidence::{Evidence, evidence_at, evidence_of};
 pub use subject::{Fault, Subject};
 pub use trail::{Path, Step, path_to};
-pub use verifier_evidence::{Evidence, evidence_at, evidence_of};
