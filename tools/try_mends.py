@@ -1,7 +1,8 @@
 #!/usr/bin/env python3
-"""try_mends.py PROGRAM [--each] [EXAMPLE..]: tries whether the mends that `explain` tells are mends. Each accepted driver
+"""try_mends.py PROGRAM [--each] [NAME..]: tries whether the mends that `explain` tells are mends. Each accepted driver
 text of the folder examples (or those named) is broken in one way at a time: an instruction is left out, written twice or
-added, or a routine returns in another form. PROGRAM explains the broken text; where the words of the mend are known here,
+added, or a routine returns in another form. Each wrong driver of the gallery (or those named) is taken as it is. PROGRAM
+explains the broken text; where the words of the mend are known here,
 they are followed to the letter, and `explain` is asked again. The text has to be accepted then, or have its next fault
 further on, or of a later rule at the same place: of two faults of an instruction the one of the lesser rule is told first.
 A mend after which it is refused there by the same rule, or earlier, is printed with its break, and the exit status is 1 then.
@@ -14,7 +15,7 @@ another register) aren't followed."""
 import concurrent.futures, os, re, subprocess, sys
 
 TOP = os.path.dirname(os.path.dirname(os.path.abspath(__file__)))
-EXAMPLES = os.path.join(TOP, 'examples')
+EXAMPLES, GALLERY = os.path.join(TOP, 'examples'), os.path.join(TOP, 'gallery')
 # Texts in which instructions are added, at the start of a routine and before each return.
 SMALL = 'cancel', 'filter', 'queue', 'startio'
 FORMS = 'SUCCESS', 'PENDING', 'lower r0', 'continue', 'stop', 'void'
@@ -258,9 +259,11 @@ def main():
     each = '--each' in sys.argv
     program, *names = [word for word in sys.argv[1:] if word != '--each']
     program = os.path.abspath(program)
-    names = names or sorted(name[:-4] for name in os.listdir(EXAMPLES) if name.endswith('.drv'))
-    texts = [(name, read(os.path.join(EXAMPLES, name + '.drv'))) for name in names]
+    texts = [(name[:-4], read(os.path.join(EXAMPLES, name))) for name in sorted(os.listdir(EXAMPLES))
+             if name.endswith('.drv') and (not names or name[:-4] in names)]
     broken = [it for name, lines in texts if explain(program, lines).startswith('accepted') for it in breaks(name, lines)]
+    broken += [('gallery, ' + name, read(os.path.join(GALLERY, name, 'driver.drv'))) for name in sorted(os.listdir(GALLERY))
+               if not names or name in names]
     counts, all_told = {True: 0, False: 0, None: 0}, {}
     with concurrent.futures.ThreadPoolExecutor(4) as workers:
         for what, told, mends, after in filter(None, workers.map(lambda it: tried(program, *it), broken)):
