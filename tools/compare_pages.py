@@ -1,11 +1,11 @@
 #!/usr/bin/env python3
-"""compare_pages.py: whether docs/RULES.md says of each rule what its page in crates/verifier_words/src/pages.rt says, which `drvhost
+"""compare_pages.py: whether docs/RULES.md says of each rule what its page in crates/verifier_pages/src/pages.rt says, which `drvhost
 explain --rule` prints: what the rule says, what it goes with, and the example, refused and mended. It tells each difference.
 The last line counts."""
 import os, re, sys
 
 TOP = os.path.dirname(os.path.dirname(os.path.abspath(__file__)))
-PAGES = 'crates/verifier_words/src/pages.rt'
+PAGES = 'crates/verifier_pages/src/pages.rt'
 NAMES = 'crates/model/src/words.rt'
 DOCUMENT = 'docs/RULES.md'
 PAGE = re.compile(r'^const (\w+): Page = Page \{\n(.*?)^\};', re.M | re.S)

@@ -6,7 +6,7 @@ what drvhost answers to these words, what the error writer is told behind a line
 the number of files that are opened, and of reads of them that fail. The files that the words name lie in
 crates/tests_stored/data. The group of the wrong drivers is made of the folder gallery, whose texts are copied to data/gallery;
 texts of the folder examples that are named are copied to data/examples. The group of the rules' pages is made of
-crates/verifier_words/src/pages.rt and, with what `check` says of a page's example, of docs/RULES.md; the examples are data/pages.
+crates/verifier_pages/src/pages.rt and, with what `check` says of a page's example, of docs/RULES.md; the examples are data/pages.
 
 Without a flag it writes from these the list of the runs (data/runs.txt), the copies, and what the program has to write
 (stdout). With --check it writes nothing, and tells what it would write otherwise; it also tells of a text in data that no

@@ -16,7 +16,7 @@ import stored_runs
 
 TOP = stored_runs.TOP
 CRATES = {
-    'verifier_words verifier_reasons': ('explain',),
+    'verifier_words verifier_reasons verifier_pages': ('explain',),
     'tell_words': ('tell', 'draw'),
     'asm_faults': ('check', 'explain', 'trace', 'tell', 'draw', 'host', 'list'),
     'draw_lanes': ('draw',),

@@ -7,11 +7,9 @@
 mod devices;
 mod history;
 mod listing;
-pub mod pages;
 mod path;
 mod place;
 mod state;
 mod telling;
 
-pub use pages::rule_words;
 pub use telling::{Origin, Told, explanation, explanations, roll};

@@ -6,22 +6,22 @@ use std::alloc::{AllocError, Global};
 
 /// A short text that a rule refuses, and how it is mended.
 #[derive(Clone, Copy)]
-pub struct Example {
-    pub refused: &'static str,
-    pub mend: &'static str,
-    pub mended: &'static str,
+struct Example {
+    refused: &'static str,
+    mend: &'static str,
+    mended: &'static str,
 }
 
 /// What a rule says, where that is written, and an example of it, where a text can be one.
 #[derive(Clone, Copy)]
-pub struct Page {
-    pub says: &'static str,
-    pub source: &'static str,
-    pub example: Option<Example>,
+struct Page {
+    says: &'static str,
+    source: &'static str,
+    example: Option<Example>,
 }
 
 /// The page of a rule.
-pub fn page_of(rule: Rule) -> Page {
+fn page_of(rule: Rule) -> Page {
     match rule {
         Rule::Malformed => MALFORMED,
         Rule::Unreachable => UNREACHABLE,
