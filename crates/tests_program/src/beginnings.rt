@@ -1,7 +1,6 @@
 //! Each beginning of a driver text, of an image and of a schedule is answered: by a fault that has
 //! a name, or as what it says. The digests are those of what an independent program answers.
 
-use crate::images::QUEUED;
 use drvhost_devices::device::{Reader, Writer};
 use drvhost_devices::verification::Verification;
 use drvhost_runs::trace::trace;
@@ -9,6 +8,7 @@ use drvhost_sets::check::check;
 use md5::{Digest, Md5};
 use std::alloc::{AllocError, Global};
 use std::test::Fail;
+use tests_sets::vectors::QUEUED;
 
 /// A DPC routine takes a packet off the queue while a cancel is on its way to it.
 const TAKEN: &str =

@@ -4,7 +4,6 @@
 ghost use Rattle.std.specs.Prelude.{◌≡◌};
 
 use crate::devices::{Narrow, Slow, have_taken};
-use crate::images::{EMPTY, OLD_ONE_READ, ONE_READ, QUEUED};
 use drvhost_devices::device::{Reader, Sink, Source};
 use drvhost_devices::verification::Verification;
 use drvhost_runs::draw::draw;
@@ -19,6 +18,7 @@ use drvhost_sets::version::version;
 use std::alloc::Global;
 use std::sync::Wait;
 use std::thread::Threads;
+use tests_sets::vectors::{EMPTY, OLD_ONE_READ, ONE_READ, QUEUED};
 use workers::Gate;
 
 /// The set of `ONE_READ`.

@@ -3,7 +3,6 @@
 ghost use Rattle.std.specs.Prelude.{◌≤◌};
 ghost use Rattle.model.specs.declared.limits.TheConstants.{MAX_THREADS};
 
-use crate::images::QUEUED;
 use drvhost_devices::device::{Reader, Writer};
 use drvhost_runs::host::host;
 use std::alloc::{AllocError, Global};
@@ -11,6 +10,7 @@ use std::process::Abort;
 use std::sync::Wait;
 use std::thread::Threads;
 use tests_host::pace::Watch;
+use tests_sets::vectors::QUEUED;
 
 /// The commands are 100 requests, 50 cancels of every other of these, and 100 interrupts.
 const REQUESTS: u64 = 100;

@@ -5,13 +5,13 @@ ghost use Rattle.drvhost_devices.specs.Device.{Unknown};
 
 use crate::answers::given;
 use crate::failures::TEXT;
-use crate::images::{OLD_ONE_READ, ONE_READ};
 use drvhost_devices::device::{Reader, Sink, Source, Writer};
 use drvhost_words::answer::answer;
 use drvhost_words::files::{Files, Output};
 use std::alloc::Global;
 use std::sync::Wait;
 use std::thread::Threads;
+use tests_sets::vectors::{OLD_ONE_READ, ONE_READ};
 
 /// A driver that completes its packet twice.
 const TWICE: &[u8] =

@@ -2,11 +2,11 @@
 //! computed; the digests are those of what an independent program answers.
 
 use crate::case::traced;
-use crate::images::QUEUED;
 use drvhost_devices::verification::Verification;
 use md5::{Digest, Md5};
 use std::alloc::{AllocError, Global};
 use std::test::Fail;
+use tests_sets::vectors::QUEUED;
 
 /// So many packets are queued, each by seven steps, and then one issue more: the schedule, and what
 /// its trace writes.

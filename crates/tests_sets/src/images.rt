@@ -1,38 +1,12 @@
 //! Images of both editions: the bytes of known sets, their beginnings, and all their changes by one
 //! byte. The digests are those of what an independent program answers.
 
+use crate::vectors::{EMPTY, OLD_ONE_READ, ONE_READ, QUEUED};
 use asm::assemble;
 use image::{ImageFault, decode, encode};
 use md5::{Digest, Md5};
 use std::alloc::{AllocError, Global};
 use std::test::Fail;
-
-/// A driver whose one routine completes a read at once, and its device.
-pub(crate) const ONE_READ: [u8; 40] = [
-    0x44, 0x56, 0x42, 0x32, 0x01, 0x01, 0x00, 0x00, 0x01, 0x00, 0x00, 0xff, 0xff, 0xff, 0xff, 0xff,
-    0x00, 0x00, 0x02, 0x00, 0x22, 0x00, 0x00, 0x00, 0x00, 0x00, 0x00, 0x00, 0x24, 0x00, 0x00, 0x00,
-    0x00, 0x00, 0x00, 0x00, 0x00, 0x01, 0xff, 0x00,
-];
-
-/// The same set's image of the first edition.
-pub(crate) const OLD_ONE_READ: [u8; 40] = [
-    0x44, 0x56, 0x42, 0x31, 0x01, 0x01, 0x00, 0x00, 0x01, 0x00, 0x00, 0xff, 0xff, 0xff, 0xff, 0x00,
-    0x00, 0x00, 0x02, 0x00, 0x22, 0x00, 0x00, 0x00, 0x00, 0x00, 0x00, 0x00, 0x24, 0x00, 0x00, 0x00,
-    0x00, 0x00, 0x00, 0x00, 0x00, 0x01, 0xff, 0x00,
-];
-
-/// The set without drivers and devices.
-pub(crate) const EMPTY: [u8; 8] = [0x44, 0x56, 0x42, 0x32, 0x00, 0x00, 0x00, 0x00];
-
-/// A driver that queues what it is sent, with a cancel routine.
-pub(crate) const QUEUED: &[u8] =
-    b"driver d\nqueue q l0 gone\ndispatch READ f\ndpc g\nroutine f dispatch\nmark r0\n\
-     acquire l0\ninsert r0 q\narm r0 q\nifcancel r0 was\nrelease l0\nret PENDING\n\
-     was: disarm r0 lost\nunlink r0 q\nrelease l0\ncomplete r0 CANCELLED\nret PENDING\n\
-     lost: release l0\nret PENDING\nendr\nroutine g dpc\nacquire l0\nremove r0 q none\n\
-     disarm r0 none\nrelease l0\ncomplete r0 SUCCESS\nret void\nnone: release l0\nret void\nendr\n\
-     routine gone cancel\nrelc\nacquire l0\nunlink r0 q\nrelease l0\ncomplete r0 CANCELLED\n\
-     ret void\nendr\nendd\ndevice v d 1\n";
 
 /// The digest of its image.
 const QUEUED_IMAGE: [u8; 16] = [
