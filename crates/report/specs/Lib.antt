@@ -5,4 +5,5 @@ pub mod Reply
 pub mod Word
 pub mod Verdict
 pub mod Fault
+pub mod Rule
 pub mod Host
