@@ -1,20 +1,30 @@
 """A small machine of a set, driven by a run: it makes the steps that the program says were made, and tells what a world has. It finds
-neither bug checks nor wrong operands, nor does it say what waits or is refused: nothing changes then but that a run ends. Numbers
-and packets are one kind of value here."""
+neither bug checks nor wrong operands, nor does it say what waits or is refused: nothing changes then but that a run ends."""
 import collections
 
 MAJORS = {'READ': 3, 'WRITE': 4, 'CONTROL': 14}
+STATUSES = {'BUSY': 'DEVICE_BUSY'}
 CANCEL_LOCK = 'the system cancel spin lock'
 
 def value_of(word):
     """What a number of a text or a schedule says: decimal, or hexadecimal behind 0x."""
     return int(word, 0) if word[:2] in ('0x', '0X') else int(word)
 
-class Routine:
-    """The sort of a routine, its instructions with the words on their places, and its labels."""
+class Ref(int):
+    """The packet of a number, in a register; a number there is a plain one, and None is nothing."""
 
-    def __init__(self, sort):
-        self.sort, self.code, self.labels = sort, [], {}
+class Status(str):
+    """A status in a register, by its name."""
+
+    @staticmethod
+    def of(word):
+        return Status('STATUS_' + STATUSES.get(word, word))
+
+class Routine:
+    """The name of a routine, its sort, its instructions with the words on their places, and its labels."""
+
+    def __init__(self, name, sort):
+        self.name, self.sort, self.code, self.labels = name, sort, [], {}
 
     def add(self, line, place):
         label, _, rest = line.rpartition(': ')
@@ -22,7 +32,7 @@ class Routine:
         self.code.append((rest.split(), place))
         return self
 
-DEFAULT = Routine('dispatch').add('complete r0 INVALID_DEVICE_REQUEST', '(default) at 0')
+DEFAULT = Routine('(default)', 'dispatch').add('complete r0 INVALID_DEVICE_REQUEST', '(default) at 0')
 DEFAULT.add('ret INVALID_DEVICE_REQUEST', '(default) at 1')
 
 class Driver:
@@ -48,7 +58,7 @@ def read_set(listing):
         if word == 'driver':
             drivers.append(Driver())
         elif word == 'routine':
-            name, routine = names[0], Routine(names[1])
+            name, routine = names[0], Routine(*names[:2])
             drivers[-1].routines[name] = routine
         elif word == 'device':
             devices.append((drivers[int(names[1][1:])], int(names[3][1:]) if names[3:] else None))
@@ -63,7 +73,8 @@ class Frame:
 
     def __init__(self, kind, packet, routine=None, device=None):
         self.kind, self.packet, self.routine, self.device = kind, packet, routine, device
-        self.at, self.loops, self.registers = 0, [], collections.defaultdict(lambda: None, r0=packet)
+        self.at, self.loops = 0, []
+        self.registers = collections.defaultdict(lambda: None, r0=None if packet is None else Ref(packet))
 
     def jump(self, label, jumps=True):
         self.at = self.routine.labels[label] if jumps else self.at
@@ -86,6 +97,7 @@ class World:
     def facts(self):
         """What words tell of, by what it is about."""
         found = {key: value for key, value in self.shared.items() if value is not None}
+        found.update({'v%d.%s' % place: number for place, number in self.cells.items() if number})
         found.update({key: tuple(entries) for key, entries in self.lists.items() if entries})
         for n, p in self.packets.items():
             found.update({('marks', n): tuple(mark for mark, _ in p.locations), ('cancel', n): p.cancel, ('armer', n): p.armer,
@@ -166,7 +178,7 @@ class World:
     def do_jz(self, f, r, label): f.jump(label, f.registers[r] == 0)
     def do_jlt(self, f, r, s, label): f.jump(label, f.registers[r] < f.registers[s])
     def do_jmp(self, f, label): f.jump(label)
-    def do_loop(self, f, n): f.loops.append([f.at, value_of(n)])
+    def do_loop(self, f, n): f.loops.append([f.at, value_of(n), value_of(n)])
 
     def do_end(self, f):
         f.loops[-1][1] -= 1
@@ -253,4 +265,5 @@ class World:
         if form == ('stop',) and self.stack and self.stack[-1].kind == 'walk':
             self.stack.pop()
         if f.routine.sort == 'dispatch' and self.stack and self.stack[-1].kind == 'routine':
-            self.stack[-1].registers[self.stack[-1].told] = None
+            status = f.registers[form[1]] if form[0] == 'lower' else Status.of(form[0])
+            self.stack[-1].registers[self.stack[-1].told] = status

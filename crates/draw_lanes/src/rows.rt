@@ -18,7 +18,7 @@ pub fn add_place(
     top: Option<FrameView>,
 ) -> Result<(), AllocError> {
     match moment.acting {
-        Some(acting) => add_frame(words, book, acting.frame),
+        Some(acting) => book.add_spot(words, acting.frame),
         None => match (event, top) {
             (
                 Event::Issue { .. } | Event::Dpc { .. } | Event::StartIo { .. },
@@ -34,26 +34,6 @@ pub fn add_place(
             (Event::Interrupt { .. }, _) => words.push_str("interrupt"),
             _ => Ok(()),
         },
-    }
-}
-
-/// Adds where a frame stands.
-fn add_frame(words: &mut String, book: &Book<'_>, frame: FrameView) -> Result<(), AllocError> {
-    match frame {
-        FrameView::Routine {
-            driver,
-            routine,
-            position,
-            ..
-        } => {
-            book.add_routine(words, driver, routine)?;
-            match book.line_of(driver, routine, position) {
-                Some(spot) => write!(words, " {}", spot.number),
-                None => Ok(()),
-            }
-        }
-        FrameView::Walk(_) => words.push_str("IoCompleteRequest"),
-        FrameView::Cancel(_) => words.push_str("IoCancelIrp"),
     }
 }
 

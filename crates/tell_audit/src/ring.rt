@@ -24,7 +24,7 @@ fn acquired_by(a: &Activation, instr: &Instr) -> Option<Lock>
 }
 
 /// The lock that the next step of a frame acquires.
-fn sought_by(machine: &Checked, frame: &Frame) -> Option<Lock>
+pub fn sought_by(machine: &Checked, frame: &Frame) -> Option<Lock>
     ensures { result ≡ sought_by machine.now.set frame.now }
 {
     if let Some(a) = frame.activation() {

@@ -4,6 +4,7 @@ ghost use Rattle.std.specs.Prelude.{◌≡◌, [], OnOk};
 ghost use Rattle.tell_words.specs.Noted.{noted};
 
 use crate::book::Book;
+use crate::change::add_awaited;
 use crate::disagreement::{Place, add_note, add_place, opened_place};
 use crate::line::Happened;
 use crate::places::{add_holders, add_sites};
@@ -15,10 +16,10 @@ use model::history::TopOut;
 use std::alloc::{AllocError, Global};
 use std::marker::Model;
 use tell_audit::findings::Findings;
-use tell_audit::ring::waits_for;
 use tell_holders::Rights;
 use tell_uses::acts::UseStep;
 use tell_uses::ledger::Ledger;
+use tell_uses::standing::top_frame;
 
 /// An event that was refused.
 #[derive(Clone, Copy)]
@@ -159,9 +160,11 @@ fn add_findings(
     }
     for thread in found.ringed.iter() {
         write!(words, "thread {thread} waits in a ring")?;
-        if let Some(owner) = waits_for(machine, *thread) {
-            write!(words, ", for thread {owner}")?;
+        if let Some(top) = top_frame(machine, *thread) {
+            words.push_str(" at ")?;
+            book.add_spot(words, top.view())?;
         }
+        add_awaited(words, book, machine, *thread)?;
         words.push_str("\n")?;
     }
     Ok(())

@@ -1,7 +1,8 @@
 //! What things are called and where instructions stand, as a text has it.
 
+use crate::line::blanks_before_change;
 use crate::words::add_number;
-use asm_line::{Body, read_line};
+use asm_line::{Body, Line, read_line};
 use model::view::FrameView;
 use std::alloc::{AllocError, Global};
 use text::piece::Piece;
@@ -12,9 +13,13 @@ use text::{PlacedLines, add_bytes};
 pub struct Place {
     /// The number of its line.
     pub number: u64,
-    /// Where the words on it begin and end among those on all places.
+    /// Where the words on it begin and end among those on all places, and the blanks behind them.
     start: usize,
     end: usize,
+    padded: usize,
+    /// Where among them its label begins and ends: at the same place if it has none.
+    label: usize,
+    label_end: usize,
 }
 
 /// A driver of a text: its name, those of its routines and queues, and the places of the
@@ -66,6 +71,7 @@ impl<'a> Book<'a> {
         let Ok(line) = read_line(raw) else {
             return Ok(());
         };
+        let label = label_length(&line);
         match line.body {
             Body::OpenDriver(name) => self.drivers.push(DriverPage {
                 name,
@@ -85,20 +91,33 @@ impl<'a> Book<'a> {
                 }
             }
             Body::AddDevice(name, _, _, _) => self.devices.push(name)?,
-            Body::Step(_, _) => self.note_instruction(raw, number)?,
+            Body::Step(_, _) => self.note_instruction(raw, number, label)?,
             _ => {}
         }
         Ok(())
     }
 
-    /// Notes the line of an instruction of the last routine.
-    fn note_instruction(&mut self, raw: &[u8], number: u64) -> Result<(), AllocError> {
+    /// Notes the line of an instruction of the last routine, with a label of so many bytes.
+    fn note_instruction(
+        &mut self,
+        raw: &[u8],
+        number: u64,
+        label_length: usize,
+    ) -> Result<(), AllocError> {
         let start = self.places.len();
-        self.make_place(raw, number)?;
+        self.make_head(number)?;
+        let label = self.places.len();
+        add_bytes(&mut self.places, without_comment(raw).trim_ascii())?;
+        let end = self.places.len();
+        self.places
+            .push_str(blanks_before_change(end.saturating_sub(start)))?;
         let place = Place {
             number,
             start,
-            end: self.places.len(),
+            end,
+            padded: self.places.len(),
+            label,
+            label_end: label.saturating_add(label_length),
         };
         match self.drivers.last_mut() {
             Some(page) => page.note_place(place),
@@ -106,16 +125,15 @@ impl<'a> Book<'a> {
         }
     }
 
-    /// Makes the words on a place: the routine, the number of the line, and what stands on it without
-    /// its comment and blanks round it.
-    fn make_place(&mut self, raw: &[u8], number: u64) -> Result<(), AllocError> {
+    /// Makes the beginning of the words on a place: the routine, and the number of the line. Behind
+    /// it comes what stands there without its comment and blanks round it.
+    fn make_head(&mut self, number: u64) -> Result<(), AllocError> {
         if let Some(name) = self.drivers.last().and_then(|page| page.routines.last()) {
             add_bytes(&mut self.places, name.bytes())?;
         }
         self.places.push_str(" ")?;
         add_number(&mut self.places, number)?;
-        self.places.push_str(": ")?;
-        add_bytes(&mut self.places, without_comment(raw).trim_ascii())
+        self.places.push_str(": ")
     }
 
     /// Where the instruction of a position of a routine stands.
@@ -146,6 +164,36 @@ impl<'a> Book<'a> {
             .unwrap_or("")
     }
 
+    /// The same, with the blanks up to where it is told what changed.
+    pub(crate) fn words_before_change(&self, place: Place) -> &str {
+        self.places
+            .as_str()
+            .get(place.start..place.padded)
+            .unwrap_or("")
+    }
+
+    /// Where the instruction stands behind which a routine has none, if it has any.
+    pub(crate) fn last_line(&self, driver: u8, routine: u8) -> Option<Place> {
+        let page = self.drivers.get(driver as usize)?;
+        let places = page.places.get(routine as usize)?;
+        places.last().copied()
+    }
+
+    /// Adds the label of a position of a routine to which an instruction jumps.
+    pub(crate) fn add_label(
+        &self,
+        words: &mut String,
+        driver: u8,
+        routine: u8,
+        position: u16,
+    ) -> Result<(), AllocError> {
+        let Some(place) = self.line_of(driver, routine, position) else {
+            return Ok(());
+        };
+        let label = self.places.as_str().get(place.label..place.label_end);
+        words.push_str(label.unwrap_or(""))
+    }
+
     /// Adds the routine and the line of that instruction.
     pub(crate) fn add_place(
         &self,
@@ -159,6 +207,31 @@ impl<'a> Book<'a> {
         }
         self.add_routine(words, driver, routine)?;
         write!(words, " at {position}")
+    }
+
+    /// Adds where a frame stands: its routine and the number of the line of its instruction, or what
+    /// the I/O manager does.
+    ///
+    /// # Errors
+    ///
+    /// When memory runs out.
+    pub fn add_spot(&self, words: &mut String, frame: FrameView) -> Result<(), AllocError> {
+        match frame {
+            FrameView::Routine {
+                driver,
+                routine,
+                position,
+                device: _,
+            } => {
+                self.add_routine(words, driver, routine)?;
+                match self.line_of(driver, routine, position) {
+                    Some(place) => write!(words, " {}", place.number),
+                    None => Ok(()),
+                }
+            }
+            FrameView::Walk(_) => words.push_str("IoCompleteRequest"),
+            FrameView::Cancel(_) => words.push_str("IoCancelIrp"),
+        }
     }
 
     /// Adds the name of a routine.
@@ -202,6 +275,14 @@ impl<'a> Book<'a> {
             Some(name) => add_bytes(words, name.bytes()),
             None => write!(words, "device {device}"),
         }
+    }
+}
+
+/// How many bytes the label of a line has.
+fn label_length(line: &Line<'_>) -> usize {
+    match &line.label {
+        Some(label) => label.bytes().len(),
+        None => 0,
     }
 }
 

@@ -2,20 +2,38 @@
 
 use crate::book::Book;
 use crate::line::Moment;
+use crate::values::{add_alone, add_got, add_loaded, add_stored, top_activation, value_at};
 use crate::words::{
-    add_lock, add_number, add_packet, add_top_out, cause_of, check_name, major_name, refusal_words,
-    status_name,
+    CellKind, add_bug, add_lock, add_number, add_packet, add_top_out, add_value, major_name,
+    refusal_words, status_name,
 };
+use crate::wrong::add_wrong;
 use checked::Checked;
 use model::event::{Event, Lock, OfDevice, Reply};
-use model::instr::{Instr, Return};
+use model::instr::{Instr, Register, Return};
 use model::set::{QueueName, Sort};
 use model::view::{FrameView, LiveView, PacketView};
-use model::world::CancelStep;
+use model::world::{Activation, CancelStep, Canceller};
 use std::alloc::AllocError;
-use tell_audit::ring::waits_for;
-use tell_uses::acting::Acting;
-use tell_uses::standing::thread_of;
+use tell_audit::ring::{sought_by, waits_for};
+use tell_uses::standing::{thread_of, top_frame};
+
+/// What an event is told by: the moment before it, and the machine after it.
+#[derive(Clone, Copy)]
+struct Scene<'a> {
+    event: &'a Event,
+    moment: &'a Moment,
+    machine: &'a Checked,
+}
+
+/// An instruction that a routine executed, and for which device.
+#[derive(Clone, Copy)]
+struct Executed {
+    instr: Instr,
+    driver: u8,
+    routine: u8,
+    device: u8,
+}
 
 /// Adds what an event changed.
 ///
@@ -32,27 +50,58 @@ pub fn add_change(
 ) -> Result<(), AllocError> {
     match *reply {
         Reply::Started(packet) => add_start(words, book, event, packet),
-        Reply::Waited => add_wait(words, event, machine),
+        Reply::Waited => add_wait(words, book, event, machine),
         Reply::Idle => words.push_str(match event {
             Event::Interrupt { .. } => "the DPC is queued already",
             Event::Dpc { .. } => "no DPC is queued",
             Event::StartIo { .. } => "the start list is empty",
             _ => "the thread has no frame",
         }),
-        Reply::Refused => words.push_str(refusal_words(moment)),
-        Reply::Bug(bug) => {
-            let cause = cause_of(bug.check, bug.subject);
-            write!(words, "{}: {}: {cause}", check_name(bug.check), bug.subject)
-        }
-        Reply::Wrong(_) => words.push_str(
-            "an operand is of a wrong kind, or the routine has ended",
-        ),
+        Reply::Refused => add_refusal(words, event, moment),
+        Reply::Bug(bug) => add_bug(words, book, bug),
+        Reply::Wrong(_) => add_stop(words, book, event, moment, machine),
         Reply::Topped {
             packet,
             status,
             info,
         } => add_top_out(words, packet, ": tops out with ", status, info),
-        Reply::Stepped | Reply::Finished => add_step(words, book, event, moment, machine),
+        Reply::Stepped | Reply::Finished => add_step(
+            words,
+            book,
+            &Scene {
+                event,
+                moment,
+                machine,
+            },
+        ),
+    }
+}
+
+/// Adds why an event was refused, and what follows for later ones where that changes their numbers.
+fn add_refusal(words: &mut String, event: &Event, moment: &Moment) -> Result<(), AllocError> {
+    words.push_str(refusal_words(moment))?;
+    match event {
+        Event::Issue { .. } => words.push_str(
+            "; packets issued later have lower numbers than were counted",
+        ),
+        _ => Ok(()),
+    }
+}
+
+/// Adds what is wrong with the instruction that stopped a run.
+fn add_stop(
+    words: &mut String,
+    book: &Book<'_>,
+    event: &Event,
+    moment: &Moment,
+    machine: &Checked,
+) -> Result<(), AllocError> {
+    let (Some(thread), Some(acting)) = (thread_of(event), moment.acting) else {
+        return Ok(());
+    };
+    match top_activation(machine, thread) {
+        Some(a) => add_wrong(words, book, machine, a, acting.instruction),
+        None => Ok(()),
     }
 }
 
@@ -82,56 +131,90 @@ fn add_start(
     }
 }
 
-/// Adds whom a thread waits for.
-fn add_wait(words: &mut String, event: &Event, machine: &Checked) -> Result<(), AllocError> {
-    let Some(thread) = thread_of(event) else {
-        return Ok(());
-    };
-    match waits_for(machine, thread) {
-        Some(owner) => {
-            words.push_str("waits: thread ")?;
-            add_number(words, u64::from(owner))?;
-            words.push_str(" owns the lock")
-        }
-        None => words.push_str("waits"),
-    }
-}
-
-/// Adds what a step changed.
-fn add_step(
+/// Adds whom a thread waits for, and the lock.
+fn add_wait(
     words: &mut String,
     book: &Book<'_>,
     event: &Event,
-    moment: &Moment,
     machine: &Checked,
 ) -> Result<(), AllocError> {
-    let Some(acting) = moment.acting else {
-        return match *event {
-            Event::Interrupt { device } => {
-                book.add_device(words, device)?;
-                words.push_str(": its DPC is queued")
-            }
-            Event::Dpc { device, .. } => {
-                book.add_device(words, device)?;
-                words.push_str(": its DPC routine begins")
-            }
-            Event::Cancel { packet, .. } => {
-                add_packet(words, packet, ": has topped out, nothing to cancel")
-            }
-            _ => Ok(()),
-        };
+    words.push_str("waits")?;
+    let Some(thread) = thread_of(event) else {
+        return Ok(());
     };
-    match (acting.frame, acting.packet) {
-        (FrameView::Walk(n), _) => add_walk(words, n, moment, machine),
-        (FrameView::Cancel(canceller), _) => {
-            add_cancelling(words, canceller.packet, canceller.next, moment, machine)
+    add_awaited(words, book, machine, thread)
+}
+
+/// Adds the thread that a thread waits for, and the lock.
+pub(crate) fn add_awaited(
+    words: &mut String,
+    book: &Book<'_>,
+    machine: &Checked,
+    thread: u8,
+) -> Result<(), AllocError> {
+    let Some(owner) = waits_for(machine, thread) else {
+        return Ok(());
+    };
+    let Some(lock) = sought_lock(machine, thread) else {
+        return Ok(());
+    };
+    words.push_str(": thread ")?;
+    add_number(words, u64::from(owner))?;
+    words.push_str(" owns ")?;
+    add_lock(words, book, lock)
+}
+
+/// The lock that the next step of a thread acquires.
+fn sought_lock(machine: &Checked, thread: u8) -> Option<Lock> {
+    sought_by(machine, top_frame(machine, thread)?)
+}
+
+/// Adds what a step changed.
+fn add_step(words: &mut String, book: &Book<'_>, scene: &Scene<'_>) -> Result<(), AllocError> {
+    let Some(acting) = scene.moment.acting else {
+        return add_outside(words, book, scene.event);
+    };
+    match acting.frame {
+        FrameView::Walk(n) => add_walk(words, n, scene.moment, scene.machine),
+        FrameView::Cancel(canceller) => add_cancelling(words, canceller, scene),
+        FrameView::Routine {
+            driver,
+            routine,
+            device,
+            ..
+        } => {
+            let Some(instr) = acting.instruction else {
+                return Ok(());
+            };
+            let executed = Executed {
+                instr,
+                driver,
+                routine,
+                device,
+            };
+            match acting.packet {
+                Some(n) => add_about(words, book, scene, n, executed),
+                None => add_other(words, book, scene, executed),
+            }
         }
-        (FrameView::Routine { driver, device, .. }, Some(n)) => {
-            add_about(words, book, machine, moment, n, driver, device, acting)
+    }
+}
+
+/// Adds what an event changed in which no frame acts.
+fn add_outside(words: &mut String, book: &Book<'_>, event: &Event) -> Result<(), AllocError> {
+    match *event {
+        Event::Interrupt { device } => {
+            book.add_device(words, device)?;
+            words.push_str(": its DPC is queued")
         }
-        (FrameView::Routine { driver, device, .. }, None) => {
-            add_other(words, book, event, moment, driver, device, acting)
+        Event::Dpc { device, .. } => {
+            book.add_device(words, device)?;
+            words.push_str(": its DPC routine begins")
         }
+        Event::Cancel { packet, .. } => {
+            add_packet(words, packet, ": has topped out, nothing to cancel")
+        }
+        _ => Ok(()),
     }
 }
 
@@ -176,18 +259,18 @@ fn mark_at(packet: &LiveView, depth: u8) -> bool {
 /// Adds what IoCancelIrp has done.
 fn add_cancelling(
     words: &mut String,
-    n: u64,
-    step: CancelStep,
-    moment: &Moment,
-    machine: &Checked,
+    canceller: Canceller,
+    scene: &Scene<'_>,
 ) -> Result<(), AllocError> {
+    let Canceller { packet: n, next } = canceller;
+    let machine = scene.machine;
     let released = matches!(machine.shared().owner(Lock::SystemCancel), Some(None));
-    let behind = match step {
+    let behind = match next {
         CancelStep::Acquire => return words.push_str("owns the system cancel spin lock"),
         _ if released && matches!(machine.packet(n), PacketView::Topped) => {
             ": has topped out; the system cancel spin lock is free"
         }
-        CancelStep::SetFlag => match live_before(moment) {
+        CancelStep::SetFlag => match live_before(scene.moment) {
             Some(LiveView { cancel: true, .. }) => ": Irp->Cancel is set already",
             _ => ": Irp->Cancel is set",
         },
@@ -199,28 +282,29 @@ fn add_cancelling(
     add_packet(words, n, behind)
 }
 
+/// The routine on the top of the thread of an event, after it.
+fn activation_after<'a>(scene: &Scene<'a>) -> Option<&'a Activation> {
+    top_activation(scene.machine, thread_of(scene.event)?)
+}
+
 /// Adds what an instruction did that is about a packet.
 fn add_about(
     words: &mut String,
     book: &Book<'_>,
-    machine: &Checked,
-    moment: &Moment,
+    scene: &Scene<'_>,
     n: u64,
-    driver: u8,
-    device: u8,
-    acting: Acting,
+    executed: Executed,
 ) -> Result<(), AllocError> {
-    let instruction = acting.instruction;
-    let Some(instr) = instruction else {
-        return Ok(());
-    };
-    if matches!(instr, Instr::Get(_, _, _)) {
-        return Ok(());
+    if let Instr::Get(r, _, field) = executed.instr {
+        return match activation_after(scene) {
+            Some(after) => add_got(words, r, n, field, after),
+            None => Ok(()),
+        };
     }
     add_packet(words, n, ": ")?;
-    match instr {
-        Instr::Put(_, _) => words.push_str("its information is set"),
-        Instr::Mark(_) => words.push_str(match live_before(moment) {
+    match executed.instr {
+        Instr::Put(_, r) => add_put(words, scene, r),
+        Instr::Mark(_) => words.push_str(match live_before(scene.moment) {
             Some(before) if mark_at(&before, before.depth) => {
                 "its current location is marked pending already"
             }
@@ -228,24 +312,46 @@ fn add_about(
         }),
         Instr::Arm(_, queue) => {
             words.push_str("the cancel routine is set of queue ")?;
-            book.add_queue(words, driver, queue)?;
-            words.push_str(set_before(moment, device, QueueName::Declared(queue)))
+            book.add_queue(words, executed.driver, queue)?;
+            let name = QueueName::Declared(queue);
+            words.push_str(set_before(scene.moment, executed.device, name))
         }
-        Instr::Disarm(_, _) => words.push_str(match live_before(moment) {
-            Some(LiveView { armer: Some(_), .. }) => "its cancel routine is set no more",
-            _ => "no cancel routine was set",
-        }),
-        Instr::IfCancel(_, _) => words.push_str(match live_before(moment) {
-            Some(LiveView { cancel: true, .. }) => "Irp->Cancel is set",
-            _ => "Irp->Cancel isn't set",
-        }),
-        Instr::Pass(_) | Instr::Call(_, _) => add_sent(words, book, machine, device, n),
+        Instr::Pass(_) | Instr::Call(_, _) => {
+            add_sent(words, book, scene.machine, executed.device, n)
+        }
         Instr::Complete(_, status) => {
             words.push_str("IoCompleteRequest is called with ")?;
             words.push_str(status_name(status))
         }
-        Instr::IfPending(_, _) => words.push_str("PendingReturned is looked at"),
-        _ => add_moved(words, book, machine, moment, n, acting),
+        Instr::Disarm(_, _) | Instr::IfCancel(_, _) | Instr::IfPending(_, _) => {
+            words.push_str(found_of(scene, n, executed.instr))
+        }
+        _ => add_moved(words, book, scene, n, executed),
+    }
+}
+
+/// Adds the information that a packet has got from a register.
+fn add_put(words: &mut String, scene: &Scene<'_>, r: Register) -> Result<(), AllocError> {
+    words.push_str("its information is ")?;
+    match activation_after(scene) {
+        Some(after) => add_value(words, value_at(r, after)),
+        None => Ok(()),
+    }
+}
+
+/// What an instruction found of a packet that jumps by it.
+fn found_of(scene: &Scene<'_>, n: u64, instr: Instr) -> &'static str {
+    match (instr, live_before(scene.moment)) {
+        (Instr::Disarm(_, _), Some(LiveView { armer: Some(_), .. })) => {
+            "its cancel routine is set no more"
+        }
+        (Instr::Disarm(_, _), _) => "no cancel routine was set",
+        (Instr::IfCancel(_, _), Some(LiveView { cancel: true, .. })) => "Irp->Cancel is set",
+        (Instr::IfCancel(_, _), _) => "Irp->Cancel isn't set",
+        _ => match scene.machine.shared().live_packet(n) {
+            Some(packet) if packet.pending_returned() => "PendingReturned is set",
+            _ => "PendingReturned isn't set",
+        },
     }
 }
 
@@ -271,41 +377,35 @@ fn set_before(moment: &Moment, device: u8, queue: QueueName) -> &'static str {
 fn add_moved(
     words: &mut String,
     book: &Book<'_>,
-    machine: &Checked,
-    moment: &Moment,
+    scene: &Scene<'_>,
     n: u64,
-    acting: Acting,
+    executed: Executed,
 ) -> Result<(), AllocError> {
-    let (Some(instr), FrameView::Routine { driver, device, .. }) = (
-        acting.instruction,
-        acting.frame,
-    ) else {
-        return Ok(());
-    };
-    let found = moment.found == Some(true);
-    match instr {
+    let found = scene.moment.found == Some(true);
+    match executed.instr {
         Instr::Insert(_, queue) => {
             words.push_str("put into queue ")?;
-            book.add_queue(words, driver, queue)
+            book.add_queue(words, executed.driver, queue)
         }
         Instr::Remove(_, _, _) | Instr::Unlink(_, _) | Instr::Dequeue(_) => {
-            add_off(words, book, machine, found, instr, acting.frame)
+            add_off(words, book, scene.machine, found, executed)
         }
         Instr::Take(_, _) => words.push_str("taken out of the current slot"),
         Instr::Begin(_) if found => words.push_str("is in the current slot already"),
         Instr::Begin(_) => words.push_str("put into the current slot"),
         Instr::Start(_) if found => {
             words.push_str("waits in the device queue")?;
-            if !machine.set().has_cancel(driver, QueueName::DeviceQueue) {
+            let name = QueueName::DeviceQueue;
+            if !scene.machine.set().has_cancel(executed.driver, name) {
                 return Ok(());
             }
             words.push_str("; its cancel routine is set")?;
-            words.push_str(set_before(moment, device, QueueName::DeviceQueue))
+            words.push_str(set_before(scene.moment, executed.device, name))
         }
         Instr::Start(_) => words.push_str("put into the start list"),
         Instr::Next => {
             words.push_str("goes from the device queue to the start list")?;
-            match (live_before(moment), machine.packet(n)) {
+            match (live_before(scene.moment), scene.machine.packet(n)) {
                 (
                     Some(LiveView { armer: Some(_), .. }),
                     PacketView::Live(LiveView { armer: None, .. }),
@@ -323,19 +423,15 @@ fn add_off(
     book: &Book<'_>,
     machine: &Checked,
     found: bool,
-    instr: Instr,
-    frame: FrameView,
+    executed: Executed,
 ) -> Result<(), AllocError> {
-    let FrameView::Routine {
+    let Executed {
         driver,
         routine,
         ..
-    } = frame
-    else {
-        return Ok(());
-    };
+    } = executed;
     words.push_str(if found { "taken off " } else { "isn't in " })?;
-    match instr {
+    match executed.instr {
         Instr::Remove(_, queue, _) | Instr::Unlink(_, queue) => {
             words.push_str("queue ")?;
             book.add_queue(words, driver, queue)?;
@@ -374,29 +470,26 @@ fn add_sent(
 fn add_other(
     words: &mut String,
     book: &Book<'_>,
-    event: &Event,
-    moment: &Moment,
-    driver: u8,
-    device: u8,
-    acting: Acting,
+    scene: &Scene<'_>,
+    executed: Executed,
 ) -> Result<(), AllocError> {
-    let Some(instr) = acting.instruction else {
-        return Ok(());
-    };
-    match instr {
-        Instr::Acquire(lock) => add_owner(words, book, event, spin(device, lock.index())),
+    let event = scene.event;
+    match executed.instr {
+        Instr::Acquire(lock) => {
+            add_owner(words, book, event, spin(executed.device, lock.index()))
+        }
         Instr::AcquireCancel => add_owner(words, book, event, Lock::SystemCancel),
-        Instr::Release(lock) => add_free(words, book, spin(device, lock.index())),
+        Instr::Release(lock) => add_free(words, book, spin(executed.device, lock.index())),
         Instr::ReleaseCancel => add_free(words, book, Lock::SystemCancel),
         Instr::Remove(_, queue, _) => {
             words.push_str("queue ")?;
-            book.add_queue(words, driver, queue)?;
+            book.add_queue(words, executed.driver, queue)?;
             words.push_str(" is empty")
         }
         Instr::Take(_, _) => words.push_str("the current slot is empty"),
         Instr::Next => {
-            book.add_device(words, device)?;
-            words.push_str(match moment.found {
+            book.add_device(words, executed.device)?;
+            words.push_str(match scene.moment.found {
                 Some(true) => " is idle: no packet waits",
                 _ => " is idle already: no packet waits",
             })
@@ -408,7 +501,30 @@ fn add_other(
             Return::Stop => "STATUS_MORE_PROCESSING_REQUIRED: the packet is held",
             Return::Void => "",
         }),
-        _ => Ok(()),
+        _ => add_numbers(words, book, scene, executed.instr),
+    }
+}
+
+/// Adds what registers and cells have become, and whether a routine jumps.
+fn add_numbers(
+    words: &mut String,
+    book: &Book<'_>,
+    scene: &Scene<'_>,
+    instr: Instr,
+) -> Result<(), AllocError> {
+    let (Some(acting), Some(thread), Some(after)) = (
+        scene.moment.acting,
+        thread_of(scene.event),
+        activation_after(scene),
+    ) else {
+        return Ok(());
+    };
+    match instr {
+        Instr::Load(r, cell) => add_loaded(words, book, r, CellKind::Plain, cell, after),
+        Instr::LoadPaged(r, cell) => add_loaded(words, book, r, CellKind::Paged, cell, after),
+        Instr::Store(cell, r) => add_stored(words, book, CellKind::Plain, cell, r, after),
+        Instr::StorePaged(cell, r) => add_stored(words, book, CellKind::Paged, cell, r, after),
+        _ => add_alone(words, book, thread, acting.frame, scene.machine),
     }
 }
 

@@ -13,7 +13,9 @@ mod line;
 mod places;
 mod standing;
 mod teller;
+mod values;
 mod words;
+mod wrong;
 
 pub use book::Book;
 pub use change::add_change;

@@ -175,8 +175,13 @@ pub(crate) fn add_rest(
         return Ok(());
     }
     let place = words.len();
-    words.push_str(blanks(place, PLACE))?;
+    words.push_str(blanks_before_change(place))?;
     words.push_str(change)
+}
+
+/// The blanks behind a place of so many bytes, up to where it is told what changed.
+pub(crate) fn blanks_before_change(place: usize) -> &'static str {
+    blanks(place, PLACE)
 }
 
 /// The blanks behind so many bytes, up to a width, and one at least.

@@ -18,6 +18,8 @@ pub(crate) struct Standing {
     driver: u8,
     routine: u8,
     position: u16,
+    /// The device whose lock it may be.
+    device: u8,
     /// Whether the thread waits, and for which other.
     waits: Option<Option<u8>>,
 }
@@ -43,11 +45,12 @@ impl Standing {
                 driver,
                 routine,
                 position,
-                device: _,
+                device,
             } => Some(Standing {
                 driver,
                 routine,
                 position,
+                device,
                 waits,
             }),
             FrameView::Walk(_) | FrameView::Cancel(_) => None,
@@ -59,6 +62,7 @@ impl Standing {
         self.driver == other.driver
             && self.routine == other.routine
             && self.position == other.position
+            && self.device == other.device
             && self.waits == other.waits
     }
 
@@ -70,7 +74,8 @@ impl Standing {
             None => 0,
         };
         let routine = self.driver as usize * 64 + self.routine as usize;
-        (self.position as usize + routine * 17 + waits * 31) % KEPT
+        let device = self.device as usize;
+        (self.position as usize + routine * 17 + waits * 31 + device * 7) % KEPT
     }
 }
 

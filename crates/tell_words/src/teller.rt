@@ -9,6 +9,7 @@ use crate::change::add_change;
 use crate::front::Fronts;
 use crate::line::{Happened, add_place, add_rest};
 use crate::standing::{KeptWords, Standing};
+use crate::values::add_alone;
 use checked::Checked;
 use model::event::Event;
 use model::view::FrameView;
@@ -38,7 +39,7 @@ pub struct Teller<'a> {
     /// Whose columns stand ready, if they are those of a step that a routine made by itself, and no
     /// other event came since.
     ahead: Option<Ahead>,
-    /// The second part, unless it is on the line of an instruction alone.
+    /// The second part, unless that is the line of an instruction and nothing else.
     words: String,
     /// That line.
     line: Option<Place>,
@@ -150,8 +151,8 @@ impl<'a> Teller<'a> {
     }
 
     /// Makes the words of a step that a thread's routine made by itself, behind a head of so many
-    /// bytes: what it was before, its place, and the machine after it. The columns stay those of the
-    /// step before it, where that was one of the same thread, and no other event came between.
+    /// bytes: its place before, and what it did, by the machine after it. The columns stay those of
+    /// the step before it, where that was one of the same thread, and no other event came between.
     ///
     /// # Errors
     ///
@@ -172,10 +173,16 @@ impl<'a> Teller<'a> {
             self.ahead = Some(Ahead { head, thread });
         }
         self.standing = None;
+        self.words.clear();
         self.line = self.book.line_at(place);
-        if self.line.is_none() {
-            self.words.clear();
-            add_place(&mut self.words, &self.book, place)?;
+        let Some(line) = self.line else {
+            return add_place(&mut self.words, &self.book, place);
+        };
+        self.words.push_str(self.book.words_before_change(line))?;
+        let bare = self.words.len();
+        add_alone(&mut self.words, &self.book, thread, place, machine)?;
+        if self.words.len() > bare {
+            self.line = None;
         }
         Ok(())
     }

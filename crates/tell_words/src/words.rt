@@ -3,9 +3,10 @@
 use crate::book::Book;
 use crate::line::Moment;
 use itoa::Buffer;
-use model::event::{BugCheck, Lock, OfDevice, Subject};
-use model::instr::Instr;
+use model::event::{Bug, BugCheck, Lock, OfDevice, Subject};
+use model::instr::{Instr, Register};
 use model::status::{Major, Status};
+use model::world::Value;
 use std::alloc::AllocError;
 use tell_audit::refusal::Reason;
 use tell_uses::acting::Acting;
@@ -33,7 +34,7 @@ pub(crate) fn major_name(major: Major) -> &'static str {
 }
 
 /// The name of a bug check.
-pub(crate) fn check_name(check: BugCheck) -> &'static str {
+fn check_name(check: BugCheck) -> &'static str {
     match check {
         BugCheck::IrqlNotLessOrEqual => "IRQL_NOT_LESS_OR_EQUAL",
         BugCheck::SpinLockAlreadyOwned => "SPIN_LOCK_ALREADY_OWNED",
@@ -45,7 +46,7 @@ pub(crate) fn check_name(check: BugCheck) -> &'static str {
 }
 
 /// Why a bug check is raised, by what it is about.
-pub(crate) fn cause_of(check: BugCheck, subject: Subject) -> &'static str {
+fn cause_of(check: BugCheck, subject: Subject) -> &'static str {
     match (check, subject) {
         (BugCheck::IrqlNotLessOrEqual, Subject::Cell(_)) => {
             "a paged cell is touched at DISPATCH_LEVEL"
@@ -90,6 +91,20 @@ fn reason_words(reason: Reason) -> &'static str {
     }
 }
 
+/// The names of registers.
+const REGISTERS: [&str; 16] = [
+    "r0", "r1", "r2", "r3", "r4", "r5", "r6", "r7", "r8", "r9", "r10", "r11", "r12", "r13", "r14",
+    "r15",
+];
+
+/// The name of a register.
+pub(crate) fn register_name(r: Register) -> &'static str {
+    match REGISTERS.get(r.index()) {
+        Some(name) => *name,
+        None => "",
+    }
+}
+
 /// The numbers of one digit.
 const DIGITS: [&str; 10] = ["0", "1", "2", "3", "4", "5", "6", "7", "8", "9"];
 
@@ -107,6 +122,16 @@ pub(crate) fn add_packet(words: &mut String, packet: u64, behind: &str) -> Resul
     words.push_str("packet ")?;
     add_number(words, packet)?;
     words.push_str(behind)
+}
+
+/// Adds the value of a register.
+pub(crate) fn add_value(words: &mut String, value: Value) -> Result<(), AllocError> {
+    match value {
+        Value::Blank => words.push_str("nothing"),
+        Value::Num(number) => add_number(words, number),
+        Value::Ref(packet) => add_packet(words, packet, ""),
+        Value::Status(status) => words.push_str(status_name(status)),
+    }
 }
 
 /// Adds with what a packet topped out, behind these words.
@@ -133,4 +158,39 @@ pub(crate) fn add_lock(words: &mut String, book: &Book<'_>, lock: Lock) -> Resul
             add_number(words, u64::from(number))
         }
     }
+}
+
+/// Whether a number cell may be touched at every level.
+#[derive(Clone, Copy)]
+pub(crate) enum CellKind {
+    Plain,
+    Paged,
+}
+
+/// Adds a cell of a device.
+pub(crate) fn add_cell(
+    words: &mut String,
+    book: &Book<'_>,
+    kind: CellKind,
+    cell: OfDevice,
+) -> Result<(), AllocError> {
+    book.add_device(words, cell.device)?;
+    words.push_str(match kind {
+        CellKind::Plain => ".c",
+        CellKind::Paged => ".p",
+    })?;
+    add_number(words, u64::from(cell.number))
+}
+
+/// Adds a bug check: its name, what it is about, and why it is raised.
+pub(crate) fn add_bug(words: &mut String, book: &Book<'_>, bug: Bug) -> Result<(), AllocError> {
+    words.push_str(check_name(bug.check))?;
+    words.push_str(": ")?;
+    match bug.subject {
+        Subject::Packet(packet) => add_packet(words, packet, "")?,
+        Subject::Lock(lock) => add_lock(words, book, lock)?,
+        Subject::Cell(cell) => add_cell(words, book, CellKind::Paged, cell)?,
+    }
+    words.push_str(": ")?;
+    words.push_str(cause_of(bug.check, bug.subject))
 }

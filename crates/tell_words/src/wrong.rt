@@ -1,0 +1,167 @@
+//! What is wrong with an instruction that couldn't be executed, in words.
+
+use crate::book::Book;
+use crate::values::{add_had, value_at};
+use crate::words::register_name;
+use checked::Checked;
+use checked_parts::{number_in, status_in};
+use model::instr::{Instr, Register, Return};
+use model::set::Sort;
+use model::world::Activation;
+use std::alloc::AllocError;
+use tell_uses::standing::packet_in;
+
+/// What an instruction wants, and hasn't.
+#[derive(Clone, Copy)]
+enum Wanted {
+    /// A number in a register.
+    Number(Register),
+    /// A packet in a register.
+    Packet(Register),
+    /// A status in a register.
+    Status(Register),
+    /// The cancel routine of a queue.
+    CancelRoutine(u8),
+    /// A device under that for which the routine runs.
+    LowerDevice,
+    /// Room for another loop.
+    RoomForLoop,
+    /// A loop that is open.
+    OpenLoop,
+    /// A form of return that routines of its sort have.
+    Form(Sort),
+}
+
+/// A register of these two, the first of them that has no number.
+fn unless_numbers(a: &Activation, r: Register, s: Register) -> Wanted {
+    match number_in(value_at(r, a)) {
+        None => Wanted::Number(r),
+        Some(_) => Wanted::Number(s),
+    }
+}
+
+/// A packet in a register, else what is wanted beside it.
+fn unless_packet(machine: &Checked, a: &Activation, r: Register, other: Wanted) -> Wanted {
+    match packet_in(machine, value_at(r, a)) {
+        None => Wanted::Packet(r),
+        Some(_) => other,
+    }
+}
+
+/// What an instruction wants that couldn't be executed, in the order in which it asks for it.
+fn wanted_by(machine: &Checked, a: &Activation, instr: Instr) -> Option<Wanted> {
+    match instr {
+        Instr::Add(r, s) | Instr::Subtract(r, s) | Instr::JumpIfLess(r, s, _) => {
+            Some(unless_numbers(a, r, s))
+        }
+        Instr::JumpIfZero(r, _) | Instr::Store(_, r) | Instr::StorePaged(_, r) => {
+            Some(Wanted::Number(r))
+        }
+        Instr::Put(s, r) => match number_in(value_at(r, a)) {
+            None => Some(Wanted::Number(r)),
+            Some(_) => Some(Wanted::Packet(s)),
+        },
+        Instr::Arm(r, queue) => { Some(unless_packet(machine, a, r, Wanted::CancelRoutine(queue))) }
+        Instr::Pass(r) | Instr::Call(r, _) => {
+            Some(unless_packet(machine, a, r, Wanted::LowerDevice))
+        }
+        Instr::Loop(_) => Some(Wanted::RoomForLoop),
+        Instr::End => Some(Wanted::OpenLoop),
+        Instr::Ret(form) => Some(wanted_form(machine.set().sort(a.driver, a.routine), form)),
+        _ => Some(Wanted::Packet(packet_operand(instr)?)),
+    }
+}
+
+/// The register that has to have a packet, of an instruction that wants nothing else.
+fn packet_operand(instr: Instr) -> Option<Register> {
+    match instr {
+        Instr::Get(_, r, _)
+        | Instr::Mark(r)
+        | Instr::Insert(r, _)
+        | Instr::Unlink(r, _)
+        | Instr::Disarm(r, _)
+        | Instr::IfCancel(r, _)
+        | Instr::Start(r)
+        | Instr::Begin(r)
+        | Instr::Dequeue(r)
+        | Instr::Complete(r, _)
+        | Instr::IfPending(r, _) => Some(r),
+        _ => None,
+    }
+}
+
+/// What a return wants of a routine of a sort.
+fn wanted_form(sort: Sort, form: Return) -> Wanted {
+    match (sort, form) {
+        (Sort::Dispatch, Return::Lower(r)) => Wanted::Status(r),
+        _ => Wanted::Form(sort),
+    }
+}
+
+/// Adds what is wrong with an instruction that couldn't be executed, by the machine that it left as
+/// it was.
+pub(crate) fn add_wrong(
+    words: &mut String,
+    book: &Book<'_>,
+    machine: &Checked,
+    a: &Activation,
+    instruction: Option<Instr>,
+) -> Result<(), AllocError> {
+    let Some(instr) = instruction else {
+        return add_ended(words, book, a);
+    };
+    let Some(wanted) = wanted_by(machine, a, instr) else {
+        return Ok(());
+    };
+    match wanted {
+        Wanted::Number(r) => add_register_without(words, a, r, " has no number: it has "),
+        Wanted::Packet(r) => add_register_without(words, a, r, " has no packet: it has "),
+        Wanted::Status(r) => add_register_without(words, a, r, " has no status: it has "),
+        Wanted::CancelRoutine(queue) => {
+            words.push_str("queue ")?;
+            book.add_queue(words, a.driver, queue)?;
+            words.push_str(" has no cancel routine")
+        }
+        Wanted::LowerDevice => {
+            book.add_device(words, a.device)?;
+            words.push_str(" has no device under it")
+        }
+        Wanted::RoomForLoop => words.push_str("four loops are open already"),
+        Wanted::OpenLoop => words.push_str("no loop is open"),
+        Wanted::Form(sort) => add_forms(words, sort),
+    }
+}
+
+/// Adds a register, what it hasn't, and what it has.
+fn add_register_without(
+    words: &mut String,
+    a: &Activation,
+    r: Register,
+    lack: &str,
+) -> Result<(), AllocError> {
+    words.push_str(register_name(r))?;
+    words.push_str(lack)?;
+    add_had(words, value_at(r, a))
+}
+
+/// Adds how routines of a sort end.
+fn add_forms(words: &mut String, sort: Sort) -> Result<(), AllocError> {
+    write!(words, "a {} routine ends with ", sort.as_str())?;
+    words.push_str(match sort {
+        Sort::Dispatch => "`ret STATUS` or `ret lower`",
+        Sort::StartIo | Sort::Dpc | Sort::Cancel => "`ret void`",
+        Sort::Propagate | Sort::Hold => "`ret continue` or `ret stop`",
+    })
+}
+
+/// Adds that a routine has ended.
+fn add_ended(words: &mut String, book: &Book<'_>, a: &Activation) -> Result<(), AllocError> {
+    match book.last_line(a.driver, a.routine) {
+        Some(place) => write!(
+            words,
+            "the routine has ended: no instruction stands behind line {}",
+            place.number
+        ),
+        None => words.push_str("the routine has no instruction"),
+    }
+}
