@@ -3,7 +3,7 @@
 and crates/tests_stored/data, the refused ones among them, drawn by the program (crates/drvhost/out/drvhost, if none is named).
 
 A picture is read as it is seen: the lanes by their names and sides, the rows by their numbers, each packet's line from the number
-beside it on, the bars with the names of locks, the boxes of threads, the bars of DPCs, and the rows that say that others come again.
+beside it on, the bars with the names of locks, the boxes of threads and of waits, the bars of DPCs, and the rows that say that others come again.
 At each row the line of each packet has to stand in the lane of its holder, as `tell` has it of the run up to that event: of an
 accepted set the place that holds it by right, of others the first place that it lists, and no line stands there where no packet
 lives. Of an accepted set that is so at each event before a row too, where the lines stand as in the row before. Bars and boxes
@@ -127,17 +127,18 @@ class Picture:
         return found
 
     def lasting_at(self, y):
-        """What lasts at a height: the threads with frames, the owners of locks, and the devices with a queued DPC."""
+        """What lasts at a height: the threads with frames, those that wait, the owners of locks, and devices with a queued DPC."""
         found = set()
         for kind, x, top, end in self.boxes:
-            if top <= y < end and kind != 'waits':
+            if top <= y < end:
                 lane = self.lane_at(x)
                 found.add((kind, lane, self.names[top, lane] if kind == 'owns' else None))
         return found
 
-def lasting_in(world):
-    """The same of a world."""
+def lasting_in(world, waiting):
+    """The same of a world, in which some threads wait."""
     found = {('busy', 'thread %d' % thread, None) for thread, stack in enumerate(world.stacks) if stack}
+    found.update(('waits', 'thread %d' % thread, None) for thread in waiting)
     for key, value in world.shared.items():
         if value is not None and isinstance(key, str):
             found.add(('owns', 'thread %d' % value, 'cancel lock' if key == CANCEL_LOCK else key))
@@ -169,8 +170,12 @@ class Run:
         """The machine behind each event, one after another, by the replies."""
         world = World(read_set(self.listing), value_of(self.text.split()[1]))
         told = answer(self.program, 'tell', self.set, self.by, '--unchecked')[0].partition('\naudit\n')[0]
-        self.told = [line.split(None, 1)[1] for line in told.splitlines()]
+        self.told, self.waiting = [line.split(None, 1)[1] for line in told.splitlines()], set()
         for line, words in zip(self.told, self.events):
+            if words[0] != 'interrupt':
+                self.waiting.discard(value_of(words[1]))
+            if line.startswith('waited'):
+                self.waiting.add(value_of(words[1]))
             if line.split()[0] not in ('waited', 'idle', 'refused', 'bug', 'wrong'):
                 world.step(value_of(words[1])) if words[0] == 'step' else world.begin(*words)
             yield world
@@ -188,7 +193,7 @@ def comes_again(told, passed, repeat, first, last):
 
 def faults_in(run, picture, is_accepted, counts):
     """What is wrong with a picture of a run."""
-    worlds, before, lines, passed = run.worlds(), [{}], {}, []
+    worlds, lines, passed = run.worlds(), {}, []
     facts, last = [World(read_set(run.listing), value_of(run.text.split()[1])).facts()], -1
     for row in picture.rows:
         first, last = last, last + row.folded + (row.number is not None)
@@ -207,8 +212,9 @@ def faults_in(run, picture, is_accepted, counts):
         counts['lines'] += len(lines)
         if lines != held:
             yield 'at event %d: lines %s, where %s hold' % (last, lines, held)
-        if picture.lasting_at(row.y) != lasting_in(world):
-            yield 'at event %d: lasts %s' % (last, sorted(map(str, picture.lasting_at(row.y) ^ lasting_in(world))))
+        strange = picture.lasting_at(row.y) ^ lasting_in(world, run.waiting)
+        if strange:
+            yield 'at event %d: lasts %s' % (last, sorted(map(str, strange)))
         if row.repeat:
             counts['repeats'] += 1
             if facts[first + 1] != facts[last + 1]:
