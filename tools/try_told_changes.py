@@ -345,4 +345,5 @@ def main():
     print('%d runs of %d events on %d sets, %d wrong' % (given.runs, events, len(sets), wrong))
     return 1 if wrong else 0
 
-sys.exit(main())
+if __name__ == '__main__':
+    sys.exit(main())

@@ -1,22 +1,28 @@
 //! A run as it is drawn: rows, and what goes on in the lanes from row to row.
 
-use crate::follow::{Hold, Stay, calls_cancel_routine, goes_to, stay_elsewhere, stay_with, top_of};
+use crate::fold::{Tail, repeated};
+use crate::hold::{Hold, Stay, stay_of};
 use crate::interest::is_of_interest;
 use crate::lane::{Lane, Post, Span, State, lanes_of};
-use crate::rows::{add_place, add_words};
+use crate::lock::{NamedLock, is_same, lock_of, owns};
+use crate::row::{Row, Spot};
 use crate::sign::{Sign, sign_of};
+use crate::words::{add_place, add_words};
 use checked::Checked;
-use model::event::{Event, Lock, OfDevice, Reply};
+use model::event::{Event, Lock, Reply};
 use model::instr::Instr;
-use model::limits::SPIN_LOCKS;
 use model::view::FrameView;
 use std::alloc::{AllocError, Global};
+use tell_holders::Rights;
 use tell_uses::acting::Acting;
 use tell_uses::standing::thread_of;
 use tell_words::{Book, Moment};
 
-/// Events that are drawn, at most. The last of them is kept for what stops the run.
+/// Rows that are drawn, at most. The last of them is kept for what stops the run.
 pub const MOST_ROWS: usize = 500;
+
+/// Events of which a row is made, at most, with those that repeat the rows before them.
+const MOST_MADE: u64 = 20_000;
 
 /// Where a packet's line is, and what holds the packet.
 #[derive(Clone, Copy)]
@@ -32,27 +38,6 @@ pub struct Move {
     pub packet: usize,
     pub row: usize,
     pub to: Option<Stand>,
-}
-
-/// Where a sign stands: on the line in a track of a lane, or at the lane's left.
-#[derive(Clone, Copy)]
-pub struct Spot {
-    pub lane: usize,
-    pub track: Option<usize>,
-}
-
-/// The row of an event.
-#[derive(Drop)]
-pub struct Row {
-    pub number: u64,
-    /// How many events are folded between it and the row before.
-    pub folded: u64,
-    /// The lane of what acts.
-    pub acts: Option<usize>,
-    pub sign: Sign,
-    pub spot: Option<Spot>,
-    pub place: String,
-    pub words: String,
 }
 
 /// An event, as it is seen.
@@ -75,15 +60,23 @@ pub struct Drawing {
     pub rows: Vec<Row>,
     pub moves: Vec<Move>,
     pub spans: Vec<Span>,
+    /// The locks that were owned.
+    pub locks: Vec<NamedLock>,
+    /// Who holds packets by right, where the set is accepted.
+    rights: Option<Rights>,
     /// Where the lines of packets are, by the packets' numbers.
     stands: Vec<Option<Stand>>,
     /// Which threads wait.
     waiting: Vec<bool>,
     /// How many events there were.
     pub events: u64,
-    /// How many are folded behind the last row.
+    /// How many rows were made.
+    made: u64,
+    /// How many events are folded behind the last row.
     pub folded: u64,
-    /// How many would have been drawn, had there been room.
+    /// Behind which row there was no room, if there was none.
+    gap: Option<usize>,
+    /// How many events would have been drawn, had there been room.
     pub left_out: u64,
 }
 
@@ -102,10 +95,14 @@ impl Drawing {
             rows: Vec::new(alloc),
             moves: Vec::new(alloc),
             spans: Vec::new(alloc),
+            locks: Vec::new(alloc),
+            rights: Rights::of(alloc, machine.set())?,
             stands: Vec::new(alloc),
             waiting: vec![in alloc; false; threads]?,
             events: 0,
+            made: 0,
             folded: 0,
+            gap: None,
             left_out: 0,
         })
     }
@@ -139,34 +136,49 @@ impl Drawing {
             return Ok(());
         }
         if !self.has_room(reply) {
-            self.folded = self.folded.saturating_add(1);
-            self.left_out = self.left_out.saturating_add(1);
+            self.leave_out();
             return Ok(());
         }
         let about = packet_of(moment, reply);
         let stood = self.stand_of(about);
-        if self.left_out == 0 {
+        if self.gap.is_none() {
             self.follow(seen)?;
-            self.note_states(seen)?;
+            self.note_states(book, seen)?;
         }
         let stands = match self.stand_of(about) {
             Some(stand) => Some(stand),
             None => stood,
         };
-        self.add_row(book, number, seen, stands)
+        self.add_row(book, number, seen, stands)?;
+        self.fold_rows()
     }
 
     /// Whether a row stands behind the events that there was no room for: that of what stops the
     /// run.
     pub fn is_behind_gap(&self, row: usize) -> bool {
-        self.left_out > 0 && row == MOST_ROWS - 1
+        self.gap == Some(row)
+    }
+
+    /// How many events have a row of their own.
+    pub fn drawn(&self) -> usize {
+        self.rows.iter().filter(|row| row.repeat.is_none()).count()
     }
 
     /// Whether an event of interest is drawn: as long as there is room, and what stops the run in
     /// any case.
     fn has_room(&self, reply: &Reply) -> bool {
         let stops = matches!(*reply, Reply::Bug(_) | Reply::Wrong(_));
-        self.rows.len() < MOST_ROWS && (stops || self.rows.len() < MOST_ROWS - 1)
+        let room = self.rows.len() < MOST_ROWS - 1 && self.made < MOST_MADE;
+        self.rows.len() < MOST_ROWS && (stops || self.gap.is_none() && room)
+    }
+
+    /// Notes an event of interest that there is no room for.
+    fn leave_out(&mut self) {
+        if self.gap.is_none() {
+            self.gap = Some(self.rows.len());
+        }
+        self.folded = self.folded.saturating_add(1);
+        self.left_out = self.left_out.saturating_add(1);
     }
 
     /// Notes whether the thread of an event waits after it, and answers whether it waited before.
@@ -215,9 +227,87 @@ impl Drawing {
             spot: spot_of(sign, acts, stand),
             place,
             words,
+            repeat: None,
         })?;
+        self.made = self.made.saturating_add(1);
         self.folded = 0;
         Ok(())
+    }
+
+    /// Folds the last rows, if they repeat the rows before them with nothing changed in between.
+    fn fold_rows(&mut self) -> Result<(), AllocError> {
+        match repeated(self.rows.as_slice()) {
+            Some(tail) if self.is_steady(tail.start) => {
+                self.forget_states(tail.start);
+                self.fold(tail)
+            }
+            _ => Ok(()),
+        }
+    }
+
+    /// Whether no packet went anywhere from a row on, and what lasts is what lasted before it.
+    fn is_steady(&self, row: usize) -> bool {
+        let stays = match self.moves.last() {
+            Some(step) => step.row < row,
+            None => true,
+        };
+        let before = self.spans.iter().filter(|span| span.lasts_into(row));
+        let now = self.spans.iter().filter(|span| span.to.is_none());
+        stays
+            && before.count() == now.count()
+            && self
+                .spans
+                .iter()
+                .filter(|span| span.lasts_into(row))
+                .all(|span| self.lasting(span.lane, span.state).is_some())
+    }
+
+    /// Forgets what began or ended from a row on.
+    fn forget_states(&mut self, row: usize) {
+        let kept = self.spans.iter().filter(|span| span.from < row).count();
+        self.spans.truncate(kept);
+        for span in self.spans.iter_mut() {
+            if span.lasts_into(row) {
+                span.to = None;
+            }
+        }
+    }
+
+    /// Folds rows into the one before them that stands for as many, or into one of their own.
+    fn fold(&mut self, tail: Tail) -> Result<(), AllocError> {
+        let number = match self.rows.get(tail.start) {
+            Some(row) => row.number,
+            None => 0,
+        };
+        let folded = self.take_rows(tail.start);
+        if tail.repeat.times == 1 {
+            if let Some(row) = self.rows.last_mut() {
+                row.fold_more(folded);
+            }
+            return Ok(());
+        }
+        self.rows.push(Row {
+            number,
+            folded,
+            acts: None,
+            sign: Sign::Acts,
+            spot: None,
+            place: String::new(self.alloc),
+            words: String::new(self.alloc),
+            repeat: Some(tail.repeat),
+        })?;
+        Ok(())
+    }
+
+    /// Takes the rows from one on, and answers how many events they stand for.
+    fn take_rows(&mut self, row: usize) -> u64 {
+        let mut events = 0u64;
+        for _row in row..self.rows.len() {
+            if let Some(row) = self.rows.pop() {
+                events = events.saturating_add(row.events());
+            }
+        }
+        events
     }
 
     /// Adds the packets that nobody has any more from the next row on.
@@ -241,100 +331,62 @@ impl Drawing {
         *self.stands.get(place)?
     }
 
-    /// Follows the packets that an event moves.
+    /// Follows the packets that an event moves: the one that it is about, and of those that threads
+    /// have, the ones whose place it takes away.
     fn follow(&mut self, seen: Seen<'_>) -> Result<(), AllocError> {
-        match (*seen.reply, *seen.event) {
-            (Reply::Started(n), Event::Issue { thread, .. }) => {
+        match *seen.reply {
+            Reply::Started(n) => {
                 if n == self.stands.len() as u64 {
                     self.stands.push(None)?;
                 }
-                self.go(n, Stay::at(Post::Thread(thread)))
+                self.settle(seen.machine, n)?;
             }
-            (Reply::Started(n), Event::StartIo { thread, .. }) => {
-                self.go(n, Stay::at(Post::Thread(thread)))
-            }
-            (Reply::Topped { packet, .. }, _) => self.end(packet),
-            (Reply::Stepped | Reply::Finished, Event::Step { thread }) => {
-                match &seen.moment.acting {
-                    Some(acting) => self.follow_step(seen.machine, thread, acting),
-                    None => Ok(()),
+            Reply::Topped { packet, .. } => self.end(packet)?,
+            _ => {
+                if let Some(
+                    Acting {
+                        packet: Some(n),
+                        ..
+                    },
+                ) = seen.moment.acting
+                {
+                    self.settle(seen.machine, n)?;
                 }
             }
-            _ => Ok(()),
         }
-    }
-
-    /// Follows the packets that a step of a thread moves.
-    fn follow_step(
-        &mut self,
-        machine: &Checked,
-        thread: u8,
-        acting: &Acting,
-    ) -> Result<(), AllocError> {
-        if let Some(n) = acting.packet {
-            self.follow_packet(machine, thread, acting, n)?;
-        }
-        if matches!(acting.instruction, Some(Instr::Ret(_))) {
-            self.follow_rest(machine, thread)?;
+        if self.rights.is_none() || is_return(seen.moment) {
+            self.follow_rest(seen.machine)?;
         }
         Ok(())
     }
 
-    /// Follows the packet that a step of a thread is about.
-    fn follow_packet(
-        &mut self,
-        machine: &Checked,
-        thread: u8,
-        acting: &Acting,
-        n: u64,
-    ) -> Result<(), AllocError> {
-        if calls_cancel_routine(machine, thread, acting.frame) && !self.is_listed(n) {
-            return self.go(n, Stay::at(Post::Thread(thread)));
-        }
-        match goes_to(machine, thread, acting, n) {
-            Some(stay) => self.go(n, stay),
-            None => Ok(()),
-        }
-    }
-
-    /// Whether a packet's line is in the lane of a list.
-    fn is_listed(&self, n: u64) -> bool {
-        match self.stand_of(Some(n)) {
-            Some(stand) => matches!(stand.hold, Hold::Queue | Hold::Start | Hold::Slot),
-            None => false,
-        }
-    }
-
-    /// Follows the packets that were with a thread, of which a routine has returned.
-    fn follow_rest(&mut self, machine: &Checked, thread: u8) -> Result<(), AllocError> {
-        let lane = self.lane_of(Post::Thread(thread));
+    /// Follows the packets that threads have. In a run of an accepted set a place with a right is
+    /// taken away only by a step about its packet, or with the routine that returns. Without rights
+    /// any may have been taken away since the last row.
+    fn follow_rest(&mut self, machine: &Checked) -> Result<(), AllocError> {
         for place in 0..self.stands.len() {
-            self.follow_one(machine, thread, lane, place as u64)?;
-        }
-        Ok(())
-    }
-
-    /// Follows a packet, if it was with a thread of which a routine has returned.
-    fn follow_one(
-        &mut self,
-        machine: &Checked,
-        thread: u8,
-        lane: Option<usize>,
-        n: u64,
-    ) -> Result<(), AllocError> {
-        let Some(stand) = self.stand_of(Some(n)) else {
-            return Ok(());
-        };
-        if lane != Some(stand.lane) {
-            return Ok(());
-        }
-        match stay_with(machine, thread, n) {
-            Some(stay) => self.go(n, stay),
-            None => {
-                let stay = stay_elsewhere(self.alloc, machine, n)?;
-                self.go(n, stay)
+            if self.is_with_thread(place) {
+                self.settle(machine, place as u64)?;
             }
         }
+        Ok(())
+    }
+
+    /// Whether a packet's line is in the lane of a thread: these stand first.
+    fn is_with_thread(&self, packet: usize) -> bool {
+        match self.stands.get(packet) {
+            Some(Some(stand)) => stand.lane < self.threads,
+            _ => false,
+        }
+    }
+
+    /// The line of a packet goes to what holds it in the next row, if it lives.
+    fn settle(&mut self, machine: &Checked, n: u64) -> Result<(), AllocError> {
+        if machine.shared().live_packet(n).is_none() {
+            return Ok(());
+        }
+        let stay = stay_of(self.alloc, &self.rights, machine, n)?;
+        self.go(n, stay)
     }
 
     /// The line of a packet goes somewhere in the next row, unless it is there.
@@ -410,13 +462,13 @@ impl Drawing {
     }
 
     /// Notes what lasts in the lanes from the next row on.
-    fn note_states(&mut self, seen: Seen<'_>) -> Result<(), AllocError> {
+    fn note_states(&mut self, book: &Book<'_>, seen: Seen<'_>) -> Result<(), AllocError> {
         if let Some(thread) = thread_of(seen.event) {
             if let Some(lane) = self.lane_of(Post::Thread(thread)) {
                 let waits = matches!(*seen.reply, Reply::Waited);
                 self.turn(lane, State::Busy, seen.top.is_some())?;
                 self.turn(lane, State::Waits, waits)?;
-                self.turn(lane, State::Owns, owns_any(seen.machine, thread))?;
+                self.note_lock(book, seen, thread, lane)?;
             }
         }
         if let Event::Interrupt { device } | Event::Dpc { device, .. } = *seen.event {
@@ -428,13 +480,57 @@ impl Drawing {
         Ok(())
     }
 
+    /// Notes whether a thread owns the lock from the next row on that its step is about.
+    fn note_lock(
+        &mut self,
+        book: &Book<'_>,
+        seen: Seen<'_>,
+        thread: u8,
+        lane: usize,
+    ) -> Result<(), AllocError> {
+        let Some(acting) = &seen.moment.acting else {
+            return Ok(());
+        };
+        let Some(lock) = lock_of(acting) else {
+            return Ok(());
+        };
+        let owned = owns(seen.machine, thread, lock);
+        let number = self.number_of_lock(book, lock)?;
+        if owned {
+            if let Some(lane) = self.lanes.get_mut(lane) {
+                lane.add_bar(number)?;
+            }
+        }
+        self.turn(lane, State::Owns(number), owned)
+    }
+
+    /// The place of a lock among those that were owned.
+    fn number_of_lock(&mut self, book: &Book<'_>, lock: Lock) -> Result<usize, AllocError> {
+        let known = self
+            .locks
+            .iter()
+            .position(|named| is_same(named.lock, lock));
+        match known {
+            Some(number) => Ok(number),
+            None => {
+                let number = self.locks.len();
+                self.locks.push(NamedLock::of(self.alloc, book, lock)?)?;
+                Ok(number)
+            }
+        }
+    }
+
+    /// The place of a state of a lane that lasts, if it does.
+    fn lasting(&self, lane: usize, state: State) -> Option<usize> {
+        self.spans.iter().position(|span| span.lane == lane
+            && span.state == state
+            && span.to.is_none())
+    }
+
     /// A state of a lane begins or ends in the next row, unless it is so already.
     fn turn(&mut self, lane: usize, state: State, on: bool) -> Result<(), AllocError> {
         let row = self.rows.len();
-        let lasts = self.spans.iter().position(|span| span.lane == lane
-            && span.state == state
-            && span.to.is_none());
-        match lasts {
+        match self.lasting(lane, state) {
             Some(place) if !on => {
                 if let Some(span) = self.spans.get_mut(place) {
                     span.to = Some(row);
@@ -468,7 +564,18 @@ fn is_lost(to: Option<Stand>) -> bool {
 
 /// The top frame of an event's thread.
 fn top_after(machine: &Checked, event: &Event) -> Option<FrameView> {
-    top_of(machine, thread_of(event)?)
+    machine.thread(thread_of(event)?)?.top
+}
+
+/// Whether a routine returns next.
+fn is_return(moment: &Moment) -> bool {
+    matches!(
+        moment.acting,
+        Some(Acting {
+            instruction: Some(Instr::Ret(_)),
+            ..
+        })
+    )
 }
 
 /// The packet that an event is about, if it is one of a frame.
@@ -506,23 +613,4 @@ fn spot_of(sign: Sign, acts: Option<usize>, stand: Option<Stand>) -> Option<Spot
             None => None,
         },
     }
-}
-
-/// Whether a thread owns a lock.
-fn owns(machine: &Checked, thread: u8, lock: Lock) -> bool {
-    matches!(machine.shared().owner(lock), Some(Some(owner)) if owner == thread)
-}
-
-/// Whether a thread owns a spin lock of a device.
-fn owns_of(machine: &Checked, thread: u8, device: u8) -> bool {
-    (0..SPIN_LOCKS as u8).any(|number| {
-        owns(machine, thread, Lock::Spin(OfDevice { device, number }))
-    })
-}
-
-/// Whether a thread owns any lock.
-fn owns_any(machine: &Checked, thread: u8) -> bool {
-    let devices = machine.set().devices().len().min(255) as u8;
-    owns(machine, thread, Lock::SystemCancel)
-        || (0..devices).any(|device| owns_of(machine, thread, device))
 }

@@ -28,8 +28,8 @@ pub enum State {
     Busy,
     /// It waits for a lock.
     Waits,
-    /// It owns a lock.
-    Owns,
+    /// It owns a lock, by its place among those of the picture.
+    Owns(usize),
     /// The DPC of the device is queued.
     Queued,
 }
@@ -44,6 +44,17 @@ pub struct Span {
     pub to: Option<usize>,
 }
 
+impl Span {
+    /// Whether it began before a row, and lasts up to it at least.
+    pub(crate) fn lasts_into(&self, row: usize) -> bool {
+        let lasts = match self.to {
+            Some(end) => end >= row,
+            None => true,
+        };
+        self.from < row && lasts
+    }
+}
+
 /// A lane.
 #[derive(Drop)]
 pub struct Lane {
@@ -53,6 +64,8 @@ pub struct Lane {
     tracks: Vec<u32>,
     /// Whether packets ever shared the last one.
     crowded: bool,
+    /// The locks that have a bar in it, by their places among those of the picture.
+    bars: Vec<usize>,
 }
 
 impl Lane {
@@ -64,6 +77,19 @@ impl Lane {
     /// Whether packets ever shared its last track.
     pub fn is_crowded(&self) -> bool {
         self.crowded
+    }
+
+    /// The locks that have a bar in it, from left to right.
+    pub fn bars(&self) -> &[usize] {
+        self.bars.as_slice()
+    }
+
+    /// Gives a lock a bar in it, unless it has one.
+    pub(crate) fn add_bar(&mut self, lock: usize) -> Result<(), AllocError> {
+        if !self.bars.contains(&lock) {
+            self.bars.push(lock)?;
+        }
+        Ok(())
     }
 
     /// Puts a packet into the first free track, and answers which that is. Where none is free the
@@ -107,6 +133,7 @@ fn add_lane(
         name,
         tracks: Vec::new(alloc),
         crowded: false,
+        bars: Vec::new(alloc),
     })?;
     Ok(())
 }

@@ -2,8 +2,10 @@
 
 use crate::lines::count_lines;
 use crate::svg::{Point, at};
-use draw_lanes::drawing::{Drawing, Spot};
+use draw_lanes::drawing::Drawing;
 use draw_lanes::lane::{Lane, Post};
+use draw_lanes::lock::NamedLock;
+use draw_lanes::row::Spot;
 use std::alloc::AllocError;
 
 /// The margin round the picture.
@@ -16,6 +18,10 @@ pub(crate) const LINE: u32 = 12;
 const ROOM: u32 = 7;
 /// From one track of a lane to the next.
 const TRACK: u32 = 22;
+/// From one bar of a lock to the next, and the width of a letter of its name.
+const BAR: u32 = 6;
+
+const SMALL_LETTER: u32 = 5;
 /// What a lane has at the left of its first track: of a thread, and else.
 const LEFT: u32 = 20;
 
@@ -85,7 +91,8 @@ impl Layout {
         let mut left = self.folds.saturating_add(8);
         for lane in drawing.lanes.iter() {
             self.lefts.push(left)?;
-            left = left.saturating_add(width_of(lane));
+            let locks = locks_width(lane, drawing.locks.as_slice());
+            left = left.saturating_add(width_of(lane)).saturating_add(locks);
         }
         self.lefts.push(left)?;
         self.place = left.saturating_add(10);
@@ -179,6 +186,16 @@ impl Layout {
             .saturating_add(tracks_width(track))
     }
 
+    /// Where the bar of a lock is in the lane of a thread: behind the tracks.
+    pub(crate) fn bar(&self, lanes: &[Lane], lane: usize, bar: usize) -> u32 {
+        let tracks = match lanes.get(lane) {
+            Some(lane) => lane.tracks(),
+            None => 0,
+        };
+        self.track(lanes, lane, tracks)
+            .saturating_add(bars_width(bar))
+    }
+
     /// Where a sign stands in a row.
     pub(crate) fn spot(&self, lanes: &[Lane], row: usize, spot: Spot) -> Point {
         let x = match spot.track {
@@ -197,6 +214,22 @@ fn width_of_letters(letters: u32) -> u32 {
 /// The width of so many tracks.
 fn tracks_width(tracks: usize) -> u32 {
     (tracks.min(1_000) as u32) * TRACK
+}
+
+/// The width of so many bars of locks.
+fn bars_width(bars: usize) -> u32 {
+    (bars.min(1_000) as u32) * BAR
+}
+
+/// The width of the bars of a lane's locks and of their names.
+fn locks_width(lane: &Lane, locks: &[NamedLock]) -> u32 {
+    let mut longest = 0;
+    for lock in lane.bars() {
+        if let Some(named) = locks.get(*lock) {
+            longest = longest.max(named.name.len());
+        }
+    }
+    bars_width(lane.bars().len()).saturating_add((longest.min(LONG) as u32) * SMALL_LETTER)
 }
 
 /// The width of a lane: that of its tracks, and what is at their left and right.

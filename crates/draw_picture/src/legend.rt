@@ -4,7 +4,7 @@ use crate::layout::MARGIN;
 use crate::picture::add_sign;
 use crate::style::{class_of_hold, class_of_state};
 use crate::svg::{Point, add_line, add_rectangle, add_shape, add_text, at};
-use draw_lanes::follow::Hold;
+use draw_lanes::hold::Hold;
 use draw_lanes::lane::State;
 use draw_lanes::sign::Sign;
 use std::alloc::AllocError;
@@ -48,7 +48,7 @@ fn item_of(number: u32) -> (Sample, &'static str) {
         7 => (Sample::Sign(Sign::TopsOut), "tops out"),
         8 => (Sample::Lasts(State::Busy), "thread with frames"),
         9 => (Sample::Lasts(State::Waits), "waits for a lock"),
-        10 => (Sample::Lasts(State::Owns), "owns a lock"),
+        10 => (Sample::Lasts(State::Owns(0)), "owns the lock named there"),
         11 => (Sample::Lasts(State::Queued), "the DPC is queued"),
         12 => (Sample::Sign(Sign::Acquire), "lock acquired"),
         13 => (Sample::Sign(Sign::Release), "lock released"),
@@ -95,7 +95,7 @@ fn add_sample(words: &mut String, sample: Sample, corner: Point) -> Result<(), A
             let corner = at(x.saturating_add(4), corner.y.saturating_add(1));
             let width = match state {
                 State::Busy | State::Waits => 26,
-                State::Owns => 4,
+                State::Owns(_) => 4,
                 State::Queued => 6,
             };
             add_rectangle(words, class_of_state(state), corner, width, 12)

@@ -5,14 +5,15 @@ use crate::legend::{add_legend, height_of_legend};
 use crate::lines::{Lines, MOST_LINES};
 use crate::style::{STYLE, class_of_hold, class_of_state};
 use crate::svg::{Point, add_circle, add_line, add_rectangle, add_shape, add_text, add_upward, at};
-use draw_lanes::drawing::{Drawing, MOST_ROWS, Move, Row, Stand};
+use draw_lanes::drawing::{Drawing, MOST_ROWS, Move, Stand};
 use draw_lanes::lane::{Lane, Post, Span, State, TRACKS};
+use draw_lanes::row::{Repeat, Row};
 use draw_lanes::sign::Sign;
 use std::alloc::AllocError;
 
 /// The second line of what is said at the top of the events that are folded.
-const FOLDED: &[u8] = b"go on with a completion or a wait, or find nothing to do. \
-\"+3\" at a row says how many before it.";
+const FOLDED: &[u8] = b"go on with a completion or a wait, find nothing to do, or repeat rows. \
+\"+3\" at a row says how many.";
 
 /// Where a packet's line begins that is drawn next.
 #[derive(Clone, Copy)]
@@ -96,7 +97,7 @@ fn add_head(words: &mut String, drawing: &Drawing, layout: &Layout) -> Result<()
     let mut title = String::new(drawing.alloc);
     add_title(&mut title, drawing)?;
     add_text(words, "title", at(MARGIN, 26), title.as_bytes())?;
-    let drawn = drawing.rows.len();
+    let drawn = drawing.drawn();
     let folded = drawing.events.saturating_sub(drawn as u64);
     let mut note = String::new(drawing.alloc);
     write!(
@@ -130,7 +131,7 @@ fn add_spans(
 ) -> Result<(), AllocError> {
     for span in drawing.spans.iter() {
         if matches!(span.state, State::Busy) == busy {
-            add_span(words, layout, *span)?;
+            add_span(words, drawing, layout, *span)?;
         }
     }
     Ok(())
@@ -327,7 +328,12 @@ fn add_lane(
 }
 
 /// Adds what lasts in a lane.
-fn add_span(words: &mut String, layout: &Layout, span: Span) -> Result<(), AllocError> {
+fn add_span(
+    words: &mut String,
+    drawing: &Drawing,
+    layout: &Layout,
+    span: Span,
+) -> Result<(), AllocError> {
     let top = layout.middle(span.from);
     let end = match span.to {
         Some(row) => layout.middle(row),
@@ -335,10 +341,20 @@ fn add_span(words: &mut String, layout: &Layout, span: Span) -> Result<(), Alloc
     };
     let height = end.saturating_sub(top);
     let (left, width) = (layout.left(span.lane), layout.lane_width(span.lane));
+    let lanes = drawing.lanes.as_slice();
     let (corner, width) = match span.state {
         State::Busy => (left.saturating_add(3), width.saturating_sub(6)),
-        State::Waits => (left.saturating_add(4), width.saturating_sub(12)),
-        State::Owns => (left.saturating_add(width).saturating_sub(8), 4),
+        State::Waits => {
+            let bars = layout.bar(lanes, span.lane, 0);
+            (
+                left.saturating_add(4),
+                bars.saturating_sub(left).saturating_sub(4),
+            )
+        }
+        State::Owns(lock) => (
+            layout.bar(lanes, span.lane, bar_of(lanes, span.lane, lock)),
+            4,
+        ),
         State::Queued => (left.saturating_add(7), 6),
     };
     add_rectangle(
@@ -347,7 +363,36 @@ fn add_span(words: &mut String, layout: &Layout, span: Span) -> Result<(), Alloc
         at(corner, top),
         width,
         height,
-    )
+    )?;
+    match span.state {
+        State::Owns(lock) => add_lock_name(words, drawing, layout, span, lock),
+        _ => Ok(()),
+    }
+}
+
+/// Which bar of a lane is that of a lock.
+fn bar_of(lanes: &[Lane], lane: usize, lock: usize) -> usize {
+    match lanes.get(lane) {
+        Some(lane) => lane.bars().iter().position(|bar| *bar == lock).unwrap_or(0),
+        None => 0,
+    }
+}
+
+/// Adds the name of a lock beside the begin of its bar, behind all bars of the lane.
+fn add_lock_name(
+    words: &mut String,
+    drawing: &Drawing,
+    layout: &Layout,
+    span: Span,
+    lock: usize,
+) -> Result<(), AllocError> {
+    let lanes = drawing.lanes.as_slice();
+    let (Some(lane), Some(named)) = (lanes.get(span.lane), drawing.locks.get(lock)) else {
+        return Ok(());
+    };
+    let x = layout.bar(lanes, span.lane, lane.bars().len());
+    let y = layout.middle(span.from).saturating_add(3);
+    add_text(words, "lock", at(x, y), named.name.as_bytes())
 }
 
 /// Adds a connector, with a point at its end.
@@ -401,6 +446,9 @@ fn add_row(
 ) -> Result<(), AllocError> {
     let line = layout.top(number).saturating_add(11);
     add_number(words, layout, line, row)?;
+    if let Some(repeat) = row.repeat {
+        return add_repeat(words, at(layout.words, line), repeat);
+    }
     add_text(words, "place", at(layout.place, line), row.place.as_bytes())?;
     let class = if row.sign == Sign::Stop { "bad" } else { "" };
     let mut lines = Lines::of(row.words.as_bytes());
@@ -414,14 +462,30 @@ fn add_row(
     Ok(())
 }
 
-/// Adds the number of a row, and how many events are folded before it.
-fn add_number(words: &mut String, layout: &Layout, line: u32, row: &Row) -> Result<(), AllocError> {
-    let x = layout.numbers;
+/// Adds how many rows come again, and how many times.
+fn add_repeat(words: &mut String, start: Point, repeat: Repeat) -> Result<(), AllocError> {
+    let (x, y) = (start.x, start.y);
     write!(
         words,
-        "<text class=\"end\" x=\"{x}\" y=\"{line}\">{}</text>\n",
-        row.number
+        "<text class=\"small\" x=\"{x}\" y=\"{y}\">.. the same "
     )?;
+    match repeat.rows {
+        1 => words.push_str("row")?,
+        rows => write!(words, "{rows} rows")?,
+    }
+    write!(words, " {} times more</text>\n", repeat.times)
+}
+
+/// Adds the number of a row, unless it stands for several events, and how many are folded.
+fn add_number(words: &mut String, layout: &Layout, line: u32, row: &Row) -> Result<(), AllocError> {
+    if row.repeat.is_none() {
+        let x = layout.numbers;
+        let number = row.number;
+        write!(
+            words,
+            "<text class=\"end\" x=\"{x}\" y=\"{line}\">{number}</text>\n"
+        )?;
+    }
     if row.folded > 0 {
         let x = layout.folds;
         let line = line.saturating_sub(8);

@@ -1,7 +1,7 @@
 //! What the elements of a picture look like. What differs in colour differs in its dashes, its
 //! width or its lightness too, so that it can be told apart in grey.
 
-use draw_lanes::follow::Hold;
+use draw_lanes::hold::Hold;
 use draw_lanes::lane::State;
 
 /// The style sheet, and the hatching of waits.
@@ -15,6 +15,7 @@ fill:#111}\n\
 .place{fill:#444}\n\
 .bad{fill:#a00018;font-weight:bold}\n\
 .packet{font-size:8px;font-weight:bold;fill:#000}\n\
+.lock{font-size:8px;fill:#222}\n\
 .paper{fill:#fff}\n\
 .zebra{fill:#f3f3f3}\n\
 .rule{stroke:#888;fill:none}\n\
@@ -58,7 +59,7 @@ pub(crate) fn class_of_state(state: State) -> &'static str {
     match state {
         State::Busy => "busy",
         State::Waits => "waits",
-        State::Owns => "owns",
+        State::Owns(_) => "owns",
         State::Queued => "queued",
     }
 }

@@ -1,0 +1,92 @@
+//! The locks of a picture.
+
+use checked::Checked;
+use model::event::{Lock, OfDevice};
+use model::instr::{Instr, SpinLock};
+use model::view::FrameView;
+use std::alloc::{AllocError, Global};
+use tell_uses::acting::Acting;
+use tell_words::Book;
+
+/// Letters of a device's name in that of a lock, at most, and so many of a longer one.
+const LONG: usize = 12;
+
+const CUT: usize = 10;
+
+/// A lock that was owned, and what it is called beside a bar.
+#[derive(Drop)]
+pub struct NamedLock {
+    pub(crate) lock: Lock,
+    pub name: String,
+}
+
+impl NamedLock {
+    /// A lock with its name.
+    ///
+    /// # Errors
+    ///
+    /// When memory runs out.
+    pub(crate) fn of(alloc: Global, book: &Book<'_>, lock: Lock) -> Result<NamedLock, AllocError> {
+        let mut name = String::new(alloc);
+        match lock {
+            Lock::SystemCancel => name.push_str("cancel lock")?,
+            Lock::Spin(OfDevice { device, number }) => {
+                add_device(alloc, &mut name, book, device)?;
+                write!(name, ".l{number}")?;
+            }
+        }
+        Ok(NamedLock { lock, name })
+    }
+}
+
+/// Adds the name of a device, a long one cut.
+fn add_device(
+    alloc: Global,
+    words: &mut String,
+    book: &Book<'_>,
+    device: u8,
+) -> Result<(), AllocError> {
+    let mut name = String::new(alloc);
+    book.add_device(&mut name, device)?;
+    match name.as_str().get(..CUT) {
+        Some(start) if name.len() > LONG => write!(words, "{start}.."),
+        _ => words.push_str(name.as_str()),
+    }
+}
+
+/// The lock that a step of a frame acquires or releases, if it does.
+pub(crate) fn lock_of(acting: &Acting) -> Option<Lock> {
+    match acting.frame {
+        FrameView::Walk(_) => None,
+        FrameView::Cancel(_) => Some(Lock::SystemCancel),
+        FrameView::Routine { device, .. } => match acting.instruction {
+            Some(Instr::Acquire(lock) | Instr::Release(lock)) => Some(spin(device, lock)),
+            Some(Instr::AcquireCancel | Instr::ReleaseCancel) => Some(Lock::SystemCancel),
+            _ => None,
+        },
+    }
+}
+
+/// A spin lock of a device.
+fn spin(device: u8, lock: SpinLock) -> Lock {
+    Lock::Spin(OfDevice {
+        device,
+        number: lock.index().min(255) as u8,
+    })
+}
+
+/// Whether two locks are the same.
+pub(crate) fn is_same(one: Lock, other: Lock) -> bool {
+    match (one, other) {
+        (Lock::SystemCancel, Lock::SystemCancel) => true,
+        (Lock::Spin(one), Lock::Spin(other)) => {
+            one.device == other.device && one.number == other.number
+        }
+        _ => false,
+    }
+}
+
+/// Whether a thread owns a lock.
+pub(crate) fn owns(machine: &Checked, thread: u8, lock: Lock) -> bool {
+    matches!(machine.shared().owner(lock), Some(Some(owner)) if owner == thread)
+}
