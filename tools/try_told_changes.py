@@ -4,14 +4,17 @@ gallery and crates/tests_stored/data, the refused ones among them, told by the p
 named). Half of the schedules stand beside the sets, with lines moved. The machine of tools/second_machine.py makes the same
 steps. The words on each event are read, and have to say what the worlds before and after it differ in: each change of a list, a
 slot, a cancel word, a cancel flag, a mark, a location, a lock, a busy device or a queued DPC is told, nothing else is, and what
-is said to stay as it was does. The places of the steps and the replies are compared too, up to a bug check. With --forms it
-lists how often each form of words was read. The last line counts."""
+is said to stay as it was does. The places of the steps and the replies are compared too, up to a bug check; and behind a run
+which packets its audit says are still to be cancelled. With --forms it lists how often each form of words was read. The last
+line counts."""
 import argparse, collections, os, random, re, sys, tempfile
 
 from second_machine import CANCEL_LOCK, World, read_set, value_of
 from try_random_told import TOP, answer, schedule, sets_for
 
 LINE = re.compile(r'\d+ (?:(started) \d+|(topped) \d+ 0x\w+ \d+|(stepped|finished|waited|idle|refused)) +[.|\d]+  (.*)')
+MISSED = re.compile(r"packet (\d+) is still to be cancelled: Irp->Cancel and its cancel routine of v(\d+)(?:\.(q\d)|'s (device queue)) "
+                    'are set, and no thread is in IoCancelIrp for it')
 STATUSES = {'BUSY': 'DEVICE_BUSY'}
 
 class Scene:
@@ -191,6 +194,11 @@ def fault_at(line, words, world, forms):
             return 'another reply, %s' % scene.reply()
     return fault_of(rest[len(scene.place):].strip(), before, scene, forms)
 
+def missed_in(audit):
+    """The packets that are still to be cancelled, by the lines of an audit, each with the list that has the cancel routine."""
+    said = (MISSED.fullmatch(line) for line in audit if 'IoCancelIrp' in line)
+    return [found and (int(found[1]), (int(found[2]), found[3] or found[4])) for found in said]
+
 def events_of(text):
     """The events of a schedule, one by one."""
     for line in text.splitlines()[1:]:
@@ -216,12 +224,14 @@ def split(rng, words):
 
 def wrong_of(told, text, listing, forms):
     """What is wrong with a told run, or None, and how many events were read."""
-    world, lines = World(read_set(listing), value_of(text.split()[1])), told.partition('\naudit\n')[0].splitlines()
+    world = World(read_set(listing), value_of(text.split()[1]))
+    lines, audit = (part.splitlines() for part in (told + '\naudit\n').split('\naudit\n')[:2])
     for number, (line, words) in enumerate(zip(lines, events_of(text))):
         fault = fault_at(line, words, world, forms)
         if fault:
             return '%s: %s' % (line, fault), number
-    return None, len(lines)
+    fault = None if missed_in(audit) == world.missed() else 'still to be cancelled are %s' % world.missed()
+    return fault, len(lines)
 
 def main():
     parser = argparse.ArgumentParser(description=__doc__.split(':')[0])
