@@ -104,6 +104,12 @@ class World:
                           ('info', n): p.info})
         return {key: value for key, value in found.items() if value is not None}
 
+    def missed(self):
+        """The live packets whose Irp->Cancel and cancel routine are set while no thread is in IoCancelIrp for them, with the list that
+        has the routine."""
+        cancelled = {frame.packet for stack in self.stacks for frame in stack if frame.kind not in ('routine', 'walk')}
+        return [(n, p.armer) for n, p in sorted(self.packets.items()) if p.cancel and p.armer and n not in cancelled]
+
     def enter(self, stack, device, serves, packet, by_name=False):
         driver = self.devices[device][0]
         name = serves if by_name else driver.serves.get(serves)

@@ -6,8 +6,8 @@ steps. The words on each event are read, and have to say what the worlds before 
 slot, a cancel word, a cancel flag, a mark, a location, a lock, a busy device, a queued DPC, a cell or a register of the frame
 that acts is told, nothing else is, and what is said to stay as it was does; so are the numbers and the jumps. The places of the
 steps and the replies are compared too; what a bug check is about and why, the operand that is wrong, and what the audit says
-of threads in a ring and of locks, are read against the world at the end. With --forms it lists how often each form of words
-was read. The last line counts."""
+of threads in a ring, of locks and of packets that are still to be cancelled, are read against the world at the end. With
+--forms it lists how often each form of words was read. The last line counts."""
 import argparse, collections, os, random, re, sys, tempfile
 
 from second_machine import CANCEL_LOCK, STATUSES, Ref, World, read_set, value_of
@@ -15,6 +15,8 @@ from told_stops import STOPS, audit_fault, stop_of
 from try_random_told import TOP, answer, schedule, sets_for
 
 LINE = re.compile(r'\d+ (?:(started) \d+|(topped) \d+ 0x\w+ \d+|(stepped|finished|waited|idle|refused)|(%s)) +[.|\d]+  (.*)' % STOPS)
+MISSED = re.compile(r"packet (\d+) is still to be cancelled: Irp->Cancel and its cancel routine of v(\d+)(?:\.(q\d)|'s (device queue)) "
+                    'are set, and no thread is in IoCancelIrp for it')
 
 class Scene:
     """What an event is read by: the frame that acts, its place and its instruction, and the world behind it."""
@@ -283,6 +285,11 @@ def fault_at(line, words, world, forms):
             return 'another reply, %s' % scene.reply()
     return fault_of(rest[len(scene.place):].strip(), before, scene, forms)
 
+def missed_in(audit):
+    """The packets that are still to be cancelled, by the lines of an audit, each with the list that has the cancel routine."""
+    said = (MISSED.fullmatch(line) for line in audit if 'IoCancelIrp' in line)
+    return [found and (int(found[1]), (int(found[2]), found[3] or found[4])) for found in said]
+
 def events_of(text):
     """The events of a schedule, one by one."""
     for line in text.splitlines()[1:]:
@@ -315,7 +322,10 @@ def wrong_of(told, text, listing, forms):
         if fault:
             return '%s: %s' % (line, fault), number
     scenes = [Scene(world, ['step', str(thread)]) for thread in range(len(world.stacks))]
-    return audit_fault(scenes, audit, forms), len(lines)
+    fault = audit_fault(scenes, audit, forms)
+    if not fault and missed_in(audit.splitlines()) != world.missed():
+        fault = 'still to be cancelled are %s' % world.missed()
+    return fault, len(lines)
 
 def main():
     parser = argparse.ArgumentParser(description=__doc__.split(':')[0])

@@ -1,5 +1,6 @@
 -- All that an audit finds amiss: packets that are lost, locks that are left behind, threads that wait
--- in a ring, and uses of stack locations that were returned from otherwise than they were marked.
+-- in a ring, and uses of stack locations that were returned from otherwise than they were marked; and,
+-- beside that, packets whose cancellation was missed.
 use Rattle.std.specs.Prelude.{ℕ, ◌≡◌, ◌++◌, ◌&&◌, not, zero, suc, Bool, List, [], ◌∷◌, length, nat_eq, if◌then◌else◌}
 use Rattle.model.specs.declared.limits.TheConstants.{MAX_THREADS}
 use Rattle.model.specs.declared.event.Event.{Event}
@@ -13,6 +14,7 @@ use Rattle.tell_audit.specs.declared.findings.Findings.{Findings}
 use Rattle.tell_audit.specs.declared.left.LeftLock.{LeftLock}
 use Rattle.tell_uses.specs.Ledger.{Disagreeing, LedgerState, NoneIfAccepted}
 use Rattle.tell_audit.specs.Left.{left_locks}
+use Rattle.tell_audit.specs.Missed.{missed_packets}
 use Rattle.tell_audit.specs.Naming.{lost_packets}
 use Rattle.tell_uses.specs.Pending.{disagreeing, uses_of}
 use Rattle.tell_audit.specs.Ring.{is_in_ring}
@@ -34,7 +36,8 @@ any_of lost left ringed disagreeing =
     not (nat_eq (length lost) 0 && nat_eq (length left) 0 && nat_eq (length ringed) 0
     && nat_eq (length disagreeing) 0)
 
--- something is amiss, in a world and the trace that led to it
+-- something is amiss, in a world and the trace that led to it. A cancellation that was missed is
+-- listed alone: a driver may still find Irp->Cancel set, or complete the packet
 abbrev pub has_findings : Set → World → List Entry → Bool
 has_findings set w past =
     any_of (lost_packets w) (left_locks w (length set.devices)) (ringed_threads set w)
@@ -54,6 +57,7 @@ pub record AreFindings (set : Set) (w : World) (l : LedgerState) (found : Findin
   pub lost : found.lost.items ≡ lost_packets w
   pub left : found.left.items ≡ left_locks w (length set.devices)
   pub ringed : found.ringed.items ≡ ringed_threads set w
+  pub missed : found.missed.items ≡ missed_packets w
   pub disagreeing : Disagreeing l found.disagreeing.items
   pub none_lost : IsOfAccepted set w → found.lost.items ≡ []
   pub none_left : IsOfAccepted set w → found.left.items ≡ []

@@ -1,6 +1,7 @@
 pub mod Findings
 pub mod Laws
 pub mod Left
+pub mod Missed
 pub mod Naming
 pub mod Refusal
 pub mod Ring

@@ -5,6 +5,7 @@ ghost use Rattle.tell_audit.specs.Findings.{AreFindings, any_of, ring_at, ringed
 
 use crate::laws::{accepted_runs_leave_no_lock, accepted_runs_lose_no_packet};
 use crate::left::{LeftLock, left_locks};
+use crate::missed::missed_packets;
 use crate::naming::lost_packets;
 use crate::ring::is_in_ring;
 use checked::Checked;
@@ -13,7 +14,8 @@ use std::alloc::{AllocError, Global};
 use tell_uses::ledger::Ledger;
 use tell_uses::uses::LocationUse;
 
-/// What is amiss in a machine's world, and in the run that led to it.
+/// What is amiss in a machine's world, and in the run that led to it; and which packets are still to
+/// be cancelled.
 #[derive(Drop)]
 pub struct Findings {
     /// The live packets that no place names.
@@ -22,6 +24,8 @@ pub struct Findings {
     pub left: Vec<LeftLock>,
     /// The threads that wait in a ring.
     pub ringed: Vec<u8>,
+    /// The packets whose cancellation was missed, which isn't amiss by itself.
+    pub missed: Vec<u64>,
     /// The uses of stack locations that were returned from otherwise than they were marked.
     pub disagreeing: Vec<LocationUse>,
 }
@@ -40,11 +44,13 @@ impl Findings {
         let lost = lost_packets(alloc, machine)?;
         let left = left_locks(alloc, machine)?;
         let ringed = ringed_threads(alloc, machine)?;
+        let missed = missed_packets(alloc, machine)?;
         let disagreeing = ledger.disagreeing(alloc)?;
         Ok(Findings {
             lost,
             left,
             ringed,
+            missed,
             disagreeing,
         })
     }

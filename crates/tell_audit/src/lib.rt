@@ -1,11 +1,12 @@
 //! What a run has left: locks that idle threads own, threads that wait in a ring, packets that no
-//! place names, and why events were refused. Each is read from the machine that ran, and is exactly
-//! what a definition over its world says.
+//! place names or whose cancellation was missed, and why events were refused. Each is read from the
+//! machine that ran, and is exactly what a definition over its world says.
 #![tactic(auto)]
 
 pub mod findings;
 pub mod laws;
 pub mod left;
+pub mod missed;
 pub mod naming;
 pub mod refusal;
 pub mod ring;

@@ -7,7 +7,7 @@ use crate::book::Book;
 use crate::change::add_awaited;
 use crate::disagreement::{Place, add_note, add_place, opened_place};
 use crate::line::Happened;
-use crate::places::{add_holders, add_sites};
+use crate::places::{add_armer, add_holders, add_sites};
 use crate::words::{add_lock, add_top_out, refusal_words};
 use checked::Checked;
 use irp::Packet;
@@ -119,6 +119,7 @@ pub(crate) fn add_audit(
             add_live(alloc, words, book, machine, packet, rights)?;
         }
     }
+    add_missed(words, book, machine, found)?;
     add_findings(words, book, machine, found)?;
     add_disagreeing(words, book, audited, found, ledger)?;
     add_refused(words, audited)?;
@@ -136,6 +137,28 @@ fn add_topped(words: &mut String, audited: &Audited) -> Result<(), AllocError> {
     for top in audited.topped.iter() {
         add_top_out(words, top.packet, " topped out with ", top.status, top.info)?;
         words.push_str("\n")?;
+    }
+    Ok(())
+}
+
+/// Adds the packets that are still to be cancelled.
+fn add_missed(
+    words: &mut String,
+    book: &Book<'_>,
+    machine: &Checked,
+    found: &Findings,
+) -> Result<(), AllocError> {
+    for number in found.missed.iter() {
+        write!(
+            words,
+            "packet {number} is still to be cancelled: Irp->Cancel and its cancel routine"
+        )?;
+        let packet = machine.shared().live_packet(*number);
+        if let Some(armer) = packet.and_then(|packet| packet.armer()) {
+            words.push_str(" of ")?;
+            add_armer(words, book, machine, armer)?;
+        }
+        words.push_str(" are set, and no thread is in IoCancelIrp for it\n")?;
     }
     Ok(())
 }

@@ -93,7 +93,7 @@ fn add_site(
 }
 
 /// Adds the list that a cancel word names.
-fn add_armer(
+pub(crate) fn add_armer(
     words: &mut String,
     book: &Book<'_>,
     machine: &Checked,

@@ -7,6 +7,7 @@ returns c =
       lost = c.in_ok-lost.ensures;
       left = c.in_ok-left.ensures;
       ringed = c.in_ok-ringed.ensures;
+      missed = c.in_ok-missed.ensures;
       disagreeing = c.in_ok-disagreeing.ensures.told;
       none_lost = none_lost c.accepted_runs_lose_no_packet.ensures c.args.machine.now.set
           c.args.machine.now.world _ c.in_ok-lost.ensures;
