@@ -58,9 +58,9 @@ def wrong_of(scene):
         register = scene.operation[place]
         if kind_of(f.registers[register]) != kind:
             return '%s has no %s: it has %s' % (register, kind, had(f.registers[register]))
-    driver, lower = scene.world.devices[scene.device]
+    (driver, lower), last = scene.world.devices[scene.device], ''.join(operands[-1:])
     told = {
-        'arm': not driver.cancels.get(operands[-1] if operands else None) and 'queue %s has no cancel routine' % operands[-1],
+        'arm': not driver.cancels.get(last) and 'queue %s has no cancel routine' % last,
         'pass': lower is None and 'v%d has no device under it' % scene.device,
         'loop': len(f.loops) == 4 and 'four loops are open already',
         'end': not f.loops and 'no loop is open',

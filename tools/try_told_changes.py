@@ -10,7 +10,7 @@ of threads in a ring, of locks and of packets that are still to be cancelled, ar
 --forms it lists how often each form of words was read. The last line counts."""
 import argparse, collections, os, random, re, sys, tempfile
 
-from second_machine import CANCEL_LOCK, STATUSES, Ref, World, read_set, value_of
+from second_machine import CANCEL_LOCK, STATUSES, Ref, Status, World, read_set, value_of
 from told_stops import STOPS, audit_fault, stop_of
 from try_random_told import TOP, answer, schedule, sets_for
 
@@ -171,6 +171,11 @@ def taken(scene, n, said):
     got = {scene.register(1): lambda before, after: shown(after) == 'packet %d' % n}
     return {**said, **(got if scene.operation[0] in ('remove', 'take') else {})}
 
+def returned(scene, status, lower):
+    form = scene.operation[1:] if scene.operation[0] == 'ret' else ['']
+    value = scene.registers.get(form[-1]) if lower else Status.of(form[0])
+    return {'that return': value == 'STATUS_' + status and bool(lower) == (form[0] == 'lower')}
+
 def refused(of):
     """The words of a refusal, with what follows for packets that are issued later."""
     return lambda scene, later: {**of(scene), 'a packet': bool(later) == (scene.event[0] == 'issue')}
@@ -235,8 +240,9 @@ FORMS = {
         'that status': STATUSES.get(s.operation[2], s.operation[2]) == status},
     r"packet #: PendingReturned (is|isn't) set": lambda s, n, it: {
         ('marks', n): stays, 'so returned': s.operation[0] == 'ifpending' and s.world.packets[n].pending == (it == 'is')},
-    r'(?:STATUS_(\w+)|the status that the lower driver returned|completion goes on|STATUS_MORE_PROCESSING_REQUIRED: the packet is held)':
-        lambda s, status: {'a return': s.operation[0] == 'ret'},
+    r'STATUS_(\w+)(, which the lower driver returned)?': returned,
+    r'completion goes on': lambda s: {'that return': s.operation == ['ret', 'continue']},
+    r'STATUS_MORE_PROCESSING_REQUIRED: the packet is held': lambda s: {'that return': s.operation == ['ret', 'stop']},
     r'(r\d+) = (\d+|packet \d+|STATUS_\w+|nothing)': got,
     r'(r\d+) = # ([+-]) # = #': computed,
     r'(r\d+) = (v\d+\.[cp]\d+) = #': loaded,

@@ -209,7 +209,7 @@ impl<'a> Book<'a> {
         write!(words, " at {position}")
     }
 
-    /// Adds where a frame stands: its routine and the number of the line of its instruction, or what
+    /// Adds where a frame stands: its routine and the line of its instruction by its number, or what
     /// the I/O manager does.
     ///
     /// # Errors

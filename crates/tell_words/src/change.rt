@@ -12,6 +12,7 @@ use checked::Checked;
 use model::event::{Event, Lock, OfDevice, Reply};
 use model::instr::{Instr, Register, Return};
 use model::set::{QueueName, Sort};
+use model::status::Status;
 use model::view::{FrameView, LiveView, PacketView};
 use model::world::{Activation, CancelStep, Canceller};
 use std::alloc::AllocError;
@@ -494,15 +495,27 @@ fn add_other(
                 _ => " is idle already: no packet waits",
             })
         }
-        Instr::Ret(form) => words.push_str(match form {
-            Return::WithStatus(status) => status_name(status),
-            Return::Lower(_) => "the status that the lower driver returned",
-            Return::Continue => "completion goes on",
-            Return::Stop => "STATUS_MORE_PROCESSING_REQUIRED: the packet is held",
-            Return::Void => "",
-        }),
+        Instr::Ret(form) => add_return(words, form, scene.moment.returned),
         _ => add_numbers(words, book, scene, executed.instr),
     }
+}
+
+/// Adds what a routine returned: what a lower driver returned, where it returns that.
+fn add_return(
+    words: &mut String,
+    form: Return,
+    returned: Option<Status>,
+) -> Result<(), AllocError> {
+    if let Some(status) = returned {
+        words.push_str(status_name(status))?;
+        return words.push_str(", which the lower driver returned");
+    }
+    words.push_str(match form {
+        Return::WithStatus(status) => status_name(status),
+        Return::Continue => "completion goes on",
+        Return::Stop => "STATUS_MORE_PROCESSING_REQUIRED: the packet is held",
+        Return::Lower(_) | Return::Void => "",
+    })
 }
 
 /// Adds what registers and cells have become, and whether a routine jumps.

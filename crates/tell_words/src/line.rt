@@ -5,15 +5,19 @@ ghost use Rattle.tell_uses.specs.Acting.{acting_in};
 
 use crate::book::Book;
 use crate::columns::add_columns;
+use crate::values::{top_activation, value_at};
 use checked::Checked;
+use checked_parts::status_in;
 use model::event::{Event, Reply};
-use model::instr::Instr;
+use model::instr::{Instr, Return};
+use model::status::Status;
 use model::view::{FrameView, PacketView};
 use model::world::CancelStep;
 use std::alloc::AllocError;
 use tell_audit::refusal::{Reason, why_refused};
 use tell_uses::acting::{Acting, acting_in};
 use tell_uses::acts::UseStep;
+use tell_uses::standing::thread_of;
 
 /// Where the columns, the place and the words begin, if what stands before them is no longer.
 const COLUMNS: usize = 26;
@@ -34,6 +38,8 @@ pub struct Moment {
     pub found: Option<bool>,
     /// Why the event can't happen, if it can't.
     pub reason: Option<Reason>,
+    /// The status that a lower driver returned, where its step returns that.
+    pub returned: Option<Status>,
 }
 
 impl Moment {
@@ -44,6 +50,7 @@ impl Moment {
             packet: None,
             found: None,
             reason: None,
+            returned: None,
         }
     }
 
@@ -69,6 +76,10 @@ impl Moment {
             Some(_) => None,
             None => why_refused(machine, event),
         };
+        self.returned = match self.acting {
+            Some(acting) => lower_status(machine, event, &acting),
+            None => None,
+        };
     }
 
     /// Looks at these too, which words tell of on steps that leave a frame where it stands.
@@ -91,6 +102,14 @@ pub struct Happened {
     pub moment: Moment,
     pub step: UseStep,
     pub reply: Reply,
+}
+
+/// The status that a step returns which a lower driver returned, if it returns one.
+fn lower_status(machine: &Checked, event: &Event, acting: &Acting) -> Option<Status> {
+    let Some(Instr::Ret(Return::Lower(r))) = acting.instruction else {
+        return None;
+    };
+    status_in(value_at(r, top_activation(machine, thread_of(event)?)?))
 }
 
 /// The packet that a step is about, if words on it say how the packet was before it.

@@ -26,7 +26,7 @@ pub(crate) struct Standing {
 
 impl Standing {
     /// That of an event, if its words are such: those of a step that waits for a lock, or of a
-    /// routine's return.
+    /// routine's return, unless they name what a lower driver returned.
     pub(crate) fn of(happened: &Happened, machine: &Checked) -> Option<Standing> {
         let Event::Step { thread } = happened.event else {
             return None;
@@ -34,7 +34,8 @@ impl Standing {
         let Some(acting) = happened.moment.acting else {
             return None;
         };
-        let returns = matches!(acting.instruction, Some(Instr::Ret(_)));
+        let returns = matches!(acting.instruction, Some(Instr::Ret(_)))
+            && happened.moment.returned.is_none();
         let waits = match happened.reply {
             Reply::Waited => Some(waits_for(machine, thread)),
             Reply::Finished if returns => None,
