@@ -1,15 +1,17 @@
 #!/usr/bin/env python3
-"""try_random_pictures.py [--seed N] [--runs N] [PROGRAM]: random runs (500, if no number is given) of all sets in examples, gallery
-and crates/tests_stored/data, the refused ones among them, drawn by the program (crates/drvhost/out/drvhost, if none is named).
+"""try_random_pictures.py [--seed N] [--runs N] [--rows N] [PROGRAM]: random runs (500, if no number is given) of the sets in
+examples, gallery and crates/tests_stored/data, the refused ones among them, drawn by the program (crates/drvhost/out/drvhost, if
+none is named).
 
 A picture is read as it is seen: the lanes by their names and sides, the rows by their numbers, each packet's line from the number
-beside it on, the bars with the names of locks, the boxes of threads and of waits, the bars of DPCs, and the rows that say that others come again.
-At each row the line of each packet has to stand in the lane of its holder, as `tell` has it of the run up to that event: of an
-accepted set the place that holds it by right, of others the first place that it lists, and no line stands there where no packet
-lives. Of an accepted set that is so at each event before a row too, where the lines stand as in the row before. Bars and boxes
-are compared with the machine of tools/second_machine.py, which makes the same steps. The numbers of rows and of folded events add
-up, and where rows come again, that machine has the same in its lists, slots, words and locks behind them as before, and the told
-lines of the rows that they repeat are among those of the folded events as often as is said. The last line counts."""
+beside it on, the bars with the names of locks, the boxes of threads and of waits, the bars of DPCs, and the rows that say that
+others come again. At 25 rows of each run, or as many as are asked for, the line of each packet has to stand in the lane of its
+holder, as `tell` has it of the run up to that event: of an accepted set the place that holds it by right, of others the first place
+that it lists; and no line stands there where no packet lives. Of an accepted set that is so at each event before such a row too,
+where the lines stand as in the row before. Bars and boxes are compared with the machine of tools/second_machine.py, which makes the same steps. The numbers of rows and of folded events
+add up, and where rows come again, that machine has the same in its lists, slots, words and locks behind them as before, and the told
+lines of the rows that they repeat are among those of the folded events as often as is said. With --keep FOLDER what was found wrong
+is written there. The last line counts."""
 import argparse, os, random, re, sys, tempfile, xml.etree.ElementTree as ElementTree
 
 from second_machine import CANCEL_LOCK, World, read_set, value_of
@@ -170,7 +172,7 @@ class Run:
         """The machine behind each event, one after another, by the replies."""
         world = World(read_set(self.listing), value_of(self.text.split()[1]))
         told = answer(self.program, 'tell', self.set, self.by, '--unchecked')[0].partition('\naudit\n')[0]
-        self.told, self.waiting = [line.split(None, 1)[1] for line in told.splitlines()], set()
+        self.told, self.waiting = [' '.join(line.split()[1:]) for line in told.splitlines()], set()
         for line, words in zip(self.told, self.events):
             if words[0] != 'interrupt':
                 self.waiting.discard(value_of(words[1]))
@@ -188,11 +190,11 @@ def comes_again(told, passed, repeat, first, last):
     if len(block) != rows or None in block:
         return len(block) == rows
     lines = [told[number] for number in block]
-    counted = [line for line in lines if not re.match('waited|.* IoCompleteRequest  ', line)]
+    counted = [line for line in lines if not re.match('waited|.* IoCompleteRequest ', line)]
     return all(told[first:last].count(line) == times * lines.count(line) for line in counted)
 
-def faults_in(run, picture, is_accepted, counts):
-    """What is wrong with a picture of a run."""
+def faults_in(run, picture, is_accepted, counts, chosen):
+    """What is wrong with a picture of a run, in which the holders are compared at the rows that were chosen."""
     worlds, lines, passed = run.worlds(), {}, []
     facts, last = [World(read_set(run.listing), value_of(run.text.split()[1])).facts()], -1
     for row in picture.rows:
@@ -205,13 +207,15 @@ def faults_in(run, picture, is_accepted, counts):
             facts.append(world.facts())
         if picture.end and row.y > picture.end:
             return
-        if is_accepted and row.folded and row.repeat is None and holders(run.tell(last)) != lines:
-            yield 'before event %d: %s, where %s hold' % (last, lines, holders(run.tell(last)))
-        lines, held = picture.lines_at(row.y), holders(run.tell(last + 1))
-        counts['rows'] += 1
-        counts['lines'] += len(lines)
-        if lines != held:
-            yield 'at event %d: lines %s, where %s hold' % (last, lines, held)
+        if row in chosen:
+            if is_accepted and row.folded and row.repeat is None and holders(run.tell(last)) != lines:
+                yield 'before event %d: lines %s, where others hold' % (last, lines)
+            held = holders(run.tell(last + 1))
+            counts['rows'] += 1
+            counts['lines'] += len(held)
+            if picture.lines_at(row.y) != held:
+                yield 'at event %d: lines %s, where %s hold' % (last, picture.lines_at(row.y), held)
+        lines = picture.lines_at(row.y)
         strange = picture.lasting_at(row.y) ^ lasting_in(world, run.waiting)
         if strange:
             yield 'at event %d: lasts %s' % (last, sorted(map(str, strange)))
@@ -229,6 +233,7 @@ def main():
     parser = argparse.ArgumentParser(description=__doc__.split(':')[0])
     parser.add_argument('--seed', type=int, default=1)
     parser.add_argument('--runs', type=int, default=500)
+    parser.add_argument('--rows', type=int, default=25)
     parser.add_argument('--keep')
     parser.add_argument('program', nargs='?', default=os.path.join(TOP, 'crates/drvhost/out/drvhost'))
     given = parser.parse_args()
@@ -236,7 +241,7 @@ def main():
     sets, counts, crowded = sets_for(program, 'list'), {'rows': 0, 'lines': 0, 'repeats': 0}, 0
     with tempfile.TemporaryDirectory() as folder:
         for number in range(given.runs):
-            path, devices = sets[number % len(sets)]
+            path, devices = rng.choice(sets)
             text = (moved(rng, path) if rng.random() < 0.5 else None) or schedule(rng, max(devices, 1))
             run = Run(program, folder, answer(program, 'list', path)[0], text)
             drawn = answer(program, 'draw', run.set, run.by, '--unchecked')[0]
@@ -245,7 +250,9 @@ def main():
                 continue
             run.write(run.by + '.svg', drawn)
             is_accepted = answer(program, 'check', run.set)[1] == 0
-            faults = [*faults_in(run, Picture(drawn), is_accepted, counts), *faults_of(run.by + '.svg')]
+            picture = Picture(drawn)
+            chosen = rng.sample(picture.rows, min(given.rows, len(picture.rows)))
+            faults = [*faults_in(run, picture, is_accepted, counts, chosen), *faults_of(run.by + '.svg')]
             if faults:
                 wrong += 1
                 print('%s, run %d: %s' % (os.path.relpath(path, TOP), number, '; '.join(faults[:3])))
