@@ -22,7 +22,7 @@ CRATES = {
     'interleave_faults': ('tell', 'draw'),
     'draw_lanes': ('draw',),
 }
-TABLES = {'asm_faults/src/line_form.rt', 'asm_faults/src/operand.rt'}
+TABLES = {'asm_faults/src/line_form.rt', 'asm_faults/src/operand.rt', 'interleave_faults/src/form.rt'}
 
 # Texts that no stored run gives, and why not.
 LEFT_OUT = {
