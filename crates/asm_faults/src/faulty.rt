@@ -3,7 +3,8 @@
 use crate::scope::{Opened, Scope};
 use crate::token::Parts;
 use std::alloc::{AllocError, Global};
-use text::{Spot, add_bytes, add_excerpt, line_at};
+use text::{Spot, add_bytes, line_at};
+use text_faults::add_lines_round;
 
 /// A faulty line in its text.
 #[derive(Drop)]
@@ -33,18 +34,13 @@ impl<'a> FaultyLine<'a> {
         })
     }
 
-    /// Its bytes; none where it is behind the last line.
-    pub(crate) fn bytes(&self) -> &'a [u8] {
-        line_at(self.text, self.spot).unwrap_or(&[])
-    }
-
     /// Adds where it stands, and the lines round it.
     pub(crate) fn add_place(&self, prose: &mut String) -> Result<(), AllocError> {
         prose.push_str("\nin ")?;
         add_opened(prose, "driver", &self.scope.driver)?;
         add_opened(prose, "routine", &self.scope.routine)?;
         write!(prose, "line {}:\n", self.spot.number)?;
-        add_excerpt(prose, self.text, self.spot)
+        add_lines_round(prose, self.text, self.spot)
     }
 }
 

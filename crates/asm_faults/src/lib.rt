@@ -3,14 +3,11 @@
 //! takes what memory it needs and writes nothing itself.
 #![tactic(auto)]
 
-mod advice;
 mod faulty;
 mod form;
-mod lexing;
 mod line_form;
 mod names;
 mod naming;
-mod nearest;
 mod operand;
 mod scope;
 mod telling;

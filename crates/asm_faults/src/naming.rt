@@ -1,14 +1,14 @@
 //! Names that were given before, and names that nothing has.
 
-use crate::advice::{add_at_fault, add_expected, add_meant, add_token};
 use crate::faulty::FaultyLine;
 use crate::line_form::form_of;
 use crate::names::{Given, Thing, names_of};
-use crate::nearest::{distance, is_near};
 use std::alloc::{AllocError, Global};
 use text::class::is;
 use text::piece::Piece;
 use text::token::Tokens;
+use text_faults::advice::{add_at_fault, add_expected, add_meant, add_token};
+use text_faults::nearest::{distance, is_near};
 
 /// Names that are listed, at most.
 const LISTED: usize = 12;

@@ -2,7 +2,8 @@
 
 use model::limits::{CELLS, MAX_STACK, MAX_TURNS, REGISTERS, SPIN_LOCKS};
 use text::class::{is, is_name};
-use text::number::{Numeral, number, numbered};
+use text::number::{number, numbered};
+use text_faults::fit::Fit;
 
 /// What stands at one place behind a line's word.
 #[derive(Clone, Copy)]
@@ -26,17 +27,6 @@ pub(crate) enum Operand {
     Constant,
     Turns,
     Stack,
-}
-
-/// Whether a token is what stands there.
-#[derive(Clone, Copy)]
-pub(crate) enum Fit {
-    /// It is.
-    Fits,
-    /// It would be, if its number were in range.
-    OutOfRange,
-    /// It is something else.
-    Other,
 }
 
 impl Operand {
@@ -101,16 +91,16 @@ impl Operand {
             | Operand::LowerDevice
             | Operand::Routine
             | Operand::Queue
-            | Operand::Label => if_so(is_name(token)),
+            | Operand::Label => Fit::if_so(is_name(token)),
             Operand::Major | Operand::Sort | Operand::Status | Operand::Field | Operand::Returned =>
-                if_so(self.is_choice(token)),
-            Operand::Register => within(numbered(b'r', token), 0, REGISTERS as u64 - 1),
-            Operand::SpinLock => within(numbered(b'l', token), 0, SPIN_LOCKS as u64 - 1),
-            Operand::Cell => within(numbered(b'c', token), 0, CELLS as u64 - 1),
-            Operand::PagedCell => within(numbered(b'p', token), 0, CELLS as u64 - 1),
-            Operand::Constant => within(number(token), 0, u32::MAX as u64),
-            Operand::Turns => within(number(token), 1, MAX_TURNS as u64),
-            Operand::Stack => within(number(token), 1, MAX_STACK as u64),
+                Fit::if_so(self.is_choice(token)),
+            Operand::Register => Fit::within(numbered(b'r', token), 0, REGISTERS as u64 - 1),
+            Operand::SpinLock => Fit::within(numbered(b'l', token), 0, SPIN_LOCKS as u64 - 1),
+            Operand::Cell => Fit::within(numbered(b'c', token), 0, CELLS as u64 - 1),
+            Operand::PagedCell => Fit::within(numbered(b'p', token), 0, CELLS as u64 - 1),
+            Operand::Constant => Fit::within(number(token), 0, u32::MAX as u64),
+            Operand::Turns => Fit::within(number(token), 1, MAX_TURNS as u64),
+            Operand::Stack => Fit::within(number(token), 1, MAX_STACK as u64),
         }
     }
 }
@@ -138,16 +128,3 @@ const RETURNS: [&str; 11] = [
     "stop",
     "void",
 ];
-
-fn if_so(fits: bool) -> Fit {
-    if fits { Fit::Fits } else { Fit::Other }
-}
-
-/// Whether a token that was read as a number is within bounds.
-fn within(numeral: Numeral, least: u64, most: u64) -> Fit {
-    match numeral {
-        Numeral::Number(number) if least <= number && number <= most => Fit::Fits,
-        Numeral::Number(_) | Numeral::TooLarge => Fit::OutOfRange,
-        Numeral::Other => Fit::Other,
-    }
-}

@@ -1,13 +1,13 @@
 //! A fault of a driver text in words.
 
-use crate::advice::{add_expected, add_wrong};
 use crate::faulty::FaultyLine;
-use crate::lexing::add_lex;
 use crate::naming::{add_duplicate, add_unknown_name};
 use crate::wording::{add_out_of_range, add_unknown_word};
 use asm::{AsmFault, AsmKind};
 use std::alloc::{AllocError, Global};
 use text::class::is;
+use text_faults::advice::{add_expected, add_wrong};
+use text_faults::lexing::add_lex;
 
 /// A fault of a driver text in words: where it stands, which token is at fault, what may stand in
 /// its place, and what comes nearest. The fault is one that `asm::assemble` told of the text; of
@@ -32,7 +32,7 @@ fn add_fault(
     kind: AsmKind,
 ) -> Result<(), AllocError> {
     match kind {
-        AsmKind::Lex => add_lex(alloc, prose, line.bytes()),
+        AsmKind::Lex => add_lex(alloc, prose, line.text, line.spot),
         AsmKind::UnknownWord => add_unknown_word(prose, line),
         AsmKind::DuplicateName => add_duplicate(alloc, prose, line),
         AsmKind::UnknownName => add_unknown_name(alloc, prose, line),

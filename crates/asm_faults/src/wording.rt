@@ -1,14 +1,16 @@
 //! Lines of no form, and numbers out of their range.
 
-use crate::advice::{add_at_fault, add_expected, add_meant, add_token, add_wrong};
 use crate::faulty::FaultyLine;
 use crate::form::{Form, Place};
 use crate::line_form::form_of;
-use crate::nearest::nearest;
-use crate::operand::{Fit, Operand};
+use crate::operand::Operand;
 use crate::token::Parts;
 use std::alloc::AllocError;
 use text::class::{is, label_name};
+use text_faults::advice::{
+    add_at_fault, add_expected, add_meant, add_nearest, add_token, add_wrong,
+};
+use text_faults::fit::Fit;
 
 /// Adds why a line has no form, or stands out of its place.
 pub(crate) fn add_unknown_word(
@@ -137,18 +139,6 @@ fn add_major(prose: &mut String, token: &[u8]) -> Result<(), AllocError> {
 fn add_label(prose: &mut String, token: &[u8]) -> Result<(), AllocError> {
     match label_name(token) {
         Some(name) => add_meant(prose, name, ": where it is jumped to it has no colon"),
-        None => Ok(()),
-    }
-}
-
-/// Adds the nearest of some words, where one is near.
-pub(crate) fn add_nearest(
-    prose: &mut String,
-    token: &[u8],
-    words: &[&str],
-) -> Result<(), AllocError> {
-    match nearest(token, words) {
-        Some(word) => add_meant(prose, word.as_bytes(), ""),
         None => Ok(()),
     }
 }

@@ -190,10 +190,10 @@ ReadsScript held (Err (Text fault)) = ⊥
 ReadsScript held (Err (Image fault)) = ⊥
 ReadsScript held (Err (OfSchedule fault)) = ⊥
 
--- the fault of a text is told with some words behind its line, or memory ran out
-abbrev pub TellsFault : AsmFault → (List ℕ → Type 0) → ℕ → Type 0
-TellsFault fault Tells status =
-    ((words : List ℕ) × Tells (text_fault_line fault ++ words) × (status ≡ 2))
+-- the line of a fault is told with some words behind it, or memory ran out
+abbrev pub TellsLine : List ℕ → (List ℕ → Type 0) → ℕ → Type 0
+TellsLine line Tells status =
+    ((words : List ℕ) × Tells (line ++ words) × (status ≡ 2))
     ⊎ (Tells (codes "out of memory\n") × (status ≡ 3))
 
 -- a job has come to its end or to a fault, where these answers are right, with lines that gathered

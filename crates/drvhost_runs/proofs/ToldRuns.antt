@@ -43,7 +43,7 @@ use Rattle.drvhost_devices.specs.Ends.{HoldsRun}
 use Rattle.drvhost_devices.specs.Fault.{Goes, ReadsSchedule, ReadsSet}
 use Rattle.drvhost_runs.specs.Repeats.{awaited}
 use Rattle.tell_lines.specs.Lines.{worded_lines}
-use Rattle.drvhost_runs.specs.Told.{HasTold, LedgerGoesOn, IsRunShown, IsRunTold, IsScheduleShown, IsShownRunOf, IsTold, Tells, ToldNext, count_left, happens_again, is_left_out, left_again, past_by, replies_by, run_to_end, times_again, told_line, world_by}
+use Rattle.drvhost_runs.specs.Told.{GoesShown, HasTold, LedgerGoesOn, IsRunShown, IsRunTold, IsScheduleShown, IsShownRunOf, IsTold, Tells, ToldNext, count_left, happens_again, is_left_out, left_again, past_by, replies_by, run_to_end, times_again, told_line, world_by}
 use Rattle.drvhost_runs.proofs.Following.{counted, run_more}
 use Rattle.drvhost_devices.proofs.Writing.{keeps_same}
 
@@ -637,10 +637,10 @@ schedule_shown showing held set schedule told (text, holds, lists) right =
 -- it can't be read
 pub schedule_unread : (showing : Showing) (held : Supply) (set : Set) (fault : Fault)
     → ReadsSchedule held (Err fault) → Tells (IsShownRunOf showing held set) (Err fault)
-schedule_unread showing held set (OfSchedule fault) (text, holds, lists) =
+schedule_unread showing held set (OfSchedule fault) (text, holds, lists) = λ words.
     let P : Result Schedule ScheduleFault → Type 0 = λ s.
-    IsScheduleShown showing set s (faulty (schedule_fault_line fault)) in
-    (text, holds, subst P (sym lists) refl)
+    IsScheduleShown showing set s (faulty (schedule_fault_line fault ++ words)) in
+    (text, holds, subst P (sym lists) (words, refl))
 schedule_unread showing held set Read h = tt
 schedule_unread showing held set Memory h = tt
 schedule_unread showing held set Write h = absurd h
@@ -656,7 +656,7 @@ tells_nothing R fault is =
 pub tells_rightly : (R Q : Answer → Type 0) (told : Result Told Fault)
     → ((answer : Answer) → R answer → Q answer) → Tells R told → Tells Q told
 tells_rightly R Q (Ok told) on h = on _ h
-tells_rightly R Q (Err (OfSchedule fault)) on h = on _ h
+tells_rightly R Q (Err (OfSchedule fault)) on h = λ words. on _ (h words)
 tells_rightly R Q (Err Read) on h = h
 tells_rightly R Q (Err Memory) on h = h
 tells_rightly R Q (Err Write) on h = h
@@ -698,7 +698,7 @@ pub told_broken : (R : Answer → Type 0) (b n : Option (List ℕ)) (told : Told
 told_broken R b n told h p = (ended told.end told.text, h, p)
 
 pub untold : (R : Answer → Type 0) (b : Option (List ℕ)) (fault : Fault)
-    → Tells R (Err fault) → Goes R b b [] [] (Err fault)
+    → Tells R (Err fault) → GoesShown R b b (Err fault)
 untold R b (OfSchedule fault) h = (h, keeps_same b)
 untold R b Read h = keeps_same b
 untold R b Memory h = keeps_same b

@@ -1,6 +1,7 @@
 -- What `tell` answers: the trace of a run with words behind the reply of each event, and its audit;
 -- and what `draw` does: a picture of the run.
-use Rattle.std.specs.Prelude.{ℕ, ⊤, ◌≡◌, ◌+◌, ◌++◌, ◌||◌, Bool, true, false, if◌then◌else◌, List, [], ◌∷◌, codes, replicate, Option, None, Some, Result, Ok, Err}
+use Rattle.std.specs.Prelude.{ℕ, ⊤, ◌≡◌, ◌+◌, ◌++◌, ◌⊎◌, ◌||◌, Bool, true, false, if◌then◌else◌, List, [], ◌∷◌, codes, replicate, Option, None, Some, Result, Ok, Err}
+use Rattle.std.specs.Io.KnownBytes.{Keeps}
 use Rattle.std.specs.List.{list_any}
 use Rattle.tell_audit.specs.Findings.{has_findings}
 use Rattle.tell_uses.specs.Ledger.{LedgerState, Tells as TellsRun}
@@ -33,6 +34,7 @@ use Rattle.drvhost_devices.specs.declared.verification.Verification.{Verificatio
 use Rattle.drvhost_devices.specs.Answer.{Answer, IsTraced, ended, faulty, is_last, shown_replies}
 use Rattle.drvhost_devices.specs.Device.{Holds, Supply}
 use Rattle.drvhost_devices.specs.Ends.{IsOfSupply}
+use Rattle.drvhost_devices.specs.Fault.{Goes, TellsLine, status_of, told_of}
 
 -- a reply that only says that a step was made, or that there was nothing to do
 abbrev pub is_quiet : Reply → Bool
@@ -158,11 +160,12 @@ abbrev pub IsRunShown : Showing → Set → ℕ → List Event → Answer → Ty
 IsRunShown (InWords detail) set threads events answer = IsRunTold detail set threads events answer
 IsRunShown AsPicture set threads events answer = IsRunDrawn set threads events answer
 
--- or the fault of the schedule is told
+-- or the fault of the schedule is told, with some words behind its line
 abbrev pub IsScheduleShown : Showing → Set → Result Schedule ScheduleFault → Answer → Type 0
 IsScheduleShown showing set (Ok schedule) answer =
     IsRunShown showing set schedule.threads schedule.events answer
-IsScheduleShown showing set (Err fault) answer = answer ≡ faulty (schedule_fault_line fault)
+IsScheduleShown showing set (Err fault) answer =
+    (words : List ℕ) × (answer ≡ faulty (schedule_fault_line fault ++ words))
 
 -- what is shown of a run of a set by the schedule that a source has
 abbrev pub IsShownRunOf : Showing → Supply → Set → Answer → Type 0
@@ -185,17 +188,41 @@ abbrev pub IsDrawOf : Verification → Supply → Supply → Answer → Type 0
 IsDrawOf verification supply schedule answer =
     IsShownOf verification AsPicture supply schedule answer
 
--- a text was made, and with the way that the job ends it is a right answer; or an input is rightly
--- told as faulty, or a read failed or memory ran out
+-- a text was made, and with the way that the job ends it is a right answer; or a schedule is rightly
+-- told as faulty, whatever words stand behind its line, or a read failed or memory ran out
 abbrev pub Tells : (Answer → Type 0) → Result Told Fault → Type 0
 Tells Right (Ok told) = Right (ended told.end told.text)
-Tells Right (Err (OfSchedule fault)) = Right (faulty (schedule_fault_line fault))
+Tells Right (Err (OfSchedule fault)) =
+    (words : List ℕ) → Right (faulty (schedule_fault_line fault ++ words))
 Tells Right (Err Read) = ⊤
 Tells Right (Err Memory) = ⊤
 Tells Right (Err Write) = ⊥
 Tells Right (Err (Text fault)) = ⊥
 Tells Right (Err (Image fault)) = ⊥
 Tells Right (Err (OfScript fault)) = ⊥
+
+-- a run that is shown has come to its end or to a fault, as a job does; the line of a faulty schedule
+-- may have any words behind it
+abbrev pub GoesShown : (Answer → Type 0) → Option (List ℕ) → Option (List ℕ) → Result End Fault
+    → Type 0
+GoesShown Right before after (Err (OfSchedule fault)) =
+    ((words : List ℕ) → Right (faulty (schedule_fault_line fault ++ words)))
+    × Keeps before after
+GoesShown Right before after (Ok end) = Goes Right before after [] [] (Ok end)
+GoesShown Right before after (Err Read) = Goes Right before after [] [] (Err Read)
+GoesShown Right before after (Err Memory) = Goes Right before after [] [] (Err Memory)
+GoesShown Right before after (Err Write) = Goes Right before after [] [] (Err Write)
+GoesShown Right before after (Err (Text fault)) = Goes Right before after [] [] (Err (Text fault))
+GoesShown Right before after (Err (Image fault)) = Goes Right before after [] [] (Err (Image fault))
+GoesShown Right before after (Err (OfScript fault)) =
+    Goes Right before after [] [] (Err (OfScript fault))
+
+-- how it ends is told: as any job's end, or by the line of a faulty schedule with some words
+abbrev pub TellsShown : Result End Fault → (List ℕ → Type 0) → ℕ → Type 0
+TellsShown end Tells status =
+    (Tells (told_of end) × (status ≡ status_of end))
+    ⊎ ((fault : ScheduleFault) × (end ≡ Err (OfSchedule fault))
+    × TellsLine (schedule_fault_line fault) Tells status)
 
 -- the events of a run over so many threads were told: what they left in a machine's set and world,
 -- a ledger that tells the run up to the last of them that was told, whether that one stopped the run,

@@ -178,7 +178,7 @@ fn trace_unverified<P: Source, O: Sink>(
 }
 
 /// The schedule that the text of a source lists.
-pub(crate) fn read_schedule<P: Source>(alloc: Global, source: &mut P) -> Result<Schedule, Fault>
+fn read_schedule<P: Source>(alloc: Global, source: &mut P) -> Result<Schedule, Fault>
     requires { CanCount (P.failures source.old) }
     ensures schedule { ReadsSchedule (P.supply source.old) result }
     ensures reads { P.failures source.new ≡ P.failures source.old + reads_failed result }

@@ -1,17 +1,15 @@
 -- What `explain` answers of a file, by the verdict on its set or the fault of its text.
 use Rattle.std.proofs.Common.{◌≡◌, ◌∙◌, ℕ, List, [], ◌++◌, inl, inr, Option, Result, Ok, Err, arith, codes, refl, sym, ap, subst}
 use Rattle.std.proofs.lemmas.List.{append-nil}
-use Rattle.drvhost_devices.specs.Answer.{Answer, IsOfSaid, faulty}
+use Rattle.drvhost_devices.specs.Answer.{Answer, FileSays, IsOfSaid, faulty}
 use Rattle.drvhost_devices.specs.Device.{Bytes, Holds, Supply}
 use Rattle.drvhost_devices.specs.Ends.{Answers, Ends, IsOfSupply, Rightly, ReadFailed, WriteFailed, OutOfMemory}
 use Rattle.drvhost_devices.specs.declared.fault.End.{End}
 use Rattle.drvhost_devices.specs.declared.fault.Fault.{Fault}
 use Rattle.drvhost_devices.specs.declared.fault.Fault.TheVariants.{Read, Write, Memory, Text, Image, Schedule as OfSchedule, Script as OfScript}
-use Rattle.drvhost_devices.specs.Fault.{Goes, ReadsSet, TellsFault, failed_reads, failed_writes, fault_status, fault_told, reads_failed, status_of, told_of, writes_failed}
+use Rattle.drvhost_devices.specs.Fault.{Goes, ReadsSet, TellsLine, failed_reads, failed_writes, fault_status, fault_told, reads_failed, status_of, told_of, writes_failed}
 use Rattle.drvhost_devices.proofs.Jobs.{ends_of, goes_rightly, right_on, set_unread}
 use Rattle.drvhost_devices.proofs.Writing.{appends_none, keeps_same}
-use Rattle.asm.specs.declared.fault.AsmFault.{AsmFault}
-use Rattle.report.specs.Fault.{text_fault_line}
 use Rattle.model.specs.Set.{Set}
 use Rattle.drvhost_sets.specs.declared.explaining.Extent.{Extent}
 use Rattle.drvhost_sets.specs.Explained.{IsExplained, IsExplainedOf, IsExplainedSaid}
@@ -71,14 +69,16 @@ unnamed_ends extent held b fault unread =
     (Err fault)
     (explained_plainly extent held) (set_unread (IsExplained extent) held b [] [] fault unread))
 
--- and with some words behind the fault of a text
-pub text_ends : (extent : Extent) (bytes words : List ℕ) (b : Option (List ℕ)) (fault : AsmFault)
-    → ReadsSet (Bytes bytes) (Err (Text fault))
-    → Ends (IsExplainedOf extent (Bytes bytes)) 0 0 b b 2 (text_fault_line fault ++ words)
-text_ends extent bytes words b fault (other, same, says) =
-    Rightly (faulty (text_fault_line fault ++ words))
-    (other, same, (Err (text_fault_line fault), says, (words, refl))) refl refl refl refl
-    (appends_none b b (keeps_same b))
+-- bytes that a source has say a fault by this line
+abbrev pub SaysLine : List ℕ → List ℕ → Type 0
+SaysLine held line = (bytes : List ℕ) × Holds (Bytes held) bytes × FileSays bytes (Err line)
+
+-- and with some words behind the line of a fault
+pub line_ends : (extent : Extent) (bytes words : List ℕ) (b : Option (List ℕ)) (line : List ℕ)
+    → SaysLine bytes line → Ends (IsExplainedOf extent (Bytes bytes)) 0 0 b b 2 (line ++ words)
+line_ends extent bytes words b line (other, same, says) =
+    Rightly (faulty (line ++ words)) (other, same, (Err line, says, (words, refl))) refl refl refl
+    refl (appends_none b b (keeps_same b))
 
 -- reading a set writes nothing
 pub none_written : (held : Supply) (fault : Fault) → ReadsSet held (Err fault)
@@ -91,22 +91,22 @@ none_written held (Image fault) h = refl
 none_written held (OfSchedule fault) h = refl
 none_written held (OfScript fault) h = refl
 
--- a fault of a text was told, or memory ran out
-pub fault_answered : (extent : Extent) (bytes : List ℕ) (b : Option (List ℕ)) (fault : AsmFault)
+-- the line of a fault was told, or memory ran out
+pub line_answered : (extent : Extent) (bytes : List ℕ) (b : Option (List ℕ)) (line : List ℕ)
     (reads writes : ℕ) (Tells : List ℕ → Type 0) (status : ℕ)
-    → ReadsSet (Bytes bytes) (Err (Text fault)) → TellsFault fault Tells status
+    → SaysLine bytes line → TellsLine line Tells status
     → Answers (IsExplainedOf extent (Bytes bytes)) reads reads writes writes b b Tells status
-fault_answered extent bytes b fault reads writes Tells status read (inl (words, told, two)) =
+line_answered extent bytes b line reads writes Tells status says (inl (words, told, two)) =
     record {
       reads = 0;
       writes = 0;
-      told = text_fault_line fault ++ words;
+      told = line ++ words;
       reads_are = omega arith;
       writes_are = omega arith;
       tells = told;
-      ends = rw two (text_ends extent bytes words b fault read);
+      ends = rw two (line_ends extent bytes words b line says);
     }
-fault_answered extent bytes b fault reads writes Tells status read (inr (told, three)) = record {
+line_answered extent bytes b line reads writes Tells status says (inr (told, three)) = record {
   reads = 0;
   writes = 0;
   told = codes "out of memory\n";

@@ -4,19 +4,21 @@ ghost use Rattle.std.specs.Prelude.{◌≡◌, ◌+◌, ◌++◌, ◌⊎◌, ℕ
 ghost use Rattle.model.specs.Typable.{IsFirstFault, at_start};
 ghost use Rattle.drvhost_devices.specs.Device.{Bytes, CanCount, Says};
 ghost use Rattle.drvhost_devices.specs.Ends.{Answers};
-ghost use Rattle.drvhost_devices.specs.Fault.{Goes, TellsFault, reads_failed, writes_failed};
+ghost use Rattle.drvhost_devices.specs.Fault.{Goes, TellsLine, reads_failed, writes_failed};
 ghost use Rattle.verifier_words.specs.Faults.{refusals};
+ghost use Rattle.report.specs.Fault.{image_fault_line, text_fault_line};
 ghost use Rattle.report.specs.Verdict.{refusal_line};
 ghost use Rattle.drvhost_sets.specs.Explained.{AreWordsOf, AreWordsOn, IsAcceptanceExplained, IsBlock, IsExplained, IsExplainedOf, IsRefusalExplained};
 
 use crate::check::{accept, refuse};
+use crate::image_words::image_words;
 use asm::AsmFault;
 use asm_faults::fault_words;
 use drvhost_devices::device::{Sink, Source};
-use drvhost_devices::fault::{End, Fault, finish, no_memory, say};
+use drvhost_devices::fault::{End, Fault, finish, no_memory, say_with_words};
 use drvhost_devices::reading::{begins_image, set_of};
 use drvhost_devices::transfer::{read_whole, write_lines, write_words};
-use image::DriverSet;
+use image::{DriverSet, ImageFault};
 use model::abs::{Refusal, Rule};
 use report::lines::Lines;
 use std::alloc::{AllocError, Global};
@@ -37,7 +39,7 @@ pub enum Extent {
 /// broken there; and, if asked for, the same of the first fault of each other routine. The answer
 /// is the exit status, as that of `check`: 0 accepted, 1 refused, 2 where its text or its image is
 /// faulty or a read or a write failed, 3 where memory ran out. Faults are told on the error writer,
-/// that of a text with words on it behind its line.
+/// those of a text and of an image with words on them behind their line.
 pub fn explain<S: Source, O: Sink, E: Sink>(
     alloc: Global,
     extent: Extent,
@@ -85,7 +87,7 @@ fn explain_source<S: Source, O: Sink, E: Sink>(
     }
 }
 
-/// Explains what the bytes of a file say: the verdict on their set, or the fault of a text.
+/// Explains what the bytes of a file say: the verdict on their set, or their fault.
 fn explain_bytes<O: Sink, E: Sink>(
     alloc: Global,
     extent: Extent,
@@ -108,13 +110,14 @@ fn explain_bytes<O: Sink, E: Sink>(
             let end = explain_set(alloc, extent, bytes, set, lines, out);
             finish(end, lines, err)
         }
-        Err(Fault::Text(fault)) => explain_fault(alloc, bytes, fault, lines, err),
+        Err(Fault::Text(fault)) => explain_text_fault(alloc, bytes, fault, lines, err),
+        Err(Fault::Image(fault)) => explain_image_fault(alloc, bytes, fault, lines, err),
         Err(fault) => finish(Err(fault), lines, err),
     }
 }
 
 /// Tells the fault of a text on the error writer, with words behind its line.
-fn explain_fault<E: Sink>(
+fn explain_text_fault<E: Sink>(
     alloc: Global,
     text: &[u8],
     fault: AsmFault,
@@ -122,34 +125,35 @@ fn explain_fault<E: Sink>(
     err: &mut E,
 ) -> u8
     requires { CanCount (E.failures err.old) }
-    ensures { TellsFault fault (Says (E.failures err.old) (E.failures err.new)
+    ensures { TellsLine (text_fault_line fault) (Says (E.failures err.old) (E.failures err.new)
         (E.contents err.old) (E.contents err.new)) result }
 {
     lines.clear();
     lines.text_fault(fault);
-    match told_words(alloc, text, fault, lines.bytes()) {
-        Ok(told) => {
-            say(err, told.as_slice());
-            2
-        }
+    match fault_words(alloc, text, fault) {
+        Ok(words) => say_with_words(alloc, lines.bytes(), words.as_bytes(), err),
         Err(AllocError) => no_memory(err),
     }
 }
 
-/// The line of the fault of a text, with words on it behind.
-fn told_words(
+/// Tells the fault of an image on the error writer, likewise.
+fn explain_image_fault<E: Sink>(
     alloc: Global,
-    text: &[u8],
-    fault: AsmFault,
-    line: &[u8],
-) -> Result<Vec<u8>, AllocError>
-    ensures { IfOk result (λ told. (words : List ℕ) × (told.items ≡ line.now ++ words)) }
+    image: &[u8],
+    fault: ImageFault,
+    lines: &mut Lines,
+    err: &mut E,
+) -> u8
+    requires { CanCount (E.failures err.old) }
+    ensures { TellsLine (image_fault_line fault) (Says (E.failures err.old) (E.failures err.new)
+        (E.contents err.old) (E.contents err.new)) result }
 {
-    let words = fault_words(alloc, text, fault)?;
-    let mut told = Vec::new(alloc);
-    told.extend_from_slice(line)?;
-    told.extend_from_slice(words.as_bytes())?;
-    Ok(told)
+    lines.clear();
+    lines.image_fault(fault);
+    match image_words(alloc, image, fault) {
+        Ok(words) => say_with_words(alloc, lines.bytes(), words.as_bytes(), err),
+        Err(AllocError) => no_memory(err),
+    }
 }
 
 /// Explains the verdict on a set, and writes the lines that gather.

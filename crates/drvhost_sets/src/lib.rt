@@ -4,6 +4,7 @@
 
 pub mod check;
 pub mod explaining;
+mod image_words;
 pub mod laws;
 pub mod list;
 pub mod rewriting;

@@ -1,11 +1,13 @@
 -- The program's command line in the terms of `clap`, and which task its matches name.
-use Rattle.std.specs.Prelude.{◌≡◌, ◌≢◌, ℕ, List, [], ◌∷◌, Option, None, Some, true, false, codes, option_and_then, pos, string_bytes}
-use Rattle.clap.specs.Words.{App, Row, Rule, Text, first_of, new_app, new_rule, with_rule, with_subcommand}
+use Rattle.std.specs.Prelude.{◌≡◌, ◌≢◌, ◌⊎◌, ℕ, List, [], ◌∷◌, Option, None, Some, true, false, codes, option_and_then, pos, string_bytes}
+use Rattle.clap.specs.Words.{App, IsAmong, Row, Rule, Text, fault_of, first_of, new_app, new_rule, subcommand_of, with_rule, with_subcommand}
+use Rattle.clap.specs.declared.error.ErrorKind.TheVariants.{DisplayVersion}
 use Rattle.clap.specs.declared.builder.ArgAction.TheVariants.{Set, SetTrue}
 use Rattle.clap.specs.declared.builder.value_parser.ValueParser.TheVariants.{Signed}
 use Rattle.interleave.specs.Line.{number_within}
-use Rattle.model.specs.Words.{rule_word}
+use Rattle.model.specs.declared.abs.Rule.{Rule as VerdictRule}
 use Rattle.model.specs.declared.limits.TheConstants.{MAX_THREADS}
+use Rattle.report.specs.Rule.{IsRuleWord}
 use Rattle.drvhost_words.specs.declared.job.Job.{Job}
 use Rattle.drvhost_words.specs.declared.job.Job.TheVariants.{Alone, Host}
 use Rattle.drvhost_words.specs.declared.job.AloneJob.{AloneJob}
@@ -81,8 +83,10 @@ named_program = new_app (codes "drvhost")
 
 abbrev pub bare_program : App
 bare_program =
-    record named_program
-    { top = record named_program.top { no_binary_name = true; subcommand_required = true } }
+    record named_program {
+      top = record named_program.top
+          { has_version = true; no_binary_name = true; subcommand_required = true };
+    }
 
 -- with the subcommands that run nothing, with those that start no thread, with all that judge a set
 -- or run it, with all that read files alone, with all that name files, and with all
@@ -125,6 +129,11 @@ pub record IsDetail (value : Option Text) (detail : Detail) : Type 0 where
   pub set : value ≡ Some (codes "true") → detail ≡ Quiet
   pub other : value ≢ Some (codes "true") → detail ≡ Whole
 
+-- a rule is asked for, by the value of `--rule`: its number or its name
+abbrev pub IsRuleAsked : Option Text → VerdictRule → Type 0
+IsRuleAsked None rule = ⊥
+IsRuleAsked (Some word) rule = IsRuleWord word rule
+
 -- a subcommand with its matches names a task that waits for no other thread; a file is explained,
 -- or a rule, and that without `--all`
 abbrev pub NamesAlone : Text × List Row → AloneJob → Type 0
@@ -135,7 +144,7 @@ NamesAlone found (Explain set extent) = (found.0 ≡ codes "explain")
     × IsExtent (first_of (codes "all") found.1) extent
 NamesAlone found (ExplainRule rule) = (found.0 ≡ codes "explain")
     × (first_of (codes "FILE") found.1 ≡ None)
-    × (first_of (codes "RULE") found.1 ≡ Some (rule_word rule))
+    × IsRuleAsked (first_of (codes "RULE") found.1) rule
     × IsExtent (first_of (codes "all") found.1) First
 NamesAlone found (ListJob set) = (found.0 ≡ codes "list")
     × (first_of (codes "FILE") found.1 ≡ Some set.now)
@@ -170,6 +179,19 @@ NamesTask found (Host set script workers) =
 abbrev pub Names : Option (Text × List Row) → Job → Type 0
 Names None job = ⊥
 Names (Some found) job = NamesTask found job
+
+-- the command line takes words, and their matches name a task
+pub record IsTakenAs (words : List Text) (job : Job) : Type 0 where
+  pub taken : fault_of program words ≡ []
+  pub named : Names (subcommand_of program words) job
+
+-- words ask which program this is, by `--version` or `-V`
+abbrev pub AsksVersion : List Text → Type 0
+AsksVersion words = IsAmong DisplayVersion (fault_of program words)
+
+-- words name a task
+abbrev pub NamesJob : List Text → Job → Type 0
+NamesJob words job = IsTakenAs words job ⊎ ((job ≡ Alone Version) × AsksVersion words)
 
 -- how the program is used, where its words can't be had
 abbrev pub usage : List ℕ

@@ -4,7 +4,7 @@ use Rattle.std.specs.Prelude.{ℕ, ◌≡◌, ◌≢◌, ◌+◌, ◌++◌, ◌�
 use Rattle.std.specs.Global.{Global, Vec}
 use Rattle.std.specs.declared.io.ErrorKind.{ErrorKind}
 use Rattle.std.specs.declared.io.ErrorKind.TheVariants.{OutOfMemory}
-use Rattle.clap.specs.Words.{Text, fault_of, subcommand_of, takes}
+use Rattle.clap.specs.Words.{Text, subcommand_of, takes}
 use Rattle.drvhost_devices.specs.Answer.{Answer, IsRuleExplained, IsUnopened, IsVersion}
 use Rattle.drvhost_devices.specs.Device.{MayBeClosed, Supply}
 use Rattle.drvhost_devices.specs.declared.verification.Verification.{Verification}
@@ -18,7 +18,7 @@ use Rattle.drvhost_words.specs.declared.answer.Way.TheVariants.{BySchedule, InWo
 use Rattle.drvhost_words.specs.declared.job.Job.{Job}
 use Rattle.drvhost_words.specs.declared.job.Job.TheVariants.{Alone, Host}
 use Rattle.drvhost_words.specs.declared.job.AloneJob.TheVariants.{Check, Explain, ExplainRule, List as ListJob, Rewrite, Version, Trace, Tell, Draw}
-use Rattle.drvhost_words.specs.CommandLine.{Names, program, usage}
+use Rattle.drvhost_words.specs.CommandLine.{Names, NamesJob, program, usage}
 use Rattle.drvhost_words.specs.Files.{Has}
 
 -- what a run of a set by an input answers, where these are what their files have
@@ -81,11 +81,6 @@ Opens supply (Alone (Tell set schedule verification detail)) count =
 Opens supply (Alone (Draw set schedule verification)) count =
     OpensToTrace verification (supply set.now) count
 Opens supply (Host set script workers) count = OpensToTrace Required (supply set.now) count
-
--- words name a job: the command line takes them, and their matches name it
-pub record NamesJob (words : List Text) (job : Job) : Type 0 where
-  pub taken : fault_of program words ≡ []
-  pub named : Names (subcommand_of program words) job
 
 -- words that name no job are answered with a text on how the program is used
 pub record IsUsage (words : List Text) (answer : Answer) : Type 0 where

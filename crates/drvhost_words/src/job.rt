@@ -1,12 +1,12 @@
 //! The program's command line.
 
-ghost use Rattle.std.specs.Prelude.{◌≡◌, ◌≤◌, List, ℕ, false, true, codes, map, IfErr, IfNone, IfOk, IfSome, None, OnOk, Some, option_map, []};
+ghost use Rattle.std.specs.Prelude.{◌≡◌, ◌≤◌, List, ℕ, false, true, codes, map, IfErr, IfNone, IfOk, IfSome, None, Some, option_map, []};
 ghost use Rattle.clap.specs.Words.{app_of, fault_of, first_of, found_of, kind_of, rows_of, rule_of, subcommand_of, subcommand_rows_of, takes};
 ghost use Rattle.clap.specs.declared.builder.command.Command.TheViews.{out-Command as fields_of};
 ghost use Rattle.drvhost_devices.specs.Device.{CanCount, Says};
 ghost use Rattle.interleave.specs.Line.{number_within};
 ghost use Rattle.model.specs.declared.limits.TheConstants.{MAX_THREADS};
-ghost use Rattle.drvhost_words.specs.CommandLine.{explain_command, file_argument, flag, host_command, job_fault_status, job_fault_told, judging_program, program, program_of_files, reading_program, rewrite_command, schedule_command, set_command, tell_command, text_told, unrun_program, unthreaded_program, usage, value_option, version_command, workers_option, IsDetail, IsExtent, IsFlag, Names, NamesAlone, NamesTask};
+ghost use Rattle.drvhost_words.specs.CommandLine.{explain_command, file_argument, flag, host_command, job_fault_status, job_fault_told, judging_program, program, program_of_files, reading_program, rewrite_command, schedule_command, set_command, tell_command, text_told, unrun_program, unthreaded_program, usage, value_option, version_command, workers_option, IsDetail, IsExtent, IsFlag, Names, NamesAlone, NamesJob, NamesTask};
 
 use clap::builder::ValueParser;
 use clap::error::ErrorKind;
@@ -29,6 +29,9 @@ use thiserror::Error;
 
 /// The program's name, in the texts of usage and help.
 const NAME: &str = "drvhost";
+
+/// The program's version, in the texts of usage and help.
+const VERSION: &str = "0.1.0";
 
 /// How the program is used, where there is nothing better to say.
 const USAGE: &str = "Usage: drvhost <COMMAND>";
@@ -77,7 +80,7 @@ pub enum AloneJob<'a> {
         set: &'a str,
         output: &'a str,
     },
-    /// `version`
+    /// `version`, or `--version`
     Version,
     /// `trace FILE SCHEDULE [--unchecked]`
     Trace {
@@ -189,9 +192,7 @@ impl<'a> Job<'a> {
     ///
     /// `Usage` where they name none or ask for help, `Memory` when memory runs out.
     pub fn of<S: AsStr>(alloc: Global, words: &'a [S]) -> Result<Job<'a>, JobFault>
-        ensures task { IfOk result
-            (Names (subcommand_of program (map S.text words.entry.now))) }
-        ensures taken { OnOk result (fault_of program (map S.text words.entry.now) ≡ []) }
+        ensures task { IfOk result (NamesJob (map S.text words.entry.now)) }
         ensures refused { IfErr result (λ fault.
             takes program (map S.text words.entry.now) ≡ true
             → (job : Job) → Names (subcommand_of program (map S.text words.entry.now)) job
@@ -203,6 +204,9 @@ impl<'a> Job<'a> {
                 Some(job) => Ok(job),
                 None => Err(JobFault::Usage(unnamed(alloc, &mut program, &matches)?)),
             },
+            Err(error) if error.kind() == ErrorKind::DisplayVersion => {
+                Ok(Job::Alone(AloneJob::Version))
+            }
             Err(error) => Err(refused(alloc, &error)),
         }
     }
@@ -310,6 +314,7 @@ fn unrun_program<'a>(alloc: Global) -> Result<Command<'a>, AllocError>
     let explain = explain_command(alloc)?;
     let program = Command::new(alloc, NAME)
         .bin_name(NAME)?
+        .version(VERSION)
         .no_binary_name(true)
         .subcommand_required(true);
     program.subcommand(check)?.subcommand(explain)
@@ -354,7 +359,7 @@ fn explain_command<'a>(alloc: Global) -> Result<Command<'a>, AllocError>
         alloc,
         "RULE",
         "rule",
-        "Says this rule in words, V1 to V20, with an example",
+        "Says this rule in words, V1 to V20 or by its name, with an example",
     );
     let command = Command::new(alloc, "explain")
         .about("Accepts or refuses a driver set, and says in words why; or says a rule in words")
@@ -673,7 +678,8 @@ fn unexplained(alloc: Global, matches: &ArgMatches<'_>) -> Result<String, AllocE
     match argument(matches, "RULE") {
         None => text.push_str("a FILE is wanted, or a rule by '--rule'")?,
         Some(word) if rule_named(word).is_none() => {
-            write!(text, "there is no rule '{word}': the rules are V1 to V20")?;
+            write!(text, "there is no rule '{word}': the rules are\n")?;
+            add_rules(alloc, &mut text)?;
         }
         Some(_) => text.push_str("'--rule' goes with no FILE and with no '--all'")?,
     }
@@ -682,4 +688,15 @@ fn unexplained(alloc: Global, matches: &ArgMatches<'_>) -> Result<String, AllocE
         "\n\nUsage: {EXPLAIN_USAGE}\n\nFor more information, try '--help'.\n"
     )?;
     Ok(text)
+}
+
+/// Adds a line for each rule, with the words by which it is asked for.
+fn add_rules(alloc: Global, text: &mut String) -> Result<(), AllocError> {
+    for number in 1..=20u8 {
+        let word = format!(in alloc; "V{number}")?;
+        if let Some(rule) = rule_named(word.as_str()) {
+            write!(text, "\n  {}", rule.as_str())?;
+        }
+    }
+    Ok(())
 }

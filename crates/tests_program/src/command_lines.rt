@@ -16,8 +16,11 @@ fn tasks(rt: HostRuntime) -> Result<(), Fail> {
     assert!(rt; matches!(job, Job::Alone(AloneJob::Check { set: "a.set" })));
     let job = Job::of(alloc, &["list", "a.set"])?;
     assert!(rt; matches!(job, Job::Alone(AloneJob::List { set: "a.set" })));
-    let job = Job::of(alloc, &["version"])?;
-    assert!(rt; matches!(job, Job::Alone(AloneJob::Version)));
+    for word in ["version", "--version", "-V"] {
+        let words = [word];
+        let job = Job::of(alloc, &words)?;
+        assert!(rt; matches!(job, Job::Alone(AloneJob::Version)), "{word}");
+    }
     let job = Job::of(alloc, &["trace", "a.set", "b.schedule"])?;
     assert!(rt;
         matches!(
@@ -118,7 +121,16 @@ fn rules_by_their_words(rt: HostRuntime) -> Result<(), Fail> {
             Job::Alone(AloneJob::ExplainRule { rule: Rule::Memory })
         )
     );
-    for word in ["V0", "V21", "v1", "V01", "V1 ", "V", "1", "Malformed", ""] {
+    let job = Job::of(alloc, &["explain", "--rule", "CancelState"])?;
+    assert!(rt;
+        matches!(
+            job,
+            Job::Alone(AloneJob::ExplainRule {
+                rule: Rule::CancelState
+            })
+        )
+    );
+    for word in ["V0", "V21", "v1", "V01", "V1 ", "V", "1", "malformed", ""] {
         assert!(rt; is_refused(alloc, &["explain", "--rule", word]), "{word}");
     }
     Ok(())

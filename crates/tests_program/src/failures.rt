@@ -260,6 +260,11 @@ static DRAWN: Case = Case {
     told: b"",
 };
 
+/// What is told of a schedule of 65 threads where its run is shown.
+const SCHEDULE_EXPLAINED: &[u8] = b"schedule fault 3 OutOfRange line 1\n\nin line 1:\n\
+      \x20 > 1  threads 65\nat fault: `65`, whose number is out of range\n\
+      what may stand there: how many threads there are, 1 to 64\n";
+
 /// Runs of schedules, and of scripts.
 static RUNS: [Case; 10] = [
     Case {
@@ -309,14 +314,14 @@ static RUNS: [Case; 10] = [
         job: Job::Tell(b"threads 65\n", Verification::Skipped, Detail::Whole),
         status: 2,
         lines: b"",
-        told: b"schedule fault 3 OutOfRange line 1\n",
+        told: SCHEDULE_EXPLAINED,
     },
     Case {
         set: TEXT,
         job: Job::Draw(b"threads 65\n", Verification::Skipped),
         status: 2,
         lines: b"",
-        told: b"schedule fault 3 OutOfRange line 1\n",
+        told: SCHEDULE_EXPLAINED,
     },
     Case {
         set: QUEUED,

@@ -1,10 +1,11 @@
-use Rattle.std.proofs.Common.{[], ℕ, List, Err, Ok, subst, sym}
+use Rattle.std.proofs.Common.{ℕ, List, Err, Ok, subst, sym}
 use Rattle.std.proofs.lemmas.Result.{err_from_is_err_and}
 use Rattle.drvhost_devices.specs.Answer.{IsTraced}
 use Rattle.drvhost_devices.specs.Device.{Holds}
 use Rattle.drvhost_runs.specs.Told.{IsShownOf, IsShownRunOf}
 use Rattle.drvhost_devices.proofs.Files.{set_read}
-use Rattle.drvhost_devices.proofs.Jobs.{bytes_unread, right_on, set_unread}
+use Rattle.drvhost_devices.proofs.Jobs.{bytes_unread, right_on}
+use Rattle.drvhost_runs.proofs.ShownRuns.{set_unshown}
 use Rattle.drvhost_runs.proofs.ToldRuns.{holds_run, tells_rightly, told_broken, told_written, untold}
 use Rattle.drvhost_runs.proofs.show.show_set.Goals as goal
 
@@ -15,7 +16,7 @@ returns-in_err-bytes-clause-goes g c =
     let Right = IsTraced c.args.verification
     (IsShownRunOf c.args.showing (g.P.Source.supply c.args.schedule.now)) in
     rw (p.1, p.2)
-    (set_unread Right held (g.O.Sink.contents c.args.out.now) [] [] c.in_err-bytes.field-0.0
+    (set_unshown Right held (g.O.Sink.contents c.args.out.now) c.in_err-bytes.field-0.0
     (bytes_unread held c.in_err-bytes.field-0.0 c.in_err-bytes.ensures.fault))
 
 pub returns-in_err-set-clause-goes : goal.returns-in_err-set-clause-goes
@@ -29,7 +30,7 @@ returns-in_err-set-clause-goes g c =
     let holds = subst (λ (bytes : List ℕ). Holds held bytes) (sym c.as_slice-bytes.ensures.value)
     c.in_ok-bytes.ensures.bytes in
     rw (p.1, p.2)
-    (set_unread Right held (g.O.Sink.contents c.args.out.now) [] [] c.in_err-set.field-0.0
+    (set_unshown Right held (g.O.Sink.contents c.args.out.now) c.in_err-set.field-0.0
     (set_read held bytes (Err c.in_err-set.field-0.0) holds c.in_err-set.ensures.set))
 
 pub returns-in_err-told-clause-unread : goal.returns-in_err-told-clause-unread

@@ -10,7 +10,7 @@ returns-in-Ok-clause-answers g c =
     c.perform.ensures.answers
     (λ answer right. inl (
       c.in-Ok.job,
-      record { taken = c.in-Ok.ensures.taken; named = c.in-Ok.ensures.task },
+      c.in-Ok.ensures.task,
       right,
     ))
     (omega arith)
@@ -24,7 +24,7 @@ pub returns-in-Ok-clause-stores : goal.returns-in-Ok-clause-stores
 returns-in-Ok-clause-stores g c =
     inr (
       c.in-Ok.job,
-      record { taken = c.in-Ok.ensures.taken; named = c.in-Ok.ensures.task },
+      c.in-Ok.ensures.task,
       c.perform.ensures.stores,
     )
 

@@ -38,13 +38,6 @@ of_memory : (r : Result Job JobFault) (A : Type 0) (B : Job → Type 0)
 of_memory (Ok job) A B h = tt
 of_memory (Err fault) A B h = λ _ _ _. h
 
-pub returns-in-Some-clause-taken : goal.returns-in-Some-clause-taken
-returns-in-Some-clause-taken g c =
-    let app = c.in_ok-program.ensures in
-    let exact : is_simple_and_free (app_of c.in_ok-program.program) ≡ true =
-    ap is_simple_and_free app ∙ is_exact in
-    sym (same_faults _ _ app) ∙ c.in-Ok.ensures.kinds exact
-
 pub returns-in_err-unnamed-in-None-clause-refused
     : goal.returns-in_err-unnamed-in-None-clause-refused
 returns-in_err-unnamed-in-None-clause-refused g c =
@@ -58,9 +51,14 @@ returns-clause-refused g c =
 pub returns-in-Some-clause-task : goal.returns-in-Some-clause-task
 returns-in-Some-clause-task g c =
     let app = c.in_ok-program.ensures in
+    let exact : is_simple_and_free (app_of c.in_ok-program.program) ≡ true =
+    ap is_simple_and_free app ∙ is_exact in
     let rows = (c.in-Ok.ensures.ok.2 (form_of _ app)).1 ∙ same_subcommand _ _ app in
-    subst (λ (found : Option (Text × List Row)). Names found c.in-Some.job) rows
-    c.in-Some.ensures.some
+    inl (record {
+      taken = sym (same_faults _ _ app) ∙ c.in-Ok.ensures.kinds exact;
+      named = subst (λ (found : Option (Text × List Row)). Names found c.in-Some.job) rows
+          c.in-Some.ensures.some;
+    })
 
 pub returns-in-Ok-clause-refused : goal.returns-in-Ok-clause-refused
 returns-in-Ok-clause-refused g c =

@@ -1,0 +1,38 @@
+//! A fault of a schedule in words.
+
+use crate::faulty::FaultyLine;
+use crate::wording::{add_out_of_range, add_unknown_word};
+use interleave::schedule::{ScheduleFault, ScheduleKind};
+use std::alloc::{AllocError, Global};
+use text_faults::advice::{add_expected, add_wrong};
+use text_faults::lexing::add_lex;
+
+/// A fault of a schedule in words: where it stands, which token is at fault, what may stand in its
+/// place, and what comes nearest. The fault is one that `parse_schedule` told of the text; of any
+/// other the words say what they can.
+///
+/// # Errors
+///
+/// When memory runs out.
+pub fn fault_words(alloc: Global, text: &[u8], fault: ScheduleFault) -> Result<String, AllocError> {
+    let mut prose = String::new(alloc);
+    let line = FaultyLine::of(alloc, text, fault.line)?;
+    line.add_place(&mut prose)?;
+    match fault.kind {
+        ScheduleKind::Lex => add_lex(alloc, &mut prose, text, line.spot)?,
+        ScheduleKind::UnknownWord => add_unknown_word(&mut prose, &line)?,
+        ScheduleKind::OutOfRange => add_out_of_range(&mut prose, &line)?,
+        ScheduleKind::TooLong => add_too_long(&mut prose)?,
+        ScheduleKind::Memory => {}
+    }
+    Ok(prose)
+}
+
+/// Adds that there are too many events.
+fn add_too_long(prose: &mut String) -> Result<(), AllocError> {
+    add_wrong(prose, "more events than a schedule has, up to this line")?;
+    add_expected(
+        prose,
+        "at most 1000000 events in all, each step one of them",
+    )
+}
