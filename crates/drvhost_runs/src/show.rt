@@ -12,7 +12,7 @@ ghost use Rattle.drvhost_devices.specs.Fault.{Goes, reads_failed, writes_failed}
 ghost use Rattle.drvhost_runs.specs.Told.{IsRunShown, IsShownOf, IsShownRunOf, Tells};
 
 use crate::drawing::draw_run;
-use crate::tell::Detail;
+use crate::tell::Manner;
 use crate::telling::{Told, tell_run};
 use crate::trace::read_schedule;
 use asm::disassemble;
@@ -35,7 +35,7 @@ use verifier::{Accepted, verify};
 #[derive(Clone, Copy)]
 pub(crate) enum Showing {
     /// In words, with an audit.
-    InWords(Detail),
+    InWords(Manner),
     /// As a picture.
     AsPicture,
 }
@@ -222,7 +222,7 @@ fn run_shown(
         schedule.now.events (ended told.end told.text)) }
 {
     match showing {
-        Showing::InWords(detail) => tell_run(alloc, source, machine, schedule, detail, lines),
+        Showing::InWords(manner) => tell_run(alloc, source, machine, schedule, manner, lines),
         Showing::AsPicture => draw_run(alloc, source, machine, schedule),
     }
 }
