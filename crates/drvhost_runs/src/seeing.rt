@@ -29,8 +29,8 @@ pub(crate) fn nothing_seen() -> Happened {
     }
 }
 
-/// Whether an event needs no look at it before it is applied: in quiet a plain step, and usually one
-/// that only computes. Nothing is told of it where it steps, and nothing has changed where it
+/// Whether an event needs no look at it before it is applied: in quiet a plain step, and usually
+/// one that only computes. Nothing is told of it where it steps, and nothing has changed where it
 /// doesn't.
 pub(crate) fn goes_unseen(machine: &Checked, event: &Event, detail: Detail) -> bool
     ensures { IsTrue result → GoesUnseen detail machine.now event.now }
@@ -62,8 +62,8 @@ pub(crate) fn see(
     ensures seen { IfOk result (λ passed. passed ≡ false
         → HappensBefore machine.old event.now happened.new) }
     ensures passed { IfOk result (λ passed. IsTrue passed
-        → (is_left_out detail (acting_in machine.old.set machine.old.world event.now) Stepped ≡ true)
-        × (happened.new.reply ≡ Stepped)) }
+        → (is_left_out detail (acting_in machine.old.set machine.old.world event.now) Stepped
+        ≡ true) × (happened.new.reply ≡ Stepped)) }
 {
     if unseen {
         return see_after(alloc, ledger, machine, event, detail, happened);
@@ -90,8 +90,8 @@ fn look_before(machine: &Checked, event: &Event, detail: Detail, moment: &mut Mo
 }
 
 /// The same of a plain step of which nothing is told. Where it steps it is passed over, and the
-/// ledger stays as it is. Else nothing has changed but that the run may have stopped, and the frame that acted is
-/// looked up then.
+/// ledger stays as it is. Else nothing has changed but that the run may have stopped, and the frame
+/// that acted is looked up then.
 fn see_after(
     alloc: Global,
     ledger: &mut Ledger,

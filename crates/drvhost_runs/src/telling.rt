@@ -252,8 +252,8 @@ pub(crate) enum Coming {
     Ended,
 }
 
-/// What comes next: an event is told by itself where not each has a line, and it doesn't happen many
-/// times in a row, and is taken then. What is left of a run is put down.
+/// What comes next: an event is told by itself where not each has a line, and it doesn't happen
+/// many times in a row, and is taken then. What is left of a run is put down.
 #[inline]
 fn what_comes(detail: Detail, rest: &mut Option<Repeated>, upcoming: &mut Upcoming<'_>) -> Coming
     requires { IfSome rest.old (λ run. 1 ≤ run.count) }
@@ -450,10 +450,10 @@ fn count_left(rest: &Option<Repeated>) -> usize
     }
 }
 
-/// Lets the thread of the step that comes next, and of those equal to it, go on by itself for as many
-/// as it can make so: in quiet nothing is told of them, and a line of each where each event has one.
-/// It answers how many were made; none where another event comes next, in quiet one that needs a look
-/// at it before, and where it depends on the step whether a line is told of it.
+/// Lets the thread of the step that comes next, and of those equal to it, go on by itself for as
+/// many as it can make so: in quiet nothing is told of them, and a line of each where each event has
+/// one. It answers how many were made; none where another event comes next, in quiet one that needs
+/// a look at it before, and where it hangs on the step whether a line is told of it.
 fn go_ahead(
     teller: &mut Teller<'_>,
     machine: &mut Checked,

@@ -655,7 +655,8 @@ fn manner_asked(matches: &ArgMatches<'_>) -> Option<Manner>
 
 /// How much is to be told.
 fn detail_asked(matches: &ArgMatches<'_>) -> Option<Detail>
-    ensures some { IfSome result (IsDetail (first_of (codes "quiet") (rows_of (found_of matches.now)))
+    ensures some { IfSome result
+        (IsDetail (first_of (codes "quiet") (rows_of (found_of matches.now)))
         (first_of (codes "every") (rows_of (found_of matches.now)))) }
     ensures none { IfNone result ((detail : Detail)
         → IsDetail (first_of (codes "quiet") (rows_of (found_of matches.now)))
