@@ -8,7 +8,7 @@ import argparse, os, sys, tempfile
 from measure import cases, spent, written
 
 TOP = os.path.dirname(os.path.dirname(os.path.abspath(__file__)))
-WAYS = ['trace'], ['tell', '--quiet'], ['tell'], ['draw']
+WAYS = ['trace'], ['tell', '--quiet'], ['tell'], ['tell', '--every'], ['draw']
 
 def least(program, files, runs):
     """The least times of the ways of running these files."""
@@ -22,7 +22,7 @@ def main():
     asked.add_argument('--only', default='')
     asked.add_argument('program', nargs='?', default=os.path.join(TOP, 'crates/drvhost/out/drvhost'))
     asked = asked.parse_args()
-    print('| Events | `trace` | `tell --quiet` | `tell` | `draw` |\n|---|---|---|---|---|')
+    print('| Events | `trace` | `tell --quiet` | `tell` | `tell --every` | `draw` |\n|---|---|---|---|---|---|')
     with tempfile.TemporaryDirectory() as folder:
         for name, command, text, schedule in cases():
             if command != 'trace' or asked.only not in name:

@@ -150,6 +150,8 @@ CASES = [
     ('tell good.drv nothing.sched', 2, b'', b'read failed\n'),
     ('tell open.drv nothing.sched', 2, b'', b'text fault 6 Unclosed line 2\n'),
     ('tell good.drv', 2, b'', SOME),
+    ('tell good.drv good.sched --quiet --every', 2, b'', SOME),
+    ('tell twice.drv good.sched --every --strict', 1, REFUSED, b''),
     ('host good.drv two.script --workers 1', 0, SERVED, b''),
     ('host good.drv none.script --workers 64', 0, b'history 0 agrees\n', b''),
     ('host --workers=2 twice.drv two.script', 1, REFUSED, b''),

@@ -3,14 +3,22 @@
 examples, gallery and crates/tests_stored/data, told and traced by the program (crates/drvhost/out/drvhost, if none is named). Of
 each run every told line has to begin with the trace's line, both have to end alike, and the audit may find no packet that is
 lost, no lock left behind and no stack location returned from otherwise than it was marked; each live packet has one holder by
-right; and with --quiet the same is told but for the lines of events that only step or find nothing to do. Threads may wait in a
-ring, since no rule forbids that, and the told run ends with exit status 1 then. The last line counts."""
+right. That is asked with --every; with --quiet the same is told but for the lines of events that only step or find nothing to
+do, and with neither but for those that find nothing to do or step at an instruction that only computes, as its line has it; and
+with --strict it ends with exit status 1 also where the trace has an event that was refused. Threads may wait in a ring, since no
+rule forbids that, and the told run ends with exit status 1 then. The last line counts."""
 import argparse, glob, os, random, re, subprocess, sys, tempfile
 
 TOP = os.path.dirname(os.path.dirname(os.path.abspath(__file__)))
 PLACES = 'examples/*.drv', 'gallery/*/*.drv', 'crates/tests_stored/data/**/*.drv'
 AMISS = re.compile(r'lost|left behind|completion left it|stopped by')
-LEFT_OUT = re.compile(r'[0-9]+ (stepped|idle)\b')
+COMPUTES = 'const|mov|clear|add|sub|jz|jlt|jmp|loop|end|load|store|loadp|storep|get|put|ifpending'
+# The lines that the levels leave out.
+LEFT_OUT = {
+    ('--quiet',): re.compile(r'[0-9]+ (stepped|idle)\b'),
+    (): re.compile(r'[0-9]+ (idle\b|stepped +\S+ +\S+ [0-9]+: (\S+: )?(%s)(?![\w:]))' % COMPUTES),
+}
+REFUSED = re.compile(r'^[0-9]+ refused$', re.M)
 
 def answer(program, *words):
     done = subprocess.run([program, *words], capture_output=True, text=True, errors='replace', timeout=60)
@@ -50,16 +58,19 @@ def schedule(rng, devices):
 
 def wrong_of(program, set_path, by):
     """What is wrong with a told run, or None."""
-    (trace, traced), (told, ended) = answer(program, 'trace', set_path, by), answer(program, 'tell', set_path, by)
+    (trace, traced), (told, ended) = answer(program, 'trace', set_path, by), answer(program, 'tell', set_path, by, '--every')
     events, _, audit = told.partition('\naudit\n')
     lines, heads = events.splitlines(), trace.splitlines()
     if len(lines) != len(heads) or any(not line.startswith(head) for line, head in zip(lines, heads)):
         return 'the lines differ'
     if ended != (1 if 'in a ring' in audit else traced):
         return 'exit status %d, and %d of the trace' % (ended, traced)
-    kept = [line for line in lines if not LEFT_OUT.match(line)]
-    if answer(program, 'tell', set_path, by, '--quiet') != (''.join(line + '\n' for line in kept) + '\naudit\n' + audit, ended):
-        return 'in quiet something else is told'
+    for level, left_out in LEFT_OUT.items():
+        kept = ''.join(line + '\n' for line in lines if not left_out.match(line))
+        if answer(program, 'tell', set_path, by, *level) != (kept + '\naudit\n' + audit, ended):
+            return 'with %s something else is told' % (' '.join(level) or 'no level')
+    if answer(program, 'tell', set_path, by, '--every', '--strict') != (told, 1 if REFUSED.search(trace) else ended):
+        return 'strictly it ends otherwise'
     found = [line for line in audit.splitlines() if AMISS.search(line) or ' is live ' in line and line.count('; held ') != 1]
     return found[0] if found else None
 

@@ -2,7 +2,7 @@
 """try_told.py [--write | --table] [PROGRAM]: whether the program (crates/drvhost/out/drvhost, if none is named) tells and draws
 the runs of the wrong drivers and of the examples as it is stored, byte for byte.
 
-Of each folder of gallery, told.txt has what `tell --unchecked` writes of driver.drv with events.sched, and picture.svg what
+Of each folder of gallery, told.txt has what `tell --unchecked --every` writes of driver.drv with events.sched, and picture.svg what
 `draw --unchecked` does; of a mended driver nothing may be amiss. Of each example with a schedule, examples/told has both texts
 under its name, but for a picture that stands in docs/pictures; one that is refused is run with --unchecked, and of one that is
 accepted nothing may be amiss. A told run ends with the exit status.
@@ -32,7 +32,7 @@ class Run:
 
     def answers(self, program):
         """What the program writes, by the path at which it is stored, and the exit status of the told run."""
-        text, status = answer(program, 'tell', *self.words)
+        text, status = answer(program, 'tell', *self.words, '--every')
         drawn, _ = answer(program, 'draw', *self.words)
         return {self.told: '%sstatus %d\n' % (text, status), self.picture: drawn}, status
 

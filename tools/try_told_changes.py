@@ -351,7 +351,7 @@ def main():
             for file, content in (listed, listing), (by, text):
                 with open(file, 'w') as out:
                     out.write(content)
-            fault, read = wrong_of(answer(program, 'tell', listed, by, '--unchecked')[0], text, listing, forms)
+            fault, read = wrong_of(answer(program, 'tell', listed, by, '--unchecked', '--every')[0], text, listing, forms)
             events += read
             if fault:
                 wrong += 1

@@ -4,6 +4,7 @@ use model::event::Reply;
 use model::instr::Instr;
 use model::view::{FrameView, LiveView, PacketView};
 use tell_uses::acting::Acting;
+use tell_uses::computing::is_computing_at;
 use tell_words::Moment;
 
 /// Whether an event is drawn: what begins, ends, moves a packet, marks it, completes it or cancels
@@ -41,26 +42,9 @@ fn is_step_of_interest(moment: &Moment, acting: Acting, top: Option<FrameView>) 
 
 /// Whether the step of an instruction is drawn.
 fn is_instruction_of_interest(instr: &Instr, moment: &Moment) -> bool {
-    match *instr {
-        Instr::Const(_, _)
-        | Instr::Move(_, _)
-        | Instr::Clear(_)
-        | Instr::Add(_, _)
-        | Instr::Subtract(_, _)
-        | Instr::JumpIfZero(_, _)
-        | Instr::JumpIfLess(_, _, _)
-        | Instr::Jump(_)
-        | Instr::Loop(_)
-        | Instr::End
-        | Instr::Load(_, _)
-        | Instr::Store(_, _)
-        | Instr::LoadPaged(_, _)
-        | Instr::StorePaged(_, _)
-        | Instr::Get(_, _, _)
-        | Instr::Put(_, _)
-        | Instr::IfPending(_, _) => false,
+    match instr {
         Instr::IfCancel(_, _) => is_cancelled(moment),
-        _ => true,
+        _ => !is_computing_at(instr),
     }
 }
 

@@ -1,6 +1,7 @@
 pub mod Serving
 pub mod Repeating
 pub mod Following
+pub mod ToldLines
 pub mod ToldRuns
 pub mod ShownRuns
 pub mod ToldAlone

@@ -13,12 +13,24 @@ use Rattle.tell_uses.specs.declared.acts.UseStep.{UseStep}
 use Rattle.tell_uses.specs.declared.acts.UseStep.TheVariants.{Nothing}
 use Rattle.tell_uses.specs.Acting.{acting_in}
 use Rattle.tell_uses.specs.Acts.{use_step}
+use Rattle.tell_uses.specs.Computing.{computes}
 use Rattle.tell_uses.specs.Ledger.{LedgerState, TellsOn}
 use Rattle.tell_uses.specs.Plain.{PlainStepsKeepLedgers, PlainStepsStepOrStay, is_plain}
 use Rattle.tell_uses.proofs.PlainSteps.{nothing_used}
 use Rattle.drvhost_runs.specs.Seen.{is_stepped}
-use Rattle.drvhost_runs.specs.Told.{LedgerGoesOn}
+use Rattle.drvhost_runs.specs.declared.tell.Detail.{Detail}
+use Rattle.drvhost_runs.specs.declared.tell.Detail.TheVariants.{Quiet, Usual}
+use Rattle.drvhost_runs.specs.Told.{LedgerGoesOn, is_left_out}
 use Rattle.drvhost_runs.proofs.ToldAlone.{noted_by}
+
+-- a step is left out: in quiet each, and usually one that only computes
+pub quiet_left_out : (detail : Detail) (acting : Option Acting) → detail ≡ Quiet
+    → is_left_out detail acting Stepped ≡ true
+quiet_left_out detail acting is = ap (λ d. is_left_out d acting Stepped) is
+
+pub usual_left_out : (detail : Detail) (acting : Option Acting) → detail ≡ Usual
+    → computes acting ≡ true → is_left_out detail acting Stepped ≡ true
+usual_left_out detail acting is only = ap (λ d. is_left_out d acting Stepped) is ∙ only
 
 pub stepped : (reply : Reply) → is_stepped reply ≡ true → reply ≡ Stepped
 stepped Stepped is = refl

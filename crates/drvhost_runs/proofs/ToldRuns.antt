@@ -34,8 +34,10 @@ use Rattle.drvhost_devices.specs.declared.fault.Fault.{Fault}
 use Rattle.drvhost_devices.specs.declared.fault.Fault.TheVariants.{Read, Write, Memory, Text, Image, Schedule as OfSchedule, Script as OfScript}
 use Rattle.drvhost_runs.specs.declared.show.Showing.{Showing}
 use Rattle.drvhost_runs.specs.declared.tell.Detail.{Detail}
-use Rattle.drvhost_runs.specs.declared.tell.Detail.TheVariants.{Quiet}
+use Rattle.drvhost_runs.specs.declared.tell.Manner.{Manner}
+use Rattle.drvhost_runs.specs.declared.telling.Course.{Course}
 use Rattle.drvhost_runs.specs.declared.telling.Told.{Told}
+use Rattle.drvhost_runs.specs.Seen.{HappensBefore}
 use Rattle.drvhost_devices.specs.Answer.{Answer, IsRefused, IsToRun, ended, faulty, is_last, shown_replies}
 use Rattle.drvhost_devices.specs.Device.{Supply, TakesBeginning}
 use Rattle.drvhost_devices.specs.declared.verification.Verification.{Verification}
@@ -43,30 +45,37 @@ use Rattle.drvhost_devices.specs.Ends.{HoldsRun}
 use Rattle.drvhost_devices.specs.Fault.{Goes, ReadsSchedule, ReadsSet}
 use Rattle.drvhost_runs.specs.Repeats.{awaited}
 use Rattle.tell_lines.specs.Lines.{worded_lines}
-use Rattle.drvhost_runs.specs.Told.{GoesShown, HasTold, LedgerGoesOn, IsRunShown, IsRunTold, IsScheduleShown, IsShownRunOf, IsTold, Tells, ToldNext, count_left, happens_again, is_left_out, left_again, past_by, replies_by, run_to_end, times_again, told_line, world_by}
+use Rattle.drvhost_runs.specs.Told.{GoesShown, HasTold, LedgerGoesOn, IsRunShown, IsRunTold, IsScheduleShown, IsShownRunOf, IsTold, Tells, ToldNext, count_left, happens_again, is_left_out, left_again, past_by, replies_by, run_to_end, times_again, told_line, world_by, InRuns, Occurrence, ToldOnce, fails_strictly, has_occurred, is_refused, occurrences, occurrences_by, occurs, occurs_in}
+use Rattle.tell_uses.specs.declared.acting.Acting.{Acting}
+use Rattle.tell_uses.specs.Acting.{acting_in}
+use Rattle.tell_words.specs.declared.line.Happened.{Happened}
 use Rattle.drvhost_runs.proofs.Following.{counted, run_more}
+use Rattle.drvhost_runs.proofs.ToldLines.{nothing_told}
 use Rattle.drvhost_devices.proofs.Writing.{keeps_same}
 
 -- a machine shows a run of which these events are still to come: what is told of their replies
 -- behind a text tells the whole run
 pub record Telling (detail : Detail) (set : Set) (threads : ℕ) (events : List Event) (m : Machine)
-    (ledger : LedgerState) (number : ℕ) (rest : List Event) (text : List ℕ) : Type 0 where
+    (ledger : LedgerState) (refused : Bool) (number : ℕ) (rest : List Event) (text : List ℕ)
+    : Type 0 where
   pub past : List Event
   pub same : m.set ≡ set
   pub shows : ShowsWhole m threads past
   pub tells : TellsRun (run set threads past) ledger
   pub told : (later : List ℕ)
-      → IsTold detail number (shown_replies set (run set threads past) rest) later
-      → IsTold detail 0 (replies_by set threads events) (text ++ later)
+      → IsTold detail number (occurrences set (run set threads past) rest) later
+      → IsTold detail 0 (occurrences_by set threads events) (text ++ later)
   pub last : list_any is_last (replies_by set threads events)
       ≡ list_any is_last (shown_replies set (run set threads past) rest)
+  pub refusals : list_any is_refused (replies_by set threads events)
+      ≡ refused || list_any is_refused (shown_replies set (run set threads past) rest)
   pub ends : run_to_end set (begun set threads) events
       ≡ run_to_end set (run set threads past) rest
 
 pub telling_first : (detail : Detail) (m : Machine) (l : LedgerState) (threads : ℕ)
     (events : List Event)
     → ShowsWhole m threads [] → TellsRun (begun m.set threads) l
-    → Telling detail m.set threads events m l 0 events []
+    → Telling detail m.set threads events m l false 0 events []
 telling_first detail m l threads events shows tells =
     record {
       past = [];
@@ -75,6 +84,7 @@ telling_first detail m l threads events shows tells =
       tells = tells;
       told = λ later h. h;
       last = refl;
+      refusals = refl;
       ends = refl;
     }
 
@@ -92,6 +102,21 @@ module _ (set : Set) (threads : ℕ) (past : List Event) (e : Event) (rest : Lis
       ∙ ap (λ (r : Run). reply ∷ (if is_last reply then [] else shown_replies set r rest))
       (sym (run_more set (begun set threads) past e))
 
+  pub next_occurrences : (acting : Option Acting)
+      → acting ≡ acting_in set (run set threads past).world e
+      → occurrences set (run set threads past) (e ∷ rest)
+      ≡ occurs acting reply ∷ (if is_last reply then [] else occurrences set after rest)
+  next_occurrences acting acts =
+      let answered = step set (run set threads past) e in
+      let here = acting_in set (run set threads past).world e in
+      ap (λ (x : Reply). occurs here x
+      ∷ (if is_last x then [] else occurrences set answered.run rest)) (sym is)
+      ∙ ap (λ (r : Run). occurs here reply
+      ∷ (if is_last reply then [] else occurrences set r rest))
+      (sym (run_more set (begun set threads) past e))
+      ∙ ap (λ (a : Option Acting). occurs a reply
+      ∷ (if is_last reply then [] else occurrences set after rest)) (sym acts)
+
   next_end : run_to_end set (run set threads past) (e ∷ rest)
       ≡ (if is_last reply then after else run_to_end set after rest)
   next_end =
@@ -101,17 +126,37 @@ module _ (set : Set) (threads : ℕ) (past : List Event) (e : Event) (rest : Lis
       ∙ ap (λ (r : Run). if is_last reply then r else run_to_end set r rest)
       (sym (run_more set (begun set threads) past e))
 
+-- a reply that ends a run refuses nothing
+last_fine : (reply : Reply) → is_last reply ≡ true → is_refused reply ≡ false
+last_fine (Bug bug) is = refl
+last_fine (Wrong place) is = refl
+last_fine _ is = cc
+
+pub or_false : (b : Bool) → b || false ≡ b
+or_false true = refl
+or_false false = refl
+
+or_assoc : (a b c : Bool) → a || (b || c) ≡ (a || b) || c
+or_assoc true b c = refl
+or_assoc false b c = refl
+
 module _ (detail : Detail) (set : Set) (threads : ℕ) (events : List Event) (m n : Machine)
-    (l k : LedgerState) (number : ℕ) (e : Event) (rest : List Event) (text more words : List ℕ)
-    (reply : Reply)
-    (t : Telling detail set threads events m l number (e ∷ rest) text)
+    (l k : LedgerState) (refused : Bool) (number : ℕ) (e : Event) (rest : List Event)
+    (text more words : List ℕ) (reply : Reply)
+    (t : Telling detail set threads events m l refused number (e ∷ rest) text)
     (ran : AppliesWhole m e n reply)
     (noted : LedgerGoesOn m e l k)
-    (is : more ≡ text ++ told_line detail number reply words) where
+    (is : more ≡ text ++ told_line detail number (occurs_in m e reply) words) where
   replied : reply ≡ reply_to set threads t.past e
   replied =
       subst (λ (s : Set). reply ≡ reply_to s threads t.past e) t.same
       (ran.replies threads t.past t.shows)
+
+  acts : acting_in m.set m.world e ≡ acting_in set (run set threads t.past).world e
+  acts =
+      ap (λ (s : Set). acting_in s m.world e) t.same
+      ∙ ap (λ (w : World). acting_in set w e)
+      (t.shows.world ∙ ap (λ (s : Set). (run s threads t.past).world) t.same)
 
   -- the ledger tells the run with the event added
   noted_on : TellsRun (run set threads (t.past ++ e ∷ [])) k
@@ -121,35 +166,42 @@ module _ (detail : Detail) (set : Set) (threads : ℕ) (events : List Event) (m 
       subst (λ (s : Set). TellsRun (run s threads (t.past ++ e ∷ [])) k) t.same
       (noted threads t.past t.shows before)
 
-  told_behind : (tail : List Reply)
-      → shown_replies set (run set threads t.past) (e ∷ rest) ≡ reply ∷ tail → (later : List ℕ)
-      → IsTold detail (number + 1) tail later
-      → IsTold detail 0 (replies_by set threads events) (more ++ later)
+  told_behind : (tail : List Occurrence)
+      → occurrences set (run set threads t.past) (e ∷ rest) ≡ occurs_in m e reply ∷ tail
+      → (later : List ℕ) → IsTold detail (number + 1) tail later
+      → IsTold detail 0 (occurrences_by set threads events) (more ++ later)
   told_behind tail are later h =
-      let line = told_line detail number reply words in
-      let P : List Reply → Type 0 = λ x. IsTold detail number x (line ++ later) in
-      let Q : List ℕ → Type 0 = λ x. IsTold detail 0 (replies_by set threads events) x in
-      let whole : IsTold detail 0 (replies_by set threads events) (text ++ (line ++ later)) =
+      let line = told_line detail number (occurs_in m e reply) words in
+      let P : List Occurrence → Type 0 = λ x. IsTold detail number x (line ++ later) in
+      let Q : List ℕ → Type 0 = λ x. IsTold detail 0 (occurrences_by set threads events) x in
+      let whole : IsTold detail 0 (occurrences_by set threads events) (text ++ (line ++ later)) =
       t.told (line ++ later) (subst P (sym are) (words, (later, refl, h))) in
       subst Q (sym (append_assoc text line later) ∙ ap (λ x. x ++ later) (sym is)) whole
 
   -- the run goes on
   pub telling_on : is_last reply ≡ false
-      → Telling detail set threads events n k (number + 1) rest more
+      → Telling detail set threads events n k (refused || is_refused reply) (number + 1) rest more
   telling_on goes =
       let past = t.past ++ e ∷ [] in
       let tail = shown_replies set (run set threads past) rest in
+      let behind = occurrences set (run set threads past) rest in
       let are : shown_replies set (run set threads t.past) (e ∷ rest) ≡ reply ∷ tail =
       next_replies set threads t.past e rest reply replied
       ∙ ap (λ (b : Bool). reply ∷ (if b then [] else tail)) goes in
+      let occur : occurrences set (run set threads t.past) (e ∷ rest)
+      ≡ occurs_in m e reply ∷ behind =
+      next_occurrences set threads t.past e rest reply replied (acting_in m.set m.world e) acts
+      ∙ ap (λ (b : Bool). occurs_in m e reply ∷ (if b then [] else behind)) goes in
       record {
         past = past;
         same = ran.set ∙ t.same;
         shows = ran.shows threads t.past t.shows;
         tells = noted_on;
-        told = told_behind tail are;
+        told = told_behind behind occur;
         last = t.last ∙ ap (λ x. list_any is_last x) are
             ∙ ap (λ (b : Bool). b || list_any is_last tail) goes;
+        refusals = t.refusals ∙ ap (λ x. refused || list_any is_refused x) are
+            ∙ or_assoc refused (is_refused reply) (list_any is_refused tail);
         ends = t.ends ∙ next_end set threads t.past e rest reply replied
             ∙ ap (λ (b : Bool). if b then run set threads past
             else run_to_end set (run set threads past) rest) goes;
@@ -157,24 +209,32 @@ module _ (detail : Detail) (set : Set) (threads : ℕ) (events : List Event) (m 
 
   -- or ends with it
   pub told_last : is_last reply ≡ true
-      → HasTold detail set threads events n.set n.world k true more
+      → HasTold detail set threads events n.set n.world k
+      (record { stopped = true; refused = refused }) more
   told_last ends =
       let past = t.past ++ e ∷ [] in
       let tail = shown_replies set (run set threads past) rest in
+      let behind = occurrences set (run set threads past) rest in
       let are : shown_replies set (run set threads t.past) (e ∷ rest) ≡ reply ∷ [] =
       next_replies set threads t.past e rest reply replied
       ∙ ap (λ (b : Bool). reply ∷ (if b then [] else tail)) ends in
+      let occur : occurrences set (run set threads t.past) (e ∷ rest) ≡ occurs_in m e reply ∷ [] =
+      next_occurrences set threads t.past e rest reply replied (acting_in m.set m.world e) acts
+      ∙ ap (λ (b : Bool). occurs_in m e reply ∷ (if b then [] else behind)) ends in
       let same : n.set ≡ set = ran.set ∙ t.same in
       let shows : ShowsWhole n threads past = ran.shows threads t.past t.shows in
       let end : run_to_end set (begun set threads) events ≡ run set threads past =
       t.ends ∙ next_end set threads t.past e rest reply replied
       ∙ ap (λ (b : Bool). if b then run set threads past
       else run_to_end set (run set threads past) rest) ends in
-      let Q : List ℕ → Type 0 = λ x. IsTold detail 0 (replies_by set threads events) x in
+      let Q : List ℕ → Type 0 = λ x. IsTold detail 0 (occurrences_by set threads events) x in
       record {
         same = same;
-        told = subst Q (append-nil more) (told_behind [] are [] refl);
+        told = subst Q (append-nil more) (told_behind [] occur [] refl);
         last = t.last ∙ ap (λ x. list_any is_last x) are ∙ ap (λ (b : Bool). b || false) ends;
+        refused = t.refusals ∙ ap (λ x. refused || list_any is_refused x) are
+            ∙ ap (λ (b : Bool). refused || (b || false)) (last_fine reply ends)
+            ∙ or_false refused;
         left = shows.world ∙ ap (λ (s : Set). (run s threads past).world) same
             ∙ ap (λ (r : Run). r.world) (sym end);
         reached = past;
@@ -254,61 +314,73 @@ unchanged_again Refused is = absurd (false≢true is)
 unchanged_again (Bug bug) is = absurd (false≢true is)
 unchanged_again (Wrong place) is = absurd (false≢true is)
 
+-- nor does it refuse anything
+fine_again : (reply : Reply) → happens_again reply ≡ true → is_refused reply ≡ false
+fine_again Refused is = absurd (false≢true is)
+fine_again _ is = refl
+
 -- the same event several times in a row
 module _ (detail : Detail) (set : Set) (threads : ℕ) (events : List Event) (m n : Machine)
-    (l k : LedgerState) (e : Event) (reply : Reply) (ran : AppliesWhole m e n reply)
-    (noted : LedgerGoesOn m e l k) (kept : k ≡ l)
+    (l k : LedgerState) (refused : Bool) (e : Event) (reply : Reply)
+    (ran : AppliesWhole m e n reply) (noted : LedgerGoesOn m e l k) (kept : k ≡ l)
     (law : WaitingChangesNothing) (same : says_unchanged reply ≡ true)
-    (on : is_last reply ≡ false) where
+    (fine : is_refused reply ≡ false) (on : is_last reply ≡ false) where
   -- the machine and the ledger as they were before the event show the run with it
   telling_same : (number : ℕ) (rest : List Event) (text more words : List ℕ)
-      → Telling detail set threads events m l number (e ∷ rest) text
-      → more ≡ text ++ told_line detail number reply words
-      → Telling detail set threads events m l (number + 1) rest more
+      → Telling detail set threads events m l refused number (e ∷ rest) text
+      → more ≡ text ++ told_line detail number (occurs_in m e reply) words
+      → Telling detail set threads events m l refused (number + 1) rest more
   unfolding telling_on
   telling_same number rest text more words t is =
-      let next : Telling detail set threads events n k (number + 1) rest more =
-      telling_on detail set threads events m n l k number e rest text more words reply t ran noted
-      is on in
+      let next : Telling detail set threads events n k (refused || is_refused reply) (number + 1) rest
+      more =
+      telling_on detail set threads events m n l k refused number e rest text more words reply t ran
+      noted is on in
       let unchanged : says_unchanged (reply_to m.set threads t.past e) ≡ true =
       ap (λ r. says_unchanged r) (sym (ran.replies threads t.past t.shows)) ∙ same in
+      let past = t.past ++ e ∷ [] in
+      let behind = list_any is_refused (shown_replies set (run set threads past) rest) in
       record {
-        past = t.past ++ e ∷ [];
+        past = past;
         same = t.same;
         shows = shown_same m threads t.past e law t.shows unchanged;
-        tells = subst (λ (x : LedgerState). TellsRun (run set threads (t.past ++ e ∷ [])) x) kept
-            next.tells;
+        tells = subst (λ (x : LedgerState). TellsRun (run set threads past) x) kept next.tells;
         told = next.told;
         last = next.last;
+        refusals = next.refusals ∙ ap (λ (b : Bool). (refused || b) || behind) fine
+            ∙ ap (λ (b : Bool). b || behind) (or_false refused);
         ends = next.ends;
       }
 
   telling_more : (count number : ℕ) (rest : List Event) (text added : List ℕ)
-      → Telling detail set threads events m l number (e ∷ (replicate count e ++ rest)) text
-      → IsTold detail number (reply ∷ replicate count reply) added
-      → Telling detail set threads events n k (number + 1 + count) rest (text ++ added)
+      → Telling detail set threads events m l refused number (e ∷ (replicate count e ++ rest)) text
+      → IsTold detail number (occurs_in m e reply ∷ replicate count (occurs_in m e reply)) added
+      → Telling detail set threads events n k (refused || is_refused reply) (number + 1 + count) rest
+      (text ++ added)
   telling_more zero number rest text added t (words, (later, is, none)) =
-      let line = told_line detail number reply words in
+      let line = told_line detail number (occurs_in m e reply) words in
       let whole : text ++ added ≡ text ++ line =
       ap (λ x. text ++ x) (is ∙ ap (λ x. line ++ x) none ∙ append-nil line) in
       let numbers : number + 1 ≡ number + 1 + 0 = omega arith in
-      subst (λ (j : ℕ). Telling detail set threads events n k j rest (text ++ added)) numbers
-      (telling_on detail set threads events m n l k number e rest text (text ++ added) words reply
-      t ran noted whole on)
+      subst (λ (j : ℕ). Telling detail set threads events n k (refused || is_refused reply) j rest
+      (text ++ added)) numbers
+      (telling_on detail set threads events m n l k refused number e rest text (text ++ added) words
+      reply t ran noted whole on)
   telling_more (suc count) number rest text added t (words, (later, is, told)) =
-      let line = told_line detail number reply words in
+      let line = told_line detail number (occurs_in m e reply) words in
+      let after = refused || is_refused reply in
       let whole : (text ++ line) ++ later ≡ text ++ added =
       append_assoc text line later ∙ ap (λ x. text ++ x) (sym is) in
       let numbers : number + 1 + 1 + count ≡ number + 1 + suc count = omega arith in
-      let next : Telling detail set threads events m l (number + 1)
+      let next : Telling detail set threads events m l refused (number + 1)
       (e ∷ (replicate count e ++ rest)) (text ++ line) =
       telling_same number (e ∷ (replicate count e ++ rest)) text (text ++ line) words t refl in
-      let all : Telling detail set threads events n k (number + 1 + 1 + count) rest
+      let all : Telling detail set threads events n k after (number + 1 + 1 + count) rest
       ((text ++ line) ++ later) =
       telling_more count (number + 1) rest (text ++ line) later next told in
-      subst (λ (j : ℕ). Telling detail set threads events n k j rest (text ++ added)) numbers
-      (subst (λ (x : List ℕ). Telling detail set threads events n k (number + 1 + 1 + count) rest
-      x) whole all)
+      subst (λ (j : ℕ). Telling detail set threads events n k after j rest (text ++ added)) numbers
+      (subst (λ (x : List ℕ). Telling detail set threads events n k after (number + 1 + 1 + count)
+      rest x) whole all)
 
 -- what is left of a run of equal events
 pub left_events : (e : Event) (rest : Option Repeated) (later : List Event)
@@ -323,50 +395,53 @@ left_length None later = omega arith
 left_length (Some equal) later = sym (counted equal.count equal.event later)
 
 -- an event is told, and those behind it that are told again
-pub telling_rest : (detail : Detail) (set : Set) (threads : ℕ) (events : List Event) (m n : Machine)
-    (l k : LedgerState) (number : ℕ) (e : Event) (rest : Option Repeated) (later : List Event)
-    (text more words added : List ℕ) (reply : Reply)
-    → Telling detail set threads events m l number (e ∷ awaited rest later) text
+telling_rest : (detail : Detail) (set : Set) (threads : ℕ) (events : List Event) (m n : Machine)
+    (l k : LedgerState) (refused : Bool) (number : ℕ) (e : Event) (rest : Option Repeated)
+    (later : List Event) (text more words added : List ℕ) (reply : Reply)
+    → Telling detail set threads events m l refused number (e ∷ awaited rest later) text
     → AppliesWhole m e n reply → LedgerGoesOn m e l k
     → (says_unchanged reply ≡ true → k ≡ l) → WaitingChangesNothing → is_last reply ≡ false
     → IfSome rest (λ run. run.event ≡ e)
-    → more ≡ text ++ told_line detail number reply words
-    → IsTold detail (number + 1) (replicate (times_again reply rest) reply) added
-    → Telling detail set threads events n k (number + 1 + times_again reply rest)
-    (awaited (left_again reply rest) later) (more ++ added)
-telling_rest detail set threads events m n l k number e rest later text more words added reply t
-    ran noted kept law on equal is told =
-    let line = told_line detail number reply words in
+    → more ≡ text ++ told_line detail number (occurs_in m e reply) words
+    → IsTold detail (number + 1) (replicate (times_again reply rest) (occurs_in m e reply)) added
+    → Telling detail set threads events n k (refused || is_refused reply)
+    (number + 1 + times_again reply rest) (awaited (left_again reply rest) later) (more ++ added)
+telling_rest detail set threads events m n l k refused number e rest later text more words added
+    reply t ran noted kept law on equal is told =
+    let o = occurs_in m e reply in
+    let line = told_line detail number o words in
+    let after = refused || is_refused reply in
     elim (cases_Bool (happens_again reply)) [
-      | inl again ↦ (let counted : IsTold detail (number + 1) (replicate (count_left rest) reply)
+      | inl again ↦ (let counted : IsTold detail (number + 1) (replicate (count_left rest) o)
           added =
           subst (λ (b : Bool). IsTold detail (number + 1)
-          (replicate (if b then count_left rest else 0) reply) added) again told in
-          let awaits : Telling detail set threads events m l number
+          (replicate (if b then count_left rest else 0) o) added) again told in
+          let awaits : Telling detail set threads events m l refused number
           (e ∷ (replicate (count_left rest) e ++ later)) text =
-          subst (λ (x : List Event). Telling detail set threads events m l number (e ∷ x) text)
-          (left_events e rest later equal) t in
-          let all : Telling detail set threads events n k (number + 1 + count_left rest) later
+          subst (λ (x : List Event). Telling detail set threads events m l refused number (e ∷ x)
+          text) (left_events e rest later equal) t in
+          let all : Telling detail set threads events n k after (number + 1 + count_left rest) later
           (text ++ (line ++ added)) =
-          telling_more detail set threads events m n l k e reply ran noted
-          (kept (unchanged_again reply again)) law (unchanged_again reply again) on
+          telling_more detail set threads events m n l k refused e reply ran noted
+          (kept (unchanged_again reply again)) law (unchanged_again reply again)
+          (fine_again reply again) on
           (count_left rest) number later text (line ++ added) awaits
           (words, (added, refl, counted)) in
           let whole : text ++ (line ++ added) ≡ more ++ added =
           sym (append_assoc text line added) ∙ ap (λ x. x ++ added) (sym is) in
           rw again
-          (subst (λ (x : List ℕ). Telling detail set threads events n k
+          (subst (λ (x : List ℕ). Telling detail set threads events n k after
           (number + 1 + count_left rest) later x) whole all))
       | inr other ↦ (let none : added ≡ [] =
           subst (λ (b : Bool). IsTold detail (number + 1)
-          (replicate (if b then count_left rest else 0) reply) added) other told in
+          (replicate (if b then count_left rest else 0) o) added) other told in
           let whole : more ++ added ≡ text ++ line =
           ap (λ x. more ++ x) none ∙ append-nil more ∙ is in
           let numbers : number + 1 ≡ number + 1 + 0 = omega arith in
           rw other
-          (subst (λ (j : ℕ). Telling detail set threads events n k j (awaited rest later)
+          (subst (λ (j : ℕ). Telling detail set threads events n k after j (awaited rest later)
           (more ++ added)) numbers
-          (telling_on detail set threads events m n l k number e (awaited rest later) text
+          (telling_on detail set threads events m n l k refused number e (awaited rest later) text
           (more ++ added) words reply t ran noted whole on)))
     ]
 
@@ -394,110 +469,50 @@ left_some reply rest some =
       | inr other ↦ rw other some
     ]
 
--- one more of the same
-pub told_again : (detail : Detail) (count number : ℕ) (reply : Reply) (added words : List ℕ)
-    → IsTold detail number (replicate count reply) added
-    → IsTold detail number (replicate (suc count) reply)
-    (added ++ told_line detail (number + count) reply words)
-told_again detail zero number reply added words none =
-    let line = told_line detail (number + 0) reply words in
-    let numbers : number + 0 ≡ number = omega arith in
-    let whole : added ++ line ≡ told_line detail number reply words ++ [] =
-    ap (λ x. x ++ line) none ∙ ap (λ k. told_line detail k reply words) numbers
-    ∙ sym (append-nil (told_line detail number reply words)) in
-    (words, ([], whole, refl))
-told_again detail (suc count) number reply added words (first, (later, is, told)) =
-    let line = told_line detail number reply first in
-    let last = told_line detail (number + 1 + count) reply words in
-    let numbers : number + 1 + count ≡ number + suc count = omega arith in
-    let more : IsTold detail (number + 1) (replicate (suc count) reply) (later ++ last) =
-    told_again detail count (number + 1) reply later words told in
-    let whole : added ++ last ≡ line ++ (later ++ last) =
-    ap (λ x. x ++ last) is ∙ append_assoc line later last in
-    let all : IsTold detail number (reply ∷ replicate (suc count) reply) (added ++ last) =
-    (first, (later ++ last, whole, more)) in
-    subst (λ (k : ℕ). IsTold detail number (reply ∷ replicate (suc count) reply)
-    (added ++ told_line detail k reply words)) numbers all
-
--- lines with the same words are told behind so many of the same
-told_lines : (detail : Detail) (some count number : ℕ) (reply : Reply) (added words : List ℕ)
-    → is_left_out detail reply ≡ false → IsTold detail number (replicate count reply) added
-    → IsTold detail number (replicate (count + some) reply)
-    (added ++ worded_lines (number + count) reply words some)
-told_lines detail zero count number reply added words told all =
-    let none : count + 0 ≡ count = omega arith in
-    rw (append-nil added, none) all
-told_lines detail (suc some) count number reply added words told all =
-    let line : List ℕ = worded_line (number + count) reply words in
-    let later : List ℕ = worded_lines (number + count + 1) reply words some in
-    let counts : suc count + some ≡ count + suc some = omega arith in
-    let numbers : number + suc count ≡ number + count + 1 = omega arith in
-    let is : told_line detail (number + count) reply words ≡ line =
-    ap (λ (b : Bool). if b then [] else worded_line (number + count) reply words) told in
-    let once : IsTold detail number (replicate (suc count) reply) (added ++ line) =
-    subst (λ (l : List ℕ). IsTold detail number (replicate (suc count) reply) (added ++ l)) is
-    (told_again detail count number reply added words all) in
-    let whole : (added ++ line) ++ worded_lines (number + suc count) reply words some
-    ≡ added ++ (line ++ later) =
-    ap (λ n. (added ++ line) ++ worded_lines n reply words some) numbers
-    ∙ append_assoc added line later in
-    subst (λ (k : ℕ). IsTold detail number (replicate k reply) (added ++ (line ++ later))) counts
-    (subst (λ (l : List ℕ). IsTold detail number (replicate (suc count + some) reply) l) whole
-    (told_lines detail some (suc count) number reply (added ++ line) words told once))
-
-pub lines_told : (detail : Detail) (number count left some at : ℕ) (reply : Reply)
-    (words text before beyond : List ℕ) → is_left_out detail reply ≡ false
-    → at + left ≡ number + count → left ≤ count → some ≤ left
-    → (added : List ℕ) × (before ≡ text ++ added)
-    × IsTold detail number (replicate (count - left) reply) added
-    → beyond ≡ before ++ worded_lines at reply words some
-    → (added : List ℕ) × (beyond ≡ text ++ added)
-    × IsTold detail number (replicate (count - (left - some)) reply) added
-lines_told detail number count left some at reply words text before beyond told is few most
-    (added, holds, all) more =
-    let place : at ≡ number + (count - left) = omega (arith, is, few) in
-    let counts : count - left + some ≡ count - (left - some) = omega (arith, few, most) in
-    let lines : List ℕ = worded_lines (number + (count - left)) reply words some in
-    let whole : beyond ≡ text ++ (added ++ lines) =
-    more ∙ ap (λ n. before ++ worded_lines n reply words some) place ∙ ap (λ x. x ++ lines) holds
-    ∙ append_assoc text added lines in (
-      added ++ lines,
-      whole,
-      subst (λ (k : ℕ). IsTold detail number (replicate k reply) (added ++ lines)) counts
-          (told_lines detail some (count - left) number reply added words told all),
-    )
-
--- none of them is told yet
-pub none_told : (detail : Detail) (number count : ℕ) (reply : Reply) (text : List ℕ)
-    → (added : List ℕ) × (text ≡ text ++ added)
-    × IsTold detail number (replicate (count - count) reply) added
-none_told detail number count reply text =
-    let none : count - count ≡ 0 = omega arith in
-    ([], sym (append-nil text), rw none refl)
-
--- nothing is told of any that are left out
-pub none_left : (detail : Detail) (count number : ℕ) (reply : Reply)
-    → is_left_out detail reply ≡ true → IsTold detail number (replicate count reply) []
-none_left detail zero number reply out = refl
-none_left detail (suc count) number reply out =
-    let nothing : [] ≡ told_line detail number reply [] ++ [] =
-    ap (λ (b : Bool). (if b then [] else worded_line number reply []) ++ []) (sym out) in
-    ([], ([], nothing, none_left detail count (number + 1) reply out))
-
--- a step that is passed over in quiet is told by nothing
-pub passed_over : (detail : Detail) (number : ℕ) (reply : Reply) (rest : Option Repeated)
-    (text : List ℕ) → detail ≡ Quiet → reply ≡ Stepped
-    → ToldNext detail number reply rest text text
-passed_over detail number reply rest text quiet stepped =
-    let here : ToldNext Quiet number Stepped rest text text =
+-- a step that is left out is told by nothing
+pub passed_over : (detail : Detail) (number : ℕ) (acting : Option Acting) (reply : Reply)
+    (rest : Option Repeated) (text : List ℕ) → is_left_out detail acting Stepped ≡ true
+    → reply ≡ Stepped → ToldNext detail number (occurs acting reply) rest text text
+passed_over detail number acting reply rest text out stepped =
+    let none : told_line detail number (occurs acting Stepped) [] ≡ [] =
+    ap (λ (b : Bool). if b then [] else worded_line number Stepped []) out in
+    let here : ToldNext detail number (occurs acting Stepped) rest text text =
     record {
       words = [];
       added = [];
-      whole = sym (append-nil text) ∙ sym (append-nil (text ++ []));
+      whole = sym (append-nil text) ∙ ap (λ x. text ++ x) (sym none)
+          ∙ sym (append-nil (text ++ told_line detail number (occurs acting Stepped) []));
       again = refl;
     } in
-    subst (λ (d : Detail). ToldNext d number reply rest text text) (sym quiet)
-    (subst (λ (r : Reply). ToldNext Quiet number r rest text text) (sym stepped) here)
+    subst (λ (r : Reply). ToldNext detail number (occurs acting r) rest text text) (sym stepped) here
+
+pub passed_once : (detail : Detail) (number : ℕ) (acting : Option Acting) (reply : Reply)
+    (text : List ℕ) → is_left_out detail acting Stepped ≡ true → reply ≡ Stepped
+    → ToldOnce detail number (occurs acting reply) text text
+passed_once detail number acting reply text out stepped =
+    nothing_told detail number (occurs acting reply) text
+    (ap (λ r. is_left_out detail acting r) stepped ∙ out)
+
+-- an event that was seen is told as one that occurs
+seen_as : {T E : Type 0} (r : Result T E) (P : Occurrence → Type 0) (m : Machine) (e : Event)
+    (happened : Happened) → HappensBefore m e happened → OnOk r (P (has_occurred happened))
+    → OnOk r (InRuns m (P (occurs_in m e happened.reply)))
+seen_as (Ok x) P m e happened before told =
+    λ threads events shows. subst (λ (a : Option Acting). P (occurs a happened.reply))
+    (before.acting threads events shows) told
+seen_as (Err x) P m e happened before told = tt
+
+module _ {T E : Type 0} (r : Result T E) (detail : Detail) (number : ℕ) (m : Machine) (e : Event)
+    (happened : Happened) (text more : List ℕ) (before : HappensBefore m e happened) where
+  pub seen_once : OnOk r (ToldOnce detail number (has_occurred happened) text more)
+      → OnOk r (InRuns m (ToldOnce detail number (occurs_in m e happened.reply) text more))
+  seen_once told = seen_as r (λ o. ToldOnce detail number o text more) m e happened before told
+
+  pub seen_next : (rest : Option Repeated)
+      → OnOk r (ToldNext detail number (has_occurred happened) rest text more)
+      → OnOk r (InRuns m (ToldNext detail number (occurs_in m e happened.reply) rest text more))
+  seen_next rest told =
+      seen_as r (λ o. ToldNext detail number o rest text more) m e happened before told
 
 -- a reply that ends the run isn't told again
 pub last_once : (reply : Reply) → is_last reply ≡ true → happens_again reply ≡ false
@@ -512,76 +527,96 @@ last_once Idle is = absurd (false≢true is)
 last_once Refused is = absurd (false≢true is)
 
 -- so nothing is told behind it
-pub next_last : (detail : Detail) (number : ℕ) (reply : Reply) (rest : Option Repeated)
-    (text more : List ℕ) → ToldNext detail number reply rest text more → is_last reply ≡ true
-    → (words : List ℕ) × (more ≡ text ++ told_line detail number reply words)
-next_last detail number reply rest text more told is =
+next_last : (detail : Detail) (number : ℕ) (o : Occurrence) (rest : Option Repeated)
+    (text more : List ℕ) → ToldNext detail number o rest text more → is_last o.reply ≡ true
+    → ToldOnce detail number o text more
+next_last detail number o rest text more told is =
     let none : told.added ≡ [] =
     subst (λ (b : Bool). IsTold detail (number + 1)
-    (replicate (if b then count_left rest else 0) reply) told.added) (last_once reply is)
+    (replicate (if b then count_left rest else 0) o) told.added) (last_once o.reply is)
     told.again in
-    let line = told_line detail number reply told.words in
+    let line = told_line detail number o told.words in
     (told.words, told.whole ∙ ap (λ x. (text ++ line) ++ x) none ∙ append-nil (text ++ line))
 
 -- and else the run goes on behind it
 pub next_on : (detail : Detail) (set : Set) (threads : ℕ) (events : List Event) (m n : Machine)
-    (l k : LedgerState) (number : ℕ) (e : Event) (rest : Option Repeated) (later : List Event)
-    (text more : List ℕ) (reply : Reply)
-    → Telling detail set threads events m l number (e ∷ awaited rest later) text
+    (l k : LedgerState) (refused : Bool) (number : ℕ) (e : Event) (rest : Option Repeated)
+    (later : List Event) (text more : List ℕ) (reply : Reply)
+    → Telling detail set threads events m l refused number (e ∷ awaited rest later) text
     → AppliesWhole m e n reply → LedgerGoesOn m e l k
     → (says_unchanged reply ≡ true → k ≡ l) → WaitingChangesNothing → is_last reply ≡ false
-    → IfSome rest (λ run. run.event ≡ e) → ToldNext detail number reply rest text more
-    → Telling detail set threads events n k (number + 1 + times_again reply rest)
-    (awaited (left_again reply rest) later) more
-next_on detail set threads events m n l k number e rest later text more reply t ran noted kept law
-    on equal told =
-    let line = told_line detail number reply told.words in
-    let next : Telling detail set threads events n k (number + 1 + times_again reply rest)
+    → IfSome rest (λ run. run.event ≡ e)
+    → InRuns m (ToldNext detail number (occurs_in m e reply) rest text more)
+    → Telling detail set threads events n k (refused || is_refused reply)
+    (number + 1 + times_again reply rest) (awaited (left_again reply rest) later) more
+next_on detail set threads events m n l k refused number e rest later text more reply t ran noted
+    kept law on equal tells =
+    let told : ToldNext detail number (occurs_in m e reply) rest text more =
+    tells threads t.past t.shows in
+    let line = told_line detail number (occurs_in m e reply) told.words in
+    let after = refused || is_refused reply in
+    let next : Telling detail set threads events n k after (number + 1 + times_again reply rest)
     (awaited (left_again reply rest) later) ((text ++ line) ++ told.added) =
-    telling_rest detail set threads events m n l k number e rest later text (text ++ line) told.words
-    told.added reply t ran noted kept law on equal refl told.again in
-    subst (λ (x : List ℕ). Telling detail set threads events n k
+    telling_rest detail set threads events m n l k refused number e rest later text (text ++ line)
+    told.words told.added reply t ran noted kept law on equal refl told.again in
+    subst (λ (x : List ℕ). Telling detail set threads events n k after
     (number + 1 + times_again reply rest) (awaited (left_again reply rest) later) x)
     (sym told.whole) next
 
--- a line is told of an event
-pub line_told : (detail : Detail) (number : ℕ) (reply : Reply) (text more words : List ℕ)
-    → is_left_out detail reply ≡ false → more ≡ text ++ worded_line number reply words
-    → more ≡ text ++ told_line detail number reply words
-line_told detail number reply text more words told added =
-    added
-    ∙ ap (λ (b : Bool). text ++ (if b then [] else worded_line number reply words)) (sym told)
+-- or the run ends with it
+pub next_ends : (detail : Detail) (set : Set) (threads : ℕ) (events : List Event) (m n : Machine)
+    (l k : LedgerState) (refused : Bool) (number : ℕ) (e : Event) (rest : Option Repeated)
+    (later : List Event) (text more : List ℕ) (reply : Reply)
+    → Telling detail set threads events m l refused number (e ∷ awaited rest later) text
+    → AppliesWhole m e n reply → LedgerGoesOn m e l k
+    → InRuns m (ToldNext detail number (occurs_in m e reply) rest text more)
+    → is_last reply ≡ true
+    → HasTold detail set threads events n.set n.world k
+    (record { stopped = true; refused = refused }) more
+next_ends detail set threads events m n l k refused number e rest later text more reply t ran noted
+    tells ends =
+    let told = next_last detail number (occurs_in m e reply) rest text more
+    (tells threads t.past t.shows) ends in
+    told_last detail set threads events m n l k refused number e (awaited rest later) text more told.0
+    reply t ran noted told.1 ends
 
-pub lines_of : {T E : Type 0} (r : Result T E) (detail : Detail) (number : ℕ) (reply : Reply)
-    (text more : List ℕ) → is_left_out detail reply ≡ false
-    → OnOk r ((words : List ℕ) × (more ≡ text ++ worded_line number reply words))
-    → OnOk r ((words : List ℕ) × (more ≡ text ++ told_line detail number reply words))
-lines_of (Ok x) detail number reply text more told (words, added) =
-    (words, line_told detail number reply text more words told added)
-lines_of (Err e) detail number reply text more told h = tt
+-- a single event is told
+module _ (detail : Detail) (set : Set) (threads : ℕ) (events : List Event) (m n : Machine)
+    (l k : LedgerState) (refused : Bool) (number : ℕ) (e : Event) (rest : List Event)
+    (text more : List ℕ) (reply : Reply)
+    (t : Telling detail set threads events m l refused number (e ∷ rest) text)
+    (ran : AppliesWhole m e n reply) (noted : LedgerGoesOn m e l k)
+    (told : InRuns m (ToldOnce detail number (occurs_in m e reply) text more)) where
+  pub single_on : is_last reply ≡ false
+      → Telling detail set threads events n k (refused || is_refused reply) (number + 1) rest more
+  single_on goes =
+      let once : ToldOnce detail number (occurs_in m e reply) text more =
+      told threads t.past t.shows in
+      telling_on detail set threads events m n l k refused number e rest text more once.0 reply t ran
+      noted once.1 goes
 
--- or nothing is
-pub nothing_told : (detail : Detail) (number : ℕ) (reply : Reply) (text : List ℕ)
-    → is_left_out detail reply ≡ true
-    → (words : List ℕ) × (text ≡ text ++ told_line detail number reply words)
-nothing_told detail number reply text left = (
-  [],
-  sym (append-nil text)
-      ∙ ap (λ (b : Bool). text ++ (if b then [] else worded_line number reply []))
-      (sym left),
-)
+  pub single_last : is_last reply ≡ true
+      → HasTold detail set threads events n.set n.world k
+      (record { stopped = true; refused = refused }) more
+  single_last ends =
+      let once : ToldOnce detail number (occurs_in m e reply) text more =
+      told threads t.past t.shows in
+      told_last detail set threads events m n l k refused number e rest text more once.0 reply t ran
+      noted once.1 ends
 
 -- no event is left
 pub told_all : (detail : Detail) (set : Set) (threads : ℕ) (events : List Event) (m : Machine)
-    (l : LedgerState) (number : ℕ) (text : List ℕ)
-    → Telling detail set threads events m l number [] text
-    → HasTold detail set threads events m.set m.world l false text
-told_all detail set threads events m l number text t =
-    let Q : List ℕ → Type 0 = λ x. IsTold detail 0 (replies_by set threads events) x in
+    (l : LedgerState) (refused : Bool) (number : ℕ) (text : List ℕ)
+    → Telling detail set threads events m l refused number [] text
+    → HasTold detail set threads events m.set m.world l
+    (record { stopped = false; refused = refused }) text
+told_all detail set threads events m l refused number text t =
+    let Q : List ℕ → Type 0 = λ x. IsTold detail 0 (occurrences_by set threads events) x in
     record {
       same = t.same;
       told = subst Q (append-nil text) (t.told [] refl);
       last = t.last;
+      refused = t.refusals ∙ or_false refused;
       left = t.shows.world ∙ ap (λ (s : Set). (run s threads t.past).world) t.same
           ∙ ap (λ (r : Run). r.world) (sym t.ends);
       reached = t.past;
@@ -598,29 +633,38 @@ all_found set w l found threads events are tells =
     rw (are.lost, are.left, are.ringed, are.disagreeing set threads events tells) refl
 
 -- the events are told, and the audit behind them
-pub run_told : (detail : Detail) (set : Set) (threads : ℕ) (events : List Event) (after : Set)
-    (world : World) (l : LedgerState) (stopped amiss : Bool) (text words : List ℕ)
+pub run_told : (manner : Manner) (set : Set) (threads : ℕ) (events : List Event) (after : Set)
+    (world : World) (l : LedgerState) (course : Course) (failed amiss : Bool) (text words : List ℕ)
     (found : Findings)
-    → HasTold detail set threads events after world l stopped text
+    → HasTold manner.detail set threads events after world l course text
+    → failed ≡ course.stopped || fails_strictly manner.strictness course.refused
     → AreFindings after world l found
     → amiss ≡ any_of found.lost.items found.left.items found.ringed.items found.disagreeing.items
-    → IsRunTold detail set threads events
-    (ended (if stopped || amiss then Stopped else Complete)
+    → IsRunTold manner set threads events
+    (ended (if failed || amiss then Stopped else Complete)
     (text ++ (codes "\naudit\n" ++ words)))
-run_told detail set threads events shown world l stopped amiss text words found h are any =
+run_told manner set threads events shown world l course failed amiss text words found h fails are
+    any =
     let all = text ++ (codes "\naudit\n" ++ words) in
+    let replies = replies_by set threads events in
     let found_in : AreFindings set world l found =
     subst (λ (s : Set). AreFindings s world l found) h.same are in
     let same : amiss ≡ has_findings set (world_by set threads events) (past_by set threads events) =
     any ∙ all_found set world l found threads h.reached found_in h.tells
     ∙ ap (λ (w : World). has_findings set w (run set threads h.reached).past) h.left
     ∙ ap (λ (r : Run). has_findings set (world_by set threads events) r.past) h.ends in
+    let fail : failed ≡ list_any is_last replies
+    || fails_strictly manner.strictness (list_any is_refused replies) =
+    fails ∙ ap (λ (b : Bool). b || fails_strictly manner.strictness course.refused) (sym h.last)
+    ∙ ap (λ (b : Bool). list_any is_last replies || fails_strictly manner.strictness b)
+    (sym h.refused) in
     record {
       lines = text;
       words = words;
       told = h.told;
-      is = ap (λ (b : Bool). ended (if b || amiss then Stopped else Complete) all) (sym h.last)
-          ∙ ap (λ (b : Bool). ended (if list_any is_last (replies_by set threads events) || b
+      is = ap (λ (b : Bool). ended (if b || amiss then Stopped else Complete) all) fail
+          ∙ ap (λ (b : Bool). ended (if (list_any is_last replies
+          || fails_strictly manner.strictness (list_any is_refused replies)) || b
           then Stopped else Complete) all) same;
     }
 

@@ -8,7 +8,7 @@ use Rattle.tell_uses.specs.Acting.{acting_in}
 use Rattle.tell_uses.specs.Acts.{use_step}
 use Rattle.tell_uses.specs.Plain.{is_plain}
 use Rattle.drvhost_runs.specs.declared.tell.Detail.{Detail}
-use Rattle.drvhost_runs.specs.declared.tell.Detail.TheVariants.{Quiet}
+use Rattle.drvhost_runs.specs.Told.{is_left_out}
 use Rattle.tell_words.specs.declared.line.Happened.{Happened}
 
 -- a reply that says that a step was made
@@ -24,7 +24,7 @@ pub record HappensBefore (m : Machine) (e : Event) (happened : Happened) : Type 
   pub acting : (threads : ℕ) (events : List Event) → ShowsWhole m threads events
       → happened.moment.acting ≡ acting_in m.set m.world e
 
--- an event needs no look at it before it is applied: a plain step, in quiet
+-- an event needs no look at it before it is applied: a plain step of which no line is told
 pub record GoesUnseen (detail : Detail) (m : Machine) (e : Event) : Type 0 where
-  pub quiet : detail ≡ Quiet
+  pub left : is_left_out detail (acting_in m.set m.world e) Stepped ≡ true
   pub plain : is_plain m.set m.world e ≡ true

@@ -4,7 +4,11 @@ use Rattle.std.specs.Prelude.{ℕ, ⊤, ◌≡◌, ◌+◌, ◌++◌, ◌⊎◌,
 use Rattle.std.specs.Io.KnownBytes.{Keeps}
 use Rattle.std.specs.List.{list_any}
 use Rattle.tell_audit.specs.Findings.{has_findings}
+use Rattle.tell_uses.specs.declared.acting.Acting.{Acting}
+use Rattle.tell_uses.specs.Acting.{acting_in}
+use Rattle.tell_uses.specs.Computing.{computes}
 use Rattle.tell_uses.specs.Ledger.{LedgerState, Tells as TellsRun}
+use Rattle.tell_words.specs.declared.line.Happened.{Happened}
 use Rattle.checked.specs.GoingOn.{GoesOn}
 use Rattle.interleave.specs.declared.read.Repeated.{Repeated}
 use Rattle.interleave.specs.declared.schedule.Schedule.{Schedule}
@@ -28,8 +32,12 @@ use Rattle.drvhost_devices.specs.declared.fault.Fault.TheVariants.{Read, Write, 
 use Rattle.drvhost_runs.specs.declared.show.Showing.{Showing}
 use Rattle.drvhost_runs.specs.declared.show.Showing.TheVariants.{InWords, AsPicture}
 use Rattle.drvhost_runs.specs.declared.tell.Detail.{Detail}
-use Rattle.drvhost_runs.specs.declared.tell.Detail.TheVariants.{Whole, Quiet}
+use Rattle.drvhost_runs.specs.declared.tell.Detail.TheVariants.{Every, Usual, Quiet}
+use Rattle.drvhost_runs.specs.declared.tell.Manner.{Manner}
+use Rattle.drvhost_runs.specs.declared.tell.Strictness.{Strictness}
+use Rattle.drvhost_runs.specs.declared.tell.Strictness.TheVariants.{Lenient, Strict}
 use Rattle.drvhost_runs.specs.declared.telling.Told.{Told}
+use Rattle.drvhost_runs.specs.declared.telling.Course.{Course}
 use Rattle.drvhost_devices.specs.declared.verification.Verification.{Verification}
 use Rattle.drvhost_devices.specs.Answer.{Answer, IsTraced, ended, faulty, is_last, shown_replies}
 use Rattle.drvhost_devices.specs.Device.{Holds, Supply}
@@ -48,24 +56,60 @@ is_quiet Refused = false
 is_quiet (Bug bug) = false
 is_quiet (Wrong place) = false
 
--- whether no line is told of it
-abbrev pub is_left_out : Detail → Reply → Bool
-is_left_out Whole reply = false
-is_left_out Quiet reply = is_quiet reply
+-- one to an event that isn't about a packet, a lock, a list or a level, by what acted in it: there
+-- was nothing to do, or a step only computed
+abbrev pub is_incidental : Option Acting → Reply → Bool
+is_incidental acting Idle = true
+is_incidental acting Stepped = computes acting
+is_incidental acting (Started packet) = false
+is_incidental acting Finished = false
+is_incidental acting (Topped packet status info) = false
+is_incidental acting Waited = false
+is_incidental acting Refused = false
+is_incidental acting (Bug bug) = false
+is_incidental acting (Wrong place) = false
+
+-- whether no line is told of an event, by what acted in it, and the reply
+abbrev pub is_left_out : Detail → Option Acting → Reply → Bool
+is_left_out Every acting reply = false
+is_left_out Usual acting reply = is_incidental acting reply
+is_left_out Quiet acting reply = is_quiet reply
+
+-- an event of a run, as levels see it: the frame that acted in it, and the reply
+pub record Occurrence : Type 0 where
+  pub acting : Option Acting
+  pub reply : Reply
+
+abbrev pub occurs : Option Acting → Reply → Occurrence
+occurs acting reply = record { acting = acting; reply = reply }
 
 -- what is told of an event, with these words: a line, or nothing
-abbrev pub told_line : Detail → ℕ → Reply → List ℕ → List ℕ
-told_line detail number reply words =
-    if is_left_out detail reply then [] else worded_line number reply words
+abbrev pub told_line : Detail → ℕ → Occurrence → List ℕ → List ℕ
+told_line detail number o words =
+    if is_left_out detail o.acting o.reply then [] else worded_line number o.reply words
 
--- what is told of events with these replies, the first of which has this number: of each a line
--- with some words, or nothing
-abbrev pub IsTold : Detail → ℕ → List Reply → List ℕ → Type 0
+-- what is told of events, the first of which has this number: of each a line with some words, or
+-- nothing
+abbrev pub IsTold : Detail → ℕ → List Occurrence → List ℕ → Type 0
 IsTold detail number [] text = text ≡ []
-IsTold detail number (reply ∷ rest) text =
+IsTold detail number (o ∷ rest) text =
     (words : List ℕ) × ((later : List ℕ)
-    × (text ≡ told_line detail number reply words ++ later)
+    × (text ≡ told_line detail number o words ++ later)
     × IsTold detail (number + 1) rest later)
+
+-- the events of a run, up to one that stops it
+abbrev pub occurrences : Set → Run → List Event → List Occurrence
+occurrences set r [] = []
+occurrences set r (e ∷ events) =
+    occurs (acting_in set r.world e) (step set r e).reply
+    ∷ (if is_last (step set r e).reply then [] else occurrences set (step set r e).run events)
+
+-- an event that a machine is about to apply, with this reply, and one that has happened
+abbrev pub occurs_in : Machine → Event → Reply → Occurrence
+occurs_in m e reply = occurs (acting_in m.set m.world e) reply
+
+abbrev pub has_occurred : Happened → Occurrence
+has_occurred happened = occurs happened.moment.acting happened.reply
 
 -- a reply that an event has again where it happens again, without doing anything
 abbrev pub happens_again : Reply → Bool
@@ -90,13 +134,22 @@ times_again reply rest = if happens_again reply then count_left rest else 0
 abbrev pub left_again : Reply → Option Repeated → Option Repeated
 left_again reply rest = if happens_again reply then None else rest
 
+-- an event is told
+abbrev pub ToldOnce : Detail → ℕ → Occurrence → List ℕ → List ℕ → Type 0
+ToldOnce detail number o text more =
+    (words : List ℕ) × (more ≡ text ++ told_line detail number o words)
+
 -- an event is told, and those behind it that are told again
-pub record ToldNext (detail : Detail) (number : ℕ) (reply : Reply) (rest : Option Repeated)
+pub record ToldNext (detail : Detail) (number : ℕ) (o : Occurrence) (rest : Option Repeated)
     (text more : List ℕ) : Type 0 where
   pub words : List ℕ
   pub added : List ℕ
-  pub whole : more ≡ (text ++ told_line detail number reply words) ++ added
-  pub again : IsTold detail (number + 1) (replicate (times_again reply rest) reply) added
+  pub whole : more ≡ (text ++ told_line detail number o words) ++ added
+  pub again : IsTold detail (number + 1) (replicate (times_again o.reply rest) o) added
+
+-- where a machine shows a run
+abbrev pub InRuns : Machine → Type 0 → Type 0
+InRuns m A = (threads : ℕ) (events : List Event) → ShowsWhole m threads events → A
 
 -- a ledger that tells a run that a machine shows becomes one that tells it with an event added
 abbrev pub LedgerGoesOn : Machine → Event → LedgerState → LedgerState → Type 0
@@ -110,10 +163,20 @@ abbrev pub GoesAlone : Event → Machine → ℕ → Machine → Type 0
 GoesAlone (Step t) m k n = GoesOn t m k n
 GoesAlone e m k n = (k ≡ 0) × (n ≡ m)
 
+-- a step of which it isn't known what acted
+abbrev pub unknown_step : Occurrence
+unknown_step = occurs None Stepped
+
+-- a step is told alike, whatever acted
+abbrev pub TellsAlike : Detail → Type 0
+TellsAlike detail =
+    (acting : Option Acting) → is_left_out detail acting Stepped ≡ is_left_out detail None Stepped
+
 -- so many such steps are told, the first of which has this number
 abbrev pub ToldAlone : Detail → ℕ → ℕ → List ℕ → List ℕ → Type 0
 ToldAlone detail number k text more =
-    (added : List ℕ) × (more ≡ text ++ added) × IsTold detail number (replicate k Stepped) added
+    TellsAlike detail × ((added : List ℕ) × (more ≡ text ++ added)
+    × IsTold detail number (replicate k unknown_step) added)
 
 -- a run after these events, or after the first of them that stops it
 abbrev pub run_to_end : Set → Run → List Event → Run
@@ -122,7 +185,10 @@ run_to_end set r (e ∷ events) =
     if is_last (step set r e).reply then (step set r e).run
     else run_to_end set (step set r e).run events
 
--- the replies to the events of a schedule, and the world that they leave
+-- the events of a schedule as they are told, the replies to them, and the world that they leave
+abbrev pub occurrences_by : Set → ℕ → List Event → List Occurrence
+occurrences_by set threads events = occurrences set (begun set threads) events
+
 abbrev pub replies_by : Set → ℕ → List Event → List Reply
 replies_by set threads events = shown_replies set (begun set threads) events
 
@@ -133,20 +199,40 @@ world_by set threads events = (run_to_end set (begun set threads) events).world
 abbrev pub past_by : Set → ℕ → List Event → List Entry
 past_by set threads events = (run_to_end set (begun set threads) events).past
 
--- how a run that is told ends: stopped also where its audit finds anything amiss
-abbrev pub told_end : Set → ℕ → List Event → End
-told_end set threads events =
-    if list_any is_last (replies_by set threads events)
+-- a reply to an event that was refused
+abbrev pub is_refused : Reply → Bool
+is_refused Refused = true
+is_refused (Started packet) = false
+is_refused Stepped = false
+is_refused Finished = false
+is_refused (Topped packet status info) = false
+is_refused Waited = false
+is_refused Idle = false
+is_refused (Bug bug) = false
+is_refused (Wrong place) = false
+
+-- whether a run is taken for one that stopped where an event of it was refused, or none was
+abbrev pub fails_strictly : Strictness → Bool → Bool
+fails_strictly Lenient refused = false
+fails_strictly Strict refused = refused
+
+-- how a run that is told ends: stopped also where its audit finds anything amiss, and, if it is
+-- told strictly, where an event was refused
+abbrev pub told_end : Strictness → Set → ℕ → List Event → End
+told_end strictness set threads events =
+    if (list_any is_last (replies_by set threads events)
+    || fails_strictly strictness (list_any is_refused (replies_by set threads events)))
     || has_findings set (world_by set threads events) (past_by set threads events)
     then Stopped else Complete
 
 -- a run by a schedule is told: the lines of its events, and then some words on its audit
-pub record IsRunTold (detail : Detail) (set : Set) (threads : ℕ) (events : List Event)
+pub record IsRunTold (manner : Manner) (set : Set) (threads : ℕ) (events : List Event)
     (answer : Answer) : Type 0 where
   pub lines : List ℕ
   pub words : List ℕ
-  pub told : IsTold detail 0 (replies_by set threads events) lines
-  pub is : answer ≡ ended (told_end set threads events) (lines ++ (codes "\naudit\n" ++ words))
+  pub told : IsTold manner.detail 0 (occurrences_by set threads events) lines
+  pub is : answer ≡ ended (told_end manner.strictness set threads events)
+      (lines ++ (codes "\naudit\n" ++ words))
 
 -- a run by a schedule is drawn: a picture, and the run's end
 pub record IsRunDrawn (set : Set) (threads : ℕ) (events : List Event) (answer : Answer)
@@ -157,7 +243,7 @@ pub record IsRunDrawn (set : Set) (threads : ℕ) (events : List Event) (answer 
 
 -- a run is shown in words, or as a picture
 abbrev pub IsRunShown : Showing → Set → ℕ → List Event → Answer → Type 0
-IsRunShown (InWords detail) set threads events answer = IsRunTold detail set threads events answer
+IsRunShown (InWords manner) set threads events answer = IsRunTold manner set threads events answer
 IsRunShown AsPicture set threads events answer = IsRunDrawn set threads events answer
 
 -- or the fault of the schedule is told, with some words behind its line
@@ -180,9 +266,9 @@ IsShownOf verification showing supply schedule answer =
     IsOfSupply (IsTraced verification (IsShownRunOf showing schedule)) supply answer
 
 -- what `tell` answers, and what `draw` does
-abbrev pub IsTellOf : Verification → Detail → Supply → Supply → Answer → Type 0
-IsTellOf verification detail supply schedule answer =
-    IsShownOf verification (InWords detail) supply schedule answer
+abbrev pub IsTellOf : Verification → Manner → Supply → Supply → Answer → Type 0
+IsTellOf verification manner supply schedule answer =
+    IsShownOf verification (InWords manner) supply schedule answer
 
 abbrev pub IsDrawOf : Verification → Supply → Supply → Answer → Type 0
 IsDrawOf verification supply schedule answer =
@@ -225,13 +311,13 @@ TellsShown end Tells status =
     × TellsLine (schedule_fault_line fault) Tells status)
 
 -- the events of a run over so many threads were told: what they left in a machine's set and world,
--- a ledger that tells the run up to the last of them that was told, whether that one stopped the run,
--- and the text
+-- a ledger that tells the run up to the last of them that was told, how that went, and the text
 pub record HasTold (detail : Detail) (set : Set) (threads : ℕ) (events : List Event) (after : Set)
-    (world : World) (ledger : LedgerState) (stopped : Bool) (text : List ℕ) : Type 0 where
+    (world : World) (ledger : LedgerState) (course : Course) (text : List ℕ) : Type 0 where
   pub same : after ≡ set
-  pub told : IsTold detail 0 (replies_by set threads events) text
-  pub last : list_any is_last (replies_by set threads events) ≡ stopped
+  pub told : IsTold detail 0 (occurrences_by set threads events) text
+  pub last : list_any is_last (replies_by set threads events) ≡ course.stopped
+  pub refused : list_any is_refused (replies_by set threads events) ≡ course.refused
   pub left : world ≡ world_by set threads events
   pub reached : List Event
   pub ends : run set threads reached ≡ run_to_end set (begun set threads) events

@@ -2,7 +2,7 @@
 
 ghost use Rattle.std.specs.Prelude.{◌≡◌, IfOk, IsTrue, OnOk, false, true};
 ghost use Rattle.drvhost_runs.specs.Seen.{GoesUnseen, HappensBefore, is_stepped};
-ghost use Rattle.drvhost_runs.specs.Told.{LedgerGoesOn};
+ghost use Rattle.drvhost_runs.specs.Told.{LedgerGoesOn, is_left_out};
 ghost use Rattle.model.specs.declared.event.Reply.TheVariants.{Stepped};
 ghost use Rattle.model.specs.Machine.{AppliesWhole};
 ghost use Rattle.tell_uses.specs.Acting.{acting_in};
@@ -14,6 +14,7 @@ use checked::Checked;
 use model::event::{Event, Reply};
 use std::alloc::{AllocError, Global};
 use tell_uses::acts::{UseStep, use_step_of};
+use tell_uses::computing::computes;
 use tell_uses::ledger::Ledger;
 use tell_uses::plain::{is_plain, plain_steps_keep_ledgers, plain_steps_step_or_stay};
 use tell_words::{Happened, Moment};
@@ -28,14 +29,16 @@ pub(crate) fn nothing_seen() -> Happened {
     }
 }
 
-/// Whether an event needs no look at it before it is applied: in quiet a plain step. Nothing is told
-/// of it where it steps, and nothing has changed where it doesn't.
+/// Whether an event needs no look at it before it is applied: in quiet a plain step, and usually
+/// one that only computes. Nothing is told of it where it steps, and nothing has changed where it
+/// doesn't.
 pub(crate) fn goes_unseen(machine: &Checked, event: &Event, detail: Detail) -> bool
     ensures { IsTrue result → GoesUnseen detail machine.now event.now }
 {
     match detail {
         Detail::Quiet => is_plain(machine, event),
-        Detail::Whole => false,
+        Detail::Usual => computes(machine, event),
+        Detail::Every => false,
     }
 }
 
@@ -59,10 +62,11 @@ pub(crate) fn see(
     ensures seen { IfOk result (λ passed. passed ≡ false
         → HappensBefore machine.old event.now happened.new) }
     ensures passed { IfOk result (λ passed. IsTrue passed
-        → (detail ≡ Detail.Quiet) × (happened.new.reply ≡ Stepped)) }
+        → (is_left_out detail (acting_in machine.old.set machine.old.world event.now) Stepped
+        ≡ true) × (happened.new.reply ≡ Stepped)) }
 {
     if unseen {
-        return see_after(alloc, ledger, machine, event, happened);
+        return see_after(alloc, ledger, machine, event, detail, happened);
     }
     happened.event = *event;
     look_before(machine, event, detail, &mut happened.moment);
@@ -80,19 +84,20 @@ fn look_before(machine: &Checked, event: &Event, detail: Detail, moment: &mut Mo
 {
     moment.look(machine, event);
     match detail {
-        Detail::Whole => moment.look_at_packet(machine),
+        Detail::Every | Detail::Usual => moment.look_at_packet(machine),
         Detail::Quiet => {}
     }
 }
 
-/// The same of a plain step in quiet. Where it steps it is passed over, and the ledger stays as it
-/// is. Else nothing has changed but that the run may have stopped, and the frame that acted is
-/// looked up then.
+/// The same of a plain step of which nothing is told. Where it steps it is passed over, and the
+/// ledger stays as it is. Else nothing has changed but that the run may have stopped, and the frame
+/// that acted is looked up then.
 fn see_after(
     alloc: Global,
     ledger: &mut Ledger,
     machine: &mut Checked,
     event: &Event,
+    detail: Detail,
     happened: &mut Happened,
 ) -> Result<bool, AllocError>
     requires { is_plain machine.old.set machine.old.world event.now ≡ true }
@@ -113,7 +118,7 @@ fn see_after(
     }
     ledger.note(alloc, UseStep::Nothing, event, &happened.reply, machine)?;
     happened.event = *event;
-    happened.moment.look(machine, event);
+    look_before(machine, event, detail, &mut happened.moment);
     happened.step = UseStep::Nothing;
     Ok(false)
 }

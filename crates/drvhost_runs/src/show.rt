@@ -12,7 +12,7 @@ ghost use Rattle.drvhost_devices.specs.Fault.{ReadsSchedule, reads_failed, write
 ghost use Rattle.drvhost_runs.specs.Told.{GoesShown, IsRunShown, IsShownOf, IsShownRunOf, Tells, TellsShown};
 
 use crate::drawing::draw_run;
-use crate::tell::Detail;
+use crate::tell::Manner;
 use crate::telling::{Told, tell_run};
 use asm::disassemble;
 use checked::Checked;
@@ -36,7 +36,7 @@ use verifier::{Accepted, verify};
 #[derive(Clone, Copy)]
 pub(crate) enum Showing {
     /// In words, with an audit.
-    InWords(Detail),
+    InWords(Manner),
     /// As a picture.
     AsPicture,
 }
@@ -295,7 +295,7 @@ fn run_shown(
         schedule.now.events (ended told.end told.text)) }
 {
     match showing {
-        Showing::InWords(detail) => tell_run(alloc, source, machine, schedule, detail, lines),
+        Showing::InWords(manner) => tell_run(alloc, source, machine, schedule, manner, lines),
         Showing::AsPicture => draw_run(alloc, source, machine, schedule),
     }
 }

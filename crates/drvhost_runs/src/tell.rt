@@ -14,18 +14,37 @@ use std::alloc::Global;
 #[derive(Clone, Copy, Debug, PartialEq, Eq)]
 pub enum Detail {
     /// Of each.
-    Whole,
+    Every,
+    /// Of those about packets, locks, lists and levels: but for those that find nothing to do, and
+    /// for steps at instructions that only compute.
+    Usual,
     /// Of those that do more than make a step or find nothing to do.
     Quiet,
 }
 
+/// Whether a run in which an event was refused is answered as one that went well.
+#[derive(Clone, Copy, Debug, PartialEq, Eq)]
+pub enum Strictness {
+    /// It is.
+    Lenient,
+    /// It is answered as one that stopped.
+    Strict,
+}
+
+/// How a run is told.
+#[derive(Clone, Copy, Debug, PartialEq, Eq)]
+pub struct Manner {
+    pub detail: Detail,
+    pub strictness: Strictness,
+}
+
 /// Runs a driver set by a schedule as [`trace`](crate::trace::trace) does, and tells the run in
-/// words: for each event, or for those that do more than make a step or find nothing to do, the
-/// line of the trace with words behind it, and then an audit of what the run has left. Where
-/// verification is required, a refused set isn't run, and what is written is the line of its
-/// refusal. The answer is the exit status: that of the trace, but 1 also where the audit finds a
-/// packet that no place names, a lock that an idle thread owns, threads that wait in a ring, or a
-/// stack location that was returned from otherwise than it was marked.
+/// words: for each event of which a line is asked for, the line of the trace with words behind it,
+/// and then an audit of what the run has left. Where verification is required, a refused set isn't
+/// run, and what is written is the line of its refusal. The answer is the exit status: that of the
+/// trace, but 1 also where the audit finds a packet that no place names, a lock that an idle thread
+/// owns, threads that wait in a ring, or a stack location that was returned from otherwise than it
+/// was marked, and, strictly told, where an event was refused.
 /// Faults are told on the error writer, in the order of the trace. Nothing is written before the
 /// whole text stands in memory.
 pub fn tell<S: Source, P: Source, O: Sink, E: Sink>(
@@ -33,7 +52,7 @@ pub fn tell<S: Source, P: Source, O: Sink, E: Sink>(
     set: &mut S,
     schedule: &mut P,
     verification: Verification,
-    detail: Detail,
+    manner: Manner,
     out: &mut O,
     err: &mut E,
 ) -> u8
@@ -43,13 +62,13 @@ pub fn tell<S: Source, P: Source, O: Sink, E: Sink>(
     requires err { CanCount (E.failures err.old) }
     ensures unread { (schedule.new ≡ schedule.old) ⊎ HoldsRun verification (S.supply set.old) }
     ensures answers { Answers
-        (IsTellOf verification detail (S.supply set.old) (P.supply schedule.old))
+        (IsTellOf verification manner (S.supply set.old) (P.supply schedule.old))
         (S.failures set.old + P.failures schedule.old)
         (S.failures set.new + P.failures schedule.new)
         (O.failures out.old) (O.failures out.new) (O.contents out.old) (O.contents out.new)
         (Says (E.failures err.old) (E.failures err.new) (E.contents err.old) (E.contents err.new))
         result }
 {
-    let showing = Showing::InWords(detail);
+    let showing = Showing::InWords(manner);
     show(alloc, set, schedule, verification, showing, out, err)
 }

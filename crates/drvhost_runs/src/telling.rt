@@ -14,11 +14,11 @@ ghost use Rattle.drvhost_devices.specs.Answer.{ended};
 ghost use Rattle.tell_words.specs.Noted.{noted};
 ghost use Rattle.drvhost_runs.specs.Repeats.{Comes, awaited};
 ghost use Rattle.drvhost_runs.specs.Seen.{GoesUnseen};
-ghost use Rattle.drvhost_runs.specs.Told.{GoesAlone, HasTold, IsRunTold, IsTold, LedgerGoesOn, ToldAlone, ToldNext, count_left, happens_again, is_left_out, left_again, times_again, told_line};
+ghost use Rattle.drvhost_runs.specs.Told.{GoesAlone, HasTold, InRuns, IsRunTold, IsTold, LedgerGoesOn, ToldAlone, ToldNext, ToldOnce, count_left, fails_strictly, happens_again, has_occurred, is_incidental, is_left_out, is_refused, left_again, occurs_in, times_again, unknown_step};
 
 use crate::follow::{is_last, next_run, next_single, rest_of};
 use crate::seeing::{goes_unseen, nothing_seen, see};
-use crate::tell::Detail;
+use crate::tell::{Detail, Manner, Strictness};
 use checked::Checked;
 use drvhost_devices::fault::End;
 use interleave::events::Upcoming;
@@ -34,12 +34,13 @@ use std::alloc::{AllocError, Global};
 use tell_audit::findings::Findings;
 use tell_holders::Rights;
 use tell_lines::kept::ToldLines;
+use tell_uses::computing::only_computes;
 use tell_uses::laws::going_on_keeps_ledgers;
 use tell_uses::ledger::Ledger;
 use tell_uses::standing::top_frame;
 use tell_words::{Happened, Teller};
 
-/// How often in a row an event happens at most that is told by itself in quiet.
+/// How often in a row an event happens at most that is told by itself where not each has a line.
 const FEW: usize = 32;
 
 /// What stands before the words of the audit.
@@ -68,6 +69,13 @@ const LONGER: [u64; 19] = [
     10_000_000_000_000_000_000,
 ];
 
+/// How a run went: whether an event stopped it, and whether one was refused.
+#[derive(Clone, Copy)]
+pub(crate) struct Course {
+    pub(crate) stopped: bool,
+    pub(crate) refused: bool,
+}
+
 /// A text, and how the job ends of which it tells.
 #[derive(Drop)]
 pub(crate) struct Told {
@@ -82,24 +90,24 @@ pub(crate) fn tell_run(
     source: &[u8],
     machine: &mut Checked,
     schedule: &Schedule,
-    detail: Detail,
+    manner: Manner,
     lines: &mut Lines,
 ) -> Result<Told, AllocError>
     requires begun { ShowsWhole machine.old schedule.now.threads [] }
     requires limits { IsWithinLimits schedule.now }
-    ensures { IfOk result (λ told. IsRunTold detail machine.old.set schedule.now.threads
+    ensures { IfOk result (λ told. IsRunTold manner machine.old.set schedule.now.threads
         schedule.now.events (ended told.end told.text)) }
 {
     let mut teller = Teller::of(alloc, source)?;
     let mut ledger = Ledger::new(alloc, schedule.threads)?;
     let mut text = ToldLines::new(alloc, schedule.events.len())?;
-    let stopped = tell_events(
+    let course = tell_events(
         alloc,
         &mut teller,
         &mut ledger,
         machine,
         schedule,
-        detail,
+        manner.detail,
         lines,
         &mut text,
     )?;
@@ -109,8 +117,25 @@ pub(crate) fn tell_run(
     add_audit(teller.words(), &mut text)?;
     Ok(Told {
         text,
-        end: end_of(stopped, found.any()),
+        end: end_of(has_failed(course, manner.strictness), found.any()),
     })
+}
+
+/// Whether a run is taken for one that stopped.
+fn has_failed(course: Course, strictness: Strictness) -> bool
+    ensures { result ≡ course.stopped || fails_strictly strictness course.refused }
+{
+    course.stopped || fails_strictly(strictness, course.refused)
+}
+
+/// Whether it is, where an event was refused or none was.
+fn fails_strictly(strictness: Strictness, refused: bool) -> bool
+    ensures { result ≡ fails_strictly strictness refused }
+{
+    match strictness {
+        Strictness::Lenient => false,
+        Strictness::Strict => refused,
+    }
 }
 
 /// How a run ends that has stopped or not, and of which something was found amiss or not.
@@ -124,7 +149,7 @@ pub(crate) fn end_of(stopped: bool, amiss: bool) -> End
     }
 }
 
-/// Tells the events of a schedule, up to one that stops the run, and answers whether one did.
+/// Tells the events of a schedule, up to one that stops the run, and answers how that went.
 fn tell_events(
     alloc: Global,
     teller: &mut Teller<'_>,
@@ -134,13 +159,13 @@ fn tell_events(
     detail: Detail,
     lines: &mut Lines,
     text: &mut ToldLines,
-) -> Result<bool, AllocError>
+) -> Result<Course, AllocError>
     requires begun { ShowsWhole machine.old schedule.now.threads [] }
     requires limits { IsWithinLimits schedule.now }
     requires tells { TellsRun (begun machine.old.set schedule.now.threads) ledger.old }
     requires empty { text.old ≡ [] }
-    ensures { IfOk result (λ stopped. HasTold detail machine.old.set schedule.now.threads
-        schedule.now.events machine.new.set machine.new.world ledger.new stopped
+    ensures { IfOk result (λ course. HasTold detail machine.old.set schedule.now.threads
+        schedule.now.events machine.new.set machine.new.world ledger.new course
         text.new) }
 {
     waiting_changes_nothing();
@@ -149,10 +174,14 @@ fn tell_events(
     let mut upcoming = schedule.events.upcoming();
     let mut rest = None;
     let mut happened = nothing_seen();
+    let mut refused = false;
     loop {
         match what_comes(detail, &mut rest, &mut upcoming) {
             Coming::Others => {}
-            Coming::Ended => return Ok(false),
+            Coming::Ended => return Ok(Course {
+                stopped: false,
+                refused,
+            }),
             Coming::Single(event) => {
                 tell_single(
                     alloc,
@@ -167,13 +196,20 @@ fn tell_events(
                     &mut happened,
                 )?;
                 if is_last(&happened.reply) {
-                    return Ok(true);
+                    return Ok(Course {
+                        stopped: true,
+                        refused,
+                    });
                 }
+                refused = any_refused(refused, &happened.reply);
                 continue;
             }
         }
         let Some(next) = next_event(rest, &mut upcoming) else {
-            return Ok(false);
+            return Ok(Course {
+                stopped: false,
+                refused,
+            });
         };
         let unseen = goes_unseen(machine, &next.event, detail);
         let made = go_ahead(teller, machine, &mut number, &next, unseen, detail, text)?;
@@ -195,8 +231,12 @@ fn tell_events(
             &mut happened,
         )?;
         if is_last(&happened.reply) {
-            return Ok(true);
+            return Ok(Course {
+                stopped: true,
+                refused,
+            });
         }
+        refused = any_refused(refused, &happened.reply);
         rest = left;
     }
 }
@@ -212,8 +252,8 @@ pub(crate) enum Coming {
     Ended,
 }
 
-/// What comes next: an event is told by itself in quiet, where it doesn't happen many times in a row,
-/// and is taken then. What is left of a run is put down.
+/// What comes next: an event is told by itself where not each has a line, and it doesn't happen
+/// many times in a row, and is taken then. What is left of a run is put down.
 #[inline]
 fn what_comes(detail: Detail, rest: &mut Option<Repeated>, upcoming: &mut Upcoming<'_>) -> Coming
     requires { IfSome rest.old (λ run. 1 ≤ run.count) }
@@ -221,12 +261,12 @@ fn what_comes(detail: Detail, rest: &mut Option<Repeated>, upcoming: &mut Upcomi
     ensures some { IfSome rest.new (λ run. 1 ≤ run.count) }
 {
     match detail {
-        Detail::Quiet => next_of_few(rest, upcoming),
-        Detail::Whole => Coming::Others,
+        Detail::Quiet | Detail::Usual => next_of_few(rest, upcoming),
+        Detail::Every => Coming::Others,
     }
 }
 
-/// The same in quiet.
+/// The same where not each has a line.
 #[inline]
 fn next_of_few(rest: &mut Option<Repeated>, upcoming: &mut Upcoming<'_>) -> Coming
     requires { IfSome rest.old (λ run. 1 ≤ run.count) }
@@ -301,8 +341,9 @@ fn tell_next(
         → ledger.new ≡ ledger.old) }
     ensures rest { IfOk result (λ rest.
         rest ≡ left_again happened.new.reply next.now.rest) }
-    ensures told { OnOk result (ToldNext detail number.old happened.new.reply next.now.rest
-        text.old text.new) }
+    ensures told { OnOk result (InRuns machine.old (ToldNext detail number.old
+        (occurs_in machine.old next.now.event happened.new.reply) next.now.rest
+        text.old text.new)) }
 {
     if see(
         alloc,
@@ -339,8 +380,8 @@ fn tell_single(
     ensures applied { OnOk result
         (AppliesWhole machine.old event.now machine.new happened.new.reply) }
     ensures noted { OnOk result (LedgerGoesOn machine.old event.now ledger.old ledger.new) }
-    ensures told { OnOk result ((words : List ℕ) × (text.new
-        ≡ text.old ++ told_line detail number.old happened.new.reply words)) }
+    ensures told { OnOk result (InRuns machine.old (ToldOnce detail number.old
+        (occurs_in machine.old event.now happened.new.reply) text.old text.new)) }
 {
     let unseen = goes_unseen(machine, event, detail);
     if see(alloc, ledger, machine, event, unseen, detail, happened)? {
@@ -365,8 +406,8 @@ fn tell_seen(
     ensures number { OnOk result (number.new ≡ number.old + 1) }
     ensures refused { OnOk result
         (teller.new ≡ noted teller.old number.old happened.now.reply) }
-    ensures told { OnOk result ((words : List ℕ) × (text.new
-        ≡ text.old ++ told_line detail number.old happened.now.reply words)) }
+    ensures told { OnOk result
+        (ToldOnce detail number.old (has_occurred happened.now) text.old text.new) }
 {
     teller.note(number.value(), happened, machine)?;
     add_event(teller, machine, number, happened, detail, lines, text)
@@ -389,7 +430,7 @@ fn tell_happened(
         (number.new ≡ number.old + 1 + times_again happened.now.reply rest) }
     ensures rest { IfOk result (λ left. left ≡ left_again happened.now.reply rest) }
     ensures told { OnOk result
-        (ToldNext detail number.old happened.now.reply rest text.old text.new) }
+        (ToldNext detail number.old (has_occurred happened.now) rest text.old text.new) }
 {
     tell_seen(teller, machine, number, happened, detail, lines, text)?;
     let count = times_again(&happened.reply, &rest);
@@ -409,9 +450,10 @@ fn count_left(rest: &Option<Repeated>) -> usize
     }
 }
 
-/// Lets the thread of the step that comes next, and of those equal to it, go on by itself for as many
-/// as it can make so: in quiet nothing is told of them, and else a line of each. It answers how many
-/// were made; none where another event comes next, or in quiet one that needs a look at it before.
+/// Lets the thread of the step that comes next, and of those equal to it, go on by itself for as
+/// many as it can make so: in quiet nothing is told of them, and a line of each where each event has
+/// one. It answers how many were made; none where another event comes next, in quiet one that needs
+/// a look at it before, and where it hangs on the step whether a line is told of it.
 fn go_ahead(
     teller: &mut Teller<'_>,
     machine: &mut Checked,
@@ -442,7 +484,8 @@ fn go_ahead(
             number.advance_many(made as u64);
             Ok(made)
         }
-        Detail::Whole => tell_alone(teller, machine, number, thread, most, text),
+        Detail::Usual => Ok(0),
+        Detail::Every => tell_alone(teller, machine, number, thread, most, text),
     }
 }
 
@@ -460,7 +503,7 @@ fn tell_alone(
     ensures number { IfOk result (λ made. number.new ≡ number.old + made) }
     ensures goes { IfOk result (λ made. GoesOn thread machine.old made machine.new) }
     ensures told { IfOk result (λ made.
-        ToldAlone Detail.Whole number.old made text.old text.new) }
+        ToldAlone Detail.Every number.old made text.old text.new) }
     ensures none { IfOk result (λ made. made ≡ 0
         → (machine.new ≡ machine.old) × (text.new ≡ text.old)) }
 {
@@ -485,8 +528,8 @@ fn tell_step(
     ensures few { IfOk result (λ made. made ≤ 1) }
     ensures number { IfOk result (λ made. number.new ≡ number.old + made) }
     ensures goes { IfOk result (λ made. GoesOn thread machine.old made machine.new) }
-    ensures told { IfOk result (λ made. 1 ≤ made → ((words : List ℕ)
-        × (text.new ≡ text.old ++ told_line Detail.Whole number.old Stepped words))) }
+    ensures told { IfOk result (λ made. 1 ≤ made
+        → ToldOnce Detail.Every number.old unknown_step text.old text.new) }
     ensures none { IfOk result (λ made. made ≡ 0
         → (machine.new ≡ machine.old) × (text.new ≡ text.old)) }
 {
@@ -548,9 +591,9 @@ fn tell_again(
     requires { number.old + count < 2 ^ 64 }
     ensures number { OnOk result (number.new ≡ number.old + count) }
     ensures told { OnOk result ((added : List ℕ) × (text.new ≡ text.old ++ added)
-        × IsTold detail number.old (replicate count happened.now.reply) added) }
+        × IsTold detail number.old (replicate count (has_occurred happened.now)) added) }
 {
-    if is_left_out(detail, &happened.reply) {
+    if is_left_out(detail, happened) {
         number.advance_many(count as u64);
         return Ok(());
     }
@@ -613,10 +656,10 @@ fn add_event(
     requires { number.old + 1 < 2 ^ 64 }
     ensures kept { OnOk result (teller.new ≡ teller.old) }
     ensures number { OnOk result (number.new ≡ number.old + 1) }
-    ensures told { OnOk result ((words : List ℕ) × (text.new
-        ≡ text.old ++ told_line detail number.old happened.now.reply words)) }
+    ensures told { OnOk result
+        (ToldOnce detail number.old (has_occurred happened.now) text.old text.new) }
 {
-    if is_left_out(detail, &happened.reply) {
+    if is_left_out(detail, happened) {
         number.advance();
         return Ok(());
     }
@@ -700,13 +743,25 @@ fn add_audit(words: &[u8], text: &mut ToldLines) -> Result<(), AllocError>
     Ok(())
 }
 
-/// Whether nothing is told of an event with this reply.
-fn is_left_out(detail: Detail, reply: &Reply) -> bool
-    ensures { result ≡ is_left_out detail reply.now }
+/// Whether nothing is told of an event that happened.
+fn is_left_out(detail: Detail, happened: &Happened) -> bool
+    ensures { result ≡ is_left_out detail happened.now.moment.acting happened.now.reply }
 {
     match detail {
-        Detail::Whole => false,
-        Detail::Quiet => matches!(reply, Reply::Stepped | Reply::Idle),
+        Detail::Every => false,
+        Detail::Usual => is_incidental(happened),
+        Detail::Quiet => matches!(happened.reply, Reply::Stepped | Reply::Idle),
+    }
+}
+
+/// Whether it isn't about a packet, a lock, a list or a level.
+fn is_incidental(happened: &Happened) -> bool
+    ensures { result ≡ is_incidental happened.now.moment.acting happened.now.reply }
+{
+    match happened.reply {
+        Reply::Idle => true,
+        Reply::Stepped => only_computes(&happened.moment.acting),
+        _ => false,
     }
 }
 
@@ -715,4 +770,18 @@ fn happens_again(reply: &Reply) -> bool
     ensures { result ≡ happens_again reply.now }
 {
     matches!(reply, Reply::Waited | Reply::Idle)
+}
+
+/// Whether an event was refused, this one with its reply or one before it.
+fn any_refused(before: bool, reply: &Reply) -> bool
+    ensures { result ≡ before || is_refused reply.now }
+{
+    before || is_refused(reply)
+}
+
+/// Whether an event with this reply was refused.
+fn is_refused(reply: &Reply) -> bool
+    ensures { result ≡ is_refused reply.now }
+{
+    matches!(reply, Reply::Refused)
 }

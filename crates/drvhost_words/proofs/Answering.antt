@@ -9,7 +9,7 @@ use Rattle.drvhost_sets.specs.declared.explaining.Extent.{Extent}
 use Rattle.drvhost_sets.specs.Explained.{IsExplainedOf}
 use Rattle.drvhost_runs.specs.Served.{IsHostOf}
 use Rattle.drvhost_runs.specs.Told.{IsDrawOf, IsTellOf}
-use Rattle.drvhost_runs.specs.declared.tell.Detail.{Detail}
+use Rattle.drvhost_runs.specs.declared.tell.Manner.{Manner}
 use Rattle.drvhost_devices.specs.declared.verification.Verification.{Verification}
 use Rattle.drvhost_words.specs.declared.job.Job.{Job}
 use Rattle.drvhost_words.specs.declared.job.JobFault.{JobFault}
@@ -126,7 +126,7 @@ trace_known v known supply schedule other h e answer (bytes, holds, right) =
     let P : Supply → Type 0 = λ s. IsTraceOf v known s answer in
     subst P e (bytes, holds_known known supply bytes h holds, right)
 
-tell_known : (v : Verification) (d : Detail) (known supply schedule other : Supply)
+tell_known : (v : Verification) (d : Manner) (known supply schedule other : Supply)
     → IsSuppliedAs known supply → other ≡ schedule → (answer : Answer)
     → IsTellOf v d supply other answer → IsTellOf v d known schedule answer
 tell_known v d known supply schedule other h e answer (bytes, holds, right) =

@@ -17,7 +17,10 @@ use Rattle.drvhost_words.specs.declared.job.JobFault.TheVariants.{Usage, Memory}
 use Rattle.drvhost_sets.specs.declared.explaining.Extent.{Extent}
 use Rattle.drvhost_sets.specs.declared.explaining.Extent.TheVariants.{First, Each}
 use Rattle.drvhost_runs.specs.declared.tell.Detail.{Detail}
-use Rattle.drvhost_runs.specs.declared.tell.Detail.TheVariants.{Quiet, Whole}
+use Rattle.drvhost_runs.specs.declared.tell.Detail.TheVariants.{Every, Usual, Quiet}
+use Rattle.drvhost_runs.specs.declared.tell.Manner.{Manner}
+use Rattle.drvhost_runs.specs.declared.tell.Strictness.{Strictness}
+use Rattle.drvhost_runs.specs.declared.tell.Strictness.TheVariants.{Lenient, Strict}
 use Rattle.drvhost_devices.specs.declared.verification.Verification.{Verification}
 use Rattle.drvhost_devices.specs.declared.verification.Verification.TheVariants.{Required, Skipped}
 
@@ -61,9 +64,15 @@ rewrite_command = with_rule (set_command (codes "rewrite")) (file_argument (code
 abbrev pub version_command : App
 version_command = new_app (codes "version")
 
--- `tell FILE SCHEDULE [--unchecked] [--quiet]`
+-- `tell FILE SCHEDULE [--unchecked] [--quiet] [--every] [--strict]`, of which `NamesTask` says that
+-- the second and the third don't go together
 abbrev pub tell_command : App
-tell_command = with_rule (schedule_command (codes "tell")) (flag (codes "quiet"))
+tell_command =
+    with_rule
+    (with_rule
+    (with_rule (schedule_command (codes "tell")) (flag (codes "quiet")))
+    (flag (codes "every")))
+    (flag (codes "strict"))
 
 -- `--workers N`, which has to be there
 abbrev pub workers_option : Rule
@@ -124,10 +133,25 @@ pub record IsExtent (value : Option Text) (extent : Extent) : Type 0 where
   pub set : value ≡ Some (codes "true") → extent ≡ Each
   pub other : value ≢ Some (codes "true") → extent ≡ First
 
--- how much is told, by the value of `--quiet`
-pub record IsDetail (value : Option Text) (detail : Detail) : Type 0 where
-  pub set : value ≡ Some (codes "true") → detail ≡ Quiet
-  pub other : value ≢ Some (codes "true") → detail ≡ Whole
+-- a flag with this value is given
+abbrev pub IsGiven : Option Text → Type 0
+IsGiven value = value ≡ Some (codes "true")
+
+-- how much is told, by the values of `--quiet` and `--every`, of which one at most is given
+abbrev pub IsDetail : Option Text → Option Text → Detail → Type 0
+IsDetail quiet every Every = (IsGiven quiet → ⊥) × IsGiven every
+IsDetail quiet every Usual = (IsGiven quiet → ⊥) × (IsGiven every → ⊥)
+IsDetail quiet every Quiet = IsGiven quiet × (IsGiven every → ⊥)
+
+-- how strictly it is answered, by the value of `--strict`
+pub record IsStrictness (value : Option Text) (strictness : Strictness) : Type 0 where
+  pub set : value ≡ Some (codes "true") → strictness ≡ Strict
+  pub other : value ≢ Some (codes "true") → strictness ≡ Lenient
+
+-- how a run is told
+pub record IsManner (rows : List Row) (manner : Manner) : Type 0 where
+  pub detail : IsDetail (first_of (codes "quiet") rows) (first_of (codes "every") rows) manner.detail
+  pub strictness : IsStrictness (first_of (codes "strict") rows) manner.strictness
 
 -- a rule is asked for, by the value of `--rule`: its number or its name
 abbrev pub IsRuleAsked : Option Text → VerdictRule → Type 0
@@ -156,11 +180,11 @@ NamesAlone found (Trace set schedule verification) =
     (found.0 ≡ codes "trace") × (first_of (codes "FILE") found.1 ≡ Some set.now)
     × (first_of (codes "SCHEDULE") found.1 ≡ Some schedule.now)
     × IsFlag (first_of (codes "unchecked") found.1) verification
-NamesAlone found (Tell set schedule verification detail) =
+NamesAlone found (Tell set schedule verification manner) =
     (found.0 ≡ codes "tell") × (first_of (codes "FILE") found.1 ≡ Some set.now)
     × (first_of (codes "SCHEDULE") found.1 ≡ Some schedule.now)
     × IsFlag (first_of (codes "unchecked") found.1) verification
-    × IsDetail (first_of (codes "quiet") found.1) detail
+    × IsManner found.1 manner
 NamesAlone found (Draw set schedule verification) =
     (found.0 ≡ codes "draw") × (first_of (codes "FILE") found.1 ≡ Some set.now)
     × (first_of (codes "SCHEDULE") found.1 ≡ Some schedule.now)

@@ -24,14 +24,14 @@ use Rattle.drvhost_words.specs.Files.{Has}
 -- what a run of a set by an input answers, where these are what their files have
 abbrev pub IsRunBy : Way → Supply → Supply → Answer → Type 0
 IsRunBy (BySchedule verification) set schedule answer = IsTraceOf verification set schedule answer
-IsRunBy (InWords verification detail) set schedule answer =
-    IsTellOf verification detail set schedule answer
+IsRunBy (InWords verification manner) set schedule answer =
+    IsTellOf verification manner set schedule answer
 IsRunBy (AsPicture verification) set schedule answer = IsDrawOf verification set schedule answer
 
 -- whether the set has to be accepted
 abbrev pub verification_of : Way → Verification
 verification_of (BySchedule verification) = verification
-verification_of (InWords verification detail) = verification
+verification_of (InWords verification manner) = verification
 verification_of (AsPicture verification) = verification
 
 -- what is right for what the file of a name has, or where it can't be opened: its name is told
@@ -54,8 +54,8 @@ IsJobOf supply (Alone (Rewrite set output)) answer = IsQuietly (IsRewriteOf (sup
 IsJobOf supply (Alone Version) answer = IsVersion answer
 IsJobOf supply (Alone (Trace set schedule verification)) answer =
     IsTraceOf verification (supply set.now) (supply schedule.now) answer
-IsJobOf supply (Alone (Tell set schedule verification detail)) answer =
-    IsTellOf verification detail (supply set.now) (supply schedule.now) answer
+IsJobOf supply (Alone (Tell set schedule verification manner)) answer =
+    IsTellOf verification manner (supply set.now) (supply schedule.now) answer
 IsJobOf supply (Alone (Draw set schedule verification)) answer =
     IsDrawOf verification (supply set.now) (supply schedule.now) answer
 IsJobOf supply (Host set script workers) answer =
@@ -76,7 +76,7 @@ Opens supply (Alone (Rewrite set output)) count = count ≡ 1
 Opens supply (Alone Version) count = count ≡ 0
 Opens supply (Alone (Trace set schedule verification)) count =
     OpensToTrace verification (supply set.now) count
-Opens supply (Alone (Tell set schedule verification detail)) count =
+Opens supply (Alone (Tell set schedule verification manner)) count =
     OpensToTrace verification (supply set.now) count
 Opens supply (Alone (Draw set schedule verification)) count =
     OpensToTrace verification (supply set.now) count
@@ -157,7 +157,7 @@ JobStores (Alone (ListJob set)) before after old new status = LeavesFiles before
 JobStores (Alone Version) before after old new status = LeavesFiles before after old new
 JobStores (Alone (Trace set schedule verification)) before after old new status =
     LeavesFiles before after old new
-JobStores (Alone (Tell set schedule verification detail)) before after old new status =
+JobStores (Alone (Tell set schedule verification manner)) before after old new status =
     LeavesFiles before after old new
 JobStores (Alone (Draw set schedule verification)) before after old new status =
     LeavesFiles before after old new

@@ -14,7 +14,7 @@ use drvhost_devices::unopened::tell_unopened;
 use drvhost_devices::verification::Verification;
 use drvhost_runs::draw::draw;
 use drvhost_runs::host::host;
-use drvhost_runs::tell::{Detail, tell};
+use drvhost_runs::tell::{Manner, tell};
 use drvhost_runs::trace::trace;
 use drvhost_sets::check::check;
 use drvhost_sets::explaining::{Extent, explain};
@@ -202,9 +202,9 @@ fn perform_alone<F: Files, O: Sink, E: Sink>(
             set,
             schedule,
             verification,
-            detail,
+            manner,
         } => {
-            let way = Way::InWords(verification, detail);
+            let way = Way::InWords(verification, manner);
             run_files(alloc, set, schedule, way, files, out, err)
         }
         AloneJob::Draw {
@@ -353,7 +353,7 @@ pub(crate) enum Way {
     /// By the events of a schedule.
     BySchedule(Verification),
     /// By the events of a schedule, and it is told in words.
-    InWords(Verification, Detail),
+    InWords(Verification, Manner),
     /// By the events of a schedule, and it is drawn.
     AsPicture(Verification),
 }
@@ -419,8 +419,8 @@ fn run<S: Source, P: Source, O: Sink, E: Sink>(
 {
     match way {
         Way::BySchedule(verification) => trace(alloc, set, input, verification, out, err),
-        Way::InWords(verification, detail) => {
-            tell(alloc, set, input, verification, detail, out, err)
+        Way::InWords(verification, manner) => {
+            tell(alloc, set, input, verification, manner, out, err)
         }
         Way::AsPicture(verification) => draw(alloc, set, input, verification, out, err),
     }

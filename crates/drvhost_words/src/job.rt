@@ -1,12 +1,12 @@
 //! The program's command line.
 
-ghost use Rattle.std.specs.Prelude.{◌≡◌, ◌≤◌, List, ℕ, false, true, codes, map, IfErr, IfNone, IfOk, IfSome, None, Some, option_map, []};
+ghost use Rattle.std.specs.Prelude.{◌≡◌, ◌≤◌, List, ℕ, false, true, codes, map, IfErr, IfNone, IfOk, IfSome, None, Some, option_map, [], ◌↔◌, IsTrue, OnOk};
 ghost use Rattle.clap.specs.Words.{app_of, fault_of, first_of, found_of, kind_of, rows_of, rule_of, subcommand_of, subcommand_rows_of, takes};
 ghost use Rattle.clap.specs.declared.builder.command.Command.TheViews.{out-Command as fields_of};
 ghost use Rattle.drvhost_devices.specs.Device.{CanCount, Says};
 ghost use Rattle.interleave.specs.Line.{number_within};
 ghost use Rattle.model.specs.declared.limits.TheConstants.{MAX_THREADS};
-ghost use Rattle.drvhost_words.specs.CommandLine.{explain_command, file_argument, flag, host_command, job_fault_status, job_fault_told, judging_program, program, program_of_files, reading_program, rewrite_command, schedule_command, set_command, tell_command, text_told, unrun_program, unthreaded_program, usage, value_option, version_command, workers_option, IsDetail, IsExtent, IsFlag, Names, NamesAlone, NamesJob, NamesTask};
+ghost use Rattle.drvhost_words.specs.CommandLine.{explain_command, file_argument, flag, host_command, job_fault_status, job_fault_told, judging_program, program, program_of_files, reading_program, rewrite_command, schedule_command, set_command, tell_command, text_told, unrun_program, unthreaded_program, usage, value_option, version_command, workers_option, IsDetail, IsExtent, IsFlag, Names, NamesAlone, NamesJob, NamesTask, IsGiven, IsManner, IsStrictness};
 
 use clap::builder::ValueParser;
 use clap::error::ErrorKind;
@@ -14,7 +14,7 @@ use clap::{Arg, ArgAction, ArgMatches, Command};
 use drvhost_devices::device::Sink;
 use drvhost_devices::fault::say;
 use drvhost_devices::verification::Verification;
-use drvhost_runs::tell::Detail;
+use drvhost_runs::tell::{Detail, Manner, Strictness};
 use drvhost_sets::explaining::Extent;
 use interleave::read::number_within;
 use model::abs::Rule;
@@ -38,6 +38,11 @@ const USAGE: &str = "Usage: drvhost <COMMAND>";
 
 /// How `explain` is used.
 const EXPLAIN_USAGE: &str = "drvhost explain [--all] <FILE>\n       drvhost explain --rule <RULE>";
+
+/// How `tell` is used, and what is told where two of its levels are asked for.
+const TELL_USAGE: &str = "drvhost tell [OPTIONS] <FILE> <SCHEDULE>";
+
+const TWO_LEVELS: &str = "the argument '--quiet' cannot be used with '--every'";
 
 /// What the file of a driver set is, in the texts of help.
 const SET: &str = "The text or the image of the driver set";
@@ -88,12 +93,12 @@ pub enum AloneJob<'a> {
         schedule: &'a str,
         verification: Verification,
     },
-    /// `tell FILE SCHEDULE [--unchecked] [--quiet]`
+    /// `tell FILE SCHEDULE [--unchecked] [--quiet | --every] [--strict]`
     Tell {
         set: &'a str,
         schedule: &'a str,
         verification: Verification,
-        detail: Detail,
+        manner: Manner,
     },
     /// `draw FILE SCHEDULE [--unchecked]`
     Draw {
@@ -390,14 +395,16 @@ fn tell_command<'a>(alloc: Global) -> Result<Command<'a>, AllocError>
     let quiet = flag(
         alloc,
         "quiet",
-        "Leaves out events that only step or find nothing to do",
+        "Leaves out every event that only steps or finds nothing to do",
     );
+    let every = flag(alloc, "every", "Leaves out no event");
+    let strict = flag(alloc, "strict", "Answers 1 also where an event was refused");
     let command = schedule_command(
         alloc,
         "tell",
         "Runs a driver set by a schedule, and tells in words what happens and what is left",
     )?;
-    command.arg(quiet)
+    command.arg(quiet)?.arg(every)?.arg(strict)
 }
 
 fn host_command<'a>(alloc: Global) -> Result<Command<'a>, AllocError>
@@ -583,12 +590,12 @@ fn tell_named<'a>(matches: &ArgMatches<'a>) -> Option<AloneJob<'a>>
     let set = argument(matches, "FILE")?;
     let schedule = argument(matches, "SCHEDULE")?;
     let verification = flagged(matches);
-    let detail = detail_asked(matches);
+    let manner = manner_asked(matches)?;
     Some(AloneJob::Tell {
         set,
         schedule,
         verification,
-        detail,
+        manner,
     })
 }
 
@@ -640,13 +647,51 @@ fn extent_asked(matches: &ArgMatches<'_>) -> Extent
     }
 }
 
-/// How much is to be told.
-fn detail_asked(matches: &ArgMatches<'_>) -> Detail
-    ensures { IsDetail (first_of (codes "quiet") (rows_of (found_of matches.now))) result }
+/// How a run is to be told, unless two levels are asked for.
+fn manner_asked(matches: &ArgMatches<'_>) -> Option<Manner>
+    ensures some { IfSome result (IsManner (rows_of (found_of matches.now))) }
+    ensures none { IfNone result
+        ((manner : Manner) → IsManner (rows_of (found_of matches.now)) manner → ⊥) }
 {
-    match argument(matches, "quiet") {
-        Some("true") => Detail::Quiet,
-        _ => Detail::Whole,
+    let detail = detail_asked(matches)?;
+    let strictness = strictness_asked(matches);
+    Some(Manner { detail, strictness })
+}
+
+/// How much is to be told.
+fn detail_asked(matches: &ArgMatches<'_>) -> Option<Detail>
+    ensures some { IfSome result
+        (IsDetail (first_of (codes "quiet") (rows_of (found_of matches.now)))
+        (first_of (codes "every") (rows_of (found_of matches.now)))) }
+    ensures none { IfNone result ((detail : Detail)
+        → IsDetail (first_of (codes "quiet") (rows_of (found_of matches.now)))
+        (first_of (codes "every") (rows_of (found_of matches.now))) detail → ⊥) }
+{
+    match (is_given(matches, "quiet"), is_given(matches, "every")) {
+        (false, false) => Some(Detail::Usual),
+        (true, false) => Some(Detail::Quiet),
+        (false, true) => Some(Detail::Every),
+        (true, true) => None,
+    }
+}
+
+/// Whether a flag is given.
+fn is_given(matches: &ArgMatches<'_>, id: &str) -> bool
+    ensures { IsTrue result ↔ IsGiven (first_of id.now (rows_of (found_of matches.now))) }
+{
+    match argument(matches, id) {
+        Some("true") => true,
+        _ => false,
+    }
+}
+
+/// How strictly it is to be answered.
+fn strictness_asked(matches: &ArgMatches<'_>) -> Strictness
+    ensures { IsStrictness (first_of (codes "strict") (rows_of (found_of matches.now))) result }
+{
+    match argument(matches, "strict") {
+        Some("true") => Strictness::Strict,
+        _ => Strictness::Lenient,
     }
 }
 
@@ -668,6 +713,7 @@ fn unnamed(
 ) -> Result<String, AllocError> {
     match matches.subcommand() {
         Some(("explain", inner)) => unexplained(alloc, inner),
+        Some(("tell", _)) => untold(alloc),
         _ => program.render_usage(),
     }
 }
@@ -683,10 +729,7 @@ fn unexplained(alloc: Global, matches: &ArgMatches<'_>) -> Result<String, AllocE
         }
         Some(_) => text.push_str("'--rule' goes with no FILE and with no '--all'")?,
     }
-    write!(
-        text,
-        "\n\nUsage: {EXPLAIN_USAGE}\n\nFor more information, try '--help'.\n"
-    )?;
+    add_usage(&mut text, EXPLAIN_USAGE)?;
     Ok(text)
 }
 
@@ -699,4 +742,20 @@ fn add_rules(alloc: Global, text: &mut String) -> Result<(), AllocError> {
         }
     }
     Ok(())
+}
+
+/// What is told where `tell` is asked for two levels.
+fn untold(alloc: Global) -> Result<String, AllocError> {
+    let mut text = String::from_str(alloc, "error: ")?;
+    text.push_str(TWO_LEVELS)?;
+    add_usage(&mut text, TELL_USAGE)?;
+    Ok(text)
+}
+
+/// Adds how a subcommand is used, behind what is amiss.
+fn add_usage(text: &mut String, usage: &str) -> Result<(), AllocError> {
+    write!(
+        text,
+        "\n\nUsage: {usage}\n\nFor more information, try '--help'.\n"
+    )
 }

@@ -1,5 +1,6 @@
 pub mod Acting
 pub mod Acts
+pub mod Computing
 pub mod GoingOn
 pub mod Knowing
 pub mod Ledger

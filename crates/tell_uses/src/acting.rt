@@ -24,7 +24,7 @@ pub struct Acting {
 }
 
 /// The instruction at which a frame stands, if it is a routine's.
-fn instruction_of(set: &DriverSet, frame: &Frame) -> Option<Instr>
+pub(crate) fn instruction_of(set: &DriverSet, frame: &Frame) -> Option<Instr>
     ensures { result ≡ instruction_of set.now frame.now }
 {
     instruction_at(set, frame.activation()?)

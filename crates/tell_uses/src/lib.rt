@@ -5,6 +5,7 @@
 
 pub mod acting;
 pub mod acts;
+pub mod computing;
 pub mod laws;
 pub mod ledger;
 pub mod plain;

@@ -2,7 +2,7 @@
 
 use drvhost_devices::device::Writer;
 use drvhost_devices::verification::Verification;
-use drvhost_runs::tell::Detail;
+use drvhost_runs::tell::{Detail, Manner, Strictness};
 use drvhost_sets::explaining::Extent;
 use drvhost_words::job::{AloneJob, Job, JobFault, refuse_words};
 use model::abs::Rule;
@@ -55,27 +55,42 @@ fn tasks(rt: HostRuntime) -> Result<(), Fail> {
         );
     }
     let job = Job::of(alloc, &["tell", "a", "b"])?;
-    assert!(rt; is_to_tell(&job, Verification::Required, Detail::Whole));
+    assert!(rt; is_to_tell(&job, Verification::Required, leniently(Detail::Usual)));
     let job = Job::of(alloc, &["tell", "a", "--quiet", "b"])?;
-    assert!(rt; is_to_tell(&job, Verification::Required, Detail::Quiet));
-    let job = Job::of(alloc, &["tell", "--unchecked", "a", "b", "--quiet"])?;
-    assert!(rt; is_to_tell(&job, Verification::Skipped, Detail::Quiet));
+    assert!(rt; is_to_tell(&job, Verification::Required, leniently(Detail::Quiet)));
+    let job = Job::of(alloc, &["tell", "--unchecked", "a", "b", "--every"])?;
+    assert!(rt; is_to_tell(&job, Verification::Skipped, leniently(Detail::Every)));
+    let job = Job::of(alloc, &["tell", "a", "--strict", "b", "--quiet"])?;
+    let manner = Manner {
+        detail: Detail::Quiet,
+        strictness: Strictness::Strict,
+    };
+    assert!(rt; is_to_tell(&job, Verification::Required, manner));
+    assert!(rt; Job::of(alloc, &["tell", "a", "b", "--quiet", "--every"]).is_err());
     let job = Job::of(alloc, &["draw", "--unchecked", "a", "b"])?;
     assert!(rt; is_to_draw(&job, Verification::Skipped));
     Ok(())
 }
 
+/// A run that is told so, and not strictly.
+fn leniently(detail: Detail) -> Manner {
+    Manner {
+        detail,
+        strictness: Strictness::Lenient,
+    }
+}
+
 /// Whether a job is to tell a run of the set of a file by the schedule of another one so.
-fn is_to_tell(job: &Job<'_>, run: Verification, told: Detail) -> bool {
+fn is_to_tell(job: &Job<'_>, run: Verification, told: Manner) -> bool {
     match *job {
         Job::Alone(
             AloneJob::Tell {
                 set,
                 schedule,
                 verification,
-                detail,
+                manner,
             },
-        ) => set == "a" && schedule == "b" && verification == run && detail == told,
+        ) => set == "a" && schedule == "b" && verification == run && manner == told,
         _ => false,
     }
 }

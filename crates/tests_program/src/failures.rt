@@ -8,7 +8,7 @@ use drvhost_devices::device::{Reader, Sink, Source};
 use drvhost_devices::verification::Verification;
 use drvhost_runs::draw::draw;
 use drvhost_runs::host::host;
-use drvhost_runs::tell::{Detail, tell};
+use drvhost_runs::tell::{Detail, Manner, Strictness, tell};
 use drvhost_runs::trace::trace;
 use drvhost_sets::check::check;
 use drvhost_sets::explaining::{Extent, explain};
@@ -311,7 +311,7 @@ static RUNS: [Case; 10] = [
     },
     Case {
         set: TEXT,
-        job: Job::Tell(b"threads 65\n", Verification::Skipped, Detail::Whole),
+        job: Job::Tell(b"threads 65\n", Verification::Skipped, Detail::Every),
         status: 2,
         lines: b"",
         told: SCHEDULE_EXPLAINED,
@@ -364,7 +364,11 @@ fn answer<R: Threads + Wait + Sync>(
         }
         Job::Tell(schedule, verification, detail) => {
             let mut schedule = Slow::new(schedule, devices.step, devices.orders);
-            tell(alloc, set, &mut schedule, verification, detail, out, err)
+            let manner = Manner {
+                detail,
+                strictness: Strictness::Lenient,
+            };
+            tell(alloc, set, &mut schedule, verification, manner, out, err)
         }
         Job::Draw(schedule, verification) => {
             let mut schedule = Slow::new(schedule, devices.step, devices.orders);

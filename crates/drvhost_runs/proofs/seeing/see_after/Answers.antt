@@ -18,5 +18,5 @@ returns-clause-seen c is =
       step = uses_nothing _ _ _ _ c.requires c.apply-happened.ensures;
       acting =
           acts_after _ _ _ _ c.requires c.apply-happened.ensures _ c.plain_steps_step_or_stay.ensures
-          (not_stepped _ (sym c.is_stepped.ensures ∙ c.if-is_stepped.false)) c.look.ensures;
+          (not_stepped _ (sym c.is_stepped.ensures ∙ c.if-is_stepped.false)) c.look_before.ensures;
     }

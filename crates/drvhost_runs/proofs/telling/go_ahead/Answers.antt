@@ -7,3 +7,6 @@ returns-in-Quiet-clause-goes c = goes_nowhere _ _
 pub returns-in-Quiet-2-clause-told : goal.returns-in-Quiet-2-clause-told
 returns-in-Quiet-2-clause-told c some =
     rw c.in-Quiet-2.is (told_quiet c.args.number.now c.go_on-made.result c.args.text.now)
+
+pub returns-in-Usual-clause-goes : goal.returns-in-Usual-clause-goes
+returns-in-Usual-clause-goes c = goes_nowhere _ _

@@ -1,6 +1,6 @@
 use Rattle.std.proofs.Common.{◌≡◌, ◌≤◌, arith, refl}
 use Rattle.checked.specs.GoingOn.{none}
-use Rattle.drvhost_runs.specs.declared.tell.Detail.TheVariants.{Whole}
+use Rattle.drvhost_runs.specs.declared.tell.Detail.TheVariants.{Every}
 use Rattle.drvhost_runs.proofs.ToldAlone.{goes_one, told_none, told_one}
 use Rattle.drvhost_runs.proofs.telling.tell_alone.Goals as goal
 
@@ -10,7 +10,7 @@ loop-made-init c =
       few = omega arith;
       numbered = omega arith;
       goes = none;
-      told = told_none Whole c.args.number.now c.args.text.now;
+      told = told_none c.args.number.now c.args.text.now;
       same = λ is. (refl, refl);
     }
 
@@ -19,7 +19,6 @@ loop-made-preserved c =
     let some : 1 ≤ c.in_ok-tell_step.field-0 = omega (arith, c.if-branch-eq0.false) in
     let one : c.in_ok-tell_step.field-0 ≡ 1 =
     omega (arith, some, c.in_ok-tell_step.ensures.few) in
-    let told = c.in_ok-tell_step.ensures.told some in
     record {
       few = omega (arith, c.loop-made-test.true);
       numbered =
@@ -29,8 +28,8 @@ loop-made-preserved c =
           c.tell_step.new.machine c.in_ok-tell_step.field-0 c.loop-made.invariant.goes
           c.in_ok-tell_step.ensures.goes c.in_ok-tell_step.ensures.few some;
       told =
-          told_one Whole c.loop-made.made c.args.number.now c.loop-made.number c.args.text.now
-          c.loop-made.text c.tell_step.new.text told.0 c.loop-made.invariant.told
-          c.loop-made.invariant.numbered told.1;
+          told_one Every c.loop-made.made c.args.number.now c.loop-made.number c.args.text.now
+          c.loop-made.text c.tell_step.new.text c.loop-made.invariant.told
+          c.loop-made.invariant.numbered (c.in_ok-tell_step.ensures.told some);
       same = λ is. absurd (omega (arith, is));
     }

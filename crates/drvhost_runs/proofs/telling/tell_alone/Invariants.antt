@@ -1,6 +1,6 @@
 use Rattle.std.proofs.Common.{◌≡◌, ◌+◌, ◌≤◌}
 use Rattle.checked.specs.GoingOn.{GoesOn}
-use Rattle.drvhost_runs.specs.declared.tell.Detail.TheVariants.{Whole}
+use Rattle.drvhost_runs.specs.declared.tell.Detail.TheVariants.{Every}
 use Rattle.drvhost_runs.specs.Told.{ToldAlone}
 use Rattle.drvhost_runs.proofs.telling.tell_alone.Given as goal
 
@@ -10,6 +10,6 @@ invariant-loop-made l =
       few : l.made ≤ l.most;
       numbered : l.number ≡ l.initial.number + l.made;
       goes : GoesOn l.thread l.initial.machine l.made l.machine;
-      told : ToldAlone Whole l.initial.number l.made l.initial.text l.text;
+      told : ToldAlone Every l.initial.number l.made l.initial.text l.text;
       same : l.made ≡ 0 → (l.machine ≡ l.initial.machine) × (l.text ≡ l.initial.text);
     }

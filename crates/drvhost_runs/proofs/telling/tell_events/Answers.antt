@@ -2,7 +2,7 @@ use Rattle.std.proofs.Common.{◌≡◌, ◌∙◌, ◌+◌, ◌-◌, ◌≤◌,
 use Rattle.model.specs.declared.event.Event.{Event}
 use Rattle.drvhost_runs.specs.Repeats.{awaited}
 use Rattle.drvhost_runs.proofs.ToldAlone.{left_ahead, telling_ahead, telling_stays}
-use Rattle.drvhost_runs.proofs.ToldRuns.{left_some, length_on, next_last, next_on, telling_first, telling_on, told_all, told_last}
+use Rattle.drvhost_runs.proofs.ToldRuns.{left_some, length_on, next_ends, next_on, single_last, single_on, telling_first, told_all}
 use Rattle.drvhost_runs.proofs.telling.tell_events.Goals as goal
 
 pub loop-event-init : goal.loop-event-init
@@ -19,9 +19,9 @@ loop-event-init c =
 
 pub returns-then-is_last : goal.returns-then-is_last
 returns-then-is_last c =
-    told_last _ _ _ _ _ _ _ _ _ _ _ _ _ _ _
+    single_last _ _ _ _ _ _ _ _ _ _ _ _ _ _ _
     (rw c.in-Single.ensures.comes at c.loop-event.invariant.telling) c.in_ok-tell_single-in-Single.ensures.applied
-    c.in_ok-tell_single-in-Single.ensures.noted c.in_ok-tell_single-in-Single.ensures.told.1
+    c.in_ok-tell_single-in-Single.ensures.noted c.in_ok-tell_single-in-Single.ensures.told
     (sym c.is_last.ensures ∙ c.if-is_last.true)
 
 pub loop-event-preserved-in-Single : goal.loop-event-preserved-in-Single
@@ -35,22 +35,22 @@ loop-event-preserved-in-Single c =
       );
       some = c.in-Single.ensures.some;
       telling =
-          rw c.in_ok-tell_single-in-Single.ensures.number
-          (telling_on _ _ _ _ _ _ _ _ _ _ _ _ _ _ _
+          rw (c.in_ok-tell_single-in-Single.ensures.number, c.any_refused-refused.ensures)
+          (single_on _ _ _ _ _ _ _ _ _ _ _ _ _ _ _
           (rw c.in-Single.ensures.comes at c.loop-event.invariant.telling)
           c.in_ok-tell_single-in-Single.ensures.applied c.in_ok-tell_single-in-Single.ensures.noted
-          c.in_ok-tell_single-in-Single.ensures.told.1 (sym c.is_last.ensures ∙ c.if-is_last.false));
+          c.in_ok-tell_single-in-Single.ensures.told (sym c.is_last.ensures ∙ c.if-is_last.false));
     }
 
 pub returns-in-Ended : goal.returns-in-Ended
 returns-in-Ended c =
-    told_all _ _ _ _ _ _ _ _
+    told_all _ _ _ _ _ _ _ _ _
     (rw c.in-Ended.ensures.comes at c.loop-event.invariant.telling)
 
 pub returns-in_default : goal.returns-in_default
 returns-in_default c =
     let none = c.in-Others.ensures.comes ∙ c.in_default.ensures.next in
-    told_all _ _ _ _ _ _ _ _ (rw none at c.loop-event.invariant.telling)
+    told_all _ _ _ _ _ _ _ _ _ (rw none at c.loop-event.invariant.telling)
 
 pub loop-event-preserved-then-made-gt0 : goal.loop-event-preserved-then-made-gt0
 loop-event-preserved-then-made-gt0 c =
@@ -69,7 +69,7 @@ loop-event-preserved-then-made-gt0 c =
       some = c.rest_of-rest.ensures.some;
       telling =
           rw (c.in_ok-made.ensures.number, after, c.count_left.ensures)
-          (telling_ahead c.going_on_keeps_ledgers.ensures _ _ _ _ _ _ _ _ c.in_ok-made.made _ rest
+          (telling_ahead c.going_on_keeps_ledgers.ensures _ _ _ _ _ _ _ _ _ c.in_ok-made.made _ rest
           later _ _ (rw next at c.loop-event.invariant.telling)
           c.in_ok-made.ensures.goes made c.in_ok-made.ensures.few
           c.in-Some.ensures.equal (c.in_ok-made.ensures.told made));
@@ -78,14 +78,12 @@ loop-event-preserved-then-made-gt0 c =
 pub returns-then-is_last-2 : goal.returns-then-is_last-2
 returns-then-is_last-2 c =
     let next = c.in-Others.ensures.comes ∙ c.in-Some.ensures.next in
-    let told = next_last _ _ _ _ _ _ c.in_ok-left.ensures.told
-    (sym c.is_last-in-loop-event.ensures ∙ c.if-is_last-2.true) in
     let zero : c.in_ok-made.made ≡ 0 = omega (arith, c.if-made-gt0.false) in
-    told_last _ _ _ _ _ _ _ _ _ _ _ _ _ _ _
-    (telling_stays _ _ _ _ _ _ _ _ _ c.in_ok-made.made _ _ _
+    next_ends _ _ _ _ _ _ _ _ _ _ _ _ _ _ _ _
+    (telling_stays _ _ _ _ _ _ _ _ _ _ c.in_ok-made.made _ _ _
     (rw next at c.loop-event.invariant.telling) zero c.in_ok-made.ensures.number
     c.in_ok-made.ensures.none)
-    c.in_ok-left.ensures.applied c.in_ok-left.ensures.noted told.1
+    c.in_ok-left.ensures.applied c.in_ok-left.ensures.noted c.in_ok-left.ensures.told
     (sym c.is_last-in-loop-event.ensures ∙ c.if-is_last-2.true)
 
 pub loop-event-preserved : goal.loop-event-preserved
@@ -112,9 +110,13 @@ loop-event-preserved c =
       some =
           rw c.in_ok-left.ensures.rest (left_some reply rest c.in-Some.ensures.some);
       telling =
-          rw (c.in_ok-left.ensures.number, c.in_ok-left.ensures.rest)
-          (next_on _ _ _ _ _ _ _ _ _ _ _ _ _ _ _
-          (telling_stays _ _ _ _ _ _ _ _ _ c.in_ok-made.made _ _ _
+          rw (
+            c.in_ok-left.ensures.number,
+            c.in_ok-left.ensures.rest,
+            c.any_refused-refused-in-loop-event.ensures,
+          )
+          (next_on _ _ _ _ _ _ _ _ _ _ _ _ _ _ _ _
+          (telling_stays _ _ _ _ _ _ _ _ _ _ c.in_ok-made.made _ _ _
           (rw next at c.loop-event.invariant.telling) zero
           c.in_ok-made.ensures.number c.in_ok-made.ensures.none)
           c.in_ok-left.ensures.applied c.in_ok-left.ensures.noted

@@ -11,7 +11,7 @@ invariant-loop-event l =
       some : IfSome l.rest (λ run. 1 ≤ run.count);
       telling :
           Telling l.detail l.initial.machine.set l.schedule.threads l.schedule.events l.machine
-          l.ledger l.number (awaited l.rest l.upcoming) l.text;
+          l.ledger l.refused l.number (awaited l.rest l.upcoming) l.text;
     }
 
 abbrev pub decreases-loop-event : goal.decreases-loop-event

@@ -1,8 +1,14 @@
-use Rattle.drvhost_runs.proofs.ToldRuns.{passed_over}
+use Rattle.drvhost_runs.proofs.ToldRuns.{passed_over, seen_next}
 use Rattle.drvhost_runs.proofs.telling.tell_next.Goals as goal
 
 pub returns-then-branch-clause-told : goal.returns-then-branch-clause-told
 returns-then-branch-clause-told c =
     let seen = c.in_ok-see.ensures.passed c.if-branch.true in
-    passed_over c.args.detail c.args.number.now c.see.new.happened.reply c.args.next.now.rest
-    c.args.text.now seen.0 seen.1
+    λ threads events shows. passed_over c.args.detail c.args.number.now _ c.see.new.happened.reply
+    c.args.next.now.rest c.args.text.now seen.0 seen.1
+
+pub returns-clause-told : goal.returns-clause-told
+returns-clause-told c =
+    seen_next c.tell_happened.result c.args.detail c.args.number.now c.args.machine.now
+    c.args.next.now.event c.see.new.happened c.args.text.now _
+    (c.in_ok-see.ensures.seen c.if-branch.false) c.args.next.now.rest c.tell_happened.ensures.told
