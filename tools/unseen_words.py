@@ -1,5 +1,5 @@
 #!/usr/bin/env python3
-"""unseen_words.py [--all]: the texts of verifier_words, tell_words, asm_faults and draw_lanes that no stored answer has.
+"""unseen_words.py [--all]: the texts of verifier_words, tell_words, tell_names, asm_faults and draw_lanes that no stored answer has.
 
 It reads the string literals of these crates' sources, but for comments and clauses, and looks for each in the answers of
 the stored runs (crates/tests_stored/runs, and the groups that tools/stored_runs.py makes) to the commands that tell it: the
@@ -17,7 +17,7 @@ import stored_runs
 TOP = stored_runs.TOP
 CRATES = {
     'verifier_words verifier_reasons': ('explain',),
-    'tell_words': ('tell', 'draw'),
+    'tell_words tell_names': ('tell', 'draw'),
     'asm_faults': ('check', 'explain', 'trace', 'tell', 'draw', 'host', 'list'),
     'draw_lanes': ('draw',),
 }
