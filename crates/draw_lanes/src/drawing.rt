@@ -14,9 +14,10 @@ use model::instr::Instr;
 use model::view::FrameView;
 use std::alloc::{AllocError, Global};
 use tell_holders::Rights;
+use tell_names::Book;
 use tell_uses::acting::Acting;
 use tell_uses::standing::thread_of;
-use tell_words::{Book, Moment};
+use tell_words::Moment;
 
 /// Rows that are drawn, at most. The last of them is kept for what stops the run.
 pub const MOST_ROWS: usize = 500;

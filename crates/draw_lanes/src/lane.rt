@@ -2,7 +2,7 @@
 
 use checked::Checked;
 use std::alloc::{AllocError, Global};
-use tell_words::Book;
+use tell_names::Book;
 
 /// Packets that a lane shows side by side, at most. Further ones share its last track.
 pub const TRACKS: usize = 8;

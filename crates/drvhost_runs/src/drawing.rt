@@ -14,7 +14,8 @@ use draw_picture::{Drawing, add_picture};
 use interleave::schedule::Schedule;
 use std::alloc::{AllocError, Global};
 use tell_lines::kept::ToldLines;
-use tell_words::{Book, Moment};
+use tell_names::Book;
+use tell_words::Moment;
 
 /// Draws the run of a machine by a schedule, up to an event that stops it: with the names and the
 /// lines of a text that names its set.

@@ -3,12 +3,11 @@
 ghost use Rattle.std.specs.Prelude.{◌≡◌, [], OnOk};
 ghost use Rattle.tell_words.specs.Noted.{noted};
 
-use crate::book::Book;
 use crate::change::add_awaited;
 use crate::disagreement::{Place, add_note, add_place, opened_place};
 use crate::line::Happened;
 use crate::places::{add_armer, add_holders, add_sites};
-use crate::words::{add_lock, add_top_out, refusal_words};
+use crate::refusal::refusal_words;
 use checked::Checked;
 use irp::Packet;
 use model::event::Reply;
@@ -17,6 +16,7 @@ use std::alloc::{AllocError, Global};
 use std::marker::Model;
 use tell_audit::findings::Findings;
 use tell_holders::Rights;
+use tell_names::{Book, add_lock, add_top_out};
 use tell_uses::acts::UseStep;
 use tell_uses::ledger::Ledger;
 use tell_uses::standing::top_frame;

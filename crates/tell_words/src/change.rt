@@ -1,13 +1,7 @@
 //! What an event changed, in words.
 
-use crate::book::Book;
 use crate::line::Moment;
-use crate::values::{add_alone, add_got, add_loaded, add_stored, top_activation, value_at};
-use crate::words::{
-    CellKind, add_bug, add_lock, add_number, add_packet, add_top_out, add_value, major_name,
-    refusal_words, status_name,
-};
-use crate::wrong::add_wrong;
+use crate::refusal::refusal_words;
 use checked::Checked;
 use model::event::{Event, Lock, OfDevice, Reply};
 use model::instr::{Instr, Register, Return};
@@ -17,6 +11,11 @@ use model::view::{FrameView, LiveView, PacketView};
 use model::world::{Activation, CancelStep, Canceller};
 use std::alloc::AllocError;
 use tell_audit::ring::{sought_by, waits_for};
+use tell_names::{
+    Book, CellKind, add_alone, add_bug, add_got, add_loaded, add_lock, add_number, add_packet,
+    add_stored, add_top_out, add_value, add_wrong, major_name, status_name, top_activation,
+    value_at,
+};
 use tell_uses::standing::{thread_of, top_frame};
 
 /// What an event is told by: the moment before it, and the machine after it.

@@ -1,9 +1,10 @@
 //! The columns of events, made anew only where they differ from those of the events before.
 
-use crate::line::{add_front, blanks_behind};
+use crate::line::add_front;
 use checked::Checked;
 use model::event::Event;
 use std::alloc::{AllocError, Global};
+use tell_names::blanks_behind;
 use tell_uses::standing::thread_of;
 
 /// How many columns are kept.

@@ -4,20 +4,16 @@
 #![tactic(auto)]
 
 mod audited;
-mod book;
 mod change;
 mod columns;
 mod disagreement;
 mod front;
 mod line;
 mod places;
+mod refusal;
 mod standing;
 mod teller;
-mod values;
-mod words;
-mod wrong;
 
-pub use book::Book;
 pub use change::add_change;
 pub use line::{Happened, Moment};
 pub use teller::Teller;

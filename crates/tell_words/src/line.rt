@@ -3,9 +3,7 @@
 ghost use Rattle.std.specs.Prelude.{◌≡◌};
 ghost use Rattle.tell_uses.specs.Acting.{acting_in};
 
-use crate::book::Book;
 use crate::columns::add_columns;
-use crate::values::{top_activation, value_at};
 use checked::Checked;
 use checked_parts::status_in;
 use model::event::{Event, Reply};
@@ -15,17 +13,10 @@ use model::view::{FrameView, PacketView};
 use model::world::CancelStep;
 use std::alloc::AllocError;
 use tell_audit::refusal::{Reason, why_refused};
+use tell_names::{Book, blank, blanks_before_change, top_activation, value_at};
 use tell_uses::acting::{Acting, acting_in};
 use tell_uses::acts::UseStep;
 use tell_uses::standing::thread_of;
-
-/// Where the columns, the place and the words begin, if what stands before them is no longer.
-const COLUMNS: usize = 26;
-
-const PLACE: usize = 44;
-
-/// As many blanks as ever stand in a row.
-const BLANKS: &str = "                                            ";
 
 /// What is told of an event, as it is before the event.
 #[derive(Clone, Copy)]
@@ -161,11 +152,6 @@ fn found_before(machine: &Checked, acting: &Acting) -> Option<bool> {
     }
 }
 
-/// How many blanks stand behind a head of so many bytes, its number and the reply.
-pub(crate) fn blanks_behind(head: usize) -> usize {
-    blanks(head, COLUMNS).len()
-}
-
 /// Adds the columns of an event behind so many blanks.
 pub(crate) fn add_front(
     front: &mut Vec<u8>,
@@ -173,7 +159,7 @@ pub(crate) fn add_front(
     event: &Event,
     machine: &Checked,
 ) -> Result<(), AllocError> {
-    front.extend_from_slice(BLANKS.get(..blanks).unwrap_or(BLANKS).as_bytes())?;
+    front.extend_from_slice(blank(blanks).as_bytes())?;
     add_columns(front, machine, event)?;
     front.extend_from_slice(b"  ")?;
     Ok(())
@@ -196,17 +182,6 @@ pub(crate) fn add_rest(
     let place = words.len();
     words.push_str(blanks_before_change(place))?;
     words.push_str(change)
-}
-
-/// The blanks behind a place of so many bytes, up to where it is told what changed.
-pub(crate) fn blanks_before_change(place: usize) -> &'static str {
-    blanks(place, PLACE)
-}
-
-/// The blanks behind so many bytes, up to a width, and one at least.
-fn blanks(has: usize, width: usize) -> &'static str {
-    let blanks = width.saturating_sub(has).max(1);
-    BLANKS.get(..blanks).unwrap_or(BLANKS)
 }
 
 /// Adds where a frame that acts stands: the routine and the line of its instruction, or what the

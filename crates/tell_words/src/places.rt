@@ -1,12 +1,12 @@
 //! The places that name a packet, in words.
 
-use crate::book::Book;
 use checked::Checked;
 use model::set::QueueName;
 use model::world::Armer;
 use std::alloc::{AllocError, Global};
 use tell_audit::sites::{Site, sites_of};
 use tell_holders::Rights;
+use tell_names::Book;
 
 /// Adds the places that name a packet.
 pub(crate) fn add_sites(

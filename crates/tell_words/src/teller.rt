@@ -4,12 +4,10 @@ ghost use Rattle.std.specs.Prelude.{◌≡◌, [], IfOk, OnOk};
 ghost use Rattle.tell_words.specs.Noted.{noted};
 
 use crate::audited::{Audited, add_audit};
-use crate::book::{Book, Place};
 use crate::change::add_change;
 use crate::front::Fronts;
 use crate::line::{Happened, add_place, add_rest};
 use crate::standing::{KeptWords, Standing};
-use crate::values::add_alone;
 use checked::Checked;
 use model::event::Event;
 use model::view::FrameView;
@@ -17,6 +15,7 @@ use std::alloc::{AllocError, Global};
 use std::marker::Model;
 use tell_audit::findings::Findings;
 use tell_holders::Rights;
+use tell_names::{Book, Place, add_alone};
 use tell_uses::ledger::Ledger;
 
 /// Whose columns stand ready: those of a thread's step, behind so many bytes.

@@ -100,7 +100,11 @@ fn wanted_form(sort: Sort, form: Return) -> Wanted {
 
 /// Adds what is wrong with an instruction that couldn't be executed, by the machine that it left as
 /// it was.
-pub(crate) fn add_wrong(
+///
+/// # Errors
+///
+/// When memory runs out.
+pub fn add_wrong(
     words: &mut String,
     book: &Book<'_>,
     machine: &Checked,

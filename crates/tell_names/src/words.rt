@@ -1,18 +1,15 @@
 //! Words for values.
 
 use crate::book::Book;
-use crate::line::Moment;
 use itoa::Buffer;
 use model::event::{Bug, BugCheck, Lock, OfDevice, Subject};
-use model::instr::{Instr, Register};
+use model::instr::Register;
 use model::status::{Major, Status};
 use model::world::Value;
 use std::alloc::AllocError;
-use tell_audit::refusal::Reason;
-use tell_uses::acting::Acting;
 
 /// The name of a status value.
-pub(crate) fn status_name(status: Status) -> &'static str {
+pub fn status_name(status: Status) -> &'static str {
     match status {
         Status::Success => "STATUS_SUCCESS",
         Status::Pending => "STATUS_PENDING",
@@ -25,7 +22,7 @@ pub(crate) fn status_name(status: Status) -> &'static str {
 }
 
 /// The word of a major function.
-pub(crate) fn major_name(major: Major) -> &'static str {
+pub fn major_name(major: Major) -> &'static str {
     match major {
         Major::Read => "READ",
         Major::Write => "WRITE",
@@ -60,37 +57,6 @@ fn cause_of(check: BugCheck, subject: Subject) -> &'static str {
     }
 }
 
-/// Why an event of a run that goes on was refused, by the moment before it: where nothing else
-/// stands against it, what is full.
-pub(crate) fn refusal_words(moment: &Moment) -> &'static str {
-    if let Some(reason) = moment.reason {
-        return reason_words(reason);
-    }
-    match moment.acting {
-        Some(
-            Acting {
-                instruction: Some(Instr::Insert(_, _) | Instr::Start(_) | Instr::Next),
-                ..
-            },
-        ) => "the list is full",
-        _ => "the thread's stack is full",
-    }
-}
-
-/// What would have to be otherwise.
-fn reason_words(reason: Reason) -> &'static str {
-    match reason {
-        Reason::NoThread => "there is no such thread",
-        Reason::NotIdle => "the thread isn't idle",
-        Reason::NoDevice => "there is no such device",
-        Reason::NoRoom => "there is no room for another packet",
-        Reason::NoLevel => "there is no such level",
-        Reason::NotIssued => "no such packet was issued",
-        Reason::NoDpc => "the device has no DPC routine",
-        Reason::NoStartIo => "the device has no StartIo routine",
-    }
-}
-
 /// The names of registers.
 const REGISTERS: [&str; 16] = [
     "r0", "r1", "r2", "r3", "r4", "r5", "r6", "r7", "r8", "r9", "r10", "r11", "r12", "r13", "r14",
@@ -98,7 +64,7 @@ const REGISTERS: [&str; 16] = [
 ];
 
 /// The name of a register.
-pub(crate) fn register_name(r: Register) -> &'static str {
+pub fn register_name(r: Register) -> &'static str {
     match REGISTERS.get(r.index()) {
         Some(name) => *name,
         None => "",
@@ -109,7 +75,11 @@ pub(crate) fn register_name(r: Register) -> &'static str {
 const DIGITS: [&str; 10] = ["0", "1", "2", "3", "4", "5", "6", "7", "8", "9"];
 
 /// Adds a number.
-pub(crate) fn add_number(words: &mut String, number: u64) -> Result<(), AllocError> {
+///
+/// # Errors
+///
+/// When memory runs out.
+pub fn add_number(words: &mut String, number: u64) -> Result<(), AllocError> {
     if let Some(digit) = DIGITS.get(number as usize) {
         return words.push_str(digit);
     }
@@ -118,14 +88,22 @@ pub(crate) fn add_number(words: &mut String, number: u64) -> Result<(), AllocErr
 }
 
 /// Adds a packet by its number, and these words behind it.
-pub(crate) fn add_packet(words: &mut String, packet: u64, behind: &str) -> Result<(), AllocError> {
+///
+/// # Errors
+///
+/// When memory runs out.
+pub fn add_packet(words: &mut String, packet: u64, behind: &str) -> Result<(), AllocError> {
     words.push_str("packet ")?;
     add_number(words, packet)?;
     words.push_str(behind)
 }
 
 /// Adds the value of a register.
-pub(crate) fn add_value(words: &mut String, value: Value) -> Result<(), AllocError> {
+///
+/// # Errors
+///
+/// When memory runs out.
+pub fn add_value(words: &mut String, value: Value) -> Result<(), AllocError> {
     match value {
         Value::Blank => words.push_str("nothing"),
         Value::Num(number) => add_number(words, number),
@@ -135,7 +113,11 @@ pub(crate) fn add_value(words: &mut String, value: Value) -> Result<(), AllocErr
 }
 
 /// Adds with what a packet topped out, behind these words.
-pub(crate) fn add_top_out(
+///
+/// # Errors
+///
+/// When memory runs out.
+pub fn add_top_out(
     words: &mut String,
     packet: u64,
     before: &str,
@@ -149,7 +131,11 @@ pub(crate) fn add_top_out(
 }
 
 /// Adds a lock.
-pub(crate) fn add_lock(words: &mut String, book: &Book<'_>, lock: Lock) -> Result<(), AllocError> {
+///
+/// # Errors
+///
+/// When memory runs out.
+pub fn add_lock(words: &mut String, book: &Book<'_>, lock: Lock) -> Result<(), AllocError> {
     match lock {
         Lock::SystemCancel => words.push_str("the system cancel spin lock"),
         Lock::Spin(OfDevice { device, number }) => {
@@ -162,13 +148,17 @@ pub(crate) fn add_lock(words: &mut String, book: &Book<'_>, lock: Lock) -> Resul
 
 /// Whether a number cell may be touched at every level.
 #[derive(Clone, Copy)]
-pub(crate) enum CellKind {
+pub enum CellKind {
     Plain,
     Paged,
 }
 
 /// Adds a cell of a device.
-pub(crate) fn add_cell(
+///
+/// # Errors
+///
+/// When memory runs out.
+pub fn add_cell(
     words: &mut String,
     book: &Book<'_>,
     kind: CellKind,
@@ -183,7 +173,11 @@ pub(crate) fn add_cell(
 }
 
 /// Adds a bug check: its name, what it is about, and why it is raised.
-pub(crate) fn add_bug(words: &mut String, book: &Book<'_>, bug: Bug) -> Result<(), AllocError> {
+///
+/// # Errors
+///
+/// When memory runs out.
+pub fn add_bug(words: &mut String, book: &Book<'_>, bug: Bug) -> Result<(), AllocError> {
     words.push_str(check_name(bug.check))?;
     words.push_str(": ")?;
     match bug.subject {

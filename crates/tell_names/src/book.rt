@@ -1,6 +1,6 @@
 //! What things are called and where instructions stand, as a text has it.
 
-use crate::line::blanks_before_change;
+use crate::blanks::blanks_before_change;
 use crate::words::add_number;
 use asm_line::{Body, Line, read_line};
 use model::view::FrameView;
@@ -53,6 +53,10 @@ pub struct Book<'a> {
 
 impl<'a> Book<'a> {
     /// Those of a text.
+    ///
+    /// # Errors
+    ///
+    /// When memory runs out.
     pub fn of(alloc: Global, text: &'a [u8]) -> Result<Book<'a>, AllocError> {
         let mut book = Book {
             drivers: Vec::new(alloc),
@@ -144,7 +148,7 @@ impl<'a> Book<'a> {
     }
 
     /// Where the instruction stands at which a frame does, if it is a routine's.
-    pub(crate) fn line_at(&self, frame: FrameView) -> Option<Place> {
+    pub fn line_at(&self, frame: FrameView) -> Option<Place> {
         match frame {
             FrameView::Routine {
                 driver,
@@ -157,7 +161,7 @@ impl<'a> Book<'a> {
     }
 
     /// The routine and the line of that instruction.
-    pub(crate) fn words_of(&self, place: Place) -> &str {
+    pub fn words_of(&self, place: Place) -> &str {
         self.places
             .as_str()
             .get(place.start..place.end)
@@ -165,7 +169,7 @@ impl<'a> Book<'a> {
     }
 
     /// The same, with the blanks up to where it is told what changed.
-    pub(crate) fn words_before_change(&self, place: Place) -> &str {
+    pub fn words_before_change(&self, place: Place) -> &str {
         self.places
             .as_str()
             .get(place.start..place.padded)
@@ -173,14 +177,18 @@ impl<'a> Book<'a> {
     }
 
     /// Where the instruction stands behind which a routine has none, if it has any.
-    pub(crate) fn last_line(&self, driver: u8, routine: u8) -> Option<Place> {
+    pub fn last_line(&self, driver: u8, routine: u8) -> Option<Place> {
         let page = self.drivers.get(driver as usize)?;
         let places = page.places.get(routine as usize)?;
         places.last().copied()
     }
 
     /// Adds the label of a position of a routine to which an instruction jumps.
-    pub(crate) fn add_label(
+    ///
+    /// # Errors
+    ///
+    /// When memory runs out.
+    pub fn add_label(
         &self,
         words: &mut String,
         driver: u8,
@@ -195,7 +203,11 @@ impl<'a> Book<'a> {
     }
 
     /// Adds the routine and the line of that instruction.
-    pub(crate) fn add_place(
+    ///
+    /// # Errors
+    ///
+    /// When memory runs out.
+    pub fn add_place(
         &self,
         words: &mut String,
         driver: u8,

@@ -12,13 +12,17 @@ use std::alloc::AllocError;
 use tell_uses::standing::top_frame;
 
 /// The routine on the top of a thread.
-pub(crate) fn top_activation(machine: &Checked, thread: u8) -> Option<&Activation> {
+pub fn top_activation(machine: &Checked, thread: u8) -> Option<&Activation> {
     top_frame(machine, thread)?.activation()
 }
 
 /// Adds what a step did that a thread's routine made by itself: what it was before, and the machine
 /// after it.
-pub(crate) fn add_alone(
+///
+/// # Errors
+///
+/// When memory runs out.
+pub fn add_alone(
     words: &mut String,
     book: &Book<'_>,
     thread: u8,
@@ -77,7 +81,7 @@ fn add_own(
 }
 
 /// The value of a register.
-pub(crate) fn value_at(r: Register, a: &Activation) -> Value {
+pub fn value_at(r: Register, a: &Activation) -> Value {
     a.registers[r.index()]
 }
 
@@ -200,7 +204,11 @@ fn cell_of(a: &Activation, cell: Cell) -> OfDevice {
 }
 
 /// Adds the number that a register got from a cell.
-pub(crate) fn add_loaded(
+///
+/// # Errors
+///
+/// When memory runs out.
+pub fn add_loaded(
     words: &mut String,
     book: &Book<'_>,
     r: Register,
@@ -214,7 +222,11 @@ pub(crate) fn add_loaded(
 }
 
 /// Adds the number that a cell got from a register.
-pub(crate) fn add_stored(
+///
+/// # Errors
+///
+/// When memory runs out.
+pub fn add_stored(
     words: &mut String,
     book: &Book<'_>,
     kind: CellKind,
@@ -228,7 +240,11 @@ pub(crate) fn add_stored(
 }
 
 /// Adds which field of a packet a register got.
-pub(crate) fn add_got(
+///
+/// # Errors
+///
+/// When memory runs out.
+pub fn add_got(
     words: &mut String,
     r: Register,
     packet: u64,
