@@ -5,8 +5,8 @@ use model::event::{Lock, OfDevice};
 use model::instr::{Instr, SpinLock};
 use model::view::FrameView;
 use std::alloc::{AllocError, Global};
+use tell_names::Book;
 use tell_uses::acting::Acting;
-use tell_words::Book;
 
 /// Letters of a device's name in that of a lock, at most, and so many of a longer one.
 const LONG: usize = 12;

@@ -4,7 +4,7 @@ use Rattle.std.proofs.lemmas.List.{append-nil}
 use Rattle.report.specs.Reply.{worded_line}
 use Rattle.tell_lines.specs.Lines.{worded_lines}
 use Rattle.drvhost_runs.specs.declared.tell.Detail.{Detail}
-use Rattle.drvhost_runs.specs.Told.{IsTold, Occurrence, ToldOnce, is_left_out, told_line}
+use Rattle.drvhost_runs.specs.Told.{IsTold, Occurrence, is_left_out, told_line}
 
 -- one more of the same
 pub told_again : (detail : Detail) (count number : ℕ) (o : Occurrence) (added words : List ℕ)

@@ -1,12 +1,12 @@
 //! The program's command line.
 
-ghost use Rattle.std.specs.Prelude.{◌≡◌, ◌≤◌, List, ℕ, false, true, codes, map, IfErr, IfNone, IfOk, IfSome, None, Some, option_map, [], ◌↔◌, IsTrue, OnOk};
-ghost use Rattle.clap.specs.Words.{app_of, fault_of, first_of, found_of, kind_of, rows_of, rule_of, subcommand_of, subcommand_rows_of, takes};
+ghost use Rattle.std.specs.Prelude.{◌≡◌, ◌≤◌, List, ℕ, false, true, codes, map, IfErr, IfNone, IfOk, IfSome, IsTrue, None, Some, option_map};
+ghost use Rattle.clap.specs.Words.{app_of, first_of, found_of, kind_of, rows_of, rule_of, subcommand_of, subcommand_rows_of, takes};
 ghost use Rattle.clap.specs.declared.builder.command.Command.TheViews.{out-Command as fields_of};
 ghost use Rattle.drvhost_devices.specs.Device.{CanCount, Says};
 ghost use Rattle.interleave.specs.Line.{number_within};
 ghost use Rattle.model.specs.declared.limits.TheConstants.{MAX_THREADS};
-ghost use Rattle.drvhost_words.specs.CommandLine.{explain_command, file_argument, flag, host_command, job_fault_status, job_fault_told, judging_program, program, program_of_files, reading_program, rewrite_command, schedule_command, set_command, tell_command, text_told, unrun_program, unthreaded_program, usage, value_option, version_command, workers_option, IsDetail, IsExtent, IsFlag, Names, NamesAlone, NamesJob, NamesTask, IsGiven, IsManner, IsStrictness};
+ghost use Rattle.drvhost_words.specs.CommandLine.{explain_command, file_argument, flag, host_command, job_fault_status, job_fault_told, judging_program, program, program_of_files, reading_program, rewrite_command, schedule_command, set_command, tell_command, unrun_program, unthreaded_program, usage, value_option, version_command, workers_option, IsDetail, IsExtent, IsFlag, Names, NamesAlone, NamesJob, NamesTask, IsGiven, IsManner, IsStrictness};
 
 use clap::builder::ValueParser;
 use clap::error::ErrorKind;
@@ -667,17 +667,24 @@ fn detail_asked(matches: &ArgMatches<'_>) -> Option<Detail>
         → IsDetail (first_of (codes "quiet") (rows_of (found_of matches.now)))
         (first_of (codes "every") (rows_of (found_of matches.now))) detail → ⊥) }
 {
-    match (is_given(matches, "quiet"), is_given(matches, "every")) {
-        (false, false) => Some(Detail::Usual),
-        (true, false) => Some(Detail::Quiet),
-        (false, true) => Some(Detail::Every),
-        (true, true) => None,
+    let quiet = is_given(matches, "quiet");
+    if is_given(matches, "every") {
+        if quiet {
+            return None;
+        }
+        return Some(Detail::Every);
     }
+    if quiet {
+        return Some(Detail::Quiet);
+    }
+    Some(Detail::Usual)
 }
 
 /// Whether a flag is given.
 fn is_given(matches: &ArgMatches<'_>, id: &str) -> bool
-    ensures { IsTrue result ↔ IsGiven (first_of id.now (rows_of (found_of matches.now))) }
+    ensures given { IsTrue result → IsGiven (first_of id.now (rows_of (found_of matches.now))) }
+    ensures other { result ≡ false
+        → IsGiven (first_of id.now (rows_of (found_of matches.now))) → ⊥ }
 {
     match argument(matches, id) {
         Some("true") => true,
