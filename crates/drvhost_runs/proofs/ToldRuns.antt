@@ -44,7 +44,6 @@ use Rattle.drvhost_devices.specs.declared.verification.Verification.{Verificatio
 use Rattle.drvhost_devices.specs.Ends.{HoldsRun}
 use Rattle.drvhost_devices.specs.Fault.{Goes, ReadsSchedule, ReadsSet}
 use Rattle.drvhost_runs.specs.Repeats.{awaited}
-use Rattle.tell_lines.specs.Lines.{worded_lines}
 use Rattle.drvhost_runs.specs.Told.{GoesShown, HasTold, LedgerGoesOn, IsRunShown, IsRunTold, IsScheduleShown, IsShownRunOf, IsTold, Tells, ToldNext, count_left, happens_again, is_left_out, left_again, past_by, replies_by, run_to_end, times_again, told_line, world_by, InRuns, Occurrence, ToldOnce, fails_strictly, has_occurred, is_refused, occurrences, occurrences_by, occurs, occurs_in}
 use Rattle.tell_uses.specs.declared.acting.Acting.{Acting}
 use Rattle.tell_uses.specs.Acting.{acting_in}
