@@ -8,10 +8,10 @@ beside it on, the bars with the names of locks, the boxes of threads and of wait
 others come again. At 25 rows of each run, or as many as are asked for, the line of each packet has to stand in the lane of its
 holder, as `tell` has it of the run up to that event: of an accepted set the place that holds it by right, of others the first place
 that it lists; and no line stands there where no packet lives. Of an accepted set that is so at each event before such a row too,
-where the lines stand as in the row before. Bars and boxes are compared with the machine of tools/second_machine.py, which makes the same steps. The numbers of rows and of folded events
-add up, and where rows come again, that machine has the same in its lists, slots, words and locks behind them as before, and the told
-lines of the rows that they repeat are among those of the folded events as often as is said. With --keep FOLDER what was found wrong
-is written there. The last line counts."""
+where the lines stand as in the row before. Bars and boxes are compared with the machine of tools/second_machine.py, which makes
+the same steps. The numbers of rows and of folded events add up, and where rows come again, that machine has the same in its lists,
+slots, words and locks behind them as before, and the told lines of the rows that they repeat are among those of the folded events as
+often as is said. With --keep FOLDER what was found wrong is written there. The last line counts."""
 import argparse, os, random, re, sys, tempfile, xml.etree.ElementTree as ElementTree
 
 from second_machine import CANCEL_LOCK, World, read_set, value_of

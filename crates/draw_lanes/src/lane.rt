@@ -60,6 +60,8 @@ impl Span {
 pub struct Lane {
     pub post: Post,
     pub name: String,
+    /// Whether it is shown where no packet ever is in it.
+    stays: bool,
     /// How many packets are in each of its tracks.
     tracks: Vec<u32>,
     /// Whether packets ever shared the last one.
@@ -69,6 +71,11 @@ pub struct Lane {
 }
 
 impl Lane {
+    /// Whether it is shown.
+    pub fn is_shown(&self) -> bool {
+        self.stays || !self.tracks.is_empty()
+    }
+
     /// How many tracks it needs.
     pub fn tracks(&self) -> usize {
         self.tracks.len()
@@ -127,10 +134,12 @@ fn add_lane(
     alloc: Global,
     post: Post,
     name: String,
+    stays: bool,
 ) -> Result<(), AllocError> {
     lanes.push(Lane {
         post,
         name,
+        stays,
         tracks: Vec::new(alloc),
         crowded: false,
         bars: Vec::new(alloc),
@@ -149,18 +158,18 @@ pub fn lanes_of(
     for thread in 0..machine.threads().len().min(255) as u8 {
         let mut name = String::new(alloc);
         write!(name, "thread {thread}")?;
-        add_lane(&mut lanes, alloc, Post::Thread(thread), name)?;
+        add_lane(&mut lanes, alloc, Post::Thread(thread), name, true)?;
     }
     for device in 0..machine.set().devices().len().min(255) as u8 {
         add_device(&mut lanes, alloc, machine, book, device)?;
     }
     let nobody = String::from_str(alloc, "nobody")?;
-    add_lane(&mut lanes, alloc, Post::Nobody, nobody)?;
+    add_lane(&mut lanes, alloc, Post::Nobody, nobody, false)?;
     Ok(lanes)
 }
 
-/// Adds the lanes of a device: its own, those of its queues, and where it has a StartIo routine
-/// those of what it has for that.
+/// Adds the lanes of a device: its own, those of its queues, and those of what it has for StartIo,
+/// which are shown where it has such a routine.
 fn add_device(
     lanes: &mut Vec<Lane>,
     alloc: Global,
@@ -169,7 +178,7 @@ fn add_device(
     device: u8,
 ) -> Result<(), AllocError> {
     let name = name_of(alloc, book, device, "")?;
-    add_lane(lanes, alloc, Post::Device(device), name)?;
+    add_lane(lanes, alloc, Post::Device(device), name, true)?;
     let Some(its) = machine.set().devices().get(device as usize) else {
         return Ok(());
     };
@@ -179,17 +188,15 @@ fn add_device(
     for queue in 0..driver.queues.as_slice().len().min(255) as u8 {
         let mut name = name_of(alloc, book, device, ".")?;
         book.add_queue(&mut name, its.driver, queue)?;
-        add_lane(lanes, alloc, Post::Queue(device, queue), name)?;
+        add_lane(lanes, alloc, Post::Queue(device, queue), name, true)?;
     }
-    if driver.startio.is_some() {
-        let name = name_of(alloc, book, device, " start list")?;
-        add_lane(lanes, alloc, Post::StartList(device), name)?;
-        let name = name_of(alloc, book, device, " device queue")?;
-        add_lane(lanes, alloc, Post::DeviceQueue(device), name)?;
-        let name = name_of(alloc, book, device, " slot")?;
-        add_lane(lanes, alloc, Post::Slot(device), name)?;
-    }
-    Ok(())
+    let starts = driver.startio.is_some();
+    let name = name_of(alloc, book, device, " start list")?;
+    add_lane(lanes, alloc, Post::StartList(device), name, starts)?;
+    let name = name_of(alloc, book, device, " device queue")?;
+    add_lane(lanes, alloc, Post::DeviceQueue(device), name, starts)?;
+    let name = name_of(alloc, book, device, " slot")?;
+    add_lane(lanes, alloc, Post::Slot(device), name, starts)
 }
 
 /// The name of a device, and words behind it.

@@ -232,13 +232,15 @@ fn locks_width(lane: &Lane, locks: &[NamedLock]) -> u32 {
     bars_width(lane.bars().len()).saturating_add((longest.min(LONG) as u32) * SMALL_LETTER)
 }
 
-/// The width of a lane: that of its tracks, and what is at their left and right.
+/// The width of a lane: that of its tracks, and what is at their left and right, if it is shown.
 fn width_of(lane: &Lane) -> u32 {
+    if !lane.is_shown() {
+        return 0;
+    }
     let tracks = tracks_width(lane.tracks());
     match lane.post {
         Post::Thread(_) => (LEFT + 8).saturating_add(tracks),
         Post::Device(_) => 20,
-        Post::Nobody if lane.tracks() == 0 => 0,
         _ => LIST_LEFT.saturating_add(tracks.max(12)),
     }
 }
@@ -247,7 +249,9 @@ fn width_of(lane: &Lane) -> u32 {
 fn head_of(drawing: &Drawing) -> u32 {
     let mut longest = SHORT;
     for lane in drawing.lanes.iter() {
-        longest = longest.max(lane.name.len());
+        if lane.is_shown() {
+            longest = longest.max(lane.name.len());
+        }
     }
     (TITLE + 10).saturating_add(width_of_letters(longest.min(LONG) as u32))
 }
