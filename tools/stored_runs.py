@@ -2,7 +2,7 @@
 """stored_runs.py [--check | --cases | --show GROUP | run [PROGRAM]]: what the program of crates/tests_stored runs, and what it has to write.
 
 A file of crates/tests_stored/runs is a group of cases. A case is a line `# NAME` and the runs behind it: a line `$ WORDS`,
-what drvhost answers to these words, what the error writer is told behind a line `tell_words:`, and a line with the exit status,
+what drvhost answers to these words, what the error writer is told behind a line `told:`, and a line with the exit status,
 the number of files that are opened, and of reads of them that fail. The files that the words name lie in
 crates/tests_stored/data. The group of the wrong drivers is made of the folder gallery, whose texts are copied to data/gallery;
 texts of the folder examples that are named are copied to data/examples. The group of the rules' pages is made of
