@@ -1,0 +1,66 @@
+#!/usr/bin/env python3
+"""tools/try pages: whether docs/RULES.md says of each rule what its page in crates/verifier_pages/src/pages.rt says, which `drvhost
+explain --rule` prints: what the rule says, what it goes with, and the example, refused and mended. It tells each difference.
+The last line counts."""
+import os, re, sys
+
+TOP = os.path.dirname(os.path.dirname(os.path.dirname(os.path.abspath(__file__))))
+PAGES = 'crates/verifier_pages/src/pages.rt'
+NAMES = 'crates/model/src/words.rt'
+DOCUMENT = 'docs/RULES.md'
+PAGE = re.compile(r'^const (\w+): Page = Page \{\n(.*?)^\};', re.M | re.S)
+TEXT = re.compile(r'\b(says|source|refused|mend|mended): "((?:[^"\\]|\\.)*)"', re.S)
+
+def read(name):
+    with open(os.path.join(TOP, name)) as source:
+        return source.read()
+
+def meant(literal):
+    """What a string of the source says: a backslash takes the end of its line and the blanks after it away."""
+    return re.sub(r'\\\n\s*', '', literal).replace('\\"', '"').replace('\\n', '\n')
+
+def pages():
+    """The texts of each rule's page, by the name of the rule."""
+    source = read(PAGES)
+    constants = {name: {field: meant(text) for field, text in TEXT.findall(body)} for name, body in PAGE.findall(source)}
+    return {rule: constants[name] for rule, name in re.findall(r'Rule::(\w+) => (\w+),', source)}
+
+def titles():
+    """The number and the name of each rule, as `V1 Malformed`."""
+    return dict(re.findall(r'Rule::(\w+) => "(V\d+ \w+)"', read(NAMES)))
+
+def sections():
+    """The section of each rule in the document, by its title, as `V1 Malformed`."""
+    parts = re.split(r'^###? (.*)\n', read(DOCUMENT), flags=re.M)
+    return dict(zip(parts[1::2], parts[2::2]))
+
+def joined(text):
+    """A text without a thought to how its lines end."""
+    return ' '.join(text.split())
+
+def plain(section):
+    """The paragraphs of a section before its first example, joined."""
+    return [joined(paragraph) for paragraph in section.split('<!--')[0].split('\n\n') if paragraph.strip()]
+
+def differences(page, section):
+    """The parts of a page that a section hasn't got."""
+    told = plain(section)
+    drivers = re.findall(r'^```drv\n(.*?)^```$', section, re.M | re.S)
+    if joined(page['says']) not in told[:1]:
+        yield 'says'
+    if 'Goes with: %s.' % joined(page['source']) not in told:
+        yield 'source'
+    if 'refused' in page and (page['refused'], page['mended']) not in zip(drivers, drivers[1:]):
+        yield 'example'
+
+def main():
+    told, named, differ = sections(), titles(), 0
+    for rule, page in pages().items():
+        for part in differences(page, told.get(named[rule], '')):
+            differ += 1
+            print('%s: %s: %s differs' % (DOCUMENT, named[rule], part))
+    print('%d pages, %d differences' % (len(pages()), differ))
+    return 1 if differ else 0
+
+if __name__ == '__main__':
+    sys.exit(main())

@@ -1,0 +1,122 @@
+#!/usr/bin/env python3
+"""tools/measure gate [WORDS OF rt]: runs `rt ci` at the top of the tree (or `rt` with these words, as `must-fail asm`), passes its
+output on, and prints by crate the processor seconds of the proof, of the tests and of the must-fail edits, as a table of
+docs/GATE.md has them. It looks twice a second at the processes that rt starts, so a figure may lack half a second."""
+import collections, os, re, resource, subprocess, sys, threading
+
+TOP = os.path.dirname(os.path.dirname(os.path.dirname(os.path.abspath(__file__))))
+TICKS = os.sysconf('SC_CLK_TCK')
+PHASES = 'proof', 'tests', 'edits'
+
+def processes():
+    """Of each process: its parent, its start, and the processor seconds of itself and of the children that it waited for."""
+    found = {}
+    for pid in filter(str.isdigit, os.listdir('/proc')):
+        try:
+            stat = open('/proc/%s/stat' % pid).read()
+        except OSError:
+            continue
+        fields = stat[stat.rindex(')') + 2:].split()
+        found[int(pid)] = int(fields[1]), fields[19], sum(map(int, fields[11:15])) / TICKS
+    return found
+
+def phase(pid):
+    """What a rattle process does, and of which crate; None of another process."""
+    try:
+        words = open('/proc/%d/cmdline' % pid).read().split('\0')
+        folder = os.readlink('/proc/%d/cwd' % pid)
+    except OSError:
+        return None
+    if os.path.basename(words[0]) != 'rattle' or '--crate-name' not in words:
+        return None
+    crate = words[words.index('--crate-name') + 1]
+    if os.path.basename(folder).startswith('rt-edit-'):
+        return crate, 'edits'
+    return crate, 'tests' if '--test' in words else 'proof'
+
+class Watch:
+    """The greatest cost that was seen of each process which rt started."""
+
+    def __init__(self, rt):
+        self.rt, self.phases, self.costs = rt, {}, collections.Counter()
+
+    def look(self):
+        all_of = processes()
+        below = collections.defaultdict(list)
+        for pid, (parent, _, _) in all_of.items():
+            below[parent].append(pid)
+        self.descend(self.rt, all_of, below)
+
+    def descend(self, pid, all_of, below):
+        for child in below[pid]:
+            key = child, all_of[child][1]
+            if key not in self.phases:
+                self.phases[key] = phase(child)
+            if self.phases[key]:
+                self.costs[key] = max(self.costs[key], self.cost(child, all_of, below))
+            else:
+                self.descend(child, all_of, below)
+                del self.phases[key]  # a process between fork and exec is looked at again
+
+    def cost(self, pid, all_of, below):
+        return all_of[pid][2] + sum(self.cost(child, all_of, below) for child in below[pid])
+
+    def by_crate(self):
+        table = collections.defaultdict(collections.Counter)
+        for key, cost in self.costs.items():
+            crate, what = self.phases[key]
+            table[crate][what] += cost
+        return table
+
+def run(words):
+    """Runs rt, and answers what it wrote and what was seen of it."""
+    rt = subprocess.Popen(['rt', *words], cwd=TOP, stdout=subprocess.PIPE, stderr=subprocess.STDOUT, text=True, errors='replace')
+    watch, over = Watch(rt.pid), threading.Event()
+
+    def look_on():
+        while not over.wait(0.5):
+            watch.look()
+
+    looker = threading.Thread(target=look_on)
+    looker.start()
+    lines = []
+    for line in rt.stdout:
+        lines.append(line)
+        sys.stdout.write(line)
+        sys.stdout.flush()
+    rt.wait()
+    over.set()
+    looker.join()
+    return rt.returncode, lines, watch
+
+def functions(lines):
+    """How many functions rt says that it proved of each crate, without its tests."""
+    found, crate = {}, None
+    for line in lines:
+        name = re.match(r'== (\w+)$', line)
+        proved = re.match(r'logic=proved functions=(\d+)', line)
+        if name or line.startswith('== '):
+            crate = name and name[1]
+        elif proved and crate:
+            found[crate] = int(proved[1])
+    return found
+
+def main():
+    words = sys.argv[1:] or ['ci']
+    status, lines, watch = run(words)
+    table, proved = watch.by_crate(), functions(lines)
+    edits = {crate: len(os.listdir(os.path.join(TOP, 'crates', crate, 'must-fail')))
+             for crate in table if os.path.isdir(os.path.join(TOP, 'crates', crate, 'must-fail'))}
+    print('\n| Crate | Functions | Proof | Tests | Edits | All edits |')
+    print('|---|---|---|---|---|---|')
+    for crate in sorted(table, key=lambda it: -sum(table[it].values())):
+        costs = ['%d' % round(table[crate][what]) if what in table[crate] else '' for what in PHASES]
+        print('| `%s` | %s | %s | %s | %s | %s |' % (crate, proved.get(crate, ''), costs[0], costs[1], edits.get(crate, ''), costs[2]))
+    sums = [round(sum(costs[what] for costs in table.values())) for what in PHASES]
+    used = resource.getrusage(resource.RUSAGE_CHILDREN)
+    print('| all | %d | %d | %d | %d | %d |' % (sum(proved.values()), sums[0], sums[1], sum(edits.values()), sums[2]))
+    print('%.1f processor minutes in all, of which %.1f are of no crate' % (
+        (used.ru_utime + used.ru_stime) / 60, (used.ru_utime + used.ru_stime - sum(sums)) / 60))
+    sys.exit(status)
+
+main()

@@ -1,0 +1,189 @@
+#!/usr/bin/env python3
+"""tools/try growths [PROGRAM]: each growth of a whole run of the built program (crates/drvhost/out/drvhost, if none is named)
+is refused in turn, from outside: tools/parts/refuse_growth.c, which the C compiler `cc` builds, stands before the C library and
+refuses the Nth call for memory, or for a thread, for N = 1, 2, .. up to one past the last. Each run has to answer `out of
+memory` with exit status 3 and nothing on standard output, or to give the whole answer, and nothing else. The last line
+counts."""
+import os, subprocess, sys, tempfile
+
+TOP = os.path.dirname(os.path.dirname(os.path.dirname(os.path.abspath(__file__))))
+LIBRARY = os.path.join(TOP, 'tools/parts/refuse_growth.c')
+
+QUEUES = '''driver d
+queue q l0 gone
+dispatch READ f
+dpc g
+routine f dispatch
+mark r0
+acquire l0
+insert r0 q
+arm r0 q
+ifcancel r0 was
+release l0
+ret PENDING
+was: disarm r0 lost
+unlink r0 q
+release l0
+complete r0 CANCELLED
+ret PENDING
+lost: release l0
+ret PENDING
+endr
+routine g dpc
+acquire l0
+remove r0 q none
+disarm r0 none
+release l0
+complete r0 SUCCESS
+ret void
+none: release l0
+ret void
+endr
+routine gone cancel
+relc
+acquire l0
+unlink r0 q
+release l0
+complete r0 CANCELLED
+ret void
+endr
+endd
+device v d 1
+'''
+TWICE = QUEUES.replace('complete r0 SUCCESS\n', 'complete r0 SUCCESS\ncomplete r0 SUCCESS\n')
+BOTH = TWICE.replace('complete r0 CANCELLED\nret void\n', 'complete r0 CANCELLED\nret void\nret void\n')
+ONE_READ = bytes.fromhex('44564231 01010000 010000ff ffffff00 00000200 2200000000000000 2400000000000000 0001ff00')
+STEPS = lambda first, last: ''.join('%d stepped\n' % number for number in range(first, last + 1))
+TRACED = ('0 started 0\n' + STEPS(1, 6) + '7 finished\n8 stepped\n9 stepped\n10 started 0\n' + STEPS(11, 15) + '16 finished\n'
+          + STEPS(17, 18) + '19 topped 0 0x00000000 0\n20 finished\n')
+FILES = {
+    'set': QUEUES.encode(),
+    'image': ONE_READ,
+    'schedule': b'threads 3\nissue 0 0 READ 5\nstep 0 7\ninterrupt 0\ndpc 1 0\ncancel 2 0 0\nstep 2 2\nstep 1 3\nstep 2\nstep 1 4\n',
+    'script': b'request 0 READ 0\ninterrupt 0\n',
+    'twice': TWICE.encode(),
+    'both': BOTH.encode(),
+    'open': b'driver d\n',
+}
+ACCEPTED = ('accepted\ndriver 0 routine 0 dispatch certificate 14\ndriver 0 routine 1 dpc certificate 8\n'
+            'driver 0 routine 2 cancel certificate 6\n')
+LISTED = 'driver d0\ndispatch READ f0\nroutine f0 dispatch\ncomplete r0 SUCCESS\nret SUCCESS\nendr\nendd\ndevice v0 d0 1\n'
+EXPLAINED = '''refused V5 DoubleCompletion driver 0 routine 1 at 5
+
+in driver d, routine g (dpc), position 5, line 27:
+    25  release l0
+    26  complete r0 SUCCESS
+  > 27  complete r0 SUCCESS
+    28  ret void
+    29  none: release l0
+a path there:
+     at 0, line 22: acquire l0
+     at 1, line 23: remove r0 q none
+     at 2, line 24: disarm r0 none
+     at 3, line 25: release l0
+     at 4, line 26: complete r0 SUCCESS
+     at 5, line 27: complete r0 SUCCESS
+what is known where it arrives:
+  nothing: each register is blank, and no lock is held
+r0 went blank, since its packet was completed, at 4, line 26: complete r0 SUCCESS
+why: the register is blank: its packet was completed or given away before
+see: Static Driver Verifier, DoubleCompletion; IoCompleteRequest; bug check 0x44
+mend it: complete a packet once, and before it is handed on
+'''
+EXPLAINED_EACH = EXPLAINED + '''
+refused V2 Unreachable driver 0 routine 2 at 6
+
+in driver d, routine gone (cancel), position 6, line 39:
+    37  complete r0 CANCELLED
+    38  ret void
+  > 39  ret void
+    40  endr
+    41  endd
+why: no path leads to this instruction
+see: this bytecode's form
+mend it: take it out, or jump to it
+'''
+RULE = '''V20 Memory
+The verifier found no memory. The program tells it as `out of memory` on standard
+error, with status 3, and says nothing of the set. No text mends it.
+see: nothing of the Kit: it is no fault of the set
+'''
+
+# what `explain` tells of a text that ends too early
+UNCLOSED = ('text fault 6 Unclosed line 2\n\nin driver d, line 2:\n    1  driver d\n'
+            'at fault: the text ends inside the driver\nwhat may stand there: `endd`\n')
+
+# words, and the whole answer: exit status, standard output, error output
+CASES = [
+    ('check set', 0, ACCEPTED, ''),
+    ('check image', 0, 'accepted\ndriver 0 routine 0 dispatch certificate 2\n', ''),
+    ('check twice', 1, 'refused V5 DoubleCompletion driver 0 routine 1 at 5\n', ''),
+    ('check open', 2, '', 'text fault 6 Unclosed line 2\n'),
+    ('explain image', 0, 'accepted\ndriver 0 routine 0 dispatch certificate 2\n'
+     'driver 0 routine 0: driver d0, routine f0 (dispatch)\n', ''),
+    ('explain twice', 1, EXPLAINED, ''),
+    ('explain --all twice', 1, EXPLAINED, ''),
+    ('explain --all both', 1, EXPLAINED_EACH, ''),
+    ('explain --rule V20', 0, RULE, ''),
+    ('explain --rule V21', 2, '', None),  # some text on how the program is used
+    ('explain open', 2, '', UNCLOSED),
+    ('list image', 0, LISTED, ''),
+    ('list open', 2, '', 'text fault 6 Unclosed line 2\n'),
+    ('rewrite set out', 0, '', ''),
+    ('rewrite image out', 0, '', ''),
+    ('rewrite open out', 2, '', 'text fault 6 Unclosed line 2\n'),
+    ('version', 0, 'drvhost 0.1.0\n', ''),
+    ('trace set schedule', 0, TRACED, ''),
+    ('trace set schedule --unchecked', 0, TRACED, ''),
+    ('host set script --workers 1', 0, '0 topped 0 0x00000000 0\n1 stepped\nhistory 17 agrees\n', ''),
+    ('check', 2, '', None),  # some text on how the program is used
+]
+NO_MEMORY = (3, '', 'out of memory\n')
+
+def run(program, words, folder, library, number):
+    """What the program answers, with the growth of this number refused, and how many it asked for."""
+    counted = os.path.join(folder, 'counted')
+    how = {**os.environ, 'LD_PRELOAD': library, 'REFUSED_GROWTH': str(number), 'COUNTED_GROWTHS': counted}
+    if os.path.exists(counted):
+        os.remove(counted)
+    done = subprocess.run([program, *words.split()], cwd=folder, env=how, stdin=subprocess.DEVNULL, capture_output=True, text=True, timeout=60)
+    if not os.path.exists(counted):
+        return (done.returncode, done.stdout, done.stderr + '(it ended without a count)'), 0
+    return (done.returncode, done.stdout, done.stderr), int(open(counted).read())
+
+def is_whole(wanted, found):
+    return wanted[:2] == found[:2] and (bool(found[2]) if wanted[2] is None else wanted[2] == found[2])
+
+def sweep(program, folder, library, words, wanted):
+    """The growths of a run, how many of them ended in want of memory, and how many in another answer."""
+    whole, growths = run(program, words, folder, library, 0)
+    if not is_whole(wanted, whole):
+        print('drvhost %s: %r' % (words, whole))
+        return growths, 0, 1
+    ended = wrong = 0
+    for number in range(1, growths + 2):
+        found, _ = run(program, words, folder, library, number)
+        ended += found == NO_MEMORY
+        if found != NO_MEMORY and not is_whole(wanted, found):
+            wrong += 1
+            print('drvhost %s, growth %d of %d refused: %r' % (words, number, growths, found))
+    return growths, ended, wrong
+
+def main():
+    program = os.path.abspath(sys.argv[1] if len(sys.argv) > 1 else os.path.join(TOP, 'crates/drvhost/out/drvhost'))
+    total = [0, 0, 0]
+    with tempfile.TemporaryDirectory() as folder:
+        library = os.path.join(folder, 'refuse_growth.so')
+        subprocess.run(['cc', '-shared', '-fPIC', '-O1', '-o', library, LIBRARY, '-ldl', '-lpthread'], check=True)
+        for name, content in FILES.items():
+            with open(os.path.join(folder, name), 'wb') as out:
+                out.write(content)
+        for words, *wanted in CASES:
+            found = sweep(program, folder, library, words, tuple(wanted))
+            print('drvhost %-32s %4d growths refused, %4d told as want of memory' % (words, *found[:2]))
+            total = [sum(both) for both in zip(total, found)]
+    print('%d growths refused, %d told as want of memory, %d wrong' % tuple(total))
+    return 1 if total[2] else 0
+
+if __name__ == '__main__':
+    sys.exit(main())

@@ -1,0 +1,290 @@
+#!/usr/bin/env python3
+"""tools/keep runs [--check | --cases | --show GROUP | run [PROGRAM]]: what the program of crates/tests_stored runs, and what it has to write.
+
+A file of crates/tests_stored/runs is a group of cases. A case is a line `# NAME` and the runs behind it: a line `$ WORDS`,
+what drvhost answers to these words, what the error writer is told behind a line `told:`, and a line with the exit status,
+the number of files that are opened, and of reads of them that fail. The files that the words name lie in
+crates/tests_stored/data. The group of the wrong drivers is made of the folder gallery, whose texts are copied to data/gallery;
+texts of the folder examples that are named are copied to data/examples. The group of the rules' pages is made of
+crates/verifier_pages/src/pages.rt and, with what `check` says of a page's example, of docs/RULES.md; the examples are data/pages.
+
+Without a flag it writes from these the list of the runs (data/runs.txt), the copies, and what the program has to write
+(stdout). With --check it writes nothing, and tells what it would write otherwise; it also tells of a text in data that no
+run names, and of a run that names a text which isn't there, where its answer doesn't say so. With --cases it prints the
+names of all cases, with --show the cases of a group, each with its texts. The last line counts.
+
+With `run` it tries the crate before any proof (`rt try`), and prints each run that is answered otherwise; with `run PROGRAM`
+it gives each command line to that program, as to `drvhost`, and compares what goes out, what goes to standard error and the
+exit status."""
+import difflib, os, re, shutil, subprocess, sys, tempfile
+
+from compare_pages import pages, sections, titles
+
+TOP = os.path.dirname(os.path.dirname(os.path.dirname(os.path.abspath(__file__))))
+GALLERY, EXAMPLES = os.path.join(TOP, 'gallery'), os.path.join(TOP, 'examples')
+CRATE = os.path.join(TOP, 'crates/tests_stored')
+RUNS, DATA = os.path.join(CRATE, 'runs'), os.path.join(CRATE, 'data')
+LIST, STDOUT = 'data/runs.txt', 'stdout'
+COPIED = 'driver.drv', 'events.sched', 'mended.drv'
+END = re.compile(r'^status [0-9]+, opened [0-9]+(, failed reads [1-9][0-9]*)?$')
+ENDLESS = 'did not end within the time limit'
+TEXT = re.compile(r'\.(drv|image|sched|script)$')
+
+class Run:
+    """The words of a command line, and the lines of the answer."""
+
+    def __init__(self, words):
+        self.words, self.answer = words, []
+
+    def files(self):
+        """The texts that the words name."""
+        return [word for word in self.words if TEXT.search(word)]
+
+    def lines(self):
+        return ['$ ' + ' '.join(self.words), *self.answer]
+
+class Group:
+    """Lines of its title, of the cases' names and of blanks, and runs."""
+
+    def __init__(self, name, parts):
+        self.name, self.parts = name, ['; %s: %s' % (name, parts[0][2:]), *parts[1:]]
+        self.runs = [part for part in parts if isinstance(part, Run)]
+        self.cases = [part[2:] for part in parts if isinstance(part, str) and part.startswith('# ')]
+
+    def asked(self):
+        """The lines without the answers."""
+        return [part if isinstance(part, str) else part.lines()[0] for part in self.parts]
+
+    def lines(self):
+        """The lines with the answers."""
+        return [line for part in self.parts for line in ([part] if isinstance(part, str) else part.lines())]
+
+def read(path):
+    return open(path, 'rb').read()
+
+def stored_group(file):
+    """The group of a file of runs."""
+    parts, run = [], None
+    for line in open(os.path.join(RUNS, file), newline='\n').read().split('\n')[:-1]:
+        if run:
+            run.answer.append(line)
+            run = None if END.match(line) else run
+        elif line.startswith('$ '):
+            run = Run(line[2:].split(' '))
+            parts.append(run)
+        else:
+            assert not line or line[:2] in ('# ', '; '), (file, line)
+            parts.append(line)
+    assert not run, (file, 'the last answer has no end')
+    return Group(file[:-len('.txt')], parts)
+
+def answer_of_gallery(folder, text, opened):
+    """A stored answer, which ends with the exit status."""
+    lines = open(os.path.join(GALLERY, folder, text)).read().splitlines()
+    assert re.match(r'^status [01]$', lines[-1]), (folder, text)
+    return lines[:-1] + ['%s, opened %d' % (lines[-1], opened)]
+
+def gallery_runs(folder):
+    """What each text of a wrong driver's folder answers to. The machine that tests everything runs a mended driver too."""
+    at = lambda text: 'gallery/%s/%s' % (folder, text)
+    asked = [
+        ('check.txt', 1, ['check', at('driver.drv')]),
+        ('explain.txt', 1, ['explain', at('driver.drv')]),
+        ('trace.txt', 2, ['trace', at('driver.drv'), at('events.sched'), '--unchecked']),
+    ]
+    if os.path.exists(os.path.join(GALLERY, folder, 'mended.drv')):
+        mended = ['trace', at('mended.drv'), at('events.sched')]
+        asked += [('mended.txt', 2, mended), ('mended.txt', 2, mended + ['--unchecked'])]
+    for text, opened, words in asked:
+        run = Run(words)
+        run.answer = answer_of_gallery(folder, text, opened)
+        assert text != 'mended.txt' or run.answer[-1].startswith('status 0'), folder
+        yield run
+
+def gallery_group():
+    parts = ['; The wrong drivers of the gallery: their verdicts, what they do without one, and the mended ones.']
+    for folder in sorted(os.listdir(GALLERY)):
+        parts += ['', '# ' + folder, *gallery_runs(folder)]
+    return Group('gallery', parts)
+
+EXAMPLE = re.compile(r'^```drv\n(.*?)^```\n\n```output\n(.*?)^```$', re.M | re.S)
+
+def page_of(title, page):
+    """What is told of a rule."""
+    told = '%s\n%s\nsee: %s\n' % (title, page['says'], page['source'])
+    if 'refused' in page:
+        told += '\nthis is refused:\n\n%s\nmend it: %s\nthis is accepted:\n\n%s' % (page['refused'], page['mend'], page['mended'])
+    return told.splitlines()
+
+def answer_of_document(told, part):
+    """What docs/RULES.md says of an example of a page, and the end of the answer."""
+    lines = dict(EXAMPLE.findall(told))[part].splitlines()
+    return lines + ['status %d, opened 1' % (lines[0] != 'accepted')]
+
+def page_runs(number, title, page, told):
+    """What is told of a rule, and what `check` says of its page's example."""
+    run = Run(['explain', '--rule', number])
+    run.answer = page_of(title, page) + ['status 0, opened 0']
+    yield run
+    for kind in [it for it in ('refused', 'mended') if it in page]:
+        run = Run(['check', 'pages/%s-%s.drv' % (number.lower(), kind)])
+        run.answer = answer_of_document(told, page[kind])
+        assert run.answer[0].startswith('refused %s ' % title if kind == 'refused' else 'accepted'), title
+        yield run
+
+def pages_group():
+    parts = ['; The rules in words: the page of each, and verdicts on its example, refused and mended.']
+    told, named = sections(), titles()
+    for rule, page in pages().items():
+        title = named[rule]
+        parts += ['', '# ' + title, *page_runs(title.split()[0], title, page, told[title])]
+    return Group('pages', parts)
+
+def page_texts():
+    """The texts of the pages' examples, by their paths in the crate."""
+    named = titles()
+    return {'data/pages/%s-%s.drv' % (named[rule].split()[0].lower(), kind): page[kind].encode()
+            for rule, page in pages().items() for kind in ('refused', 'mended') if kind in page}
+
+def groups():
+    stored = [stored_group(file) for file in sorted(os.listdir(RUNS))]
+    return sorted(stored + [gallery_group(), pages_group()], key=lambda group: group.name)
+
+def made(all_groups):
+    """The files that are made, by their paths in the crate."""
+    text = lambda lines: ('\n'.join(lines) + '\n').encode()
+    files = {
+        LIST: text([line for group in all_groups for line in group.asked() + ['']]),
+        STDOUT: text([line for group in all_groups for line in group.lines() + ['']]),
+    }
+    for folder in sorted(os.listdir(GALLERY)):
+        for name in COPIED:
+            path = os.path.join(GALLERY, folder, name)
+            if os.path.exists(path):
+                files['data/gallery/%s/%s' % (folder, name)] = read(path)
+    files.update(page_texts())
+    for name in sorted(named(all_groups)):
+        folder, _, text = name.partition('/')
+        if folder == 'examples':
+            files['data/' + name] = read(os.path.join(EXAMPLES, text))
+    return files
+
+def named(all_groups):
+    """The texts that runs name."""
+    return {name for group in all_groups for run in group.runs for name in run.files()}
+
+def stray(all_groups, files):
+    """What is wrong with the texts: those that no run names, and those that are named and missing."""
+    there = {os.path.relpath(os.path.join(at, name), DATA) for at, _, names in os.walk(DATA) for name in names}
+    there |= {path[len('data/'):] for path in files if path.startswith('data/')}
+    there.discard('runs.txt')
+    told = ['%s: no run names it' % name for name in sorted(there - named(all_groups))]
+    for group in all_groups:
+        for run in group.runs:
+            missing = [name for name in run.files() if name not in there]
+            if missing and '/' in missing[0]:
+                told.append('%s: it is named and missing' % missing[0])
+    return told
+
+def show(group):
+    """Prints a group, with the texts before the answers that first need them."""
+    seen = set()
+    for part in group.parts:
+        if isinstance(part, str):
+            print(part)
+            continue
+        for name in part.files():
+            if name not in seen and os.path.exists(os.path.join(DATA, name)):
+                seen.add(name)
+                print('-- %s' % name)
+                print(read(os.path.join(DATA, name)).decode(errors='backslashreplace'))
+        print('\n'.join(part.lines()))
+
+def tried(crate, seconds='600', endless=False):
+    """What the program of the crate tests_stored writes before any proof, or None. Where it may be endless, that is what it
+    writes up to then."""
+    data = os.path.join(crate, 'data')
+    names = [os.path.relpath(os.path.join(at, name), data) for at, _, files in os.walk(data) for name in files]
+    words = [word for name in sorted(names) for word in ('--data', '%s=data/%s' % (name, name))]
+    done = subprocess.run(['rt', 'try', '--seconds', seconds, *words], cwd=crate, stdin=subprocess.DEVNULL, capture_output=True,
+                          text=True, errors='replace')
+    if 'run=ended' not in done.stderr and not (endless and ENDLESS in done.stderr):
+        print(done.stderr[-2000:])
+        return None
+    return done.stdout
+
+def by_group(written):
+    """What a run of the stored runs writes, by the names of their groups."""
+    return dict(re.findall(r'^; (\w+): (.*?)(?=^; |\Z)', written, re.M | re.S))
+
+def answered(program, run, data):
+    """What a program answers to a run's words over these texts, as it is stored, but for the files that are opened."""
+    done = subprocess.run([os.path.abspath(program), *run.words], cwd=data, stdin=subprocess.DEVNULL, capture_output=True,
+                          text=True, errors='replace')
+    told = ['told:', *done.stderr.splitlines()] if done.stderr else []
+    return [*done.stdout.splitlines(), *told, 'status %d' % done.returncode]
+
+def differences(all_groups, program):
+    """Where the crate, or a program, answers otherwise than it is stored: the lines of each difference."""
+    diff = lambda wanted, found: list(difflib.unified_diff(wanted, found, 'stored', 'answered', lineterm='', n=3))
+    if not program:
+        written = tried(CRATE)
+        wanted = read(os.path.join(CRATE, STDOUT)).decode()
+        return [['nothing is written']] if written is None else [d for d in [diff(wanted.splitlines(), written.splitlines())] if d]
+    found = []
+    with tempfile.TemporaryDirectory() as folder:  # a copy, since a rewrite writes
+        data = shutil.copytree(DATA, os.path.join(folder, 'data'))
+        for run in [run for group in all_groups for run in group.runs]:
+            stored = [*run.answer[:-1], run.answer[-1].partition(',')[0]]
+            told = diff(stored, answered(program, run, data))
+            if told:
+                found.append([run.lines()[0], *told])
+    return found
+
+def compare(all_groups, program):
+    """Prints each difference, and how many there are."""
+    found = differences(all_groups, program)
+    for lines in found:
+        print('\n'.join(lines))
+    print('%d runs, %s' % (sum(len(group.runs) for group in all_groups), '%d answered otherwise' % len(found) if program
+          else 'all answered so' if not found else 'answered otherwise'))
+    return 1 if found else 0
+
+def settle(files, is_check):
+    """Writes the files that differ, or tells which do."""
+    told = []
+    for name, content in files.items():
+        path = os.path.join(CRATE, name)
+        if os.path.exists(path) and read(path) == content:
+            continue
+        told.append('%s: %s' % (name, 'it differs' if is_check else 'it is written'))
+        if not is_check:
+            os.makedirs(os.path.dirname(path), exist_ok=True)
+            open(path, 'wb').write(content)
+    return told
+
+def main():
+    all_groups = groups()
+    if sys.argv[1:2] == ['run']:
+        return compare(all_groups, sys.argv[2] if len(sys.argv) > 2 else None)
+    if '--show' in sys.argv:
+        for group in all_groups:
+            if group.name == sys.argv[-1]:
+                show(group)
+        return 0
+    if '--cases' in sys.argv:
+        for group in all_groups:
+            for case in group.cases:
+                print('%s: %s' % (group.name, case))
+    files = made(all_groups)
+    is_check = '--check' in sys.argv
+    told = settle(files, is_check)
+    wrong = stray(all_groups, files)
+    for line in told + wrong:
+        print(line)
+    count = lambda of: sum(len(of(group)) for group in all_groups)
+    print('%d groups, %d cases, %d runs' % (len(all_groups), count(lambda g: g.cases), count(lambda g: g.runs)))
+    return 1 if wrong or is_check and told else 0
+
+if __name__ == '__main__':
+    sys.exit(main())

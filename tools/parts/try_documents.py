@@ -1,0 +1,121 @@
+#!/usr/bin/env python3
+"""tools/try documents [PROGRAM]: runs the program (crates/drvhost/out/drvhost) on every example of README.md and of the documents
+of docs/ that have some, and tells where it says anything else than the document does. An example begins with a line of its own,
+
+    <!-- example: COMMAND, status N -->
+
+and ends with the next fenced block that is called `output`, which has all that the program writes, standard output first; a
+single line `...` there stands for some text, whatever it is. COMMAND is `check`, `explain --all`, `trace`,
+`trace --unchecked` or `host --workers N`, whose files are the blocks between, in their order: `drv`, `sched` and `interleave_script` are texts, and `image` has
+the bytes of an image in hexadecimal, up to `;` in a line. Or COMMAND is `run`, and each line of the block `sh` between is a
+command that starts where a copy of examples/ lies; a block `drv` there has to be the text of the file that ends the first of
+them. The last line counts."""
+import os, re, shlex, shutil, subprocess, sys, tempfile
+
+TOP = os.path.dirname(os.path.dirname(os.path.dirname(os.path.abspath(__file__))))
+DOCUMENTS = ['README.md', 'docs/COMMANDS.md', 'docs/TEXTS.md', 'docs/RULES.md']
+MARK = re.compile(r'<!-- example: (.+), status (\d+) -->$')
+KINDS = ('drv', 'image', 'sched', 'script', 'sh', 'output')
+FILES = ('drv', 'image', 'sched', 'script')
+
+class Example:
+    """Where an example begins, its command, the exit status that it names, and its blocks, each with its kind."""
+    def __init__(self, line, command, status):
+        self.line, self.command, self.status, self.blocks = line, command, int(status), []
+
+    def is_whole(self):
+        return bool(self.blocks) and self.blocks[-1][0] == 'output'
+
+    def of_kinds(self, kinds):
+        return [(kind, text) for kind, text in self.blocks if kind in kinds]
+
+def blocks_and_marks(text):
+    """The examples' first lines and the fenced blocks of a document, in their order: line, kind, content."""
+    kind, content = None, []
+    for number, line in enumerate(text.split('\n'), 1):
+        if kind is None and line.startswith('```'):
+            kind, content = line[3:], []
+        elif kind is not None and line == '```':
+            yield number, kind, '\n'.join(content + [''])
+            kind = None
+        elif kind is not None:
+            content.append(line)
+        elif MARK.match(line):
+            yield number, None, MARK.match(line)
+
+def examples(text):
+    open_one = None
+    for number, kind, content in blocks_and_marks(text):
+        if kind is None:
+            if open_one:
+                yield open_one
+            open_one = Example(number, *content.groups())
+        elif open_one and kind in KINDS:
+            open_one.blocks.append((kind, content))
+            if kind == 'output':
+                yield open_one
+                open_one = None
+    if open_one:
+        yield open_one
+
+def file_bytes(kind, text):
+    if kind != 'image':
+        return text.encode()
+    return bytes.fromhex(''.join(line.split(';')[0] for line in text.split('\n')))
+
+def answer(program, words, folder):
+    done = subprocess.run([program, *words], cwd=folder, stdin=subprocess.DEVNULL, capture_output=True, timeout=60)
+    return (done.stdout + done.stderr).decode('utf-8', 'replace'), done.returncode
+
+def unlike(example, lines):
+    """What is said of a driver that isn't the text of the file that ends the first line."""
+    with open(os.path.join(TOP, lines[0].split()[-1]), newline='') as file:
+        text = file.read()
+    return ''.join('the file has another text\n' for _, shown in example.of_kinds(('drv',)) if shown != text)
+
+def run_lines(program, example):
+    """The answers to the lines of a block, one after another, with the last exit status."""
+    told, status = '', None
+    lines = ''.join(text for _, text in example.of_kinds(('sh',))).splitlines()
+    if example.of_kinds(('drv',)):
+        told = unlike(example, lines)
+    with tempfile.TemporaryDirectory() as folder:
+        shutil.copytree(os.path.join(TOP, 'examples'), os.path.join(folder, 'examples'))
+        for line in lines:
+            more, status = answer(program, shlex.split(line)[1:], folder)
+            told += more
+    return told, status
+
+def run(program, example):
+    """What the program writes for an example, with the exit status."""
+    command, *options = example.command.split()
+    if command == 'run':
+        return run_lines(program, example)
+    with tempfile.TemporaryDirectory() as folder:
+        names = []
+        for number, (kind, text) in enumerate(example.of_kinds(FILES)):
+            names.append('%d.%s' % (number, kind))
+            with open(os.path.join(folder, names[-1]), 'wb') as out:
+                out.write(file_bytes(kind, text))
+        return answer(program, [command, *names, *options], folder)
+
+def is_as(wanted, told):
+    return bool(told) if wanted == '...\n' else wanted == told
+
+def main():
+    program = os.path.abspath(sys.argv[1]) if len(sys.argv) > 1 else os.path.join(TOP, 'crates/drvhost/out/drvhost')
+    tried = differ = 0
+    for document in DOCUMENTS:
+        with open(os.path.join(TOP, document)) as source:
+            text = source.read()
+        for example in examples(text):
+            tried += 1
+            told, status = run(program, example) if example.is_whole() else ('no block output\n', None)
+            if not is_as(example.blocks[-1][1] if example.blocks else None, told) or status != example.status:
+                differ += 1
+                print('%s line %d: status %s\n%s' % (document, example.line, status, told), end='')
+    print('%d examples, %d differ' % (tried, differ))
+    return 1 if differ else 0
+
+if __name__ == '__main__':
+    sys.exit(main())

@@ -1,0 +1,102 @@
+#!/usr/bin/env python3
+"""Compares what the examples in C, Rust and Python answer by the library with what the program
+answers, byte for byte, on examples/ and gallery/.
+
+    tools/try library [PROGRAM [WORD ..]]
+
+PROGRAM is crates/drvhost/out/drvhost if it isn't given; with words (check, trace ..) those of its
+commands alone are compared. tools/build_library.py is to have run. A compiler that isn't there
+(rustc) is told, and its example left out.
+"""
+
+import os
+import pathlib
+import shutil
+import subprocess
+import sys
+import tempfile
+
+TOP = pathlib.Path(__file__).resolve().parents[2]
+LIBRARY = TOP / "out/lib"
+EXAMPLES = TOP / "examples/library"
+
+
+def answered(words):
+    done = subprocess.run(words, cwd=TOP, capture_output=True, timeout=60)
+    return done.returncode, done.stdout, done.stderr
+
+
+def wanted(program, words, folder):
+    """What the program answers; the image that it writes to a file stands for its output."""
+    if words[0] != "rewrite":
+        return answered([program, *words])
+    image = pathlib.Path(folder, "image")
+    image.unlink(missing_ok=True)
+    status, output, told = answered([program, *words, image])
+    return status, output + (image.read_bytes() if image.exists() else b""), told
+
+
+def built(folder):
+    """The commands that answer as the program does, by their language."""
+    found = {}
+    here = ["-std=c11", "-Wall", "-Wextra", "-Werror", "-I", TOP / "include"]
+    for name in ("answer", "step"):
+        subprocess.run(["cc", *here, EXAMPLES / f"{name}.c", LIBRARY / "libpafteis.a", "-o",
+                        f"{folder}/{name}"], check=True)
+    found["C"] = [f"{folder}/answer"]
+    if shutil.which("rustc"):
+        subprocess.run(["rustc", "-O", "--edition", "2024", EXAMPLES / "answer.rs", "-L", LIBRARY,
+                        "-o", f"{folder}/answer_rs"], check=True)
+        found["Rust"] = [f"{folder}/answer_rs"]
+    else:
+        print("try_library: there is no rustc, so the example in Rust was left out")
+    os.environ["PAFTEIS"] = str(LIBRARY / "libpafteis.so")
+    found["Python"] = [sys.executable, EXAMPLES / "answer.py"]
+    return found
+
+
+def cases():
+    """Words of the program, and the example's words for them."""
+    sets = sorted([*TOP.glob("examples/*.drv"), *TOP.glob("examples/*.image"),
+                   *TOP.glob("gallery/*/*.drv")])
+    for name in map(str, sets):
+        for word in ("check", "explain", "list", "rewrite"):
+            yield [word, name], [word, name]
+        yield ["explain", "--all", name], ["explain-each", name]
+        own = pathlib.Path(name).with_suffix(".sched")
+        events = own if own.exists() else pathlib.Path(name).parent / "events.sched"
+        if events.exists():
+            yield ["trace", name, str(events)], ["trace", name, str(events)]
+            yield (["trace", name, str(events), "--unchecked"],
+                   ["trace-unchecked", name, str(events)])
+    for rule in range(1, 21):
+        yield ["explain", "--rule", f"V{rule}"], ["rule", str(rule)]
+    yield ["version"], ["version"]
+
+
+def main():
+    program = sys.argv[1] if len(sys.argv) > 1 else str(TOP / "crates/drvhost/out/drvhost")
+    only = sys.argv[2:]
+    wrong = tried = 0
+    with tempfile.TemporaryDirectory() as folder:
+        commands = built(folder)
+        for words, own in cases():
+            if only and words[0] not in only:
+                continue
+            right = wanted(program, words, folder)
+            for language, command in commands.items():
+                tried += 1
+                if answered([*command, *own]) != right:
+                    wrong += 1
+                    print(f"{language} answers otherwise: {' '.join(words)}")
+        status, output, _told = answered([f"{folder}/step", "examples/echo.drv"])
+        tried += 1
+        steps = b"started 0\nstepped\ntopped 0 0x00000000 0\nfinished\nidle\nfreed 0, again 5\n"
+        if (status, output) != (0, steps):
+            wrong += 1
+            print("a world from C answers otherwise")
+    print(f"{tried} tried, {wrong} wrong")
+    return int(wrong > 0)
+
+
+sys.exit(main())

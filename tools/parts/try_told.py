@@ -1,0 +1,126 @@
+#!/usr/bin/env python3
+"""tools/try told [--write | --table] [PROGRAM]: whether the program (crates/drvhost/out/drvhost, if none is named) tells and draws
+the runs of the wrong drivers and of the examples as it is stored, byte for byte.
+
+Of each folder of gallery, told.txt has what `tell --unchecked --every` writes of driver.drv with events.sched, and picture.svg what
+`draw --unchecked` does; of a mended driver nothing may be amiss. Of each example with a schedule, examples/told has both texts
+under its name, but for a picture that stands in docs/pictures; one that is refused is run with --unchecked, and of one that is
+accepted nothing may be amiss. A told run ends with the exit status.
+
+docs/GALLERY.md lists the wrong drivers of whose runs nothing shows that they are wrong (exit status 0), each with the reason
+why: it has to list these and no others. With --table it prints what the end of each wrong driver's told run says, with --write
+it writes the texts and the pictures anew. The last line counts."""
+import os, re, subprocess, sys
+
+TOP = os.path.dirname(os.path.dirname(os.path.dirname(os.path.abspath(__file__))))
+GALLERY, EXAMPLES, PICTURES = (os.path.join(TOP, folder) for folder in ('gallery', 'examples', 'docs/pictures'))
+LISTED = os.path.join(TOP, 'docs/GALLERY.md')
+# The examples that are run by the schedule of another one.
+BY_ONE_READ = 'echo', 'forgets', 'locked', 'pending', 'stuck', 'twice'
+AMISS = re.compile(r'lost|left behind|in a ring|returned STATUS_PENDING|stopped by')
+
+def answer(program, *words):
+    """What the program writes, and its exit status."""
+    done = subprocess.run([program, *words], capture_output=True, text=True, timeout=60)
+    return done.stdout + done.stderr, done.returncode
+
+class Run:
+    """A set and a schedule, and where its told run and its picture are stored."""
+
+    def __init__(self, name, words, told, picture):
+        self.name, self.words, self.told, self.picture = name, words, told, picture
+
+    def answers(self, program):
+        """What the program writes, by the path at which it is stored, and the exit status of the told run."""
+        text, status = answer(program, 'tell', *self.words, '--every')
+        drawn, _ = answer(program, 'draw', *self.words)
+        return {self.told: '%sstatus %d\n' % (text, status), self.picture: drawn}, status
+
+def wrong_drivers():
+    """The runs of the wrong drivers."""
+    for name in sorted(os.listdir(GALLERY)):
+        at = lambda text: os.path.join(GALLERY, name, text)
+        yield Run(name, [at('driver.drv'), at('events.sched'), '--unchecked'], at('told.txt'), at('picture.svg'))
+
+def mended_drivers():
+    """The runs of the mended ones."""
+    for name in sorted(os.listdir(GALLERY)):
+        at = lambda text: os.path.join(GALLERY, name, text)
+        if os.path.exists(at('mended.drv')):
+            yield Run('%s, mended' % name, [at('mended.drv'), at('events.sched')], None, None)
+
+def examples(program):
+    """The runs of the examples, and whether each is of an accepted set."""
+    for file in sorted(os.listdir(EXAMPLES)):
+        name, kind = os.path.splitext(file)
+        schedule = os.path.join(EXAMPLES, 'one-read.sched' if name in BY_ONE_READ else name + '.sched')
+        if kind != '.drv' or not os.path.exists(schedule):
+            continue
+        driver = os.path.join(EXAMPLES, file)
+        accepted = answer(program, 'check', driver)[1] == 0
+        picture = os.path.join(PICTURES, name + '.svg')
+        if not os.path.exists(picture):
+            picture = os.path.join(EXAMPLES, 'told', name + '.svg')
+        words = [driver, schedule] + ([] if accepted else ['--unchecked'])
+        yield Run(name, words, os.path.join(EXAMPLES, 'told', name + '.txt'), picture), accepted
+
+def settle(path, text, is_written):
+    """Whether a text is stored so, or is now."""
+    if os.path.exists(path) and open(path, newline='').read() == text:
+        return True
+    if not is_written:
+        return False
+    os.makedirs(os.path.dirname(path), exist_ok=True)
+    with open(path, 'w', newline='') as file:
+        file.write(text)
+    return True
+
+def shown_by(told):
+    """What the end of a told run says that is amiss."""
+    events, _, audit = told.partition('\naudit\n')
+    found = [line for line in audit.splitlines() if AMISS.search(line)]
+    last = events.splitlines()[-1] if events else ''
+    stop = re.search(r'(bug 0x\w+|wrong)', last)
+    return '; '.join(([stop[1]] if stop else []) + [line for line in found if 'stopped by' not in line]) or 'nothing'
+
+def listed():
+    """The wrong drivers that docs/GALLERY.md lists."""
+    return set(re.findall(r'^\| `([\w-]+)` \|', open(LISTED).read(), re.M)) if os.path.exists(LISTED) else set()
+
+def main():
+    is_written, is_table = '--write' in sys.argv, '--table' in sys.argv
+    named = [word for word in sys.argv[1:] if not word.startswith('--')]
+    program = os.path.abspath(named[0]) if named else os.path.join(TOP, 'crates/drvhost/out/drvhost')
+    tried, wrong, silent, shown = 0, [], set(), 0
+
+    def compare(run):
+        texts, status = run.answers(program)
+        wrong.extend('%s differs' % os.path.relpath(path, TOP) for path, text in texts.items()
+                     if not settle(path, text, is_written))
+        return texts[run.told], status
+
+    for run in wrong_drivers():
+        told, status = compare(run)
+        tried, shown = tried + 1, shown + status
+        silent |= set() if status else {run.name}
+        if is_table:
+            print('| `%s` | %s |' % (run.name, shown_by(told)))
+    for run, accepted in examples(program):
+        told, status = compare(run)
+        tried += 1
+        if accepted and status:
+            wrong.append('%s: something is amiss: %s' % (run.name, shown_by(told)))
+    for run in mended_drivers():
+        told, status = answer(program, 'tell', *run.words)
+        tried += 1
+        if status:
+            wrong.append('%s: something is amiss: %s' % (run.name, shown_by(told)))
+    for name in sorted(silent ^ listed()):
+        wrong.append('%s: docs/GALLERY.md %s' % (name, 'lists it' if name in listed() else "doesn't list it"))
+    for line in wrong:
+        print(line)
+    print('%d told runs, %d wrong; of %d wrong drivers the run shows it, of %d it doesn\'t'
+          % (tried, len(wrong), shown, len(silent)))
+    return 1 if wrong else 0
+
+sys.exit(main())
