@@ -1,6 +1,9 @@
-use Rattle.std.proofs.Common.{◌≡◌, ◌∙◌, ap, sym, refl, List, Option, Result, Ok, Err, IfErr, IsErrAnd, subst, true}
+use Rattle.std.proofs.Common.{◌≡◌, ◌∙◌, inl, inr, ap, sym, refl, rules, List, Option, Result, Ok, Err, IfErr, IsErrAnd, subst, true}
 use Rattle.clap.proofs.OnLiterals.{clap_on_literals}
-use Rattle.clap.specs.Words.{App, Row, Text, app_of, fault_of, is_simple, is_simple_and_free, subcommand_of, subcommand_rows_of, takes}
+use Rattle.clap.specs.Words.{App, HasKind, IsAmong, Kinds, Row, Text, app_of, fault_of, is_simple, is_simple_and_free, kind_of, subcommand_of, subcommand_rows_of, takes}
+use Rattle.clap.specs.declared.error.Error.{Error}
+use Rattle.clap.specs.declared.error.ErrorKind.{ErrorKind}
+use Rattle.clap.specs.declared.error.ErrorKind.TheVariants.{DisplayVersion, OutOfMemory}
 use Rattle.drvhost_words.specs.declared.job.Job.{Job}
 use Rattle.drvhost_words.specs.declared.job.JobFault.{JobFault}
 use Rattle.drvhost_words.specs.declared.job.JobFault.TheVariants.{Memory}
@@ -48,6 +51,14 @@ returns-clause-refused g c =
     λ taken job names. c.refused.ensures
     (c.in-Err.ensures.passes (same_taken _ _ c.in_ok-program.ensures ∙ taken))
 
+-- an error of the version's kind is one of those that the words may meet
+is_among : (kinds : Kinds) (error : Error) → kind_of error ≡ DisplayVersion → HasKind kinds error
+    → IsAmong DisplayVersion kinds
+is_among kinds error version (inl memory) =
+    let no : OutOfMemory ≡ DisplayVersion = sym memory ∙ version in cc
+is_among kinds error version (inr among) =
+    subst (λ (kind : ErrorKind). IsAmong kind kinds) version among
+
 pub returns-in-Some-clause-task : goal.returns-in-Some-clause-task
 returns-in-Some-clause-task g c =
     let app = c.in_ok-program.ensures in
@@ -67,3 +78,15 @@ returns-in-Ok-clause-refused g c =
     λ taken job names.
     absurd (c.in-None.ensures.none job
     (subst (λ (found : Option (Text × List Row)). Names found job) (sym rows) names))
+
+pub returns-in-Err-clause-task : goal.returns-in-Err-clause-task
+returns-in-Err-clause-task g c =
+    let app = c.in_ok-program.ensures in
+    let exact : is_simple_and_free (app_of c.in_ok-program.program) ≡ true =
+    ap is_simple_and_free app ∙ is_exact in
+    let asked : kind_of c.in-Err.error ≡ DisplayVersion = search rules in
+    inr (
+      refl,
+      subst (λ (kinds : Kinds). IsAmong DisplayVersion kinds) (same_faults _ _ app)
+          (is_among _ c.in-Err.error asked (c.in-Err.ensures.kinds exact)),
+    )

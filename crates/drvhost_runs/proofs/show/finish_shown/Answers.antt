@@ -1,0 +1,16 @@
+use Rattle.std.proofs.Common.{◌≡◌, ◌∙◌, List, ℕ, Result, Err, ap, inr, rules}
+use Rattle.drvhost_devices.specs.declared.fault.End.{End}
+use Rattle.drvhost_devices.specs.declared.fault.Fault.{Fault}
+use Rattle.drvhost_devices.specs.declared.fault.Fault.TheVariants.{Schedule as OfSchedule}
+use Rattle.drvhost_runs.proofs.show.finish_shown.Goals as goal
+
+pub returns-in-Err-Schedule : goal.returns-in-Err-Schedule
+returns-in-Err-Schedule g c =
+    let same : c.args.end ≡ Err (OfSchedule c.in-Err-Schedule.fault) =
+    c.in-Err-Schedule.is
+    ∙ ap (λ (f : Fault). Err f) (rw c.in-Err-Schedule.is at c.in-Err-Schedule.field-0-is) in
+    inr (
+      c.in-Err-Schedule.fault,
+      same,
+      rw (c.bytes.ensures, c.schedule_fault.ensures, c.clear.ensures) at c.say_with_words.ensures,
+    )
