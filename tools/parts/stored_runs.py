@@ -4,7 +4,7 @@
 A file of crates/tests_stored/runs is a group of cases. A case is a line `# NAME` and the runs behind it: a line `$ WORDS`,
 what drvhost answers to these words, what the error writer is told behind a line `told:`, and a line with the exit status,
 the number of files that are opened, and of reads of them that fail. The files that the words name lie in
-crates/tests_stored/data. The group of the wrong drivers is made of the folder gallery, whose texts are copied to data/gallery;
+crates/tests_stored/data. The group of the wrong drivers is made of the answers that stand beside them in data/gallery;
 texts of the folder examples that are named are copied to data/examples. The group of the rules' pages is made of
 crates/verifier_pages/src/pages.rt and, with what `check` says of a page's example, of docs/RULES.md; the examples are data/pages.
 
@@ -21,11 +21,13 @@ import difflib, os, re, shutil, subprocess, sys, tempfile
 from compare_pages import pages, sections, titles
 
 TOP = os.path.dirname(os.path.dirname(os.path.dirname(os.path.abspath(__file__))))
-GALLERY, EXAMPLES = os.path.join(TOP, 'gallery'), os.path.join(TOP, 'examples')
+EXAMPLES = os.path.join(TOP, 'examples')
 CRATE = os.path.join(TOP, 'crates/tests_stored')
 RUNS, DATA = os.path.join(CRATE, 'runs'), os.path.join(CRATE, 'data')
+GALLERY = os.path.join(DATA, 'gallery')
 LIST, STDOUT = 'data/runs.txt', 'stdout'
-COPIED = 'driver.drv', 'events.sched', 'mended.drv'
+# What a folder of the gallery has beside answers.
+ASKED = 'driver.drv', 'events.sched', 'mended.drv'
 END = re.compile(r'^status [0-9]+, opened [0-9]+(, failed reads [1-9][0-9]*)?$')
 ENDLESS = 'did not end within the time limit'
 TEXT = re.compile(r'\.(drv|image|sched|script)$')
@@ -157,11 +159,6 @@ def made(all_groups):
         LIST: text([line for group in all_groups for line in group.asked() + ['']]),
         STDOUT: text([line for group in all_groups for line in group.lines() + ['']]),
     }
-    for folder in sorted(os.listdir(GALLERY)):
-        for name in COPIED:
-            path = os.path.join(GALLERY, folder, name)
-            if os.path.exists(path):
-                files['data/gallery/%s/%s' % (folder, name)] = read(path)
     files.update(page_texts())
     for name in sorted(named(all_groups)):
         folder, _, text = name.partition('/')
@@ -177,6 +174,7 @@ def stray(all_groups, files):
     """What is wrong with the texts: those that no run names, and those that are named and missing."""
     there = {os.path.relpath(os.path.join(at, name), DATA) for at, _, names in os.walk(DATA) for name in names}
     there |= {path[len('data/'):] for path in files if path.startswith('data/')}
+    there = {name for name in there if not name.startswith('gallery/') or os.path.basename(name) in ASKED}
     there.discard('runs.txt')
     told = ['%s: no run names it' % name for name in sorted(there - named(all_groups))]
     for group in all_groups:

@@ -1,5 +1,5 @@
 #!/usr/bin/env python3
-"""tools/try gallery [PROGRAM]: runs the program (crates/drvhost/out/drvhost) on each folder of gallery, and tells where it says
+"""tools/try gallery [PROGRAM]: runs the program (crates/drvhost/out/drvhost) on each folder of the gallery, and tells where it says
 anything else than what is stored there. driver.drv is a wrong driver: check.txt has what `check` says of it, explain.txt
 what `explain` does, and trace.txt what `trace --unchecked` shows with events.sched. mended.drv, where there is one, is the
 mended driver, which has to be accepted: mended.txt has its trace. Each of these texts ends with the exit status. The last
@@ -7,7 +7,7 @@ line counts, and lists the rules and bug checks shown."""
 import os, re, subprocess, sys
 
 TOP = os.path.dirname(os.path.dirname(os.path.dirname(os.path.abspath(__file__))))
-GALLERY = os.path.join(TOP, 'gallery')
+GALLERY = os.path.join(TOP, 'crates/tests_stored/data/gallery')
 
 def answer(program, *words):
     """What the program writes, with the exit status."""

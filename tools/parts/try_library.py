@@ -1,6 +1,6 @@
 #!/usr/bin/env python3
 """Compares what the examples in C, Rust and Python answer by the library with what the program
-answers, byte for byte, on examples/ and gallery/.
+answers, byte for byte, on examples/ and the gallery.
 
     tools/try library [PROGRAM [WORD ..]]
 
@@ -58,7 +58,7 @@ def built(folder):
 def cases():
     """Words of the program, and the example's words for them."""
     sets = sorted([*TOP.glob("examples/*.drv"), *TOP.glob("examples/*.image"),
-                   *TOP.glob("gallery/*/*.drv")])
+                   *TOP.glob("crates/tests_stored/data/gallery/*/*.drv")])
     for name in map(str, sets):
         for word in ("check", "explain", "list", "rewrite"):
             yield [word, name], [word, name]

@@ -15,7 +15,7 @@ another register) aren't followed."""
 import concurrent.futures, os, re, subprocess, sys
 
 TOP = os.path.dirname(os.path.dirname(os.path.dirname(os.path.abspath(__file__))))
-EXAMPLES, GALLERY = os.path.join(TOP, 'examples'), os.path.join(TOP, 'gallery')
+EXAMPLES, GALLERY = os.path.join(TOP, 'examples'), os.path.join(TOP, 'crates/tests_stored/data/gallery')
 # Texts in which instructions are added, at the start of a routine and before each return.
 SMALL = 'cancel', 'filter', 'queue', 'startio'
 FORMS = 'SUCCESS', 'PENDING', 'lower r0', 'continue', 'stop', 'void'

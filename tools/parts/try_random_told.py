@@ -10,7 +10,7 @@ rule forbids that, and the told run ends with exit status 1 then. The last line 
 import argparse, glob, os, random, re, subprocess, sys, tempfile
 
 TOP = os.path.dirname(os.path.dirname(os.path.dirname(os.path.abspath(__file__))))
-PLACES = 'examples/*.drv', 'gallery/*/*.drv', 'crates/tests_stored/data/**/*.drv'
+PLACES = 'examples/*.drv', 'crates/tests_stored/data/**/*.drv'
 AMISS = re.compile(r'lost|left behind|completion left it|stopped by')
 COMPUTES = 'const|mov|clear|add|sub|jz|jlt|jmp|loop|end|load|store|loadp|storep|get|put|ifpending'
 # The lines that the levels leave out.

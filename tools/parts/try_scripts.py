@@ -81,7 +81,7 @@ def main():
     parser.add_argument('--scripts', type=int, default=600)
     parser.add_argument('--seed', type=int, default=1)
     given = parser.parse_args()
-    names = sorted(glob.glob(os.path.join(TOP, 'examples', '*.drv')) + glob.glob(os.path.join(TOP, 'gallery', '*', 'mended.drv'))
+    names = sorted(glob.glob(os.path.join(TOP, 'examples', '*.drv')) + glob.glob(os.path.join(TOP, 'crates/tests_stored/data/gallery/*/mended.drv'))
                    + [name for folder in given.sets for name in glob.glob(os.path.join(folder, '*.set'))])
     with tempfile.TemporaryDirectory() as folder, concurrent.futures.ThreadPoolExecutor(os.cpu_count()) as pool:
         kept = [name for name, good in zip(names, pool.map(lambda name: is_accepted(given.program, name), names)) if good]

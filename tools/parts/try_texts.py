@@ -74,7 +74,7 @@ def main():
     program, other = sys.argv[1:3]
     count = int(sys.argv[3]) if len(sys.argv) > 3 else 30_000
     dice = random.Random(int(sys.argv[4]) if len(sys.argv) > 4 else 1)
-    names = sorted(glob.glob(os.path.join(TOP, 'examples', '*.drv')) + glob.glob(os.path.join(TOP, 'gallery', '*', '*.drv')))
+    names = sorted(glob.glob(os.path.join(TOP, 'examples', '*.drv')) + glob.glob(os.path.join(TOP, 'crates/tests_stored/data/gallery/*/*.drv')))
     sources = [open(name).read() for name in names]
     texts = [spoil(dice.choice(sources), dice) for _ in range(count)]
     with tempfile.TemporaryDirectory() as folder:

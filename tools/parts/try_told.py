@@ -13,7 +13,7 @@ it writes the texts and the pictures anew. The last line counts."""
 import os, re, subprocess, sys
 
 TOP = os.path.dirname(os.path.dirname(os.path.dirname(os.path.abspath(__file__))))
-GALLERY, EXAMPLES, PICTURES = (os.path.join(TOP, folder) for folder in ('gallery', 'examples', 'docs/pictures'))
+GALLERY, EXAMPLES, PICTURES = (os.path.join(TOP, folder) for folder in ('crates/tests_stored/data/gallery', 'examples', 'docs/pictures'))
 LISTED = os.path.join(TOP, 'docs/GALLERY.md')
 # The examples that are run by the schedule of another one.
 BY_ONE_READ = 'echo', 'forgets', 'locked', 'pending', 'stuck', 'twice'
