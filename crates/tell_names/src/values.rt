@@ -178,13 +178,27 @@ fn add_round(words: &mut String, machine: &Checked, after: &Activation) -> Resul
         return Ok(());
     };
     let opened = open.start.saturating_sub(1);
-    let set = machine.set();
-    let Some(Instr::Loop(turns)) = set.instruction(after.driver, after.routine, opened) else {
-        return Ok(());
-    };
+    let all = turns_at(machine, after, opened);
     words.push_str("goes round again: ")?;
-    let all = turns.count();
     add_turn(words, all.saturating_sub(open.turns).saturating_add(1), all)
+}
+
+/// How many turns the loop has that a routine opens at a position.
+fn turns_at(machine: &Checked, after: &Activation, position: u16) -> u16 {
+    let set = machine.set();
+    let instruction = set.instruction(after.driver, after.routine, position);
+    match instruction {
+        Some(instr) => turns_of(&instr),
+        None => 0,
+    }
+}
+
+/// How many turns a loop has.
+fn turns_of(instr: &Instr) -> u16 {
+    match instr {
+        Instr::Loop(turns) => turns.count(),
+        _ => 0,
+    }
 }
 
 /// Adds which turn of how many begins.
