@@ -1,5 +1,4 @@
-use Rattle.std.proofs.Common.{◌≡◌, ◌∙◌, List, ℕ, Result, Err, ap, inr, rules}
-use Rattle.drvhost_devices.specs.declared.fault.End.{End}
+use Rattle.std.proofs.Common.{◌≡◌, ◌∙◌, Err, ap, inr}
 use Rattle.drvhost_devices.specs.declared.fault.Fault.{Fault}
 use Rattle.drvhost_devices.specs.declared.fault.Fault.TheVariants.{Schedule as OfSchedule}
 use Rattle.drvhost_runs.proofs.show.finish_shown.Goals as goal
