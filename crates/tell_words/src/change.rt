@@ -174,6 +174,8 @@ fn add_step(words: &mut String, book: &Book<'_>, scene: &Scene<'_>) -> Result<()
     let Some(acting) = scene.moment.acting else {
         return add_outside(words, book, scene.event);
     };
+    let instruction = acting.instruction;
+    let packet = acting.packet;
     match acting.frame {
         FrameView::Walk(n) => add_walk(words, n, scene.moment, scene.machine),
         FrameView::Cancel(canceller) => add_cancelling(words, canceller, scene),
@@ -183,7 +185,7 @@ fn add_step(words: &mut String, book: &Book<'_>, scene: &Scene<'_>) -> Result<()
             device,
             ..
         } => {
-            let Some(instr) = acting.instruction else {
+            let Some(instr) = instruction else {
                 return Ok(());
             };
             let executed = Executed {
@@ -192,7 +194,7 @@ fn add_step(words: &mut String, book: &Book<'_>, scene: &Scene<'_>) -> Result<()
                 routine,
                 device,
             };
-            match acting.packet {
+            match packet {
                 Some(n) => add_about(words, book, scene, n, executed),
                 None => add_other(words, book, scene, executed),
             }
