@@ -91,6 +91,20 @@ STOPPED = b'0 started 0\n1 stepped\n2 topped 0 0x00000000 0\n3 bug 0x44 packet 0
 SERVED = b'0 topped 0 0x00000000 0\n1 refused\nhistory 5 agrees\n'
 SOME = object()  # some text, whatever it is
 
+# what `explain` tells of an image that ends too early, and `tell` of a schedule without threads
+SHORT = (
+    b'image fault 2 Truncated\n'
+    b'\n'
+    b'in an image of 4 bytes\n'
+    b'at fault: the image ends inside of a field, or before all that its counts tell\n'
+    b'what may stand there: as many drivers, queues, routines, instructions and devices as the counts before them say\n')
+NO_THREADS = (
+    b'schedule fault 3 OutOfRange line 1\n'
+    b'\n'
+    b'in line 1:\n'
+    b'  > 1  threads 0\n'
+    b'at fault: `0`, whose number is out of range\n'
+    b'what may stand there: how many threads there are, 1 to 64\n')
 # what `explain` tells of a text that ends too early
 UNCLOSED = (b'text fault 6 Unclosed line 2\n\nin driver d, line 2:\n    1  driver d\n'
             b'at fault: the text ends inside the driver\nwhat may stand there: `endd`\n')
@@ -106,7 +120,7 @@ CASES = [
     ('explain good.drv', 0, NAMED, b''),
     ('explain twice.drv', 1, EXPLAINED, b''),
     ('explain open.drv', 2, b'', UNCLOSED),
-    ('explain short.image', 2, b'', b'image fault 2 Truncated\n'),
+    ('explain short.image', 2, b'', SHORT),
     ('explain nothing.drv', 2, b'', b'cannot read nothing.drv\n'),
     ('explain --all good.drv', 0, NAMED, b''),
     ('explain twice.drv --all', 1, EXPLAINED, b''),
@@ -146,7 +160,7 @@ CASES = [
     ('trace open.drv nothing.sched', 2, b'', b'text fault 6 Unclosed line 2\n'),
     ('tell twice.drv good.sched --quiet', 1, REFUSED, b''),
     ('tell twice.drv nothing.sched', 1, REFUSED, b''),
-    ('tell good.drv none.sched', 2, b'', b'schedule fault 3 OutOfRange line 1\n'),
+    ('tell good.drv none.sched', 2, b'', NO_THREADS),
     ('tell good.drv nothing.sched', 2, b'', b'read failed\n'),
     ('tell open.drv nothing.sched', 2, b'', b'text fault 6 Unclosed line 2\n'),
     ('tell good.drv', 2, b'', SOME),
