@@ -297,14 +297,15 @@ fn add_about(
     n: u64,
     executed: Executed,
 ) -> Result<(), AllocError> {
-    if let Instr::Get(r, _, field) = executed.instr {
+    let instr = executed.instr;
+    if let Instr::Get(r, _, field) = instr {
         return match activation_after(scene) {
             Some(after) => add_got(words, r, n, field, after),
             None => Ok(()),
         };
     }
     add_packet(words, n, ": ")?;
-    match executed.instr {
+    match instr {
         Instr::Put(_, r) => add_put(words, scene, r),
         Instr::Mark(_) => words.push_str(match live_before(scene.moment) {
             Some(before) if mark_at(&before, before.depth) => {
@@ -326,7 +327,7 @@ fn add_about(
             words.push_str(status_name(status))
         }
         Instr::Disarm(_, _) | Instr::IfCancel(_, _) | Instr::IfPending(_, _) => {
-            words.push_str(found_of(scene, n, executed.instr))
+            words.push_str(found_of(scene, n, instr))
         }
         _ => add_moved(words, book, scene, n, executed),
     }
@@ -384,7 +385,8 @@ fn add_moved(
     executed: Executed,
 ) -> Result<(), AllocError> {
     let found = scene.moment.found == Some(true);
-    match executed.instr {
+    let instr = executed.instr;
+    match instr {
         Instr::Insert(_, queue) => {
             words.push_str("put into queue ")?;
             book.add_queue(words, executed.driver, queue)
@@ -430,10 +432,11 @@ fn add_off(
     let Executed {
         driver,
         routine,
+        instr,
         ..
     } = executed;
     words.push_str(if found { "taken off " } else { "isn't in " })?;
-    match executed.instr {
+    match instr {
         Instr::Remove(_, queue, _) | Instr::Unlink(_, queue) => {
             words.push_str("queue ")?;
             book.add_queue(words, driver, queue)?;
@@ -476,7 +479,8 @@ fn add_other(
     executed: Executed,
 ) -> Result<(), AllocError> {
     let event = scene.event;
-    match executed.instr {
+    let instr = executed.instr;
+    match instr {
         Instr::Acquire(lock) => {
             add_owner(words, book, event, spin(executed.device, lock.index()))
         }
