@@ -56,14 +56,23 @@ fn add_device(
 
 /// The lock that a step of a frame acquires or releases, if it does.
 pub(crate) fn lock_of(acting: &Acting) -> Option<Lock> {
+    let instruction = acting.instruction;
     match acting.frame {
         FrameView::Walk(_) => None,
         FrameView::Cancel(_) => Some(Lock::SystemCancel),
-        FrameView::Routine { device, .. } => match acting.instruction {
-            Some(Instr::Acquire(lock) | Instr::Release(lock)) => Some(spin(device, lock)),
-            Some(Instr::AcquireCancel | Instr::ReleaseCancel) => Some(Lock::SystemCancel),
-            _ => None,
+        FrameView::Routine { device, .. } => match instruction {
+            Some(instr) => lock_named(&instr, device),
+            None => None,
         },
+    }
+}
+
+/// The lock that an instruction of a routine acquires or releases, if it does.
+fn lock_named(instr: &Instr, device: u8) -> Option<Lock> {
+    match *instr {
+        Instr::Acquire(lock) | Instr::Release(lock) => Some(spin(device, lock)),
+        Instr::AcquireCancel | Instr::ReleaseCancel => Some(Lock::SystemCancel),
+        _ => None,
     }
 }
 
