@@ -21,6 +21,7 @@ use Rattle.laws_runs.specs.Waits.{says_unchanged}
 use Rattle.tell_uses.specs.declared.acts.UseStep.{UseStep}
 use Rattle.tell_uses.specs.declared.ledger.Server.{Server}
 use Rattle.tell_uses.specs.declared.ledger.Server.TheVariants.{Manager, Routine}
+use Rattle.tell_uses.specs.declared.uses.Note.{Note}
 use Rattle.tell_uses.specs.Acts.{actions_of, use_step}
 use Rattle.tell_uses.specs.Knowing.{Knows}
 use Rattle.tell_uses.specs.Pending.{disagreeing, uses_of}
@@ -42,6 +43,10 @@ rows_of (row ∷ rows) = servers_of row ∷ rows_of rows
 pub record LedgerState : Type 0 where
   pub uses : UsesState
   pub rows : List (List Server)
+
+-- what it notes of a use, if one of that number was opened
+abbrev pub noted_of : LedgerState → Serving → Option Note
+noted_of l u = slice_get l.uses.notes u.«use»
 
 -- it tells what a run's trace and its tags do
 pub record Tells (r : Run) (l : LedgerState) : Type 0 where

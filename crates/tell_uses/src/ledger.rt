@@ -227,7 +227,7 @@ impl Ledger {
     ghost use Rattle.model.specs.Run.{begun};
     ghost use Rattle.model.specs.Set.{Set};
     ghost use Rattle.tell_uses.specs.Acts.{actions_of, leave_actions};
-    ghost use Rattle.tell_uses.specs.Ledger.{Disagreeing, NoneIfAccepted, Notes, Tells, TellsOn, row_settled, served_on};
+    ghost use Rattle.tell_uses.specs.Ledger.{Disagreeing, NoneIfAccepted, Notes, Tells, TellsOn, noted_of, row_settled, served_on};
     ghost use Rattle.tell_uses.specs.Uses.{DoesAll};
 
     /// That of a run over so many threads, before the first event.
@@ -346,8 +346,10 @@ impl Ledger {
         Ok(())
     }
 
-    /// What is known of a use.
-    pub fn note_of(&self, location_use: LocationUse) -> Option<Note> {
+    /// What is known of a use, if one of its number was opened.
+    pub fn note_of(&self, location_use: LocationUse) -> Option<Note>
+        ensures { result ≡ noted_of self.now location_use }
+    {
         self.known
             .notes()
             .get(location_use.number() as usize)
