@@ -171,7 +171,7 @@ class Run:
     def worlds(self):
         """The machine behind each event, one after another, by the replies."""
         world = World(read_set(self.listing), value_of(self.text.split()[1]))
-        told = answer(self.program, 'tell', self.set, self.by, '--unchecked')[0].partition('\naudit\n')[0]
+        told = answer(self.program, 'tell', self.set, self.by, '--unchecked', '--every')[0].partition('\naudit\n')[0]
         self.told, self.waiting = [' '.join(line.split()[1:]) for line in told.splitlines()], set()
         for line, words in zip(self.told, self.events):
             if words[0] != 'interrupt':
