@@ -62,7 +62,7 @@ class Told:
         self.why, self.mend = re.search(r'^why: (.*)$', words, re.M)[1], re.search(r'^mend it: (.*)$', words, re.M)[1]
 
     def line_behind(self, title):
-        found = re.search(title + r'.*line (\d+): ', self.words)
+        found = re.search(title + r'.*line (\d+): ', self.words, re.M)
         return int(found[1]) - 1 if found else None
 
 class Routine:
