@@ -1,7 +1,8 @@
 #!/usr/bin/env python3
-"""tools/keep rooms [--check]: draws docs/rooms.svg from crates.txt: each family of crates as a room, each crate on the floor that
-the crates below it leave: above all that it stands on. A line leads down to a crate that it stands on, but for those that
-others of its lines lead to. With --check it tells whether the file is what would be drawn, by its exit status."""
+"""tools/keep rooms [--check]: draws docs/rooms.svg from crates.txt: each family of crates as a
+room, each crate on the floor that the crates below it leave: above all that it stands on. A line
+leads down to a crate that it stands on, but for those that others of its lines lead to. With
+--check it tells whether the file is what would be drawn, by its exit status."""
 import os, sys
 from html import escape
 

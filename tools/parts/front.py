@@ -1,4 +1,5 @@
-"""What the tools `try`, `measure` and `keep` have in common: a word says which part does the work."""
+"""What the tools `try`, `measure` and `keep` have in common: a word says which part does the
+work."""
 import ast, os, runpy, sys, textwrap
 
 PARTS = os.path.dirname(os.path.abspath(__file__))
