@@ -4,7 +4,7 @@
 A file of crates/tests_stored/runs is a group of cases. A case is a line `# NAME` and the runs behind it: a line `$ WORDS`,
 what drvhost answers to these words, what the error writer is told behind a line `told:`, and a line with the exit status,
 the number of files that are opened, and of reads of them that fail. The files that the words name lie in
-crates/tests_stored/data. The group of the wrong drivers is made of the answers that stand beside them in data/gallery;
+crates/tests_stored/data. The group of the wrong drivers is made of the answers that stand beside them (answers.txt, by gallery.py);
 texts of the folder examples that are named are copied to data/examples. The group of the rules' pages is made of
 crates/verifier_pages/src/pages.rt and, with what `check` says of a page's example, of docs/RULES.md; the examples are data/pages.
 
@@ -18,13 +18,13 @@ it gives each command line to that program, as to `drvhost`, and compares what g
 exit status."""
 import difflib, os, re, shutil, subprocess, sys, tempfile
 
+import gallery
 from compare_pages import pages, sections, titles
 
 TOP = os.path.dirname(os.path.dirname(os.path.dirname(os.path.abspath(__file__))))
 EXAMPLES = os.path.join(TOP, 'examples')
 CRATE = os.path.join(TOP, 'crates/tests_stored')
 RUNS, DATA = os.path.join(CRATE, 'runs'), os.path.join(CRATE, 'data')
-GALLERY = os.path.join(DATA, 'gallery')
 LIST, STDOUT = 'data/runs.txt', 'stdout'
 # What a folder of the gallery has beside answers.
 ASKED = 'driver.drv', 'events.sched', 'mended.drv'
@@ -80,32 +80,26 @@ def stored_group(file):
     assert not run, (file, 'the last answer has no end')
     return Group(file[:-len('.txt')], parts)
 
-def answer_of_gallery(folder, text, opened):
-    """A stored answer, which ends with the exit status."""
-    lines = open(os.path.join(GALLERY, folder, text)).read().splitlines()
-    assert re.match(r'^status [01]$', lines[-1]), (folder, text)
-    return lines[:-1] + ['%s, opened %d' % (lines[-1], opened)]
+def gallery_run(folder, line, answer, *flags):
+    """A run of a folder of the gallery, by its command line and the stored answer, which ends with the exit status."""
+    words = ['gallery/%s/%s' % (folder, word) if TEXT.search(word) else word for word in line.split()]
+    run = Run(words + list(flags))
+    lines = answer.splitlines()
+    assert re.match(r'^status [01]$', lines[-1]), (folder, line)
+    run.answer = lines[:-1] + ['%s, opened %d' % (lines[-1], len(run.files()))]
+    return run
 
 def gallery_runs(folder):
-    """What each text of a wrong driver's folder answers to. The machine that tests everything runs a mended driver too."""
-    at = lambda text: 'gallery/%s/%s' % (folder, text)
-    asked = [
-        ('check.txt', 1, ['check', at('driver.drv')]),
-        ('explain.txt', 1, ['explain', at('driver.drv')]),
-        ('trace.txt', 2, ['trace', at('driver.drv'), at('events.sched'), '--unchecked']),
-    ]
-    if os.path.exists(os.path.join(GALLERY, folder, 'mended.drv')):
-        mended = ['trace', at('mended.drv'), at('events.sched')]
-        asked += [('mended.txt', 2, mended), ('mended.txt', 2, mended + ['--unchecked'])]
-    for text, opened, words in asked:
-        run = Run(words)
-        run.answer = answer_of_gallery(folder, text, opened)
-        assert text != 'mended.txt' or run.answer[-1].startswith('status 0'), folder
-        yield run
+    """What is answered of a wrong driver. The machine that tests everything runs a mended driver too."""
+    for line, answer in gallery.stored(folder).items():
+        yield gallery_run(folder, line, answer)
+        if line == gallery.MENDED:
+            assert answer.endswith('status 0\n'), folder
+            yield gallery_run(folder, line, answer, '--unchecked')
 
 def gallery_group():
     parts = ['; The wrong drivers of the gallery: their verdicts, what they do without one, and the mended ones.']
-    for folder in sorted(os.listdir(GALLERY)):
+    for folder in gallery.folders():
         parts += ['', '# ' + folder, *gallery_runs(folder)]
     return Group('gallery', parts)
 

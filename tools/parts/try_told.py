@@ -2,8 +2,8 @@
 """tools/try told [--write | --table] [PROGRAM]: whether the program (crates/drvhost/out/drvhost, if none is named) tells and draws
 the runs of the wrong drivers and of the examples as it is stored, byte for byte.
 
-Of each folder of gallery, told.txt has what `tell --unchecked --every` writes of driver.drv with events.sched, and picture.svg what
-`draw --unchecked` does; of a mended driver nothing may be amiss. Of each example with a schedule, examples/told has both texts
+Of each folder of the gallery, answers.txt has what `tell --unchecked --every` writes of driver.drv with events.sched (gallery.py), and
+picture.svg what `draw --unchecked` does; of a mended driver nothing may be amiss. Of each example with a schedule, examples/told has both texts
 under its name, but for a picture that stands in docs/pictures; one that is refused is run with --unchecked, and of one that is
 accepted nothing may be amiss. A told run ends with the exit status.
 
@@ -12,8 +12,10 @@ why: it has to list these and no others. With --table it prints what the end of 
 it writes the texts and the pictures anew. The last line counts."""
 import os, re, subprocess, sys
 
-TOP = os.path.dirname(os.path.dirname(os.path.dirname(os.path.abspath(__file__))))
-GALLERY, EXAMPLES, PICTURES = (os.path.join(TOP, folder) for folder in ('crates/tests_stored/data/gallery', 'examples', 'docs/pictures'))
+import gallery
+from gallery import TOP
+
+EXAMPLES, PICTURES = (os.path.join(TOP, folder) for folder in ('examples', 'docs/pictures'))
 LISTED = os.path.join(TOP, 'docs/GALLERY.md')
 # The examples that are run by the schedule of another one.
 BY_ONE_READ = 'echo', 'forgets', 'locked', 'pending', 'stuck', 'twice'
@@ -24,6 +26,29 @@ def answer(program, *words):
     done = subprocess.run([program, *words], capture_output=True, text=True, timeout=60)
     return done.stdout + done.stderr, done.returncode
 
+class ToldText:
+    """A told run that stands in a file of its own."""
+
+    def __init__(self, path):
+        self.path = path
+
+    def settle(self, text, is_written):
+        return settle(self.path, text, is_written)
+
+class ToldAnswer:
+    """A told run that stands among the answers of a folder of the gallery."""
+
+    def __init__(self, folder):
+        self.folder, self.path = folder, gallery.path(folder, gallery.ANSWERS)
+
+    def settle(self, text, is_written):
+        answers = gallery.stored(self.folder)
+        if answers[gallery.TELL] == text:
+            return True
+        if is_written:
+            gallery.store(self.folder, {**answers, gallery.TELL: text})
+        return is_written
+
 class Run:
     """A set and a schedule, and where its told run and its picture are stored."""
 
@@ -31,23 +56,30 @@ class Run:
         self.name, self.words, self.told, self.picture = name, words, told, picture
 
     def answers(self, program):
-        """What the program writes, by the path at which it is stored, and the exit status of the told run."""
+        """The told run with its exit status, the picture, and that exit status."""
         text, status = answer(program, 'tell', *self.words, '--every')
         drawn, _ = answer(program, 'draw', *self.words)
-        return {self.told: '%sstatus %d\n' % (text, status), self.picture: drawn}, status
+        return '%sstatus %d\n' % (text, status), drawn, status
+
+    def differs(self, told, drawn, is_written):
+        """The paths of the texts that are stored otherwise."""
+        if not self.told.settle(told, is_written):
+            yield self.told.path
+        if not settle(self.picture, drawn, is_written):
+            yield self.picture
 
 def wrong_drivers():
     """The runs of the wrong drivers."""
-    for name in sorted(os.listdir(GALLERY)):
-        at = lambda text: os.path.join(GALLERY, name, text)
-        yield Run(name, [at('driver.drv'), at('events.sched'), '--unchecked'], at('told.txt'), at('picture.svg'))
+    for folder in gallery.folders():
+        words = [gallery.path(folder, 'driver.drv'), gallery.path(folder, 'events.sched'), '--unchecked']
+        yield Run(folder, words, ToldAnswer(folder), gallery.path(folder, 'picture.svg'))
 
 def mended_drivers():
     """The runs of the mended ones."""
-    for name in sorted(os.listdir(GALLERY)):
-        at = lambda text: os.path.join(GALLERY, name, text)
-        if os.path.exists(at('mended.drv')):
-            yield Run('%s, mended' % name, [at('mended.drv'), at('events.sched')], None, None)
+    for folder in gallery.folders():
+        if gallery.is_mended(folder):
+            words = [gallery.path(folder, 'mended.drv'), gallery.path(folder, 'events.sched')]
+            yield Run('%s, mended' % folder, words, None, None)
 
 def examples(program):
     """The runs of the examples, and whether each is of an accepted set."""
@@ -62,7 +94,7 @@ def examples(program):
         if not os.path.exists(picture):
             picture = os.path.join(EXAMPLES, 'told', name + '.svg')
         words = [driver, schedule] + ([] if accepted else ['--unchecked'])
-        yield Run(name, words, os.path.join(EXAMPLES, 'told', name + '.txt'), picture), accepted
+        yield Run(name, words, ToldText(os.path.join(EXAMPLES, 'told', name + '.txt')), picture), accepted
 
 def settle(path, text, is_written):
     """Whether a text is stored so, or is now."""
@@ -94,10 +126,9 @@ def main():
     tried, wrong, silent, shown = 0, [], set(), 0
 
     def compare(run):
-        texts, status = run.answers(program)
-        wrong.extend('%s differs' % os.path.relpath(path, TOP) for path, text in texts.items()
-                     if not settle(path, text, is_written))
-        return texts[run.told], status
+        told, drawn, status = run.answers(program)
+        wrong.extend('%s differs' % os.path.relpath(path, TOP) for path in run.differs(told, drawn, is_written))
+        return told, status
 
     for run in wrong_drivers():
         told, status = compare(run)
