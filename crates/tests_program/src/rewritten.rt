@@ -4,14 +4,13 @@ ghost use Rattle.std.specs.Prelude.{◌≡◌};
 ghost use Rattle.drvhost_devices.specs.Device.{Unknown};
 
 use crate::answers::given;
-use crate::failures::TEXT;
 use drvhost_devices::device::{Reader, Sink, Source, Writer};
 use drvhost_words::answer::answer;
 use drvhost_words::files::{Files, Output};
 use std::alloc::Global;
 use std::sync::Wait;
 use std::thread::Threads;
-use tests_sets::vectors::{OLD_ONE_READ, ONE_READ};
+use tests_sets::vectors::{OLD_ONE_READ, ONE_READ, ONE_READ_TEXT};
 
 /// A driver that completes its packet twice.
 const TWICE: &[u8] =
@@ -28,7 +27,7 @@ const TWICE_IMAGE: [u8; 48] = [
 /// The file of a name, where there is one.
 fn stored(name: &str) -> Option<&'static [u8]> {
     match name {
-        "good.drv" => Some(TEXT),
+        "good.drv" => Some(ONE_READ_TEXT),
         "twice.drv" => Some(TWICE),
         "open.drv" => Some(b"driver d\n"),
         "good.image" => Some(&ONE_READ),

@@ -7,6 +7,11 @@ pub const ONE_READ: [u8; 40] = [
     0x00, 0x00, 0x00, 0x00, 0x00, 0x01, 0xff, 0x00,
 ];
 
+/// The text of that set.
+pub const ONE_READ_TEXT: &[u8] =
+    b"driver d\ndispatch READ f\nroutine f dispatch\ncomplete r0 SUCCESS\nret SUCCESS\nendr\nendd\n\
+      device v d 1\n";
+
 /// The same set's image of the first edition.
 pub const OLD_ONE_READ: [u8; 40] = [
     0x44, 0x56, 0x42, 0x31, 0x01, 0x01, 0x00, 0x00, 0x01, 0x00, 0x00, 0xff, 0xff, 0xff, 0xff, 0x00,

@@ -4,13 +4,14 @@
 ghost use Rattle.std.specs.Prelude.{◌≡◌};
 
 use crate::devices::is_failing;
-use crate::failures::{LINES, SCHEDULE, TEXT};
+use crate::failures::{LINES, SCHEDULE};
 use drvhost_devices::device::{Reader, Sink, Source, Writer};
 use drvhost_devices::verification::Verification;
 use drvhost_runs::trace::trace;
 use std::alloc::Global;
 use std::io;
 use std::io::{ErrorKind, Read, Write};
+use tests_sets::vectors::ONE_READ_TEXT;
 
 /// A reader of bytes in memory.
 #[derive(Drop)]
@@ -114,7 +115,7 @@ const WHOLE: Ending = Ending {
 
 /// Whether a run over such devices ends so.
 fn ends(alloc: Global, devices: &Devices, ending: &Ending) -> bool {
-    let mut set = reader(TEXT, devices.set);
+    let mut set = reader(ONE_READ_TEXT, devices.set);
     let mut schedule = reader(SCHEDULE, None);
     let mut out = writer(alloc, devices.out, devices.takes_nothing);
     let mut err = writer(alloc, None, false);
@@ -133,13 +134,13 @@ fn ends(alloc: Global, devices: &Devices, ending: &Ending) -> bool {
 /// A read that fails at any call, also the one that finds the end, is told, and nothing is written.
 #[test]
 fn each_read_fails_in_turn(rt: HostRuntime) {
-    for good in 0..TEXT.len() + 2 {
+    for good in 0..ONE_READ_TEXT.len() + 2 {
         let devices = Devices {
             set: Some(good),
             out: None,
             takes_nothing: false,
         };
-        let ending = if good > TEXT.len() {
+        let ending = if good > ONE_READ_TEXT.len() {
             WHOLE
         } else {
             Ending {

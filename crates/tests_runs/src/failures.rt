@@ -18,22 +18,17 @@ use drvhost_sets::version::version;
 use std::alloc::Global;
 use std::sync::Wait;
 use std::thread::Threads;
-use tests_sets::vectors::{EMPTY, OLD_ONE_READ, ONE_READ, QUEUED};
+use tests_sets::vectors::{EMPTY, OLD_ONE_READ, ONE_READ, ONE_READ_TEXT, QUEUED};
 use workers::Gate;
 
-/// The set of `ONE_READ`.
-pub(crate) const TEXT: &[u8] =
-    b"driver d\ndispatch READ f\nroutine f dispatch\ncomplete r0 SUCCESS\nret SUCCESS\nendr\nendd\n\
-      device v d 1\n";
-
-/// Its listing.
+/// The listing of the set of one read.
 const LISTED: &[u8] =
     b"driver d0\ndispatch READ f0\nroutine f0 dispatch\ncomplete r0 SUCCESS\nret SUCCESS\nendr\n\
       endd\ndevice v0 d0 1\n";
 
 const VERDICT: &[u8] = b"accepted\ndriver 0 routine 0 dispatch certificate 2\n";
 
-/// What is said of `TEXT`, whose lines are those of a text that a person wrote.
+/// What is said of `ONE_READ_TEXT`, whose lines are those of a text that a person wrote.
 const ROLL_OF_TEXT: &[u8] = b"accepted\ndriver 0 routine 0 dispatch certificate 2\n\
       driver 0 routine 0: driver d, routine f (dispatch)\n";
 
@@ -137,7 +132,7 @@ const WHOLE: Devices = Devices {
 /// Verdicts, explanations, listings and images.
 static CASES: [Case; 16] = [
     Case {
-        set: TEXT,
+        set: ONE_READ_TEXT,
         job: Job::Check,
         status: 0,
         lines: VERDICT,
@@ -172,7 +167,7 @@ static CASES: [Case; 16] = [
         told: b"image fault 2 Truncated\n",
     },
     Case {
-        set: TEXT,
+        set: ONE_READ_TEXT,
         job: Job::Explain(Extent::First),
         status: 0,
         lines: ROLL_OF_TEXT,
@@ -201,7 +196,7 @@ static CASES: [Case; 16] = [
               at fault: the text ends inside the driver\nwhat may stand there: `endd`\n",
     },
     Case {
-        set: TEXT,
+        set: ONE_READ_TEXT,
         job: Job::List,
         status: 0,
         lines: LISTED,
@@ -222,7 +217,7 @@ static CASES: [Case; 16] = [
         told: b"image fault 2 Truncated\n",
     },
     Case {
-        set: TEXT,
+        set: ONE_READ_TEXT,
         job: Job::Rewrite,
         status: 0,
         lines: &ONE_READ,
@@ -253,7 +248,7 @@ static CASES: [Case; 16] = [
 
 /// A run that is drawn.
 static DRAWN: Case = Case {
-    set: TEXT,
+    set: ONE_READ_TEXT,
     job: Job::Draw(SCHEDULE, Verification::Required),
     status: 0,
     lines: b"",
@@ -268,7 +263,7 @@ const SCHEDULE_EXPLAINED: &[u8] = b"schedule fault 3 OutOfRange line 1\n\nin lin
 /// Runs of schedules, and of scripts.
 static RUNS: [Case; 10] = [
     Case {
-        set: TEXT,
+        set: ONE_READ_TEXT,
         job: Job::Trace(SCHEDULE, Verification::Required),
         status: 0,
         lines: LINES,
@@ -310,14 +305,14 @@ static RUNS: [Case; 10] = [
         told: b"",
     },
     Case {
-        set: TEXT,
+        set: ONE_READ_TEXT,
         job: Job::Tell(b"threads 65\n", Verification::Skipped, Detail::Every),
         status: 2,
         lines: b"",
         told: SCHEDULE_EXPLAINED,
     },
     Case {
-        set: TEXT,
+        set: ONE_READ_TEXT,
         job: Job::Draw(b"threads 65\n", Verification::Skipped),
         status: 2,
         lines: b"",
@@ -517,7 +512,7 @@ fn each_write_of_a_run_fails_in_turn(rt: HostRuntime) {
 
 /// The picture of a run, as sinks take it that don't fail.
 fn picture_of(alloc: Global) -> Narrow {
-    let mut set = Slow::new(TEXT, 1, None);
+    let mut set = Slow::new(ONE_READ_TEXT, 1, None);
     let mut schedule = Slow::new(SCHEDULE, 1, None);
     let mut out = Narrow::new(alloc, 100, None);
     let mut err = Narrow::new(alloc, 1, None);
