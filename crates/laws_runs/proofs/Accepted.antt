@@ -3,3 +3,4 @@ pub mod Keeps
 pub mod Lasts
 pub mod Kinds
 pub mod Laws
+pub mod OwnLocks

@@ -3,6 +3,7 @@ pub mod ArrivingStates
 pub mod Holder
 pub mod KindsAgree
 pub mod OneToken
+pub mod OwnLocks
 pub mod TopsOnce
 pub mod NeverStops
 pub mod Rules

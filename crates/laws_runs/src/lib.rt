@@ -14,6 +14,7 @@ ghost use Rattle.laws_runs.specs.NeverStops.{AcceptedRunsNeverStop};
 ghost use Rattle.laws_runs.specs.NothingSkipped.{NothingIsSkipped};
 ghost use Rattle.laws_runs.specs.NoWrong.{AcceptedRunsNeverGoWrong};
 ghost use Rattle.laws_runs.specs.OneToken.{BusyDevicesHaveOneToken};
+ghost use Rattle.laws_runs.specs.OwnLocks.{ThreadsOwnWhatTheirFramesSay};
 ghost use Rattle.laws_runs.specs.PastTells.{PastTellsOfTheWorld};
 ghost use Rattle.laws_runs.specs.PendingReturns.{AcceptedRunsAgreeOnPending};
 ghost use Rattle.laws_runs.specs.Rules.{AcceptedRunsKeepTheRules};
@@ -62,6 +63,13 @@ pub fn busy_devices_have_one_token()
 /// that is live.
 pub fn registers_are_of_their_kinds()
     ensures { AcceptedRunsKeepKinds }
+{}
+
+/// A thread owns exactly the locks that the state of its top frame says: of a routine's, those that
+/// the verifier found held where the frame stands, of IoCancelIrp's the system cancel spin lock once
+/// it took it, and none else. So an idle thread owns none, and no frame below the top one holds any.
+pub fn threads_own_what_their_frames_say()
+    ensures { ThreadsOwnWhatTheirFramesSay }
 {}
 
 /// No run of an accepted set stops: there is no bug check of any kind, nothing goes wrong, and no

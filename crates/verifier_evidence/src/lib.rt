@@ -8,6 +8,7 @@ mod evidence;
 mod subject;
 mod trail;
 
+pub use arrivals::{Arrival, arrivals_to};
 pub use evidence::{Evidence, evidence_at, evidence_of};
 pub use subject::{Fault, Subject};
 pub use trail::{Path, Step, path_to};

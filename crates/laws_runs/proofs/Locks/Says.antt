@@ -1,22 +1,7 @@
 -- What the state of a frame says of locks, and what an instruction changes of it.
-use Rattle.laws_runs.proofs.Common.{inl, inr, refl, sym, zero, eq-eqb, eqb_tells, get_or-set_other, get_or-set_same, list_any, Bool, List, None, Some, [], false, if◌then◌else◌, length, nat_eq, slice_index_or, slice_set, suc, true, ℕ, ◌&&◌, ◌<◌, ◌∷◌, ◌≡◌, spin_lock, is_lock, given_down, handed, handed_at_label, holds_lock, holds_spin_lock, kind_of, marked, refuses, Set, OperandFits, Abs, Kind, New, Lock, Spin, SystemCancel, Instr, Acquire, AcquireCancel, Call, IfPending, Mark, Pass, Release, ReleaseCancel, SPIN_LOCKS, CancelLock, DeviceLock, Sort, Activation, CancelStep, AcquireStep, Exchange, SetFlag, Frame, CancelFrame, Routine, Walk, States, first_none, unbroken, Locking, Work, lock_freed, lock_taken, work_of, and_false, not_false, or_left, or_right}
+use Rattle.laws_runs.proofs.Common.{inl, inr, refl, sym, zero, eq-eqb, eqb_tells, get_or-set_other, get_or-set_same, list_any, Bool, List, None, Some, [], false, if◌then◌else◌, length, nat_eq, slice_index_or, slice_set, suc, true, ℕ, ◌&&◌, ◌<◌, ◌∷◌, ◌≡◌, spin_lock, is_lock, given_down, handed, handed_at_label, holds_lock, holds_spin_lock, kind_of, marked, refuses, Set, OperandFits, Abs, Kind, New, Lock, Spin, SystemCancel, Instr, Acquire, AcquireCancel, Call, IfPending, Mark, Pass, Release, ReleaseCancel, SPIN_LOCKS, CancelLock, DeviceLock, Sort, Activation, Frame, States, first_none, unbroken, Locking, Work, lock_freed, lock_taken, work_of, and_false, not_false, or_left, or_right}
 use Rattle.model.specs.LocalRule.{is_held, with_lock, with_cancel, released}
-
--- the locks that a state says, for a device
-abbrev pub state_says : Abs → ℕ → Lock → Bool
-state_says s d SystemCancel = s.cancel
-state_says s d (Spin l) = nat_eq d l.device && is_held s l.number
-
--- those that IoCancelIrp has before a step: the system cancel spin lock, once it took it
-abbrev pub cancelling_says : CancelStep → Lock → Bool
-cancelling_says AcquireStep l = false
-cancelling_says SetFlag l = is_lock SystemCancel l
-cancelling_says Exchange l = is_lock SystemCancel l
-
-abbrev pub frame_says : States → Frame → Lock → Bool
-frame_says states (Routine a) l = state_says (states a.driver a.routine a.position) a.device l
-frame_says states (Walk n) l = false
-frame_says states (CancelFrame c) l = cancelling_says c.next l
+pub use Rattle.laws_runs.specs.OwnLocks.{state_says, cancelling_says, frame_says}
 
 -- of a thread's frames the top one says it
 abbrev pub top_says : States → List Frame → Lock → Bool
