@@ -4,6 +4,7 @@ ghost use Rattle.std.specs.Prelude.{◌≡◌, ◌≤◌, IfOk, IfErr};
 ghost use Rattle.model.specs.declared.limits.TheConstants.{MAX_THREADS};
 ghost use Rattle.model.specs.Machine.{Shows};
 ghost use Rattle.laws_runs.specs.Rules.{KeepsTheRules};
+ghost use Rattle.laws_locks.specs.Rest.{ComesToRest};
 
 use machine::World;
 use model::event::Event;
@@ -24,6 +25,7 @@ pub fn run(
     ensures set { IfOk result (λ world. world.set ≡ accepted) }
     ensures shows { IfOk result (λ world. Shows world threads events.now) }
     ensures rules { IfOk result (λ world. KeepsTheRules accepted threads events.now) }
+    ensures rests { IfOk result (λ world. ComesToRest accepted threads events.now) }
     ensures back { IfErr result (λ refused. refused.0 ≡ accepted) }
 {
     let mut world = match World::new(alloc, accepted, threads) {

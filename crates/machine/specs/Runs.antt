@@ -1,4 +1,4 @@
--- Runs of accepted sets, as machines show them: they keep the rules, and go on.
+-- Runs of accepted sets, as machines show them: they keep the rules, come to rest, and go on.
 use Rattle.std.specs.Prelude.{ℕ, ◌≡◌, ◌≢◌, ◌<◌, ◌++◌, List, [], ◌∷◌}
 use Rattle.model.specs.declared.event.Event.{Event}
 use Rattle.model.specs.declared.event.Event.TheVariants.{Step}
@@ -11,6 +11,7 @@ use Rattle.model.specs.Shown.{Shown}
 use Rattle.model.specs.World.{World}
 use Rattle.laws_runs.specs.NeverStops.{LetsGoOn}
 use Rattle.laws_runs.specs.Rules.{KeepsTheRules}
+use Rattle.laws_locks.specs.Rest.{ComesToRest}
 use Rattle.laws_words.specs.Reads.{WordsMean}
 use Rattle.laws_words.specs.Words.{WordWorld}
 
@@ -30,6 +31,11 @@ pub record IsShown (m : Shown) : Type 0 where
 abbrev pub RulesKept : Shown → Event → Type 0
 RulesKept m e = (threads : ℕ) (events : List Event) → Shows m threads events
     → KeepsTheRules m.set threads (events ++ e ∷ [])
+
+-- and it comes to rest
+abbrev pub RestKept : Shown → Event → Type 0
+RestKept m e = (threads : ℕ) (events : List Event) → Shows m threads events
+    → ComesToRest m.set threads (events ++ e ∷ [])
 
 -- the reply was neither a bug check nor that something went wrong
 abbrev pub GoesOn : Shown → Reply → Type 0

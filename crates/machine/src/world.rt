@@ -2,7 +2,7 @@
 
 ghost use Rattle.std.specs.Prelude.{◌≡◌, ◌≢◌, ◌≤◌, ◌<◌, List, [], IfOk, IfErr, option_map};
 ghost use Rattle.machine.specs.Registers.{LendsWords};
-ghost use Rattle.machine.specs.Runs.{GoesOn, RulesKept, StepsThreads, TellsOf};
+ghost use Rattle.machine.specs.Runs.{GoesOn, RestKept, RulesKept, StepsThreads, TellsOf};
 ghost use Rattle.machine.specs.Slots.{HasSlots, number_at};
 ghost use Rattle.machine.specs.Steps.{MakesSteps, Stepping};
 ghost use Rattle.model.specs.declared.event.Event.{Event};
@@ -12,7 +12,9 @@ ghost use Rattle.model.specs.declared.limits.TheConstants.{MAX_THREADS};
 ghost use Rattle.model.specs.Machine.{Applies, Shows};
 ghost use Rattle.model.specs.View.{due_at, packet_at, thread_at};
 ghost use Rattle.laws_runs.specs.Rules.{KeepsTheRules};
+ghost use Rattle.laws_locks.specs.Rest.{ComesToRest};
 
+use laws_locks::accepted_runs_come_to_rest;
 use laws_runs::accepted_runs_keep_the_rules;
 use laws_slots::slots_show_what_they_mean;
 use laws_words::{
@@ -79,9 +81,12 @@ impl World {
         ensures shows { IfOk result (λ world. Shows world threads []) }
         ensures rules { IfOk result (λ world. (events : List Event)
             → KeepsTheRules accepted threads events) }
+        ensures rests { IfOk result (λ world. (events : List Event)
+            → ComesToRest accepted threads events) }
         ensures back { IfErr result (λ refused. refused.0 ≡ accepted) }
     {
         accepted_runs_keep_the_rules();
+        accepted_runs_come_to_rest();
         free_words_mean_the_beginning();
         words_show_what_they_mean();
         let devices = accepted.set().devices().len();
@@ -93,14 +98,16 @@ impl World {
 
     /// Applies an event: a world that showed a run shows that run with the event added, and answers
     /// as it does. The run keeps the rules: no bug check, no wrong operand, no activation past its
-    /// certificate; and a step of a thread that it has is not refused.
+    /// certificate; it comes to rest; and a step of a thread that it has is not refused.
     pub fn apply(&mut self, event: &Event) -> Reply
         ensures applies { Applies self.old event.now self.new result }
         ensures rules { RulesKept self.old event.now }
+        ensures rests { RestKept self.old event.now }
         ensures goes_on { GoesOn self.old result }
         ensures steps { StepsThreads self.old event.now result }
     {
         accepted_runs_keep_the_rules();
+        accepted_runs_come_to_rest();
         word_events_fit();
         word_events_show_runs();
         words_show_what_they_mean();

@@ -6,7 +6,7 @@ use Rattle.laws_words.specs.WordsFit.{WordEventFits}
 use Rattle.laws_words.specs.WordsDone.{WordEventDone}
 use Rattle.laws_words.specs.ShownWords.{shown_words}
 use Rattle.machine.proofs.Applying.{answered, applies_shown, fits, goes_on, meant_after, steps_threads}
-use Rattle.machine.specs.Runs.{GoesOn, RulesKept, StepsThreads}
+use Rattle.machine.specs.Runs.{GoesOn, RestKept, RulesKept, StepsThreads}
 use Rattle.machine.proofs.world.World.apply.Goals as goal
 
 -- the event was carried out on the words of the accepted set
@@ -50,6 +50,12 @@ pub returns-clause-rules : goal.returns-clause-rules
 returns-clause-rules c =
     subst (λ (m : Shown). RulesKept m c.args.event.now) c.self.view_is
     (λ threads events shows. c.accepted_runs_keep_the_rules.ensures c.self.inside.accepted
+    c.self.invariant.0 c.self.invariant.1.0 threads (events ++ c.args.event.now ∷ []))
+
+pub returns-clause-rests : goal.returns-clause-rests
+returns-clause-rests c =
+    subst (λ (m : Shown). RestKept m c.args.event.now) c.self.view_is
+    (λ threads events shows. c.accepted_runs_come_to_rest.ensures c.self.inside.accepted
     c.self.invariant.0 c.self.invariant.1.0 threads (events ++ c.args.event.now ∷ []))
 
 pub returns-clause-goes_on : goal.returns-clause-goes_on

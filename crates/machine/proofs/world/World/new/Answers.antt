@@ -32,6 +32,12 @@ returns-in-Ok-clause-shows c =
     c.words_show_what_they_mean.ensures c.args.accepted c.in-Ok.slots
     (run c.args.accepted c.args.threads []).world (begun c)
 
+pub returns-in-Ok-clause-rests : goal.returns-in-Ok-clause-rests
+returns-in-Ok-clause-rests c = λ events.
+    c.accepted_runs_come_to_rest.ensures c.args.accepted c.set.ensures.typable
+    (subst (λ (s : Set). IsSound s) c.set.ensures.same c.devices-devices.ensures.sound)
+    c.args.threads events
+
 pub returns-in-Ok-clause-rules : goal.returns-in-Ok-clause-rules
 returns-in-Ok-clause-rules c = λ events.
     c.accepted_runs_keep_the_rules.ensures c.args.accepted c.set.ensures.typable

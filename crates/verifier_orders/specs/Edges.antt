@@ -1,0 +1,89 @@
+-- The edges of a driver: which lock its routines take while they hold which, and where.
+use Rattle.std.specs.Prelude.{ℕ, ◌≡◌, ◌≢◌, ◌<◌, ◌⊎◌, get_or, Bool, List, [], ◌∷◌, ◌++◌, All, Option, None, Some, zero, suc, nat_eq, if◌then◌else◌, slice_get, length}
+use Rattle.model.specs.declared.abs.Abs.{Abs}
+use Rattle.model.specs.declared.instr.Instr.{Instr}
+use Rattle.model.specs.declared.instr.Instr.TheVariants.{Acquire, AcquireCancel}
+use Rattle.model.specs.declared.set.Driver.{Driver}
+use Rattle.model.specs.declared.set.Guard.{Guard}
+use Rattle.model.specs.declared.set.Guard.TheVariants.{DeviceLock, CancelLock}
+use Rattle.model.specs.LocalRule.{is_held}
+use Rattle.model.specs.Set.{Set}
+use Rattle.laws_locks.specs.Order.{IsOrder, TakesUnder}
+use Rattle.verifier_orders.specs.Cycle.{LeadBack}
+use Rattle.verifier_orders.specs.Ranking.{AreWithin}
+use Rattle.verifier_orders.specs.declared.ranking.Edge.{Edge}
+
+-- locks by number
+abbrev pub number_of : Guard → ℕ
+number_of (DeviceLock lock) = lock
+number_of CancelLock = 8
+
+abbrev pub holds_number : Abs → ℕ → Bool
+holds_number s lock = if nat_eq lock 8 then s.cancel else is_held s lock
+
+abbrev pub number_taken : Instr → Option ℕ
+number_taken (Acquire lock) = Some lock
+number_taken AcquireCancel = Some 8
+number_taken i = None
+
+-- an edge tells where a routine of the driver takes a lock under another
+pub record IsEdge (set : Set) (driver : ℕ) (e : Edge) : Type 0 where
+  pub held : Guard
+  pub taken : Guard
+  pub under : TakesUnder set driver held taken
+  pub held_is : e.held ≡ number_of held
+  pub taken_is : e.taken ≡ number_of taken
+  pub routine : under.number ≡ e.routine
+  pub position : under.position ≡ e.at
+
+-- an edge between two locks is there
+abbrev pub HasEdge : List Edge → Guard → Guard → Type 0
+HasEdge edges held taken =
+    (k : ℕ) × (e : Edge) × (slice_get edges k ≡ Some e) × (e.held ≡ number_of held)
+    × (e.taken ≡ number_of taken)
+
+-- edges that an instruction makes which takes a lock in a state: from those of so many locks that
+-- are held
+abbrev pub edge : ℕ → ℕ → ℕ → ℕ → Edge
+edge held taken routine at =
+    record { held = held; taken = taken; routine = routine; at = at }
+
+abbrev pub edges_from : Abs → ℕ → ℕ → ℕ → ℕ → List Edge
+edges_from s taken routine at zero = []
+edges_from s taken routine at (suc lock) =
+    edges_from s taken routine at lock
+    ++ (if holds_number s lock then edge lock taken routine at ∷ [] else [])
+
+-- all edges of the routines before one, and of that one before a position
+pub record AreEdgesTo (set : Set) (driver routine at : ℕ) (edges : List Edge) : Type 0 where
+  pub within : AreWithin edges
+  pub each : All (IsEdge set driver) edges
+  pub all : (held taken : Guard) (u : TakesUnder set driver held taken)
+      → (u.number < routine) ⊎ ((u.number ≡ routine) × (u.position < at))
+      → HasEdge edges held taken
+
+-- all edges of a driver
+pub record AreEdgesOf (set : Set) (driver : ℕ) (edges : List Edge) : Type 0 where
+  pub within : AreWithin edges
+  pub each : All (IsEdge set driver) edges
+  pub all : (held taken : Guard) → TakesUnder set driver held taken → HasEdge edges held taken
+
+-- how many routines a driver has
+abbrev pub count_of : Option Driver → ℕ
+count_of None = 0
+count_of (Some d) = length d.routines
+
+-- edges that lead back to where they begin: the routines of a driver take locks in a cycle
+pub record IsLockCycle (set : Set) (driver : ℕ) (cycle : List Edge) : Type 0 where
+  pub lock : ℕ
+  pub back : LeadBack lock cycle lock
+  pub some : cycle ≢ []
+  pub each : All (IsEdge set driver) cycle
+
+-- the place of a lock among nine
+abbrev pub place_in : List ℕ → Guard → ℕ
+place_in places lock = get_or places (number_of lock) 0
+
+-- no order of the locks is possible
+abbrev pub HasNoOrder : Set → ℕ → Type 0
+HasNoOrder set driver = (place : Guard → ℕ) → IsOrder set driver place → ⊥

@@ -1,0 +1,135 @@
+//! The edges of a driver: which lock its routines take while they hold which.
+
+ghost use Rattle.std.specs.Prelude.{◌≡◌, ◌<◌, ◌≤◌, slice_get, ◌+◌, ◌++◌, ◌∷◌, [], if◌then◌else◌, IfOk, IfSome, OnOk};
+ghost use Rattle.model.specs.Typable.{IsTypable};
+ghost use Rattle.model.specs.Sound.{IsSound};
+ghost use Rattle.verifier_orders.specs.Edges.{AreEdgesOf, AreEdgesTo, count_of, edges_from, holds_number, number_taken};
+
+use crate::ranking::{Edge, LOCKS};
+use absstate::Abs;
+use driver_set::DriverSet;
+use model::instr::Instr;
+use std::alloc::{AllocError, Global};
+use verifier::Accepted;
+use verifier_evidence::{Subject, arrivals_to};
+
+/// The number of the system cancel spin lock.
+const CANCEL: u8 = 8;
+
+/// Whether a lock is held in a state.
+fn holds(state: &Abs, lock: u8) -> bool
+    requires { lock < 9 }
+    ensures { result ≡ holds_number state.now lock }
+{
+    if lock == CANCEL {
+        state.cancel
+    } else {
+        state.locks[lock as usize]
+    }
+}
+
+/// The lock that an instruction takes.
+fn taken_by(instr: &Instr) -> Option<u8>
+    ensures taken { result ≡ number_taken instr.now }
+    ensures few { IfSome result (λ lock. lock < 9) }
+{
+    match instr {
+        Instr::Acquire(lock) => Some(lock.index() as u8),
+        Instr::AcquireCancel => Some(CANCEL),
+        _ => None,
+    }
+}
+
+/// Adds an edge if it is one.
+fn add_if(edges: &mut Vec<Edge>, is: bool, edge: Edge) -> Result<(), AllocError>
+    ensures { OnOk result
+        (edges.new.items ≡ edges.old.items ++ (if is then edge ∷ [] else [])) }
+{
+    if is {
+        edges.push(edge)?;
+    }
+    Ok(())
+}
+
+/// Adds the edges that an instruction makes which takes a lock in a state.
+fn add_from(
+    edges: &mut Vec<Edge>,
+    state: &Abs,
+    taken: u8,
+    routine: u8,
+    at: u16,
+) -> Result<(), AllocError>
+    ensures { OnOk result
+        (edges.new.items ≡ edges.old.items ++ edges_from state.now taken routine at 9) }
+{
+    for held in 0..LOCKS as u8 {
+        let edge = Edge {
+            held,
+            taken,
+            routine,
+            at,
+        };
+        add_if(edges, holds(state, held), edge)?;
+    }
+    Ok(())
+}
+
+/// Adds the edges of a routine of a driver.
+fn add_routine(
+    alloc: Global,
+    set: &DriverSet,
+    driver: u8,
+    number: u8,
+    edges: &mut Vec<Edge>,
+) -> Result<(), AllocError>
+    requires typable { IsTypable set.now }
+    requires own { number < 255 }
+    requires before { AreEdgesTo set.now driver number 0 edges.old.items }
+    ensures { OnOk result (AreEdgesTo set.now driver (number + 1) 0 edges.new.items) }
+{
+    let Some(subject) = Subject::of(set, driver, number) else {
+        return Ok(());
+    };
+    let code = subject.code();
+    if code.is_empty() {
+        return Ok(());
+    }
+    let table = arrivals_to(alloc, &subject, (code.len() - 1) as u16)?;
+    for at in 0..code.len() {
+        let Some(taken) = taken_by(&code[at]) else {
+            continue;
+        };
+        let Some(arrival) = table[at] else {
+            unreachable!()
+        };
+        add_from(edges, &arrival.state, taken, number, at as u16)?;
+    }
+    Ok(())
+}
+
+/// How many routines a driver has.
+fn routine_count(set: &DriverSet, driver: u8) -> usize
+    ensures count { result ≡ count_of (slice_get set.now.drivers driver) }
+    ensures few { result ≤ 32 }
+{
+    match set.drivers().get(driver as usize) {
+        Some(there) => there.routines.as_slice().len(),
+        None => 0,
+    }
+}
+
+/// All edges of a driver of an accepted set.
+///
+/// # Errors
+///
+/// When memory runs out.
+pub fn edges_of(alloc: Global, accepted: &Accepted, driver: u8) -> Result<Vec<Edge>, AllocError>
+    ensures { IfOk result (λ edges. AreEdgesOf accepted.now driver edges.items) }
+{
+    let set = accepted.set();
+    let mut edges = Vec::new(alloc);
+    for number in 0..routine_count(set, driver) {
+        add_routine(alloc, set, driver, number as u8, &mut edges)?;
+    }
+    Ok(edges)
+}
