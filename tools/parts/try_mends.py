@@ -1,5 +1,5 @@
 #!/usr/bin/env python3
-"""tools/try mends PROGRAM [--each] [NAME..]: tries whether the mends that `explain` tells are mends. Each accepted driver
+"""tools/try mends PROGRAM [--each | --store] [NAME..]: tries whether the mends that `explain` tells are mends. Each accepted driver
 text of the folder examples (or those named) is broken in one way at a time: an instruction is left out, written twice or
 added, or a routine returns in another form. Each wrong driver of the gallery (or those named) is taken as it is. PROGRAM
 explains the broken text; where the words of the mend are known here,
@@ -7,7 +7,8 @@ they are followed to the letter, and `explain` is asked again. The text has to b
 further on, or of a later rule at the same place: of two faults of an instruction the one of the lesser rule is told first.
 A mend after which it is refused there by the same rule, or earlier, is printed with its break, and the exit status is 1 then.
 Otherwise each mend is printed with how often it was told, whether it is known, and one of its breaks;
-with --each every break is. The last line counts.
+with --each every break is. The last line counts. With --store one break of each mend that is followed is stored, with what
+is told of it, and the mended text with its verdict: crates/tests_stored/data/mends and runs/mends.txt are written anew.
 
 Where a mend speaks of a label L, the place that it names is made: the guard of the queue is released there, and the routine
 returns. Where it leaves open which status, SUCCESS is taken. Mends that ask for a decision of the author (states that differ,
@@ -16,6 +17,7 @@ import concurrent.futures, os, re, subprocess, sys
 
 TOP = os.path.dirname(os.path.dirname(os.path.dirname(os.path.abspath(__file__))))
 EXAMPLES, GALLERY = os.path.join(TOP, 'examples'), os.path.join(TOP, 'crates/tests_stored/data/gallery')
+MENDS, RUNS = (os.path.join(TOP, 'crates/tests_stored', path) for path in ('data/mends', 'runs/mends.txt'))
 # Texts in which instructions are added, at the start of a routine and before each return.
 SMALL = 'cancel', 'filter', 'queue', 'startio'
 FORMS = 'SUCCESS', 'PENDING', 'lower r0', 'continue', 'stop', 'void'
@@ -47,9 +49,16 @@ def read(path):
 def copied(lines):
     return [Line(line.words, line.label) for line in lines]
 
+def text_of(lines):
+    return ''.join(line.text() + '\n' for line in lines)
+
+def answer(program, command, lines):
+    """What the program answers of a text, and its exit status."""
+    done = subprocess.run([program, command, '/dev/stdin'], input=text_of(lines), capture_output=True, text=True)
+    return done.stdout, done.returncode
+
 def explain(program, lines):
-    text = ''.join(line.text() + '\n' for line in lines)
-    return subprocess.run([program, 'explain', '/dev/stdin'], input=text, capture_output=True, text=True).stdout
+    return answer(program, 'explain', lines)[0]
 
 class Told:
     """What is told of a refused text: its first line, the rule's number, the line at fault, why and the mend."""
@@ -234,31 +243,52 @@ def follow(lines, told):
         return True
     return False
 
-def verdict(program, lines, told):
-    """Follows the mend in a copy of a text: None where it isn't known, or whether it mends, with what is told then."""
-    mended = copied(lines)
-    faulty = mended[told.at]
-    if not follow(mended, told):
-        return None, 'not known here'
-    words = explain(program, mended)
-    if not words.startswith('refused'):
-        return words.startswith('accepted'), words
-    again = Told(words)
-    place = mended.index(faulty) if faulty in mended else told.at - 1
-    return (again.at, again.rule) > (place, told.rule), words
+class Tried:
+    """A broken text and what is told of it; the text with the mend followed, None where it isn't known here, whether it is
+    mended, and what is told then."""
+
+    def __init__(self, program, what, lines, words):
+        self.what, self.lines, self.told = what, lines, Told(words)
+        self.mended, self.mends, self.after = copied(lines), None, 'not known here'
+        faulty = self.mended[self.told.at]
+        if not follow(self.mended, self.told):
+            self.mended = None
+            return
+        self.after = explain(program, self.mended)
+        self.mends = self.after.startswith('accepted')
+        if self.after.startswith('refused'):
+            again = Told(self.after)
+            place = self.mended.index(faulty) if faulty in self.mended else self.told.at - 1
+            self.mends = (again.at, again.rule) > (place, self.told.rule)
 
 def tried(program, what, lines):
-    """What is told of a broken text, and whether the mend mends it; None where it isn't refused."""
+    """What comes of a broken text; None where it isn't refused."""
     words = explain(program, lines)
-    if not words.startswith('refused'):
-        return None
-    told = Told(words)
-    return what, told, *verdict(program, lines, told)
+    return Tried(program, what, lines, words) if words.startswith('refused') else None
+
+def run_of(program, command, name, lines):
+    """A stored run, and its text."""
+    with open(os.path.join(MENDS, name), 'w') as file:
+        file.write(text_of(lines))
+    told, status = answer(program, command, lines)
+    return ['$ %s mends/%s' % (command, name), *told.splitlines(), 'status %d, opened 1' % status]
+
+def store(program, firsts):
+    """Stores the first break of each mend that is followed."""
+    for name in os.listdir(MENDS):
+        os.remove(os.path.join(MENDS, name))
+    lines = ['; Drivers broken in one place: how the fault came about and how to mend it, and the verdict on the text that is '
+             'mended so.']
+    for number, it in enumerate(firsts, 1):
+        lines += ['', '# ' + it.what, *run_of(program, 'explain', 'broken-%02d.drv' % number, it.lines),
+                  *run_of(program, 'check', 'mended-%02d.drv' % number, it.mended)]
+    with open(RUNS, 'w') as file:
+        file.write('\n'.join(lines) + '\n')
 
 def main():
-    each = '--each' in sys.argv
-    program, *names = [word for word in sys.argv[1:] if word != '--each']
-    program = os.path.abspath(program)
+    flags = [word for word in sys.argv[1:] if word.startswith('--')]
+    program, *names = [word for word in sys.argv[1:] if not word.startswith('--')]
+    each, stores, program = '--each' in flags, '--store' in flags, os.path.abspath(program)
     texts = [(name[:-4], read(os.path.join(EXAMPLES, name))) for name in sorted(os.listdir(EXAMPLES))
              if name.endswith('.drv') and (not names or name[:-4] in names)]
     broken = [it for name, lines in texts if explain(program, lines).startswith('accepted') for it in breaks(name, lines)]
@@ -266,14 +296,17 @@ def main():
                if not names or name in names]
     counts, all_told = {True: 0, False: 0, None: 0}, {}
     with concurrent.futures.ThreadPoolExecutor(4) as workers:
-        for what, told, mends, after in filter(None, workers.map(lambda it: tried(program, *it), broken)):
-            counts[mends] += 1
-            all_told.setdefault((told.rule, told.why, told.mend), [0, mends, what])[0] += 1
-            if each or mends is False:
-                print('%s\n  %s\n  why: %s\n  mend it: %s' % (what, told.first, told.why, told.mend))
-                print('  followed: %s' % after.split('\n')[0])
-    for (rule, why, mend), (count, mends, what) in sorted(all_told.items()) if not each else ():
-        print('V%d, %d times%s, as %s\n  %s\n  %s' % (rule, count, '' if mends is not None else ', not followed', what, why, mend))
+        for it in filter(None, workers.map(lambda it: tried(program, *it), broken)):
+            counts[it.mends] += 1
+            all_told.setdefault((it.told.rule, it.told.why, it.told.mend), []).append(it)
+            if each or it.mends is False:
+                print('%s\n  %s\n  why: %s\n  mend it: %s' % (it.what, it.told.first, it.told.why, it.told.mend))
+                print('  followed: %s' % it.after.split('\n')[0])
+    for (rule, why, mend), found in sorted(all_told.items()) if not each else ():
+        print('V%d, %d times%s, as %s\n  %s\n  %s'
+              % (rule, len(found), '' if found[0].mends is not None else ', not followed', found[0].what, why, mend))
+    if stores:
+        store(program, [it for _, found in sorted(all_told.items()) for it in [next((it for it in found if it.mends), None)] if it])
     print('%d breaks, %d mended, %d not followed, %d refused again' % (sum(counts.values()), counts[True], counts[None], counts[False]))
     sys.exit(bool(counts[False]))
 

@@ -107,6 +107,21 @@ struct Case {
     told: &'static [u8],
 }
 
+/// What is answered: the exit status, what goes out, and what the error writer is given.
+#[derive(Clone, Copy)]
+struct Answer<'a> {
+    status: u8,
+    lines: &'a [u8],
+    told: &'a [u8],
+}
+
+/// What is answered where a read fails.
+const UNREAD: Answer<'static> = Answer {
+    status: 2,
+    lines: b"",
+    told: b"read failed\n",
+};
+
 /// How the devices of a run behave.
 #[derive(Clone, Copy)]
 struct Devices {
@@ -382,27 +397,42 @@ fn is_answered<R: Threads + Wait + Sync>(
     alloc: Global,
     case: &Case,
     devices: &Devices,
-    status: u8,
-    lines: &[u8],
-    told: &[u8],
+    answered: &Answer<'_>,
 ) -> bool {
     let mut set = Slow::new(case.set, devices.step, devices.set);
     let mut out = Narrow::new(alloc, devices.step, devices.out);
     let mut err = Narrow::new(alloc, devices.step, devices.err);
-    answer(rt, alloc, case, devices, &mut set, &mut out, &mut err) == status
+    answer(rt, alloc, case, devices, &mut set, &mut out, &mut err) == answered.status
         && set.failures() == devices.set.is_some() as u64
         && out.failures() == devices.out.is_some() as u64
         && err.failures() == devices.err.is_some() as u64
-        && out.written.as_slice() == lines
-        && err.written.as_slice() == told
+        && out.written.as_slice() == answered.lines
+        && err.written.as_slice() == answered.told
+}
+
+/// What is answered of a case where no device fails.
+fn answer_of(case: &Case) -> Answer<'static> {
+    Answer {
+        status: case.status,
+        lines: case.lines,
+        told: case.told,
+    }
+}
+
+/// What is answered where a write fails, behind such lines.
+fn unwritten(lines: &[u8]) -> Answer<'_> {
+    Answer {
+        status: 2,
+        lines,
+        told: b"write failed\n",
+    }
 }
 
 /// Whether a case is answered so by devices that move few bytes a call.
 fn is_answered_slowly<R: Threads + Wait + Sync>(rt: &R, alloc: Global, case: &Case) -> bool {
     for step in [1, 7, 100] {
         let devices = Devices { step, ..WHOLE };
-        let (status, lines, told) = (case.status, case.lines, case.told);
-        if !is_answered(rt, alloc, case, &devices, status, lines, told) {
+        if !is_answered(rt, alloc, case, &devices, &answer_of(case)) {
             return false;
         }
     }
@@ -427,7 +457,7 @@ fn tells_each_failed_read<R: Threads + Wait + Sync>(rt: &R, alloc: Global, case:
             set: Some(calls),
             ..WHOLE
         };
-        if !is_answered(rt, alloc, case, &devices, 2, b"", b"read failed\n") {
+        if !is_answered(rt, alloc, case, &devices, &UNREAD) {
             return false;
         }
     }
@@ -467,7 +497,7 @@ fn tells_each_failed_order<R: Threads + Wait + Sync>(rt: &R, alloc: Global, case
             orders: Some(calls),
             ..WHOLE
         };
-        if !is_answered(rt, alloc, case, &devices, 2, b"", b"read failed\n") {
+        if !is_answered(rt, alloc, case, &devices, &UNREAD) {
             return false;
         }
     }
@@ -488,8 +518,8 @@ fn tells_each_failed_write<R: Threads + Wait + Sync>(rt: &R, alloc: Global, case
             out: Some(calls),
             ..WHOLE
         };
-        let written = &case.lines[..calls];
-        if !is_answered(rt, alloc, case, &devices, 2, written, b"write failed\n") {
+        let written = unwritten(&case.lines[..calls]);
+        if !is_answered(rt, alloc, case, &devices, &written) {
             return false;
         }
     }
@@ -535,11 +565,16 @@ fn tells_each_failed_block<R: Threads + Wait + Sync>(
             ..whole
         };
         let written = picture.get(..calls.saturating_mul(100)).unwrap_or(picture);
-        if !is_answered(rt, alloc, &DRAWN, &devices, 2, written, b"write failed\n") {
+        if !is_answered(rt, alloc, &DRAWN, &devices, &unwritten(written)) {
             return false;
         }
     }
-    is_answered(rt, alloc, &DRAWN, &whole, 0, picture, b"")
+    let drawn = Answer {
+        status: 0,
+        lines: picture,
+        told: b"",
+    };
+    is_answered(rt, alloc, &DRAWN, &whole, &drawn)
 }
 
 /// A read or a write that fails at any call of a run that is drawn is told, and a beginning of the
@@ -562,8 +597,11 @@ fn stays_untold<R: Threads + Wait + Sync>(rt: &R, alloc: Global, case: &Case) ->
             err: Some(calls),
             ..WHOLE
         };
-        let told = &case.told[..calls];
-        if !is_answered(rt, alloc, case, &devices, case.status, case.lines, told) {
+        let answered = Answer {
+            told: &case.told[..calls],
+            ..answer_of(case)
+        };
+        if !is_answered(rt, alloc, case, &devices, &answered) {
             return false;
         }
     }
@@ -588,8 +626,11 @@ fn stays_unread<R: Threads + Wait + Sync>(rt: &R, alloc: Global, case: &Case) ->
             err: Some(calls),
             ..WHOLE
         };
-        let told = &b"read failed\n"[..calls];
-        if !is_answered(rt, alloc, case, &devices, 2, b"", told) {
+        let answered = Answer {
+            told: &UNREAD.told[..calls],
+            ..UNREAD
+        };
+        if !is_answered(rt, alloc, case, &devices, &answered) {
             return false;
         }
     }
@@ -604,8 +645,11 @@ fn stays_unwritten<R: Threads + Wait + Sync>(rt: &R, alloc: Global, case: &Case)
             err: Some(calls),
             ..WHOLE
         };
-        let told = &b"write failed\n"[..calls];
-        if !is_answered(rt, alloc, case, &devices, 2, b"", told) {
+        let answered = Answer {
+            told: &b"write failed\n"[..calls],
+            ..unwritten(b"")
+        };
+        if !is_answered(rt, alloc, case, &devices, &answered) {
             return false;
         }
     }
