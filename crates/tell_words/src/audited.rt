@@ -101,27 +101,36 @@ impl Audited {
     }
 }
 
+/// What a run has left: the machine and the ledger after it, what was found there, and the rights to
+/// packets, where the set is accepted.
+#[derive(Clone, Copy)]
+pub(crate) struct Left<'a> {
+    pub(crate) machine: &'a Checked,
+    pub(crate) found: &'a Findings,
+    pub(crate) ledger: &'a Ledger,
+    pub(crate) rights: Option<&'a Rights>,
+}
+
 /// Adds the audit of a run: what topped out, what lives and where it is named (who holds it, where
 /// rights are known), what was found amiss, and the events that were refused.
 pub(crate) fn add_audit(
     alloc: Global,
     words: &mut String,
     book: &Book<'_>,
-    machine: &Checked,
     audited: &Audited,
-    found: &Findings,
-    ledger: &Ledger,
-    rights: Option<&Rights>,
+    left: &Left<'_>,
 ) -> Result<(), AllocError> {
+    let machine = left.machine;
+    let found = left.found;
     add_topped(words, audited)?;
     for number in 0..machine.shared().issued() {
         if let Some(packet) = machine.shared().live_packet(number) {
-            add_live(alloc, words, book, machine, packet, rights)?;
+            add_live(alloc, words, book, machine, packet, left.rights)?;
         }
     }
     add_missed(words, book, machine, found)?;
     add_findings(words, book, machine, found)?;
-    add_disagreeing(words, book, audited, found, ledger)?;
+    add_disagreeing(words, book, audited, found, left.ledger)?;
     add_refused(words, audited)?;
     if machine.stopped() {
         return words.push_str("the run was stopped by a bug check or a wrong operand\n");

@@ -3,7 +3,7 @@
 ghost use Rattle.std.specs.Prelude.{◌≡◌, [], IfOk, OnOk};
 ghost use Rattle.tell_words.specs.Noted.{noted};
 
-use crate::audited::{Audited, add_audit};
+use crate::audited::{Audited, Left, add_audit};
 use crate::change::add_change;
 use crate::front::Fronts;
 use crate::line::{Happened, add_place, add_rest};
@@ -215,11 +215,13 @@ impl<'a> Teller<'a> {
             alloc,
             &mut self.words,
             &self.book,
-            machine,
             &self.audited,
-            found,
-            ledger,
-            rights,
+            &Left {
+                machine,
+                found,
+                ledger,
+                rights,
+            },
         )
     }
 
