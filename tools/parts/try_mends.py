@@ -7,8 +7,9 @@ they are followed to the letter, and `explain` is asked again. The text has to b
 further on, or of a later rule at the same place: of two faults of an instruction the one of the lesser rule is told first.
 A mend after which it is refused there by the same rule, or earlier, is printed with its break, and the exit status is 1 then.
 Otherwise each mend is printed with how often it was told, whether it is known, and one of its breaks;
-with --each every break is. The last line counts. With --store one break of each mend that is followed is stored, with what
-is told of it, and the mended text with its verdict: crates/tests_stored/data/mends and runs/mends.txt are written anew.
+with --each every break is. The last line counts. With --store one break of each of the mends that are told most often is
+stored, with what is told of it, and the mended text with its verdict: crates/tests_stored/data/mends and runs/mends.txt are
+written anew.
 
 Where a mend speaks of a label L, the place that it names is made: the guard of the queue is released there, and the routine
 returns. Where it leaves open which status, SUCCESS is taken. Mends that ask for a decision of the author (states that differ,
@@ -20,6 +21,8 @@ EXAMPLES, GALLERY = os.path.join(TOP, 'examples'), os.path.join(TOP, 'crates/tes
 MENDS, RUNS = (os.path.join(TOP, 'crates/tests_stored', path) for path in ('data/mends', 'runs/mends.txt'))
 # Texts in which instructions are added, at the start of a routine and before each return.
 SMALL = 'cancel', 'filter', 'queue', 'startio'
+# How many are stored.
+STORED = 69
 FORMS = 'SUCCESS', 'PENDING', 'lower r0', 'continue', 'stop', 'void'
 ADDED = ('mark r0', 'complete r0 SUCCESS', 'complete r0 PENDING', 'pass r0', 'call r0', 'start r0', 'begin r0', 'next', 'acqc',
          'relc', 'acquire l0', 'release l0', 'dequeue r0', 'clear r0', 'const r0 1', 'loadp r9 p0', 'get r9 r0 ARG', 'get r9 r8 ARG',
@@ -285,6 +288,15 @@ def store(program, firsts):
     with open(RUNS, 'w') as file:
         file.write('\n'.join(lines) + '\n')
 
+def firsts_of(all_told):
+    """The first break of each mend that is followed, by rule; of mends that name other registers, queues or labels one, and
+    of all those that are told most often."""
+    kinds = {}
+    for (rule, _, mend), found in sorted(all_told.items()):
+        kinds.setdefault((rule, re.sub(r'`[^`]*`|\b[rl]\d+\b', '', mend)), []).extend(it for it in found if it.mends)
+    often = sorted((kind for kind, found in kinds.items() if found), key=lambda kind: (-len(kinds[kind]), kind))
+    return [kinds[kind][0] for kind in sorted(often[:STORED])]
+
 def main():
     flags = [word for word in sys.argv[1:] if word.startswith('--')]
     program, *names = [word for word in sys.argv[1:] if not word.startswith('--')]
@@ -306,7 +318,7 @@ def main():
         print('V%d, %d times%s, as %s\n  %s\n  %s'
               % (rule, len(found), '' if found[0].mends is not None else ', not followed', found[0].what, why, mend))
     if stores:
-        store(program, [it for _, found in sorted(all_told.items()) for it in [next((it for it in found if it.mends), None)] if it])
+        store(program, firsts_of(all_told))
     print('%d breaks, %d mended, %d not followed, %d refused again' % (sum(counts.values()), counts[True], counts[None], counts[False]))
     sys.exit(bool(counts[False]))
 
