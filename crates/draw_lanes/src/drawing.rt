@@ -6,11 +6,11 @@ use crate::interest::is_of_interest;
 use crate::lane::{Lane, Post, Span, State, lanes_of};
 use crate::lock::{NamedLock, is_same, lock_of, owns};
 use crate::row::{Row, Spot};
+use crate::seen::{Seen, is_return, packet_of};
 use crate::sign::{Sign, sign_of};
 use crate::words::{add_place, add_words};
 use checked::Checked;
 use model::event::{Event, Lock, Reply};
-use model::instr::Instr;
 use model::view::FrameView;
 use std::alloc::{AllocError, Global};
 use tell_holders::Rights;
@@ -39,17 +39,6 @@ pub struct Move {
     pub packet: usize,
     pub row: usize,
     pub to: Option<Stand>,
-}
-
-/// An event, as it is seen.
-#[derive(Clone, Copy)]
-struct Seen<'a> {
-    event: &'a Event,
-    moment: &'a Moment,
-    reply: &'a Reply,
-    machine: &'a Checked,
-    /// The top frame of its thread after it.
-    top: Option<FrameView>,
 }
 
 /// A run that is drawn while it goes. Its memory is bounded by what is drawn.
@@ -140,7 +129,7 @@ impl Drawing {
             self.leave_out();
             return Ok(());
         }
-        let about = packet_of(moment, reply);
+        let about = packet_of(seen);
         let stood = self.stand_of(about);
         if self.gap.is_none() {
             self.follow(seen)?;
@@ -206,17 +195,9 @@ impl Drawing {
         stand: Option<Stand>,
     ) -> Result<(), AllocError> {
         let mut place = String::new(self.alloc);
-        add_place(&mut place, book, seen.event, seen.moment, seen.top)?;
+        add_place(&mut place, book, seen)?;
         let mut words = String::new(self.alloc);
-        add_words(
-            &mut words,
-            book,
-            seen.event,
-            seen.moment,
-            seen.reply,
-            seen.machine,
-            seen.top,
-        )?;
+        add_words(&mut words, book, seen)?;
         self.add_lost(&mut words)?;
         let acts = self.lane_of(post_of(seen.event));
         let sign = sign_of(seen.event, seen.moment, seen.reply);
@@ -332,8 +313,8 @@ impl Drawing {
         *self.stands.get(place)?
     }
 
-    /// Follows the packets that an event moves: the one that it is about, and of those that threads
-    /// have, the ones whose place it takes away.
+    /// Follows the packets that an event moves: the one that it is about, and those whose place it
+    /// takes away.
     fn follow(&mut self, seen: Seen<'_>) -> Result<(), AllocError> {
         match *seen.reply {
             Reply::Started(n) => {
@@ -355,28 +336,32 @@ impl Drawing {
                 }
             }
         }
-        if self.rights.is_none() || is_return(seen.moment) {
+        if self.rights.is_none() || is_return(seen) {
             self.follow_rest(seen.machine)?;
         }
         Ok(())
     }
 
-    /// Follows the packets that threads have. In a run of an accepted set a place with a right is
-    /// taken away only by a step about its packet, or with the routine that returns. Without rights
-    /// any may have been taken away since the last row.
+    /// Follows the packets whose place may be taken away by a step about another one or about none.
     fn follow_rest(&mut self, machine: &Checked) -> Result<(), AllocError> {
         for place in 0..self.stands.len() {
-            if self.is_with_thread(place) {
+            if self.is_loose(place) {
                 self.settle(machine, place as u64)?;
             }
         }
         Ok(())
     }
 
-    /// Whether a packet's line is in the lane of a thread: these stand first.
-    fn is_with_thread(&self, packet: usize) -> bool {
+    /// Whether a packet's line is where the packet may lose its place by a step about another one
+    /// or about none. In a run of an accepted set a thread's place with a right is taken away so
+    /// only with the routine that returns. Without rights any of a thread's may have been since the
+    /// last row, and another packet may come into a current slot; lists lose only what a step is
+    /// about. The lanes of threads stand first.
+    fn is_loose(&self, packet: usize) -> bool {
         match self.stands.get(packet) {
-            Some(Some(stand)) => stand.lane < self.threads,
+            Some(Some(stand)) => {
+                stand.lane < self.threads || self.rights.is_none() && stand.hold == Hold::Slot
+            }
             _ => false,
         }
     }
@@ -566,28 +551,6 @@ fn is_lost(to: Option<Stand>) -> bool {
 /// The top frame of an event's thread.
 fn top_after(machine: &Checked, event: &Event) -> Option<FrameView> {
     machine.thread(thread_of(event)?)?.top
-}
-
-/// Whether a routine returns next.
-fn is_return(moment: &Moment) -> bool {
-    matches!(
-        moment.acting,
-        Some(Acting {
-            instruction: Some(Instr::Ret(_)),
-            ..
-        })
-    )
-}
-
-/// The packet that an event is about, if it is one of a frame.
-fn packet_of(moment: &Moment, reply: &Reply) -> Option<u64> {
-    match *reply {
-        Reply::Topped { packet, .. } => Some(packet),
-        _ => match moment.acting {
-            Some(acting) => acting.packet,
-            None => None,
-        },
-    }
 }
 
 /// The lane in which an event happens.

@@ -11,5 +11,6 @@ mod interest;
 pub mod lane;
 pub mod lock;
 pub mod row;
+mod seen;
 pub mod sign;
 mod words;

@@ -1,26 +1,24 @@
 //! The words of a row.
 
-use checked::Checked;
+use crate::seen::Seen;
 use model::event::{Event, Reply};
 use model::instr::{Instr, Return};
 use model::view::FrameView;
 use std::alloc::AllocError;
 use tell_names::Book;
 use tell_uses::acting::Acting;
-use tell_words::{Moment, add_change};
+use tell_words::add_change;
 
 /// Adds where the frame stands that acts: its routine and the line of its instruction, or what the
 /// I/O manager does. Where a routine begins in the event, its name.
-pub fn add_place(
+pub(crate) fn add_place(
     words: &mut String,
     book: &Book<'_>,
-    event: &Event,
-    moment: &Moment,
-    top: Option<FrameView>,
+    seen: Seen<'_>,
 ) -> Result<(), AllocError> {
-    match moment.acting {
+    match seen.moment.acting {
         Some(acting) => book.add_spot(words, acting.frame),
-        None => match (event, top) {
+        None => match (seen.event, seen.top) {
             (
                 Event::Issue { .. } | Event::Dpc { .. } | Event::StartIo { .. },
                 Some(
@@ -39,44 +37,40 @@ pub fn add_place(
 }
 
 /// Adds what an event changed.
-pub fn add_words(
+pub(crate) fn add_words(
     words: &mut String,
     book: &Book<'_>,
-    event: &Event,
-    moment: &Moment,
-    reply: &Reply,
-    machine: &Checked,
-    top: Option<FrameView>,
+    seen: Seen<'_>,
 ) -> Result<(), AllocError> {
-    match *reply {
+    let moment = seen.moment;
+    match *seen.reply {
         Reply::Bug(bug) => write!(words, "bug check {}: ", bug.check.as_str())?,
         Reply::Wrong(_) => words.push_str("stopped: ")?,
         Reply::Refused => words.push_str("refused: ")?,
-        Reply::Stepped | Reply::Finished => add_return(words, moment)?,
+        Reply::Stepped | Reply::Finished => words.push_str(before_returned(moment.acting))?,
         _ => {}
     }
-    add_change(words, book, event, moment, reply, machine)?;
-    if let (Reply::Stepped, Some(acting)) = (*reply, moment.acting) {
-        add_called(words, book, acting, top)?;
+    add_change(words, book, seen.event, moment, seen.reply, seen.machine)?;
+    if let (Reply::Stepped, Some(acting)) = (*seen.reply, moment.acting) {
+        add_called(words, book, acting, seen.top)?;
     }
     Ok(())
 }
 
-/// Adds that a routine returns, where the step is that of its `ret`.
-fn add_return(words: &mut String, moment: &Moment) -> Result<(), AllocError> {
-    if let Some(
-        Acting {
-            instruction: Some(Instr::Ret(form)),
-            ..
-        },
-    ) = moment.acting
-    {
-        words.push_str(match form {
+/// What stands before the words for what a routine returns, where a step is that of its `ret`.
+fn before_returned(acting: Option<Acting>) -> &'static str {
+    match acting {
+        Some(
+            Acting {
+                instruction: Some(Instr::Ret(form)),
+                ..
+            },
+        ) => match form {
             Return::Void => "returns",
             _ => "returns: ",
-        })?;
+        },
+        _ => "",
     }
-    Ok(())
 }
 
 /// Adds the routine that a step has called: by `pass`, `call` or the I/O manager.

@@ -1,0 +1,41 @@
+//! Events, as they are seen.
+
+use checked::Checked;
+use model::event::{Event, Reply};
+use model::instr::Instr;
+use model::view::FrameView;
+use tell_uses::acting::Acting;
+use tell_words::Moment;
+
+/// An event that happened: the moment before it, and the machine after it.
+#[derive(Clone, Copy)]
+pub(crate) struct Seen<'a> {
+    pub(crate) event: &'a Event,
+    pub(crate) moment: &'a Moment,
+    pub(crate) reply: &'a Reply,
+    pub(crate) machine: &'a Checked,
+    /// The top frame of its thread after it.
+    pub(crate) top: Option<FrameView>,
+}
+
+/// The packet that an event is about, if it is one of a frame.
+pub(crate) fn packet_of(seen: Seen<'_>) -> Option<u64> {
+    match *seen.reply {
+        Reply::Topped { packet, .. } => Some(packet),
+        _ => match seen.moment.acting {
+            Some(acting) => acting.packet,
+            None => None,
+        },
+    }
+}
+
+/// Whether a routine returns in an event.
+pub(crate) fn is_return(seen: Seen<'_>) -> bool {
+    matches!(
+        seen.moment.acting,
+        Some(Acting {
+            instruction: Some(Instr::Ret(_)),
+            ..
+        })
+    )
+}
