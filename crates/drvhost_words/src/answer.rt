@@ -14,7 +14,7 @@ use drvhost_devices::unopened::tell_unopened;
 use drvhost_devices::verification::Verification;
 use drvhost_runs::draw::draw;
 use drvhost_runs::host::host;
-use drvhost_runs::tell::{Manner, tell};
+use drvhost_runs::tell::{Manner, Telling, tell};
 use drvhost_runs::trace::trace;
 use drvhost_sets::check::check;
 use drvhost_sets::explaining::{Extent, explain};
@@ -420,7 +420,11 @@ fn run<S: Source, P: Source, O: Sink, E: Sink>(
     match way {
         Way::BySchedule(verification) => trace(alloc, set, input, verification, out, err),
         Way::InWords(verification, manner) => {
-            tell(alloc, set, input, verification, manner, out, err)
+            let telling = Telling {
+                verification,
+                manner,
+            };
+            tell(alloc, set, input, telling, out, err)
         }
         Way::AsPicture(verification) => draw(alloc, set, input, verification, out, err),
     }
