@@ -13,7 +13,7 @@ use drvhost_devices::device::{Sink, Source};
 use drvhost_devices::unopened::tell_unopened;
 use drvhost_devices::verification::Verification;
 use drvhost_runs::draw::draw;
-use drvhost_runs::host::host;
+use drvhost_runs::host::{Hosting, host};
 use drvhost_runs::tell::{Manner, Telling, tell};
 use drvhost_runs::trace::trace;
 use drvhost_sets::check::check;
@@ -472,9 +472,14 @@ fn host_files<F: Files, O: Sink, E: Sink, R: Threads + Wait + Sync>(
     ensures unwritten { F.unwritten files.new ≡ F.unwritten files.old }
 {
     let count = workers.count();
+    let hosting = Hosting {
+        runtime: rt,
+        workers: count,
+        gate: &Open,
+    };
     let mut file = files.open(set);
     let mut later = Later::new(files, script);
-    let status = host(rt, alloc, &mut file, &mut later, count, &Open, out, err);
+    let status = host(alloc, &mut file, &mut later, &hosting, out, err);
     let commands = later.into_file();
     files.close(file);
     if let Some(commands) = commands {

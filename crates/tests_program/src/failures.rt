@@ -7,7 +7,7 @@ use crate::devices::{Narrow, Slow, have_taken};
 use drvhost_devices::device::{Reader, Sink, Source};
 use drvhost_devices::verification::Verification;
 use drvhost_runs::draw::draw;
-use drvhost_runs::host::host;
+use drvhost_runs::host::{Hosting, host};
 use drvhost_runs::tell::{Detail, Manner, Strictness, Telling, tell};
 use drvhost_runs::trace::trace;
 use drvhost_sets::check::check;
@@ -379,7 +379,12 @@ fn answer<R: Threads + Wait + Sync>(
         }
         Job::Host(script) => {
             let mut script = Slow::new(script, devices.step, devices.orders);
-            host(rt, alloc, set, &mut script, 1, &Open, out, err)
+            let hosting = Hosting {
+                runtime: rt,
+                workers: 1,
+                gate: &Open,
+            };
+            host(alloc, set, &mut script, &hosting, out, err)
         }
     }
 }
