@@ -1,90 +1,82 @@
--- How a run that is shown ends, and how that is told.
-use Rattle.std.proofs.Common.{◌≡◌, ◌+◌, ℕ, List, [], ◌++◌, inl, inr, Option, Result, Ok, Err, codes, refl, subst}
+-- How a run that is shown goes.
+use Rattle.std.proofs.Common.{◌≡◌, ℕ, List, [], ◌++◌, Option, Result, Ok, Err, refl, sym, subst}
 use Rattle.std.proofs.lemmas.List.{append-nil}
-use Rattle.model.specs.Set.{Set}
+use Rattle.std.specs.Io.KnownBytes.{Appends}
+use Rattle.interleave.specs.declared.schedule.Schedule.{Schedule}
 use Rattle.interleave.specs.declared.schedule.ScheduleFault.{ScheduleFault}
+use Rattle.model.specs.Set.{Set}
 use Rattle.report.specs.Fault.{schedule_fault_line}
-use Rattle.drvhost_devices.specs.declared.fault.End.{End}
 use Rattle.drvhost_devices.specs.declared.fault.Fault.{Fault}
 use Rattle.drvhost_devices.specs.declared.fault.Fault.TheVariants.{Read, Write, Memory, Text, Image, Schedule as OfSchedule, Script as OfScript}
-use Rattle.drvhost_devices.specs.Answer.{Answer, faulty}
-use Rattle.drvhost_devices.specs.Device.{Supply}
-use Rattle.drvhost_devices.specs.Ends.{Answers, IsOfSupply, OutOfMemory, Rightly}
-use Rattle.drvhost_devices.specs.Fault.{Goes, ReadsSet, TellsLine, reads_failed, told_of, writes_failed}
-use Rattle.drvhost_devices.proofs.Jobs.{ends_of, set_unread}
-use Rattle.drvhost_devices.proofs.Writing.{appends_none}
-use Rattle.drvhost_runs.specs.Told.{GoesShown, TellsShown}
+use Rattle.drvhost_devices.specs.Answer.{Answer, ended, faulty}
+use Rattle.drvhost_devices.specs.Device.{Supply, TakesBeginning}
+use Rattle.drvhost_devices.specs.Fault.{Goes, ReadsSchedule}
+use Rattle.drvhost_devices.proofs.Writing.{keeps_same}
+use Rattle.drvhost_sets.specs.Worded.{TakesWords}
+use Rattle.drvhost_runs.specs.declared.show.Showing.{Showing}
+use Rattle.drvhost_runs.specs.declared.telling.Told.{Told}
+use Rattle.drvhost_runs.specs.Told.{IsRunShown, IsScheduleShown, IsShownRunOf, Tells}
 
--- the set can't be read
-pub set_unshown : (R : Set → Answer → Type 0) (held : Supply) (b : Option (List ℕ)) (fault : Fault)
-    → ReadsSet held (Err fault) → GoesShown (IsOfSupply R held) b b (Err fault)
-set_unshown R held b Read h = set_unread R held b [] [] Read h
-set_unshown R held b Memory h = set_unread R held b [] [] Memory h
-set_unshown R held b (Text fault) h = set_unread R held b [] [] (Text fault) h
-set_unshown R held b (Image fault) h = set_unread R held b [] [] (Image fault) h
-set_unshown R held b Write h = absurd h
-set_unshown R held b (OfSchedule fault) h = absurd h
-set_unshown R held b (OfScript fault) h = absurd h
+-- a schedule was read, and its run is shown
+pub schedule_shown : (showing : Showing) (held : Supply) (set : Set) (schedule : Schedule)
+    (told : Told) → ReadsSchedule held (Ok schedule)
+    → IsRunShown showing set schedule.threads schedule.events (ended told.end told.text)
+    → Tells (IsShownRunOf showing held set) (Ok told)
+schedule_shown showing held set schedule told (text, holds, lists) right =
+    let P : Result Schedule ScheduleFault → Type 0 = λ s.
+    IsScheduleShown showing set s (ended told.end told.text) in
+    (text, holds, subst P (sym lists) right)
 
--- with no words behind the line of a faulty schedule it goes as any job
-shown_plainly : (R : Answer → Type 0) (b n : Option (List ℕ)) (end : Result End Fault)
-    → GoesShown R b n end → Goes R b n [] [] end
-shown_plainly R b n (Ok end) h = h
-shown_plainly R b n (Err (OfSchedule fault)) h =
+-- it can't be read
+pub schedule_unread : (showing : Showing) (held : Supply) (set : Set) (fault : Fault)
+    → ReadsSchedule held (Err fault) → Tells (IsShownRunOf showing held set) (Err fault)
+schedule_unread showing held set (OfSchedule fault) (text, holds, lists) = λ words.
+    let P : Result Schedule ScheduleFault → Type 0 = λ s.
+    IsScheduleShown showing set s (faulty (schedule_fault_line fault ++ words)) in
+    (text, holds, subst P (sym lists) (words, refl))
+schedule_unread showing held set Read h = tt
+schedule_unread showing held set Memory h = tt
+schedule_unread showing held set Write h = absurd h
+schedule_unread showing held set (Text fault) h = absurd h
+schedule_unread showing held set (Image fault) h = absurd h
+schedule_unread showing held set (OfScript fault) h = absurd h
+
+-- the text is written, or a beginning of it, or there is none
+pub told_written : (R : Answer → Type 0) (b n : Option (List ℕ)) (told : Told)
+    → Tells R (Ok told) → Appends b n told.text → Goes R b n [] [] (Ok told.end)
+told_written R b n told h p = (
+  told.text,
+  h,
+  record {
+    written = told.text;
+    appended = p;
+    whole = sym (append-nil told.text);
+  },
+)
+
+pub told_broken : (R : Answer → Type 0) (b n : Option (List ℕ)) (l : List ℕ) (told : Told)
+    → Tells R (Ok told) → TakesBeginning b n told.text → Goes R b n [] l (Err Write)
+told_broken R b n l told h p = (ended told.end told.text, h, p)
+
+pub untold : (R : Answer → Type 0) (b : Option (List ℕ)) (l : List ℕ) (fault : Fault)
+    → Tells R (Err fault) → Goes R b b [] l (Err fault)
+untold R b l (OfSchedule fault) h =
     let P : List ℕ → Type 0 = λ line. R (faulty line) in
-    (subst P (append-nil (schedule_fault_line fault)) (h.0 []), h.1)
-shown_plainly R b n (Err Read) h = h
-shown_plainly R b n (Err Memory) h = h
-shown_plainly R b n (Err Write) h = h
-shown_plainly R b n (Err (Text fault)) h = h
-shown_plainly R b n (Err (Image fault)) h = h
-shown_plainly R b n (Err (OfScript fault)) h = h
+    (subst P (append-nil (schedule_fault_line fault)) (h []), keeps_same b)
+untold R b l Read h = keeps_same b
+untold R b l Memory h = keeps_same b
+untold R b l Write h = absurd h
+untold R b l (Text fault) h = absurd h
+untold R b l (Image fault) h = absurd h
+untold R b l (OfScript fault) h = absurd h
 
--- a faulty schedule was told with some words, or memory ran out
-schedule_told : (R : Answer → Type 0) (b n : Option (List ℕ)) (fault : ScheduleFault)
-    (f g w x : ℕ) (Tells : List ℕ → Type 0) (status : ℕ)
-    → GoesShown R b n (Err (OfSchedule fault)) → g ≡ f + 0 → x ≡ w + 0
-    → TellsLine (schedule_fault_line fault) Tells status → Answers R f g w x b n Tells status
-schedule_told R b n fault f g w x Tells status goes read written (inl (words, told, two)) =
-    record {
-      reads = 0;
-      writes = 0;
-      told = schedule_fault_line fault ++ words;
-      reads_are = read;
-      writes_are = written;
-      tells = told;
-      ends = rw two (Rightly (faulty (schedule_fault_line fault ++ words)) (goes.0 words)
-          refl refl refl refl (appends_none b n goes.1));
-    }
-schedule_told R b n fault f g w x Tells status goes read written (inr (told, three)) =
-    record {
-      reads = 0;
-      writes = 0;
-      told = codes "out of memory\n";
-      reads_are = read;
-      writes_are = written;
-      tells = told;
-      ends = rw three (OutOfMemory refl refl refl refl goes.1);
-    }
-
--- a run that was shown is answered so
-pub shown_answers : (R : Answer → Type 0) (b n : Option (List ℕ)) (end : Result End Fault)
-    (f g w x : ℕ) (Tells : List ℕ → Type 0) (status : ℕ) → GoesShown R b n end
-    → g ≡ f + reads_failed end → x ≡ w + writes_failed end → TellsShown end Tells status
-    → Answers R f g w x b n Tells status
-shown_answers R b n end f g w x Tells status goes read written (inl (told, is)) =
-    record {
-      reads = reads_failed end;
-      writes = writes_failed end;
-      told = told_of end;
-      reads_are = read;
-      writes_are = written;
-      tells = told;
-      ends = rw is (ends_of R b n end (shown_plainly R b n end goes));
-    }
-shown_answers R b n end f g w x Tells status goes read written (inr (fault, e, told)) =
-    let Gone : Result End Fault → Type 0 = λ r. GoesShown R b n r in
-    let Reads : Result End Fault → Type 0 = λ r. g ≡ f + reads_failed r in
-    let Writes : Result End Fault → Type 0 = λ r. x ≡ w + writes_failed r in
-    schedule_told R b n fault f g w x Tells status (subst Gone e goes) (subst Reads e read)
-    (subst Writes e written) told
+-- then any words may stand behind the line of a faulty schedule
+pub untold_words : (R : Answer → Type 0) (fault : Fault) → Tells R (Err fault)
+    → TakesWords R (Err fault)
+untold_words R (OfSchedule fault) h = h
+untold_words R Read h = tt
+untold_words R Memory h = tt
+untold_words R Write h = tt
+untold_words R (Text fault) h = tt
+untold_words R (Image fault) h = tt
+untold_words R (OfScript fault) h = tt

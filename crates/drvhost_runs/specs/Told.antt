@@ -1,7 +1,6 @@
 -- What `tell` answers: the trace of a run with words behind the reply of each event, and its audit;
 -- and what `draw` does: a picture of the run.
-use Rattle.std.specs.Prelude.{ℕ, ⊤, ◌≡◌, ◌+◌, ◌++◌, ◌⊎◌, ◌||◌, Bool, true, false, if◌then◌else◌, List, [], ◌∷◌, codes, replicate, Option, None, Some, Result, Ok, Err}
-use Rattle.std.specs.Io.KnownBytes.{Keeps}
+use Rattle.std.specs.Prelude.{ℕ, ⊤, ◌≡◌, ◌+◌, ◌++◌, ◌||◌, Bool, true, false, if◌then◌else◌, List, [], ◌∷◌, codes, replicate, Option, None, Some, Result, Ok, Err}
 use Rattle.std.specs.List.{list_any}
 use Rattle.tell_audit.specs.Findings.{has_findings}
 use Rattle.tell_uses.specs.declared.acting.Acting.{Acting}
@@ -42,7 +41,6 @@ use Rattle.drvhost_devices.specs.declared.verification.Verification.{Verificatio
 use Rattle.drvhost_devices.specs.Answer.{Answer, IsTraced, ended, faulty, is_last, shown_replies}
 use Rattle.drvhost_devices.specs.Device.{Holds, Supply}
 use Rattle.drvhost_devices.specs.Ends.{IsOfSupply}
-use Rattle.drvhost_devices.specs.Fault.{Goes, TellsLine, status_of, told_of}
 
 -- a reply that only says that a step was made, or that there was nothing to do
 abbrev pub is_quiet : Reply → Bool
@@ -286,29 +284,6 @@ Tells Right (Err Write) = ⊥
 Tells Right (Err (Text fault)) = ⊥
 Tells Right (Err (Image fault)) = ⊥
 Tells Right (Err (OfScript fault)) = ⊥
-
--- a run that is shown has come to its end or to a fault, as a job does; the line of a faulty schedule
--- may have any words behind it
-abbrev pub GoesShown : (Answer → Type 0) → Option (List ℕ) → Option (List ℕ) → Result End Fault
-    → Type 0
-GoesShown Right before after (Err (OfSchedule fault)) =
-    ((words : List ℕ) → Right (faulty (schedule_fault_line fault ++ words)))
-    × Keeps before after
-GoesShown Right before after (Ok end) = Goes Right before after [] [] (Ok end)
-GoesShown Right before after (Err Read) = Goes Right before after [] [] (Err Read)
-GoesShown Right before after (Err Memory) = Goes Right before after [] [] (Err Memory)
-GoesShown Right before after (Err Write) = Goes Right before after [] [] (Err Write)
-GoesShown Right before after (Err (Text fault)) = Goes Right before after [] [] (Err (Text fault))
-GoesShown Right before after (Err (Image fault)) = Goes Right before after [] [] (Err (Image fault))
-GoesShown Right before after (Err (OfScript fault)) =
-    Goes Right before after [] [] (Err (OfScript fault))
-
--- how it ends is told: as any job's end, or by the line of a faulty schedule with some words
-abbrev pub TellsShown : Result End Fault → (List ℕ → Type 0) → ℕ → Type 0
-TellsShown end Tells status =
-    (Tells (told_of end) × (status ≡ status_of end))
-    ⊎ ((fault : ScheduleFault) × (end ≡ Err (OfSchedule fault))
-    × TellsLine (schedule_fault_line fault) Tells status)
 
 -- the events of a run over so many threads were told: what they left in a machine's set and world,
 -- a ledger that tells the run up to the last of them that was told, how that went, and the text

@@ -5,9 +5,11 @@ ghost use Rattle.drvhost_devices.specs.Device.{CanCount, Says};
 ghost use Rattle.drvhost_devices.specs.Ends.{Answers, HoldsRun};
 ghost use Rattle.drvhost_runs.specs.Told.{IsDrawOf};
 
-use crate::show::{Showing, show};
+use crate::show::{Showing, Shown};
 use drvhost_devices::device::{Sink, Source};
 use drvhost_devices::verification::Verification;
+use drvhost_sets::job::answer;
+use drvhost_sets::judged::Judged;
 use std::alloc::Global;
 
 /// Runs a driver set by a schedule as [`trace`](crate::trace::trace) does, and writes the run as
@@ -37,6 +39,12 @@ pub fn draw<S: Source, P: Source, O: Sink, E: Sink>(
         (Says (E.failures err.old) (E.failures err.new) (E.contents err.old) (E.contents err.new))
         result }
 {
-    let showing = Showing::AsPicture;
-    show(alloc, set, schedule, verification, showing, out, err)
+    let mut job = Judged {
+        running: Shown {
+            schedule,
+            showing: Showing::AsPicture,
+        },
+        verification,
+    };
+    answer(&mut job, alloc, set, out, err)
 }

@@ -31,6 +31,17 @@ use verifier::{Accepted, verify};
 use workers::Gate;
 use workers_script::{Hosted, serve_script};
 
+/// What a script is served with.
+#[derive(Drop)]
+pub struct Hosting<'a, R, G> {
+    /// The runtime that starts the workers.
+    pub runtime: &'a R,
+    /// How many workers there are: 1 to 64.
+    pub workers: u8,
+    /// The gate that a worker asks before each turn.
+    pub gate: &'a G,
+}
+
 /// Has the commands of a script served by so many workers, 1 to 64, over one locked core of an
 /// accepted driver set, and writes a line for each command: how its request's packet topped out, or
 /// else the reply to it, or that it was left. The last line says of how many entries the history
@@ -40,24 +51,23 @@ use workers_script::{Hosted, serve_script};
 /// Faults are told on the error writer: those of the set before a refusal, and a refusal before
 /// those of the script, which is read for an accepted set alone.
 pub fn host<S: Source, P: Source, G: Gate + Sync, O: Sink, E: Sink, R: Threads + Wait + Sync>(
-    rt: &R,
     alloc: Global,
     set: &mut S,
     script: &mut P,
-    workers: u8,
-    gate: &G,
+    hosting: &Hosting<'_, R, G>,
     out: &mut O,
     err: &mut E,
 ) -> u8
-    requires some { 1 ≤ workers }
-    requires few { workers ≤ MAX_THREADS }
+    requires some { 1 ≤ hosting.now.workers }
+    requires few { hosting.now.workers ≤ MAX_THREADS }
     requires set { CanCount (S.failures set.old) }
     requires script { CanCount (P.failures script.old) }
     requires out { CanCount (O.failures out.old) }
     requires err { CanCount (E.failures err.old) }
     ensures unread { (script.new ≡ script.old)
         ⊎ HoldsRun Verification.Required (S.supply set.old) }
-    ensures answers { Answers (IsHostOf workers (S.supply set.old) (P.supply script.old))
+    ensures answers { Answers
+        (IsHostOf hosting.now.workers (S.supply set.old) (P.supply script.old))
         (S.failures set.old + P.failures script.old) (S.failures set.new + P.failures script.new)
         (O.failures out.old) (O.failures out.new) (O.contents out.old) (O.contents out.new)
         (Says (E.failures err.old) (E.failures err.new) (E.contents err.old) (E.contents err.new))
@@ -65,7 +75,7 @@ pub fn host<S: Source, P: Source, G: Gate + Sync, O: Sink, E: Sink, R: Threads +
 {
     match Lines::new(alloc) {
         Ok(mut lines) => {
-            let end = host_set(rt, alloc, set, script, workers, gate, &mut lines, out);
+            let end = host_set(alloc, set, script, hosting, &mut lines, out);
             finish(end, &mut lines, err)
         }
         Err(AllocError) => no_memory(err),
@@ -73,86 +83,86 @@ pub fn host<S: Source, P: Source, G: Gate + Sync, O: Sink, E: Sink, R: Threads +
 }
 
 fn host_set<S: Source, P: Source, G: Gate + Sync, O: Sink, R: Threads + Wait + Sync>(
-    rt: &R,
     alloc: Global,
     set: &mut S,
     script: &mut P,
-    workers: u8,
-    gate: &G,
+    hosting: &Hosting<'_, R, G>,
     lines: &mut Lines,
     out: &mut O,
 ) -> Result<End, Fault>
-    requires some { 1 ≤ workers }
-    requires few { workers ≤ MAX_THREADS }
+    requires some { 1 ≤ hosting.now.workers }
+    requires few { hosting.now.workers ≤ MAX_THREADS }
     requires set { CanCount (S.failures set.old) }
     requires script { CanCount (P.failures script.old) }
     requires out { CanCount (O.failures out.old) }
     requires empty { lines.old ≡ [] }
     ensures unread { (script.new ≡ script.old)
         ⊎ HoldsRun Verification.Required (S.supply set.old) }
-    ensures goes { Goes (IsHostOf workers (S.supply set.old) (P.supply script.old))
+    ensures goes { Goes (IsHostOf hosting.now.workers (S.supply set.old) (P.supply script.old))
         (O.contents out.old) (O.contents out.new) [] [] result }
     ensures reads { S.failures set.new + P.failures script.new
         ≡ S.failures set.old + P.failures script.old + reads_failed result }
     ensures writes { O.failures out.new ≡ O.failures out.old + writes_failed result }
 {
     let set = read_set(alloc, set)?;
-    let end = host_verified(rt, alloc, set, script, workers, gate, lines, out)?;
+    let end = host_verified(alloc, set, script, hosting, lines, out)?;
     write_lines(lines, out)?;
     Ok(end)
 }
 
 /// Has a script served over a set, if that is accepted.
 fn host_verified<P: Source, G: Gate + Sync, O: Sink, R: Threads + Wait + Sync>(
-    rt: &R,
     alloc: Global,
     set: DriverSet,
     script: &mut P,
-    workers: u8,
-    gate: &G,
+    hosting: &Hosting<'_, R, G>,
     lines: &mut Lines,
     out: &mut O,
 ) -> Result<End, Fault>
-    requires some { 1 ≤ workers }
-    requires few { workers ≤ MAX_THREADS }
+    requires some { 1 ≤ hosting.now.workers }
+    requires few { hosting.now.workers ≤ MAX_THREADS }
     requires script { CanCount (P.failures script.old) }
     requires out { CanCount (O.failures out.old) }
     requires empty { lines.old ≡ [] }
     ensures unread { (script.new ≡ script.old) ⊎ IsTypable set }
-    ensures goes { Goes (IsIfAccepted (IsServedOf workers (P.supply script.old)) set)
+    ensures goes { Goes (IsIfAccepted (IsServedOf hosting.now.workers (P.supply script.old)) set)
         (O.contents out.old) (O.contents out.new) [] lines.new result }
     ensures reads { P.failures script.new ≡ P.failures script.old + reads_failed result }
     ensures writes { O.failures out.new ≡ O.failures out.old + writes_failed result }
 {
     match verify(alloc, set) {
-        Ok(accepted) => host_accepted(rt, alloc, accepted, script, workers, gate, lines, out),
+        Ok(accepted) => host_accepted(alloc, accepted, script, hosting, lines, out),
         Err((_set, refusal)) => refuse(&refusal, lines),
     }
 }
 
 /// Has a script served over an accepted set, and adds the lines of what came of its commands.
 fn host_accepted<P: Source, G: Gate + Sync, O: Sink, R: Threads + Wait + Sync>(
-    rt: &R,
     alloc: Global,
     accepted: Accepted,
     script: &mut P,
-    workers: u8,
-    gate: &G,
+    hosting: &Hosting<'_, R, G>,
     lines: &mut Lines,
     out: &mut O,
 ) -> Result<End, Fault>
-    requires some { 1 ≤ workers }
-    requires few { workers ≤ MAX_THREADS }
+    requires some { 1 ≤ hosting.now.workers }
+    requires few { hosting.now.workers ≤ MAX_THREADS }
     requires script { CanCount (P.failures script.old) }
     requires out { CanCount (O.failures out.old) }
     requires empty { lines.old ≡ [] }
-    ensures goes { Goes (IsServedOf workers (P.supply script.old) accepted)
+    ensures goes { Goes (IsServedOf hosting.now.workers (P.supply script.old) accepted)
         (O.contents out.old) (O.contents out.new) [] lines.new result }
     ensures reads { P.failures script.new ≡ P.failures script.old + reads_failed result }
     ensures writes { O.failures out.new ≡ O.failures out.old + writes_failed result }
 {
     let commands = read_script(alloc, script)?;
-    match serve_script(rt, alloc, accepted, workers, commands.as_slice(), gate) {
+    let commands = commands.as_slice();
+    let Hosting {
+        runtime,
+        workers,
+        gate,
+    } = *hosting;
+    match serve_script(runtime, alloc, accepted, workers, commands, gate) {
         Ok(hosted) => tell_hosted(&hosted, lines, out),
         Err(OutOfMemory) => Err(Fault::Memory),
     }

@@ -5,9 +5,11 @@ ghost use Rattle.drvhost_devices.specs.Device.{CanCount, Says};
 ghost use Rattle.drvhost_devices.specs.Ends.{Answers, HoldsRun};
 ghost use Rattle.drvhost_runs.specs.Told.{IsTellOf};
 
-use crate::show::{Showing, show};
+use crate::show::{Showing, Shown};
 use drvhost_devices::device::{Sink, Source};
 use drvhost_devices::verification::Verification;
+use drvhost_sets::job::answer;
+use drvhost_sets::judged::Judged;
 use std::alloc::Global;
 
 /// Of which events of a run a line is told.
@@ -38,6 +40,13 @@ pub struct Manner {
     pub strictness: Strictness,
 }
 
+/// A run that is to be told: of which sets, and how.
+#[derive(Clone, Copy, Debug, PartialEq, Eq)]
+pub struct Telling {
+    pub verification: Verification,
+    pub manner: Manner,
+}
+
 /// Runs a driver set by a schedule as [`trace`](crate::trace::trace) does, and tells the run in
 /// words: for each event of which a line is asked for, the line of the trace with words behind it,
 /// and then an audit of what the run has left. Where verification is required, a refused set isn't
@@ -51,8 +60,7 @@ pub fn tell<S: Source, P: Source, O: Sink, E: Sink>(
     alloc: Global,
     set: &mut S,
     schedule: &mut P,
-    verification: Verification,
-    manner: Manner,
+    telling: Telling,
     out: &mut O,
     err: &mut E,
 ) -> u8
@@ -60,15 +68,22 @@ pub fn tell<S: Source, P: Source, O: Sink, E: Sink>(
     requires schedule { CanCount (P.failures schedule.old) }
     requires out { CanCount (O.failures out.old) }
     requires err { CanCount (E.failures err.old) }
-    ensures unread { (schedule.new ≡ schedule.old) ⊎ HoldsRun verification (S.supply set.old) }
+    ensures unread { (schedule.new ≡ schedule.old) ⊎ HoldsRun telling.verification (S.supply set.old) }
     ensures answers { Answers
-        (IsTellOf verification manner (S.supply set.old) (P.supply schedule.old))
+        (IsTellOf telling.verification telling.manner (S.supply set.old)
+            (P.supply schedule.old))
         (S.failures set.old + P.failures schedule.old)
         (S.failures set.new + P.failures schedule.new)
         (O.failures out.old) (O.failures out.new) (O.contents out.old) (O.contents out.new)
         (Says (E.failures err.old) (E.failures err.new) (E.contents err.old) (E.contents err.new))
         result }
 {
-    let showing = Showing::InWords(manner);
-    show(alloc, set, schedule, verification, showing, out, err)
+    let mut job = Judged {
+        running: Shown {
+            schedule,
+            showing: Showing::InWords(telling.manner),
+        },
+        verification: telling.verification,
+    };
+    answer(&mut job, alloc, set, out, err)
 }

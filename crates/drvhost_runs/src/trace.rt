@@ -3,26 +3,24 @@
 ghost use Rattle.std.specs.Prelude.{◌≡◌, ◌+◌, ◌⊎◌, [], IfOk};
 ghost use Rattle.interleave.specs.Listing.{IsWithinLimits};
 ghost use Rattle.drvhost_devices.specs.Device.{CanCount, Says};
-ghost use Rattle.model.specs.Typable.{IsTypable};
-ghost use Rattle.drvhost_devices.specs.Answer.{IsIfAccepted, IsToRun, IsTraced};
 ghost use Rattle.drvhost_devices.specs.Ends.{Answers, HoldsRun, IsRunOf, IsTraceOf};
 ghost use Rattle.drvhost_devices.specs.Fault.{Goes, ReadsSchedule, reads_failed, writes_failed};
 
 use crate::follow::follow;
 use checked::Checked;
 use drvhost_devices::device::{Sink, Source};
-use drvhost_devices::fault::{End, Fault, finish, no_memory, of_schedule};
-use drvhost_devices::reading::read_set;
-use drvhost_devices::transfer::{read_whole, write_lines};
+use drvhost_devices::fault::{End, Fault, of_schedule};
+use drvhost_devices::transfer::read_whole;
 use drvhost_devices::verification::Verification;
-use drvhost_sets::check::refuse;
+use drvhost_sets::job::{Notes, answer};
+use drvhost_sets::judged::{Judged, Running};
 use image::DriverSet;
 use interleave::parse::parse_schedule;
 use interleave::schedule::Schedule;
 use machine::World;
 use report::lines::Lines;
-use std::alloc::{AllocError, Global};
-use verifier::{Accepted, verify};
+use std::alloc::Global;
+use verifier::Accepted;
 
 /// Runs a driver set by a schedule, and writes a line for each event, up to the first bug check or
 /// wrong operand. Where verification is required, a refused set isn't run, and what is written is
@@ -50,85 +48,54 @@ pub fn trace<S: Source, P: Source, O: Sink, E: Sink>(
         (Says (E.failures err.old) (E.failures err.new) (E.contents err.old) (E.contents err.new))
         result }
 {
-    match Lines::new(alloc) {
-        Ok(mut lines) => {
-            let end = trace_set(alloc, set, schedule, verification, &mut lines, out);
-            finish(end, &mut lines, err)
-        }
-        Err(AllocError) => no_memory(err),
-    }
+    let mut job = Judged {
+        running: Tracing { schedule },
+        verification,
+    };
+    answer(&mut job, alloc, set, out, err)
 }
 
-fn trace_set<S: Source, P: Source, O: Sink>(
-    alloc: Global,
-    set: &mut S,
-    schedule: &mut P,
-    verification: Verification,
-    lines: &mut Lines,
-    out: &mut O,
-) -> Result<End, Fault>
-    requires set { CanCount (S.failures set.old) }
-    requires schedule { CanCount (P.failures schedule.old) }
-    requires out { CanCount (O.failures out.old) }
-    requires empty { lines.old ≡ [] }
-    ensures unread { (schedule.new ≡ schedule.old) ⊎ HoldsRun verification (S.supply set.old) }
-    ensures goes { Goes (IsTraceOf verification (S.supply set.old) (P.supply schedule.old))
-        (O.contents out.old) (O.contents out.new) [] [] result }
-    ensures reads { S.failures set.new + P.failures schedule.new ≡ S.failures set.old + P.failures
-        schedule.old + reads_failed result }
-    ensures writes { O.failures out.new ≡ O.failures out.old + writes_failed result }
-{
-    let set = read_set(alloc, set)?;
-    let end = trace_as(alloc, set, schedule, verification, lines, out)?;
-    write_lines(lines, out)?;
-    Ok(end)
+/// The trace of a run by the schedule that a source has.
+#[derive(Drop)]
+struct Tracing<'a, P> {
+    schedule: &'a mut P,
 }
 
-/// Runs a set, if it needn't be accepted or is.
-fn trace_as<P: Source, O: Sink>(
-    alloc: Global,
-    set: DriverSet,
-    schedule: &mut P,
-    verification: Verification,
-    lines: &mut Lines,
-    out: &mut O,
-) -> Result<End, Fault>
-    requires schedule { CanCount (P.failures schedule.old) }
-    requires out { CanCount (O.failures out.old) }
-    requires empty { lines.old ≡ [] }
-    ensures unread { (schedule.new ≡ schedule.old) ⊎ IsToRun verification set }
-    ensures goes { Goes (IsTraced verification (IsRunOf (P.supply schedule.old)) set)
-        (O.contents out.old) (O.contents out.new) [] lines.new result }
-    ensures reads { P.failures schedule.new ≡ P.failures schedule.old + reads_failed result }
-    ensures writes { O.failures out.new ≡ O.failures out.old + writes_failed result }
-{
-    match verification {
-        Verification::Required => trace_verified(alloc, set, schedule, lines, out),
-        Verification::Skipped => trace_unverified(alloc, set, schedule, lines, out),
-    }
-}
+impl<'a, P: Source> Running for Tracing<'a, P> {
+    ghost use Rattle.std.specs.Prelude.{◌≡◌, refl};
+    ghost use Rattle.drvhost_devices.specs.Ends.{IsRunOf};
 
-/// Runs a set if it is accepted, to the end of its schedule.
-fn trace_verified<P: Source, O: Sink>(
-    alloc: Global,
-    set: DriverSet,
-    schedule: &mut P,
-    lines: &mut Lines,
-    out: &mut O,
-) -> Result<End, Fault>
-    requires schedule { CanCount (P.failures schedule.old) }
-    requires out { CanCount (O.failures out.old) }
-    requires empty { lines.old ≡ [] }
-    ensures unread { (schedule.new ≡ schedule.old) ⊎ IsTypable set }
-    ensures goes { Goes (IsIfAccepted (IsRunOf (P.supply schedule.old)) set)
-        (O.contents out.old) (O.contents out.new) [] lines.new result }
-    ensures reads { P.failures schedule.new ≡ P.failures schedule.old + reads_failed result }
-    ensures writes { O.failures out.new ≡ O.failures out.old + writes_failed result }
-{
-    match verify(alloc, set) {
-        Ok(accepted) => trace_accepted(alloc, accepted, schedule, lines, out),
-        Err((_set, refusal)) => refuse(&refusal, lines),
+    ghost right = { λ running. IsRunOf (P.supply running.schedule.now) };
+
+    ghost failures = { λ running. P.failures running.schedule.now };
+
+    ghost keeps = { λ old new. new.schedule.ghost_name ≡ old.schedule.ghost_name };
+
+    ghost stays = { λ old new. new.schedule.now ≡ old.schedule.now };
+
+    fn run_accepted<O: Sink>(
+        &mut self,
+        alloc: Global,
+        _bytes: &[u8],
+        accepted: Accepted,
+        notes: &mut Notes,
+        out: &mut O,
+    ) -> Result<End, Fault> {
+        trace_accepted(alloc, accepted, self.schedule, &mut notes.lines, out)
     }
+
+    fn run_any<O: Sink>(
+        &mut self,
+        alloc: Global,
+        _bytes: &[u8],
+        set: DriverSet,
+        notes: &mut Notes,
+        out: &mut O,
+    ) -> Result<End, Fault> {
+        trace_any(alloc, set, self.schedule, &mut notes.lines, out)
+    }
+
+    ghost stays_kept = { λ running. (refl, refl) };
 }
 
 /// Runs an accepted set to the end of its schedule.
@@ -155,7 +122,7 @@ fn trace_accepted<P: Source, O: Sink>(
 }
 
 /// Runs any set, up to the first bug check or wrong operand.
-fn trace_unverified<P: Source, O: Sink>(
+fn trace_any<P: Source, O: Sink>(
     alloc: Global,
     set: DriverSet,
     schedule: &mut P,

@@ -4,3 +4,4 @@ pub mod Explained
 pub mod Wording
 pub mod Images
 pub mod Breaks
+pub mod Answering

@@ -9,7 +9,7 @@ ghost use Rattle.drvhost_devices.specs.Device.{Adds, CanCount, Says, TakesBeginn
 ghost use Rattle.drvhost_devices.specs.Ends.{Answers, IsCheckOf};
 ghost use Rattle.drvhost_devices.specs.Fault.{Goes, reads_failed, writes_failed};
 
-use crate::task::{Task, answer};
+use crate::job::{Job, Notes, answer};
 use drvhost_devices::device::{Sink, Source};
 use drvhost_devices::fault::{End, Fault};
 use drvhost_devices::transfer::make_room;
@@ -38,27 +38,30 @@ pub fn check<S: Source, O: Sink, E: Sink>(
         (Says (E.failures err.old) (E.failures err.new) (E.contents err.old) (E.contents err.new))
         result }
 {
-    answer(&Judgement, alloc, set, out, err)
+    answer(&mut Judgement, alloc, set, out, err)
 }
 
-/// The task of judging a set.
+/// The job of judging a set.
+#[derive(Drop)]
 struct Judgement;
 
-impl Task for Judgement {
+impl Job for Judgement {
     ghost use Rattle.drvhost_devices.specs.Answer.{IsVerdict};
 
-    ghost right = { IsVerdict };
+    ghost right = { λ _. IsVerdict };
 
     fn perform<O: Sink>(
-        &self,
+        &mut self,
         alloc: Global,
         _bytes: &[u8],
         set: DriverSet,
-        lines: &mut Lines,
+        notes: &mut Notes,
         out: &mut O,
     ) -> Result<End, Fault> {
-        judge(alloc, set, lines, out)
+        judge(alloc, set, &mut notes.lines, out)
     }
+
+    ghost stays_kept = { λ _. (tt, tt) };
 }
 
 /// Judges a set: adds the lines of an accepted one, or the line of a refusal.

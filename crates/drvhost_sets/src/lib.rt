@@ -5,9 +5,10 @@
 pub mod check;
 pub mod explaining;
 mod image_words;
+pub mod job;
+pub mod judged;
 pub mod laws;
 pub mod list;
 pub mod rewriting;
 pub mod rule;
-mod task;
 pub mod version;

@@ -6,13 +6,12 @@ ghost use Rattle.drvhost_devices.specs.Device.{CanCount, Says};
 ghost use Rattle.drvhost_devices.specs.Ends.{Answers, IsListOf};
 ghost use Rattle.drvhost_devices.specs.Fault.{Goes, reads_failed, writes_failed};
 
-use crate::task::{Task, answer};
+use crate::job::{Job, Notes, answer};
 use asm::disassemble;
 use drvhost_devices::device::{Sink, Source};
 use drvhost_devices::fault::{End, Fault};
 use drvhost_devices::transfer::write_bytes;
 use image::DriverSet;
-use report::lines::Lines;
 use std::alloc::Global;
 
 /// Writes the listing of a driver set: a text that names the same set, with names of its own. The
@@ -28,27 +27,30 @@ pub fn list<S: Source, O: Sink, E: Sink>(alloc: Global, set: &mut S, out: &mut O
         (Says (E.failures err.old) (E.failures err.new) (E.contents err.old) (E.contents err.new))
         result }
 {
-    answer(&Listing, alloc, set, out, err)
+    answer(&mut Listing, alloc, set, out, err)
 }
 
-/// The task of listing a set.
+/// The job of listing a set.
+#[derive(Drop)]
 struct Listing;
 
-impl Task for Listing {
+impl Job for Listing {
     ghost use Rattle.drvhost_devices.specs.Answer.{IsListing};
 
-    ghost right = { IsListing };
+    ghost right = { λ _. IsListing };
 
     fn perform<O: Sink>(
-        &self,
+        &mut self,
         alloc: Global,
         _bytes: &[u8],
         set: DriverSet,
-        _lines: &mut Lines,
+        _notes: &mut Notes,
         out: &mut O,
     ) -> Result<End, Fault> {
         write_listing(alloc, &set, out)
     }
+
+    ghost stays_kept = { λ _. (tt, tt) };
 }
 
 /// Writes the listing of a set.

@@ -15,8 +15,8 @@ use drvhost_devices::device::{Sink, Source};
 use drvhost_devices::unopened::tell_unopened;
 use drvhost_devices::verification::Verification;
 use drvhost_runs::draw::draw;
-use drvhost_runs::host::host;
-use drvhost_runs::tell::{Manner, tell};
+use drvhost_runs::host::{Hosting, host};
+use drvhost_runs::tell::{Manner, Telling, tell};
 use drvhost_runs::trace::trace;
 use drvhost_sets::check::check;
 use drvhost_sets::explaining::{Extent, explain};
@@ -454,7 +454,11 @@ fn run<S: Source, P: Source, O: Sink, E: Sink>(
     match way {
         Way::BySchedule(verification) => trace(alloc, set, input, verification, out, err),
         Way::InWords(verification, manner) => {
-            tell(alloc, set, input, verification, manner, out, err)
+            let telling = Telling {
+                verification,
+                manner,
+            };
+            tell(alloc, set, input, telling, out, err)
         }
         Way::AsPicture(verification) => draw(alloc, set, input, verification, out, err),
     }
@@ -513,10 +517,15 @@ fn host_files<F: Files, O: Sink, E: Sink, R: Threads + Wait + Sync>(
 {
     let names = serving.names;
     let count = serving.workers.count();
+    let hosting = Hosting {
+        runtime: rt,
+        workers: count,
+        gate: &Open,
+    };
     let failures = err.failures();
     let mut file = files.open(names.set);
     let mut later = Later::new(files, names.input);
-    let status = host(rt, alloc, &mut file, &mut later, count, &Open, out, err);
+    let status = host(alloc, &mut file, &mut later, &hosting, out, err);
     tell_which_unread(names, &file, &later, failures, err);
     let commands = later.into_file();
     files.close(file);

@@ -7,8 +7,8 @@ use crate::devices::{Narrow, Slow, have_taken};
 use drvhost_devices::device::{Reader, Sink, Source};
 use drvhost_devices::verification::Verification;
 use drvhost_runs::draw::draw;
-use drvhost_runs::host::host;
-use drvhost_runs::tell::{Detail, Manner, Strictness, tell};
+use drvhost_runs::host::{Hosting, host};
+use drvhost_runs::tell::{Detail, Manner, Strictness, Telling, tell};
 use drvhost_runs::trace::trace;
 use drvhost_sets::check::check;
 use drvhost_sets::explaining::{Extent, explain};
@@ -374,11 +374,14 @@ fn answer<R: Threads + Wait + Sync>(
         }
         Job::Tell(schedule, verification, detail) => {
             let mut schedule = Slow::new(schedule, devices.step, devices.orders);
-            let manner = Manner {
-                detail,
-                strictness: Strictness::Lenient,
+            let telling = Telling {
+                verification,
+                manner: Manner {
+                    detail,
+                    strictness: Strictness::Lenient,
+                },
             };
-            tell(alloc, set, &mut schedule, verification, manner, out, err)
+            tell(alloc, set, &mut schedule, telling, out, err)
         }
         Job::Draw(schedule, verification) => {
             let mut schedule = Slow::new(schedule, devices.step, devices.orders);
@@ -386,7 +389,12 @@ fn answer<R: Threads + Wait + Sync>(
         }
         Job::Host(script) => {
             let mut script = Slow::new(script, devices.step, devices.orders);
-            host(rt, alloc, set, &mut script, 1, &Open, out, err)
+            let hosting = Hosting {
+                runtime: rt,
+                workers: 1,
+                gate: &Open,
+            };
+            host(alloc, set, &mut script, &hosting, out, err)
         }
     }
 }

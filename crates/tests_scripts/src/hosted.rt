@@ -4,7 +4,7 @@ ghost use Rattle.std.specs.Prelude.{◌≤◌};
 ghost use Rattle.model.specs.declared.limits.TheConstants.{MAX_THREADS};
 
 use drvhost_devices::device::{Reader, Writer};
-use drvhost_runs::host::host;
+use drvhost_runs::host::{Hosting, host};
 use std::alloc::{AllocError, Global};
 use std::process::Abort;
 use std::sync::Wait;
@@ -50,16 +50,12 @@ fn told_of<R: Threads + Wait + Abort + Sync>(
     let mut commands = Reader::new(Some(script.as_bytes()));
     let mut out = Writer::new(Vec::<u8>::new(alloc));
     let mut err = Writer::new(Vec::<u8>::new(alloc));
-    let status = host(
-        rt,
-        alloc,
-        &mut set,
-        &mut commands,
+    let hosting = Hosting {
+        runtime: rt,
         workers,
-        watch,
-        &mut out,
-        &mut err,
-    );
+        gate: watch,
+    };
+    let status = host(alloc, &mut set, &mut commands, &hosting, &mut out, &mut err);
     assert_eq!(rt; status, 0);
     assert!(rt; err.into_inner().is_empty());
     out.into_inner()

@@ -1,7 +1,7 @@
 //! Two workers that serve a script side by side.
 
 use drvhost_devices::device::{Reader, Writer};
-use drvhost_runs::host::host;
+use drvhost_runs::host::{Hosting, host};
 use std::alloc::Global;
 use std::process::Abort;
 use std::sync::Wait;
@@ -56,16 +56,12 @@ fn serve_reads<R: Threads + Wait + Abort + Sync, C: Clock + Sync>(
     let mut commands = Reader::new(Some(script));
     let mut out = Writer::new(Vec::<u8>::new(alloc));
     let mut err = Writer::new(Vec::<u8>::new(alloc));
-    let status = host(
-        rt,
-        alloc,
-        &mut set,
-        &mut commands,
-        2,
-        pace,
-        &mut out,
-        &mut err,
-    );
+    let hosting = Hosting {
+        runtime: rt,
+        workers: 2,
+        gate: pace,
+    };
+    let status = host(alloc, &mut set, &mut commands, &hosting, &mut out, &mut err);
     assert_eq!(rt; status, 0);
     assert!(rt; err.into_inner().is_empty());
     assert!(rt; out.into_inner().as_slice().ends_with(AGREES));

@@ -1,7 +1,7 @@
 //! How many commands a script may have.
 
 use drvhost_devices::device::{Reader, Writer};
-use drvhost_runs::host::host;
+use drvhost_runs::host::{Hosting, host};
 use std::alloc::{AllocError, Global};
 use std::sync::Wait;
 use std::thread::Threads;
@@ -26,16 +26,12 @@ fn told_of<R: Threads + Wait + Sync>(rt: &R, alloc: Global, script: &[u8]) -> Ve
     let mut commands = Reader::new(Some(script));
     let mut out = Writer::new(Vec::<u8>::new(alloc));
     let mut err = Writer::new(Vec::<u8>::new(alloc));
-    let status = host(
-        rt,
-        alloc,
-        &mut set,
-        &mut commands,
-        1,
-        &Open,
-        &mut out,
-        &mut err,
-    );
+    let hosting = Hosting {
+        runtime: rt,
+        workers: 1,
+        gate: &Open,
+    };
+    let status = host(alloc, &mut set, &mut commands, &hosting, &mut out, &mut err);
     if status == 2 && out.into_inner().is_empty() {
         err.into_inner()
     } else {

@@ -18,7 +18,7 @@ returns-in-Ok-clause-answers g c =
       writes_are = c.host_set-end.ensures.writes;
       tells = c.finish.ensures.told;
       ends = rw c.finish.ensures.status
-          (ends_of (IsHostOf c.args.workers (g.S.Source.supply c.args.set.now)
+          (ends_of (IsHostOf c.args.hosting.now.workers (g.S.Source.supply c.args.set.now)
           (g.P.Source.supply c.args.script.now)) _ _ end c.host_set-end.ensures.goes);
     }
 

@@ -8,7 +8,7 @@ use Rattle.drvhost_runs.proofs.host.host_set.Goals as goal
 pub returns-in_err-set-clause-goes : goal.returns-in_err-set-clause-goes
 returns-in_err-set-clause-goes g c =
     let p = err_from_is_err_and c.from_residual.result c.from_residual.ensures.1 in
-    let n = c.args.workers in
+    let n = c.args.hosting.now.workers in
     let held = g.S.Source.supply c.args.set.now in
     let scheduled = g.P.Source.supply c.args.script.now in
     rw (p.1, p.2)
@@ -19,7 +19,7 @@ pub returns-in_err-end-clause-goes : goal.returns-in_err-end-clause-goes
 returns-in_err-end-clause-goes g c =
     let p = err_from_is_err_and c.from_residual-in_err-end.result
     c.from_residual-in_err-end.ensures.1 in
-    let n = c.args.workers in
+    let n = c.args.hosting.now.workers in
     let held = g.S.Source.supply c.args.set.now in
     let scheduled = g.P.Source.supply c.args.script.now in
     let set = c.in_ok-set.set in
@@ -35,7 +35,7 @@ pub returns-in_err-write_lines-clause-goes : goal.returns-in_err-write_lines-cla
 returns-in_err-write_lines-clause-goes g c =
     let p = err_from_is_err_and c.from_residual-in_err-write_lines.result
     c.from_residual-in_err-write_lines.ensures.1 in
-    let n = c.args.workers in
+    let n = c.args.hosting.now.workers in
     let held = g.S.Source.supply c.args.set.now in
     let scheduled = g.P.Source.supply c.args.script.now in
     let set = c.in_ok-set.set in
@@ -52,7 +52,7 @@ returns-in_err-write_lines-clause-goes g c =
 
 pub returns-clause-goes : goal.returns-clause-goes
 returns-clause-goes g c =
-    let n = c.args.workers in
+    let n = c.args.hosting.now.workers in
     let held = g.S.Source.supply c.args.set.now in
     let scheduled = g.P.Source.supply c.args.script.now in
     let set = c.in_ok-set.set in

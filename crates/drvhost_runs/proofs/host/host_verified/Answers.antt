@@ -7,7 +7,7 @@ use Rattle.drvhost_runs.proofs.host.host_verified.Goals as goal
 pub returns-in-Err-clause-goes : goal.returns-in-Err-clause-goes
 returns-in-Err-clause-goes g c =
     goes_rightly (IsRefused c.args.set)
-    (IsIfAccepted (IsServedOf c.args.workers (g.P.Source.supply c.args.script.now)) c.args.set) _ _ _ _ _
+    (IsIfAccepted (IsServedOf c.args.hosting.now.workers (g.P.Source.supply c.args.script.now)) c.args.set) _ _ _ _ _
     (λ answer refused. inr refused)
     (goes_refused c.args.set c.in-Err.refusal _ _ _ c.in-Err.ensures.refused.1
     (rw c.requires.empty at c.refuse.ensures.refused) c.refuse.ensures.memory)

@@ -1,5 +1,5 @@
 use Rattle.std.proofs.lemmas.Result.{err_from_is_err_and}
-use Rattle.drvhost_runs.proofs.ToldRuns.{schedule_shown, schedule_unread}
+use Rattle.drvhost_runs.proofs.ShownRuns.{schedule_shown, schedule_unread}
 use Rattle.drvhost_runs.proofs.show.shown_run.Goals as goal
 
 pub returns-in_err-schedule-clause-tells : goal.returns-in_err-schedule-clause-tells

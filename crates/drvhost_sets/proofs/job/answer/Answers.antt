@@ -1,18 +1,17 @@
 use Rattle.std.proofs.Common.{arith, refl}
 use Rattle.drvhost_devices.specs.declared.fault.Fault.TheVariants.{Memory}
-use Rattle.drvhost_devices.specs.Ends.{OutOfMemory}
+use Rattle.drvhost_devices.specs.Ends.{IsOfSupply, OutOfMemory}
 use Rattle.drvhost_devices.specs.Fault.{fault_told}
-use Rattle.drvhost_runs.specs.Told.{IsShownOf}
 use Rattle.drvhost_devices.proofs.Writing.{keeps_same}
-use Rattle.drvhost_runs.proofs.ShownRuns.{shown_answers}
-use Rattle.drvhost_runs.proofs.show.show.Goals as goal
+use Rattle.drvhost_sets.proofs.Answering.{answered}
+use Rattle.drvhost_sets.proofs.job.answer.Goals as goal
 
 pub returns-in-Ok-clause-answers : goal.returns-in-Ok-clause-answers
 returns-in-Ok-clause-answers g c =
-    shown_answers (IsShownOf c.args.verification c.args.showing
-    (g.S.Source.supply c.args.set.now) (g.P.Source.supply c.args.schedule.now)) _ _
-    c.show_set-end.result _ _ _ _ _ _ c.show_set-end.ensures.goes c.show_set-end.ensures.reads
-    c.show_set-end.ensures.writes c.finish_shown.ensures
+    answered (IsOfSupply (g.J.Job.right c.args.job.now) (g.S.Source.supply c.args.set.now)) _ _
+    c.perform_on-end.new.notes.words.items c.perform_on-end.result _ _ _ _ _ _
+    c.perform_on-end.ensures.goes c.perform_on-end.ensures.words c.perform_on-end.ensures.reads
+    c.perform_on-end.ensures.writes c.finish_noted.ensures
 
 pub returns-in-Err-clause-answers : goal.returns-in-Err-clause-answers
 returns-in-Err-clause-answers g c =
