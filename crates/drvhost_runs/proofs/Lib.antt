@@ -7,3 +7,5 @@ pub mod ShownRuns
 pub mod ToldAlone
 pub mod PlainlySeen
 pub mod DrawnRuns
+pub mod Observing
+pub mod Lining
