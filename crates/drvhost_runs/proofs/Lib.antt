@@ -2,6 +2,9 @@ pub mod Serving
 pub mod Repeating
 pub mod Following
 pub mod ToldLines
+pub mod Unchanged
+pub mod ToldOn
+pub mod ToldAnswers
 pub mod ToldRuns
 pub mod ShownRuns
 pub mod ToldAlone

@@ -1,8 +1,6 @@
 -- How the lines of a trace are added.
-use Rattle.std.proofs.Common.{◌≡◌, ◌∙◌, ℕ, zero, suc, ◌+◌, ◌≤◌, true, List, [], ◌∷◌, ◌++◌, Option, Result, Ok, Err, length, replicate, inl, inr, refl, sym, ap, arith, subst, append_assoc}
-use Rattle.std.proofs.lemmas.Bool.{cases_Bool}
+use Rattle.std.proofs.Common.{◌≡◌, ◌∙◌, ℕ, zero, suc, ◌+◌, ◌≤◌, true, List, [], ◌++◌, Option, Result, Ok, Err, length, replicate, inr, refl, sym, ap, arith, subst, append_assoc}
 use Rattle.std.proofs.lemmas.List.{append-nil, length-append, length-replicate}
-use Rattle.std.specs.List.{list_any}
 use Rattle.model.specs.declared.event.Event.{Event}
 use Rattle.model.specs.declared.event.Reply.{Reply}
 use Rattle.model.specs.declared.event.Reply.TheVariants.{Stepped}
@@ -22,22 +20,9 @@ use Rattle.drvhost_runs.specs.Lined.{Lines, LinesBreak}
 use Rattle.drvhost_runs.specs.Repeats.{AreReplies, RepeatsBy, told_by}
 use Rattle.drvhost_runs.specs.Watching.{BreaksOff, Observes, Takes, TellsOn, UpToLast}
 use Rattle.drvhost_runs.proofs.Following.{any_on, breaks_before, length_told, lines_on, none_last}
-use Rattle.drvhost_runs.proofs.Observing.{length_replies, replies_on, replies_told, shown_past, shown_until}
+use Rattle.drvhost_runs.proofs.Observing.{any_same, length_replies, replies_on, replies_told, shown_past, shown_until, up_same}
 
 -- replies of which none but the last one ends a run
-up_one : (reply : Reply) → UpToLast (reply ∷ [])
-up_one reply = (inl refl, tt)
-
-up_same : (count : ℕ) (reply : Reply) → (is_last reply ≡ true → count ≡ 1)
-    → UpToLast (replicate count reply)
-up_same zero reply once = tt
-up_same (suc zero) reply once = up_one reply
-up_same (suc (suc count)) reply once =
-    elim (cases_Bool (is_last reply)) [
-      | inl ends ↦ absurd (omega (arith, once ends))
-      | inr goes ↦ (inr goes, up_same (suc count) reply (λ ends. absurd (omega (arith, once ends))))
-    ]
-
 up_behind : (count : ℕ) (later : List Reply) → UpToLast later
     → UpToLast (replicate count Stepped ++ later)
 up_behind zero later up = up
@@ -46,15 +31,6 @@ up_behind (suc count) later up = (inr refl, up_behind count later up)
 pub up_told : (r : Replies) → (is_last r.last ≡ true → r.times ≡ 1) → UpToLast (told_by r)
 up_told r once =
     up_behind r.stepped (replicate r.times r.last) (up_same r.times r.last once)
-
-any_same : (count : ℕ) (reply : Reply) → (is_last reply ≡ true → count ≡ 1) → 1 ≤ count
-    → list_any is_last (replicate count reply) ≡ is_last reply
-any_same zero reply once some = absurd (omega (arith, some))
-any_same (suc count) reply once some =
-    elim (cases_Bool (is_last reply)) [
-      | inl ends ↦ rw ends refl
-      | inr goes ↦ rw goes (none_last count reply goes)
-    ]
 
 -- the lines of what is told together
 pub lines_told : (number : ℕ) (r : Replies) → reply_lines number (told_by r)

@@ -1,5 +1,5 @@
 -- How the observation of a run goes on.
-use Rattle.std.proofs.Common.{◌≡◌, ◌∙◌, ℕ, suc, ◌+◌, ◌-◌, ◌^◌, ◌<◌, ◌≤◌, Bool, true, false, List, [], ◌∷◌, ◌++◌, length, replicate, Result, Ok, Err, inl, inr, refl, sym, ap, arith, subst, append_assoc, if◌then◌else◌}
+use Rattle.std.proofs.Common.{◌≡◌, ◌∙◌, ℕ, zero, suc, ◌+◌, ◌-◌, ◌^◌, ◌<◌, ◌≤◌, Bool, true, false, List, [], ◌∷◌, ◌++◌, length, replicate, Result, Ok, Err, inl, inr, refl, sym, ap, arith, subst, append_assoc, if◌then◌else◌}
 use Rattle.std.proofs.lemmas.Bool.{cases_Bool}
 use Rattle.std.proofs.lemmas.List.{append-nil, length-append, length-replicate, replicate-append-replicate}
 use Rattle.std.specs.List.{list_any}
@@ -12,9 +12,9 @@ use Rattle.drvhost_devices.specs.declared.fault.End.{End}
 use Rattle.drvhost_devices.specs.declared.fault.End.TheVariants.{Complete, Stopped}
 use Rattle.drvhost_devices.specs.declared.fault.Fault.{Fault}
 use Rattle.drvhost_devices.specs.Answer.{is_last, shown_replies}
-use Rattle.drvhost_runs.specs.Repeats.{AreReplies}
+use Rattle.drvhost_runs.specs.Repeats.{AreReplies, RepeatsBy}
 use Rattle.drvhost_runs.specs.Watching.{BreaksOff, CanTell, Observes, RunsTo, ShowsOf, Takes, TellsOn, UpToLast, end_by, until_end}
-use Rattle.drvhost_runs.proofs.Following.{any_on, counted, run_more}
+use Rattle.drvhost_runs.proofs.Following.{any_on, counted, none_last, run_more}
 
 -- the replies to events, and to those after them
 pub replies_on : (set : Set) (r : Run) (events more : List Event)
@@ -108,6 +108,44 @@ module _ (set : Set) (threads : ℕ) (e : Event) (rest : List Event) where
       (until_on (next ∷ told) (past ++ e ∷ []) are.1 up)
       ∙ ap (λ (events : List Event). e ∷ (more ++ until_told set threads events rest (next ∷ told)))
       (append_assoc past (e ∷ []) more))
+
+-- replies of which none but the last one ends a run
+up_one : (reply : Reply) → UpToLast (reply ∷ [])
+up_one reply = (inl refl, tt)
+
+pub up_same : (count : ℕ) (reply : Reply) → (is_last reply ≡ true → count ≡ 1)
+    → UpToLast (replicate count reply)
+up_same zero reply once = tt
+up_same (suc zero) reply once = up_one reply
+up_same (suc (suc count)) reply once =
+    elim (cases_Bool (is_last reply)) [
+      | inl ends ↦ absurd (omega (arith, once ends))
+      | inr goes ↦ (inr goes, up_same (suc count) reply (λ ends. absurd (omega (arith, once ends))))
+    ]
+
+pub any_same : (count : ℕ) (reply : Reply) → (is_last reply ≡ true → count ≡ 1) → 1 ≤ count
+    → list_any is_last (replicate count reply) ≡ is_last reply
+any_same zero reply once some = absurd (omega (arith, some))
+any_same (suc count) reply once some =
+    elim (cases_Bool (is_last reply)) [
+      | inl ends ↦ rw ends refl
+      | inr goes ↦ rw goes (none_last count reply goes)
+    ]
+
+-- an event was taken so often, with the same reply each time
+pub takes_same : {M : Type 0} (set_of : M → Set) (ShowsRun : M → ℕ → List Event → Type 0)
+    (m n : M) (e : Event) (count : ℕ) (reply : Reply)
+    → RepeatsBy set_of ShowsRun m e n (replicate count reply) → 1 ≤ count
+    → (is_last reply ≡ true → count ≡ 1)
+    → Takes set_of ShowsRun m e n count (is_last reply)
+takes_same set_of ShowsRun m n e count reply ran some once =
+    record {
+      told = replicate count reply;
+      ran = ran;
+      up = up_same count reply once;
+      counted = length-replicate count reply;
+      ends = any_same count reply once some;
+    }
 
 -- nothing is left of an event that has happened
 pub none_left : (e : Event) (made : ℕ) (rest : List Event) → 1 ≤ made → made ≤ 1

@@ -2,11 +2,14 @@
 //! in words or drawn, and what comes of a script of commands that workers serve.
 #![tactic(auto)]
 
+mod alone;
 pub mod draw;
 mod drawing;
 mod follow;
 pub mod host;
+mod levels;
 mod lined;
+mod page;
 mod running;
 mod seeing;
 mod show;

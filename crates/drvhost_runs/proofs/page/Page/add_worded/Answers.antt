@@ -1,5 +1,5 @@
 use Rattle.std.proofs.Common.{◌++◌}
-use Rattle.drvhost_runs.proofs.telling.add_worded.Goals as goal
+use Rattle.drvhost_runs.proofs.page.Page.add_worded.Goals as goal
 
 pub returns-clause-told : goal.returns-clause-told
 returns-clause-told c = (

@@ -1,11 +1,11 @@
 use Rattle.drvhost_runs.proofs.PlainlySeen.{quiet_left_out}
 use Rattle.drvhost_runs.proofs.ToldAlone.{noted_by}
-use Rattle.drvhost_runs.proofs.seeing.see.Goals as goal
+use Rattle.drvhost_runs.proofs.seeing.Sight.see.Goals as goal
 
 pub returns-clause-noted : goal.returns-clause-noted
 returns-clause-noted c =
-    noted_by _ _ _ _ _ _ c.apply-happened.ensures
-    (rw c.use_step_of-happened.ensures at c.in_ok-note.ensures.told)
+    noted_by _ _ _ _ _ _ c.apply-self.ensures
+    (rw c.use_step_of-self.ensures at c.in_ok-note.ensures.told)
 
 pub returns-clause-passed : goal.returns-clause-passed
 returns-clause-passed c holds =

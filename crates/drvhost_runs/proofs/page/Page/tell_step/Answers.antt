@@ -1,6 +1,6 @@
 use Rattle.std.proofs.Common.{◌++◌}
 use Rattle.checked.specs.GoingOn.{none}
-use Rattle.drvhost_runs.proofs.telling.tell_step.Goals as goal
+use Rattle.drvhost_runs.proofs.page.Page.tell_step.Goals as goal
 
 pub returns-in_default-clause-goes : goal.returns-in_default-clause-goes
 returns-in_default-clause-goes c = none
