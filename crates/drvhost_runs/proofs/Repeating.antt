@@ -6,7 +6,8 @@ use Rattle.model.specs.declared.event.Event.{Event}
 use Rattle.model.specs.declared.event.Event.TheVariants.{Step}
 use Rattle.model.specs.declared.event.Reply.{Reply}
 use Rattle.model.specs.declared.event.Reply.TheVariants.{Stepped}
-use Rattle.model.specs.Machine.{Applies, Shows, reply_to}
+use Rattle.model.specs.Machine.{Applies, AppliesBy, Shows, reply_to}
+use Rattle.model.specs.Set.{Set}
 use Rattle.model.specs.Shown.{Shown, ShowsWorld}
 use Rattle.model.specs.World.{World}
 use Rattle.machine.specs.Steps.{MakesSteps, steps_of}
@@ -17,72 +18,85 @@ abbrev pub Repeats : Shown → Event → Shown → List Reply → Type 0
 Repeats before e after told = RepeatsBy (λ m. m.set) Shows before e after told
 
 -- the same event once more at the end of a list
-added : (e : Event) (count : ℕ) (past : List Event)
+pub added : (e : Event) (count : ℕ) (past : List Event)
     → (past ++ replicate count e) ++ e ∷ [] ≡ past ++ replicate (count + 1) e
 added e count past =
     append_assoc past (replicate count e) (e ∷ [])
     ∙ ap (λ (events : List Event). past ++ events) (replicate_more count e)
 
-module _ (before after : Shown) (e : Event) (reply : Reply) (applies : Applies before e after reply)
-  where
-    once : Repeats before e after (reply ∷ [])
-    once =
+-- a machine of any sort applies an event
+module _ {M : Type 0} (set_of : M → Set) (ShowsRun : M → ℕ → List Event → Type 0)
+    (before after : M) (e : Event) (reply : Reply)
+    (applies : AppliesBy set_of ShowsRun before e after reply) where
+  pub once : RepeatsBy set_of ShowsRun before e after (reply ∷ [])
+  once =
+      record {
+        set = applies.set;
+        shows = applies.shows;
+        are = λ threads past shows. (applies.replies threads past shows, tt);
+      }
+
+  -- and shows the run with the event added as before
+  module _ (stays : (threads : ℕ) (past : List Event) → ShowsRun before threads past
+      → ShowsRun before threads (past ++ e ∷ [])) where
+    shown_more : (threads : ℕ) (past : List Event) (count : ℕ) → ShowsRun before threads past
+        → ShowsRun before threads (past ++ replicate count e)
+    shown_more threads past zero shows =
+        subst (λ (events : List Event). ShowsRun before threads events) (sym (append-nil past)) shows
+    shown_more threads past (suc count) shows =
+        subst (λ (events : List Event). ShowsRun before threads events)
+        (append_assoc past (e ∷ []) (replicate count e))
+        (shown_more threads (past ++ e ∷ []) count (stays threads past shows))
+
+    replies_again : (threads : ℕ) (past : List Event) (count : ℕ) → ShowsRun before threads past
+        → AreReplies (set_of before) threads past e (replicate count reply)
+    replies_again threads past zero shows = tt
+    replies_again threads past (suc count) shows = (
+      applies.replies threads past shows,
+      replies_again threads (past ++ e ∷ []) count (stays threads past shows),
+    )
+
+    shown_after : (threads : ℕ) (past : List Event) (count : ℕ) → ShowsRun before threads past
+        → ShowsRun after threads (past ++ replicate (count + 1) e)
+    shown_after threads past count shows =
+        subst (λ (events : List Event). ShowsRun after threads events) (added e count past)
+        (applies.shows threads (past ++ replicate count e) (shown_more threads past count shows))
+
+    more_times : (count : ℕ)
+        → RepeatsBy set_of ShowsRun before e after (replicate (count + 1) reply)
+    more_times count =
         record {
           set = applies.set;
-          shows = applies.shows;
-          are = λ threads past shows. (applies.replies threads past shows, tt);
+          shows = λ threads past shows.
+              subst (λ n. ShowsRun after threads (past ++ replicate n e))
+              (sym (length-replicate (count + 1) reply)) (shown_after threads past count shows);
+          are = λ threads past shows. replies_again threads past (count + 1) shows;
         }
 
-    module _ (law : WaitingChangesNothing) (same : says_unchanged reply ≡ true) where
-      -- the run with the event added is shown as before
-      shown_on : (threads : ℕ) (past : List Event) → Shows before threads past
-          → Shows before threads (past ++ e ∷ [])
-      shown_on threads past shows =
-          subst (λ (w : World). ShowsWorld before w)
-          (sym (law before.set threads past e
-          (ap (λ r. says_unchanged r) (sym (applies.replies threads past shows)) ∙ same))) shows
+    pub again : (count : ℕ) → 1 ≤ count
+        → RepeatsBy set_of ShowsRun before e after (replicate count reply)
+    again count some =
+        let more : (count - 1) + 1 ≡ count = omega (arith, some) in
+        subst (λ n. RepeatsBy set_of ShowsRun before e after (replicate n reply)) more
+        (more_times (count - 1))
 
-      shown_more : (threads : ℕ) (past : List Event) (count : ℕ) → Shows before threads past
-          → Shows before threads (past ++ replicate count e)
-      shown_more threads past zero shows =
-          subst (λ (events : List Event). Shows before threads events) (sym (append-nil past)) shows
-      shown_more threads past (suc count) shows =
-          subst (λ (events : List Event). Shows before threads events)
-          (append_assoc past (e ∷ []) (replicate count e))
-          (shown_more threads (past ++ e ∷ []) count (shown_on threads past shows))
-
-      replies_again : (threads : ℕ) (past : List Event) (count : ℕ) → Shows before threads past
-          → AreReplies before.set threads past e (replicate count reply)
-      replies_again threads past zero shows = tt
-      replies_again threads past (suc count) shows = (
-        applies.replies threads past shows,
-        replies_again threads (past ++ e ∷ []) count (shown_on threads past shows),
-      )
-
-      shown_after : (threads : ℕ) (past : List Event) (count : ℕ) → Shows before threads past
-          → Shows after threads (past ++ replicate (count + 1) e)
-      shown_after threads past count shows =
-          subst (λ (events : List Event). Shows after threads events) (added e count past)
-          (applies.shows threads (past ++ replicate count e) (shown_more threads past count shows))
-
-      again : (count : ℕ) → Repeats before e after (replicate (count + 1) reply)
-      again count =
-          record {
-            set = applies.set;
-            shows = λ threads past shows.
-                subst (λ n. Shows after threads (past ++ replicate n e))
-                (sym (length-replicate (count + 1) reply)) (shown_after threads past count shows);
-            are = λ threads past shows. replies_again threads past (count + 1) shows;
-          }
+module _ (before after : Shown) (e : Event) (reply : Reply) (applies : Applies before e after reply)
+  where
+    -- where nothing has changed, the run with the event added is shown as before
+    shown_on : WaitingChangesNothing → says_unchanged reply ≡ true → (threads : ℕ)
+        (past : List Event) → Shows before threads past → Shows before threads (past ++ e ∷ [])
+    shown_on law same threads past shows =
+        subst (λ (w : World). ShowsWorld before w)
+        (sym (law before.set threads past e
+        (ap (λ r. says_unchanged r) (sym (applies.replies threads past shows)) ∙ same))) shows
 
     pub settles : WaitingChangesNothing → (count : ℕ) → 1 ≤ count
         → Repeats before e after (told_by (settled reply count))
     settles law count some =
         elim (cases_Bool (says_unchanged reply)) [
-          | inl same ↦ (let more : (count - 1) + 1 ≡ count = omega (arith, some) in
-              rw same (subst (λ n. Repeats before e after (replicate n reply)) more
-              (again law same (count - 1))))
-          | inr other ↦ rw other once
+          | inl same ↦ rw same (again (λ (m : Shown). m.set) Shows before after e reply applies
+              (shown_on law same) count some)
+          | inr other ↦ rw other (once (λ (m : Shown). m.set) Shows before after e reply applies)
         ]
 
 module _ (before after : Shown) (t made : ℕ) (reply : Reply)

@@ -4,7 +4,7 @@ use Rattle.std.proofs.lemmas.List.{append-nil}
 use Rattle.report.specs.Reply.{worded_line}
 use Rattle.tell_lines.specs.Lines.{worded_lines}
 use Rattle.drvhost_runs.specs.declared.tell.Detail.{Detail}
-use Rattle.drvhost_runs.specs.Told.{IsTold, Occurrence, is_left_out, told_line}
+use Rattle.drvhost_runs.specs.Told.{IsTold, Occurrence, ToldOnce, ToldTimes, is_left_out, told_line}
 
 -- one more of the same
 pub told_again : (detail : Detail) (count number : ℕ) (o : Occurrence) (added words : List ℕ)
@@ -111,6 +111,24 @@ pub lines_of : {T E : Type 0} (r : Result T E) (detail : Detail) (number : ℕ) 
 lines_of (Ok x) detail number o text more told (words, added) =
     (words, line_told detail number o text more words told added)
 lines_of (Err e) detail number o text more told h = tt
+
+-- an event is told, and then so many times more
+pub times_more : (detail again : Detail) (number next : ℕ) (o : Occurrence) (count : ℕ)
+    (text mid more : List ℕ) → 1 ≤ count → ToldOnce detail number o text mid → again ≡ detail
+    → next ≡ number + 1 → ToldTimes again next o (count - 1) mid more
+    → ToldTimes detail number o count text more
+times_more detail again number next o count text mid more some (words, first) same place
+    (added, is, told) =
+    let line = told_line detail number o words in
+    let all : suc (count - 1) ≡ count = omega (arith, some) in
+    let behind : IsTold detail (number + 1) (replicate (count - 1) o) added =
+    subst (λ (d : Detail). IsTold d (number + 1) (replicate (count - 1) o) added) same
+    (subst (λ (k : ℕ). IsTold again k (replicate (count - 1) o) added) place told) in (
+      line ++ added,
+      is ∙ ap (λ (x : List ℕ). x ++ added) first ∙ append_assoc text line added,
+      subst (λ (k : ℕ). IsTold detail number (replicate k o) (line ++ added)) all
+          (words, (added, refl, behind)),
+    )
 
 -- or nothing is
 pub nothing_told : (detail : Detail) (number : ℕ) (o : Occurrence) (text : List ℕ)

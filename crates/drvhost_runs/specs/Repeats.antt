@@ -8,8 +8,6 @@ use Rattle.model.specs.Machine.{reply_to}
 use Rattle.model.specs.Set.{Set}
 use Rattle.laws_runs.specs.Waits.{says_unchanged}
 use Rattle.drvhost_runs.specs.declared.running.Replies.{Replies}
-use Rattle.drvhost_runs.specs.declared.telling.Coming.{Coming}
-use Rattle.drvhost_runs.specs.declared.telling.Coming.TheVariants.{Ended, Others, Single}
 
 -- the replies of a run to an event that happens once for each of them
 abbrev pub AreReplies : Set → ℕ → List Event → Event → List Reply → Type 0
@@ -44,9 +42,3 @@ settled reply count = record { stepped = 0; last = reply; times = settled_times 
 abbrev pub awaited : Option Repeated → List Event → List Event
 awaited None later = later
 awaited (Some run) later = replicate run.count run.event ++ later
-
--- what comes next of events, and those that are still to come then
-abbrev pub Comes : List Event → List Event → Coming → Type 0
-Comes before after (Single event) = before ≡ event ∷ after
-Comes before after Others = before ≡ after
-Comes before after Ended = before ≡ []

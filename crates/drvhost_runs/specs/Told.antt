@@ -1,6 +1,6 @@
 -- What `tell` answers: the trace of a run with words behind the reply of each event, and its audit;
 -- and what `draw` does: a picture of the run.
-use Rattle.std.specs.Prelude.{ℕ, ⊤, ◌≡◌, ◌+◌, ◌++◌, ◌||◌, Bool, true, false, if◌then◌else◌, List, [], ◌∷◌, codes, replicate, Option, None, Some, Result, Ok, Err}
+use Rattle.std.specs.Prelude.{ℕ, ⊤, ◌≡◌, ◌+◌, ◌++◌, ◌||◌, Bool, true, false, if◌then◌else◌, List, [], ◌∷◌, codes, length, replicate, Option, None, Result, Ok, Err}
 use Rattle.std.specs.List.{list_any}
 use Rattle.tell_audit.specs.Findings.{has_findings}
 use Rattle.tell_uses.specs.declared.acting.Acting.{Acting}
@@ -9,7 +9,6 @@ use Rattle.tell_uses.specs.Computing.{computes}
 use Rattle.tell_uses.specs.Ledger.{LedgerState, Tells as TellsRun}
 use Rattle.tell_words.specs.declared.line.Happened.{Happened}
 use Rattle.checked.specs.GoingOn.{GoesOn}
-use Rattle.interleave.specs.declared.read.Repeated.{Repeated}
 use Rattle.interleave.specs.declared.schedule.Schedule.{Schedule}
 use Rattle.interleave.specs.declared.schedule.ScheduleFault.{ScheduleFault}
 use Rattle.interleave.specs.Listing.{schedule_in}
@@ -18,6 +17,7 @@ use Rattle.model.specs.declared.event.Event.TheVariants.{Step}
 use Rattle.model.specs.declared.event.Reply.{Reply}
 use Rattle.model.specs.declared.event.Reply.TheVariants.{Started, Stepped, Finished, Topped, Waited, Idle, Refused, Bug, Wrong}
 use Rattle.model.specs.Machine.{Machine, ShowsWhole}
+use Rattle.model.specs.History.{replies}
 use Rattle.model.specs.Run.{Run, begun, run, step}
 use Rattle.model.specs.Set.{Set}
 use Rattle.model.specs.Trace.{Entry}
@@ -36,11 +36,12 @@ use Rattle.drvhost_runs.specs.declared.tell.Manner.{Manner}
 use Rattle.drvhost_runs.specs.declared.tell.Strictness.{Strictness}
 use Rattle.drvhost_runs.specs.declared.tell.Strictness.TheVariants.{Lenient, Strict}
 use Rattle.drvhost_runs.specs.declared.telling.Told.{Told}
-use Rattle.drvhost_runs.specs.declared.telling.Course.{Course}
+use Rattle.drvhost_runs.specs.declared.telling.Telling.{Telling}
 use Rattle.drvhost_devices.specs.declared.verification.Verification.{Verification}
 use Rattle.drvhost_devices.specs.Answer.{Answer, IsTraced, ended, faulty, is_last, shown_replies}
 use Rattle.drvhost_devices.specs.Device.{Holds, Supply}
 use Rattle.drvhost_devices.specs.Ends.{IsOfSupply}
+use Rattle.drvhost_runs.specs.Watching.{until_end}
 
 -- a reply that only says that a step was made, or that there was nothing to do
 abbrev pub is_quiet : Reply → Bool
@@ -95,12 +96,12 @@ IsTold detail number (o ∷ rest) text =
     × (text ≡ told_line detail number o words ++ later)
     × IsTold detail (number + 1) rest later)
 
--- the events of a run, up to one that stops it
+-- the events of a run, one for each of these
 abbrev pub occurrences : Set → Run → List Event → List Occurrence
 occurrences set r [] = []
 occurrences set r (e ∷ events) =
     occurs (acting_in set r.world e) (step set r e).reply
-    ∷ (if is_last (step set r e).reply then [] else occurrences set (step set r e).run events)
+    ∷ occurrences set (step set r e).run events
 
 -- an event that a machine is about to apply, with this reply, and one that has happened
 abbrev pub occurs_in : Machine → Event → Reply → Occurrence
@@ -121,29 +122,19 @@ happens_again Refused = false
 happens_again (Bug bug) = false
 happens_again (Wrong place) = false
 
--- how often it is told again of what is left of a run, and what is left to be run then
-abbrev pub count_left : Option Repeated → ℕ
-count_left None = 0
-count_left (Some run) = run.count
-
-abbrev pub times_again : Reply → Option Repeated → ℕ
-times_again reply rest = if happens_again reply then count_left rest else 0
-
-abbrev pub left_again : Reply → Option Repeated → Option Repeated
-left_again reply rest = if happens_again reply then None else rest
+-- how often it is told, with the first of so many of them
+abbrev pub times_of : Reply → ℕ → ℕ
+times_of reply count = if happens_again reply then count else 1
 
 -- an event is told
 abbrev pub ToldOnce : Detail → ℕ → Occurrence → List ℕ → List ℕ → Type 0
 ToldOnce detail number o text more =
     (words : List ℕ) × (more ≡ text ++ told_line detail number o words)
 
--- an event is told, and those behind it that are told again
-pub record ToldNext (detail : Detail) (number : ℕ) (o : Occurrence) (rest : Option Repeated)
-    (text more : List ℕ) : Type 0 where
-  pub words : List ℕ
-  pub added : List ℕ
-  pub whole : more ≡ (text ++ told_line detail number o words) ++ added
-  pub again : IsTold detail (number + 1) (replicate (times_again o.reply rest) o) added
+-- and so many times in a row
+abbrev pub ToldTimes : Detail → ℕ → Occurrence → ℕ → List ℕ → List ℕ → Type 0
+ToldTimes detail number o times text more =
+    (added : List ℕ) × (more ≡ text ++ added) × IsTold detail number (replicate times o) added
 
 -- where a machine shows a run
 abbrev pub InRuns : Machine → Type 0 → Type 0
@@ -173,29 +164,29 @@ TellsAlike detail =
 -- so many such steps are told, the first of which has this number
 abbrev pub ToldAlone : Detail → ℕ → ℕ → List ℕ → List ℕ → Type 0
 ToldAlone detail number k text more =
-    TellsAlike detail × ((added : List ℕ) × (more ≡ text ++ added)
-    × IsTold detail number (replicate k unknown_step) added)
+    TellsAlike detail × ToldTimes detail number unknown_step k text more
 
--- a run after these events, or after the first of them that stops it
-abbrev pub run_to_end : Set → Run → List Event → Run
-run_to_end set r [] = r
-run_to_end set r (e ∷ events) =
-    if is_last (step set r e).reply then (step set r e).run
-    else run_to_end set (step set r e).run events
-
--- the events of a schedule as they are told, the replies to them, and the world that they leave
-abbrev pub occurrences_by : Set → ℕ → List Event → List Occurrence
-occurrences_by set threads events = occurrences set (begun set threads) events
+-- the events of a run by a schedule, up to one that stops it; the replies to them, and the run
+-- that they make
+abbrev pub events_by : Set → ℕ → List Event → List Event
+events_by set threads events = until_end set (begun set threads) events
 
 abbrev pub replies_by : Set → ℕ → List Event → List Reply
 replies_by set threads events = shown_replies set (begun set threads) events
 
-abbrev pub world_by : Set → ℕ → List Event → World
-world_by set threads events = (run_to_end set (begun set threads) events).world
+abbrev pub run_by : Set → ℕ → List Event → Run
+run_by set threads events = run set threads (events_by set threads events)
 
--- and the trace
+-- the events as they are told, and the world and the trace that they leave
+abbrev pub occurrences_by : Set → ℕ → List Event → List Occurrence
+occurrences_by set threads events =
+    occurrences set (begun set threads) (events_by set threads events)
+
+abbrev pub world_by : Set → ℕ → List Event → World
+world_by set threads events = (run_by set threads events).world
+
 abbrev pub past_by : Set → ℕ → List Event → List Entry
-past_by set threads events = (run_to_end set (begun set threads) events).past
+past_by set threads events = (run_by set threads events).past
 
 -- a reply to an event that was refused
 abbrev pub is_refused : Reply → Bool
@@ -285,15 +276,12 @@ Tells Right (Err (Text fault)) = ⊥
 Tells Right (Err (Image fault)) = ⊥
 Tells Right (Err (OfScript fault)) = ⊥
 
--- the events of a run over so many threads were told: what they left in a machine's set and world,
--- a ledger that tells the run up to the last of them that was told, how that went, and the text
-pub record HasTold (detail : Detail) (set : Set) (threads : ℕ) (events : List Event) (after : Set)
-    (world : World) (ledger : LedgerState) (course : Course) (text : List ℕ) : Type 0 where
-  pub same : after ≡ set
-  pub told : IsTold detail 0 (occurrences_by set threads events) text
-  pub last : list_any is_last (replies_by set threads events) ≡ course.stopped
-  pub refused : list_any is_refused (replies_by set threads events) ≡ course.refused
-  pub left : world ≡ world_by set threads events
-  pub reached : List Event
-  pub ends : run set threads reached ≡ run_to_end set (begun set threads) events
-  pub tells : TellsRun (run set threads reached) ledger
+-- what is known where these events of a run were told: their lines, whether one was refused, and
+-- their uses
+pub record IsTelling (start now : Telling) (set : Set) (threads : ℕ) (past : List Event) : Type 0
+  where
+    pub detail : now.page.detail ≡ start.page.detail
+    pub numbered : now.page.number ≡ length past
+    pub told : IsTold now.page.detail 0 (occurrences set (begun set threads) past) now.page.text
+    pub refused : now.refused ≡ list_any is_refused (replies set threads past)
+    pub tells : TellsRun (run set threads past) now.sight.ledger

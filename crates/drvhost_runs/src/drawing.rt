@@ -1,17 +1,21 @@
 //! Runs that are drawn.
 
-ghost use Rattle.std.specs.Prelude.{◌≡◌, [], IfOk};
-ghost use Rattle.std.specs.List.{list_any};
+ghost use Rattle.std.specs.Prelude.{◌≡◌, [], IfOk, ⊤};
 ghost use Rattle.interleave.specs.Listing.{IsWithinLimits};
+ghost use Rattle.drvhost_devices.specs.declared.fault.Fault.TheVariants.{Memory};
 ghost use Rattle.model.specs.Machine.{ShowsWhole};
-ghost use Rattle.drvhost_devices.specs.Answer.{ended, is_last};
-ghost use Rattle.drvhost_runs.specs.Told.{IsRunDrawn, replies_by};
+ghost use Rattle.drvhost_devices.specs.Answer.{ended};
+ghost use Rattle.drvhost_runs.specs.Told.{IsRunDrawn};
 
 use crate::follow::is_last;
-use crate::telling::{Told, end_of, next_event};
+use crate::running::Machine;
+use crate::telling::Told;
+use crate::watching::{Observer, Taken, observe};
 use checked::Checked;
 use draw_picture::{Drawing, add_picture};
+use drvhost_devices::fault::Fault;
 use interleave::schedule::Schedule;
+use model::event::Event;
 use std::alloc::{AllocError, Global};
 use tell_lines::kept::ToldLines;
 use tell_names::Book;
@@ -31,40 +35,50 @@ pub(crate) fn draw_run(
         schedule.now.events (ended told.end told.text)) }
 {
     let book = Book::of(alloc, source)?;
-    let mut drawing = Drawing::begin(alloc, machine, &book)?;
-    let stopped = draw_events(&mut drawing, &book, machine, schedule)?;
+    let drawing = Drawing::begin(alloc, machine, &book)?;
+    let mut painter = Painter {
+        drawing,
+        book,
+        number: 0,
+    };
+    let Ok(end) = observe(machine, schedule, &mut painter) else {
+        return Err(AllocError);
+    };
     let mut picture = String::new(alloc);
-    add_picture(&mut picture, &drawing)?;
+    add_picture(&mut picture, &painter.drawing)?;
     Ok(Told {
         text: ToldLines::of_bytes(alloc, picture.into_bytes())?,
-        end: end_of(stopped, false),
+        end,
     })
 }
 
-/// Draws the events of a schedule, up to one that stops the run, and answers whether one did.
-fn draw_events(
-    drawing: &mut Drawing,
-    book: &Book<'_>,
-    machine: &mut Checked,
-    schedule: &Schedule,
-) -> Result<bool, AllocError>
-    requires begun { ShowsWhole machine.old schedule.now.threads [] }
-    requires limits { IsWithinLimits schedule.now }
-    ensures { IfOk result (λ stopped. list_any is_last
-        (replies_by machine.old.set schedule.now.threads schedule.now.events) ≡ stopped) }
-{
-    let mut number: u64 = 0;
-    let mut upcoming = schedule.events.upcoming();
-    let mut rest = None;
-    while let Some(next) = next_event(rest, &mut upcoming) {
-        let moment = Moment::before(machine, &next.event);
-        let reply = machine.apply(&next.event);
-        drawing.add_event(book, number, &next.event, &moment, &reply, machine)?;
-        if is_last(&reply) {
-            return Ok(true);
-        }
-        number = number.saturating_add(1);
-        rest = next.rest;
+/// A picture of the events of a run, of which each is drawn by itself.
+#[derive(Drop)]
+struct Painter<'a> {
+    drawing: Drawing,
+    book: Book<'a>,
+    number: u64,
+}
+
+impl<'a> Observer<Checked> for Painter<'a> {
+    ghost tells = { λ start now set threads past. ⊤ };
+
+    ghost breaks = { λ start now fault set threads past. fault ≡ Memory };
+
+    fn watch(
+        &mut self,
+        machine: &mut Checked,
+        event: &Event,
+        _count: usize,
+    ) -> Result<Taken, Fault> {
+        let moment = Moment::before(machine, event);
+        let reply = machine.answer(event);
+        self.drawing
+            .add_event(&self.book, self.number, event, &moment, &reply, machine)?;
+        self.number = self.number.saturating_add(1);
+        Ok(Taken {
+            count: 1,
+            ended: is_last(&reply),
+        })
     }
-    Ok(false)
 }

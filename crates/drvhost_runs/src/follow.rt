@@ -9,6 +9,7 @@ ghost use Rattle.drvhost_devices.specs.Device.{Adds, CanCount, TakesBeginning};
 ghost use Rattle.drvhost_devices.specs.Fault.{Goes, reads_failed, writes_failed};
 ghost use Rattle.drvhost_runs.specs.Repeats.{awaited};
 
+use crate::lined::{LineWriter, write_run};
 use crate::running::Machine;
 use drvhost_devices::device::Sink;
 use drvhost_devices::fault::{End, Fault};
@@ -38,29 +39,12 @@ pub(crate) fn follow<M: Machine, O: Sink>(
     ensures reads { reads_failed result ≡ 0 }
     ensures writes { O.failures out.new ≡ O.failures out.old + writes_failed result }
 {
-    let mut number = EventNumber::first();
-    let mut upcoming = schedule.events.upcoming();
-    let mut rest = None;
-    loop {
-        if let Some(event) = next_single(&rest, &mut upcoming) {
-            let reply = machine.answer(&event);
-            add_reply(&mut number, &reply, lines, out)?;
-            if is_last(&reply) {
-                return Ok(End::Stopped);
-            }
-            continue;
-        }
-        let Some(Repeated { event, count }) = next_run(rest, &mut upcoming) else {
-            return Ok(End::Complete);
-        };
-        let replies = machine.repeat(&event, count);
-        add_replies(&mut number, &Reply::Stepped, replies.stepped, lines, out)?;
-        add_replies(&mut number, &replies.last, replies.times, lines, out)?;
-        if is_last(&replies.last) {
-            return Ok(End::Stopped);
-        }
-        rest = rest_of(event, count - replies.stepped - replies.times);
-    }
+    let mut writer = LineWriter {
+        number: EventNumber::first(),
+        lines,
+        out,
+    };
+    write_run(machine, schedule, &mut writer)
 }
 
 /// The next event, where nothing is left of a run, and it is one that happens once: so are most
@@ -105,7 +89,7 @@ pub(crate) fn rest_of(event: Event, left: usize) -> Option<Repeated>
 
 /// Adds the line of an event that has this reply.
 #[inline]
-fn add_reply<O: Sink>(
+pub(crate) fn add_reply<O: Sink>(
     number: &mut EventNumber,
     reply: &Reply,
     lines: &mut Lines,
@@ -129,7 +113,7 @@ fn add_reply<O: Sink>(
 
 /// Adds the lines of so many events in a row that have the same reply.
 #[inline]
-fn add_replies<O: Sink>(
+pub(crate) fn add_replies<O: Sink>(
     number: &mut EventNumber,
     reply: &Reply,
     count: usize,

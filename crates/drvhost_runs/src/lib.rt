@@ -2,13 +2,18 @@
 //! in words or drawn, and what comes of a script of commands that workers serve.
 #![tactic(auto)]
 
+mod alone;
 pub mod draw;
 mod drawing;
 mod follow;
 pub mod host;
+mod levels;
+mod lined;
+mod page;
 mod running;
 mod seeing;
 mod show;
 pub mod tell;
 mod telling;
 pub mod trace;
+mod watching;

@@ -19,14 +19,12 @@ use tell_uses::ledger::Ledger;
 use tell_uses::plain::{is_plain, plain_steps_keep_ledgers, plain_steps_step_or_stay};
 use tell_words::{Happened, Moment};
 
-/// What is seen before the first event.
-pub(crate) fn nothing_seen() -> Happened {
-    Happened {
-        event: Event::Interrupt { device: 0 },
-        moment: Moment::nothing(),
-        step: UseStep::Nothing,
-        reply: Reply::Idle,
-    }
+/// What is seen of a run that is told: its last event, and a ledger of uses.
+#[derive(Drop)]
+pub(crate) struct Sight {
+    alloc: Global,
+    pub(crate) ledger: Ledger,
+    pub(crate) happened: Happened,
 }
 
 /// Whether an event needs no look at it before it is applied: in quiet a plain step, and usually
@@ -42,38 +40,101 @@ pub(crate) fn goes_unseen(machine: &Checked, event: &Event, detail: Detail) -> b
     }
 }
 
-/// Applies an event and notes it in the ledger, and puts down what is seen of it. It answers whether
-/// the event is passed over: nothing is told of it, and nothing noted for the audit.
-pub(crate) fn see(
-    alloc: Global,
-    ledger: &mut Ledger,
-    machine: &mut Checked,
-    event: &Event,
-    unseen: bool,
-    detail: Detail,
-    happened: &mut Happened,
-) -> Result<bool, AllocError>
-    requires { IsTrue unseen → GoesUnseen detail machine.old event.now }
-    ensures applied { OnOk result
-        (AppliesWhole machine.old event.now machine.new happened.new.reply) }
-    ensures noted { OnOk result (LedgerGoesOn machine.old event.now ledger.old ledger.new) }
-    ensures kept { OnOk result (says_unchanged happened.new.reply ≡ true
-        → ledger.new ≡ ledger.old) }
-    ensures seen { IfOk result (λ passed. passed ≡ false
-        → HappensBefore machine.old event.now happened.new) }
-    ensures passed { IfOk result (λ passed. IsTrue passed
-        → (is_left_out detail (acting_in machine.old.set machine.old.world event.now) Stepped
-        ≡ true) × (happened.new.reply ≡ Stepped)) }
-{
-    if unseen {
-        return see_after(alloc, ledger, machine, event, detail, happened);
+impl Sight {
+    /// What is seen before the first event.
+    pub(crate) fn of(alloc: Global, ledger: Ledger) -> Sight
+        ensures { result.ledger ≡ ledger }
+    {
+        Sight {
+            alloc,
+            ledger,
+            happened: Happened {
+                event: Event::Interrupt { device: 0 },
+                moment: Moment::nothing(),
+                step: UseStep::Nothing,
+                reply: Reply::Idle,
+            },
+        }
     }
-    happened.event = *event;
-    look_before(machine, event, detail, &mut happened.moment);
-    happened.step = use_step_of(machine, event, &happened.moment.acting);
-    happened.reply = machine.apply(event);
-    ledger.note(alloc, happened.step, event, &happened.reply, machine)?;
-    Ok(is_passed(detail, happened.step, &happened.reply))
+
+    /// Applies an event and notes it in the ledger, and puts down what is seen of it. It answers
+    /// whether the event is passed over: nothing is told of it, and nothing noted for the audit.
+    pub(crate) fn see(
+        &mut self,
+        machine: &mut Checked,
+        event: &Event,
+        unseen: bool,
+        detail: Detail,
+    ) -> Result<bool, AllocError>
+        requires { IsTrue unseen → GoesUnseen detail machine.old event.now }
+        ensures applied { OnOk result
+            (AppliesWhole machine.old event.now machine.new self.new.happened.reply) }
+        ensures noted { OnOk result
+            (LedgerGoesOn machine.old event.now self.old.ledger self.new.ledger) }
+        ensures kept { OnOk result (says_unchanged self.new.happened.reply ≡ true
+            → self.new.ledger ≡ self.old.ledger) }
+        ensures seen { IfOk result (λ passed. passed ≡ false
+            → HappensBefore machine.old event.now self.new.happened) }
+        ensures passed { IfOk result (λ passed. IsTrue passed
+            → (is_left_out detail (acting_in machine.old.set machine.old.world event.now) Stepped
+            ≡ true) × (self.new.happened.reply ≡ Stepped)) }
+    {
+        if unseen {
+            return self.see_after(machine, event, detail);
+        }
+        self.happened.event = *event;
+        look_before(machine, event, detail, &mut self.happened.moment);
+        self.happened.step = use_step_of(machine, event, &self.happened.moment.acting);
+        self.happened.reply = machine.apply(event);
+        self.ledger.note(
+            self.alloc,
+            self.happened.step,
+            event,
+            &self.happened.reply,
+            machine,
+        )?;
+        Ok(is_passed(detail, self.happened.step, &self.happened.reply))
+    }
+
+    /// The same of a plain step of which nothing is told. Where it steps it is passed over, and the
+    /// ledger stays as it is. Else nothing has changed but that the run may have stopped, and the
+    /// frame that acted is looked up then.
+    fn see_after(
+        &mut self,
+        machine: &mut Checked,
+        event: &Event,
+        detail: Detail,
+    ) -> Result<bool, AllocError>
+        requires { is_plain machine.old.set machine.old.world event.now ≡ true }
+        ensures applied { OnOk result
+            (AppliesWhole machine.old event.now machine.new self.new.happened.reply) }
+        ensures noted { OnOk result
+            (LedgerGoesOn machine.old event.now self.old.ledger self.new.ledger) }
+        ensures kept { OnOk result (says_unchanged self.new.happened.reply ≡ true
+            → self.new.ledger ≡ self.old.ledger) }
+        ensures seen { IfOk result (λ passed. passed ≡ false
+            → HappensBefore machine.old event.now self.new.happened) }
+        ensures passed { IfOk result (λ passed. IsTrue passed
+            → self.new.happened.reply ≡ Stepped) }
+    {
+        plain_steps_keep_ledgers();
+        plain_steps_step_or_stay();
+        self.happened.reply = machine.apply(event);
+        if is_stepped(&self.happened.reply) {
+            return Ok(true);
+        }
+        self.ledger.note(
+            self.alloc,
+            UseStep::Nothing,
+            event,
+            &self.happened.reply,
+            machine,
+        )?;
+        self.happened.event = *event;
+        look_before(machine, event, detail, &mut self.happened.moment);
+        self.happened.step = UseStep::Nothing;
+        Ok(false)
+    }
 }
 
 /// Looks at what an event is before it: in quiet without the packet, since no words are told there
@@ -87,40 +148,6 @@ fn look_before(machine: &Checked, event: &Event, detail: Detail, moment: &mut Mo
         Detail::Every | Detail::Usual => moment.look_at_packet(machine),
         Detail::Quiet => {}
     }
-}
-
-/// The same of a plain step of which nothing is told. Where it steps it is passed over, and the
-/// ledger stays as it is. Else nothing has changed but that the run may have stopped, and the frame
-/// that acted is looked up then.
-fn see_after(
-    alloc: Global,
-    ledger: &mut Ledger,
-    machine: &mut Checked,
-    event: &Event,
-    detail: Detail,
-    happened: &mut Happened,
-) -> Result<bool, AllocError>
-    requires { is_plain machine.old.set machine.old.world event.now ≡ true }
-    ensures applied { OnOk result
-        (AppliesWhole machine.old event.now machine.new happened.new.reply) }
-    ensures noted { OnOk result (LedgerGoesOn machine.old event.now ledger.old ledger.new) }
-    ensures kept { OnOk result (says_unchanged happened.new.reply ≡ true
-        → ledger.new ≡ ledger.old) }
-    ensures seen { IfOk result (λ passed. passed ≡ false
-        → HappensBefore machine.old event.now happened.new) }
-    ensures passed { IfOk result (λ passed. IsTrue passed → happened.new.reply ≡ Stepped) }
-{
-    plain_steps_keep_ledgers();
-    plain_steps_step_or_stay();
-    happened.reply = machine.apply(event);
-    if is_stepped(&happened.reply) {
-        return Ok(true);
-    }
-    ledger.note(alloc, UseStep::Nothing, event, &happened.reply, machine)?;
-    happened.event = *event;
-    look_before(machine, event, detail, &mut happened.moment);
-    happened.step = UseStep::Nothing;
-    Ok(false)
 }
 
 /// Whether a reply says that a step was made.

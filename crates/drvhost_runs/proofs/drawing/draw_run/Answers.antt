@@ -2,4 +2,6 @@ use Rattle.drvhost_runs.proofs.DrawnRuns.{run_drawn}
 use Rattle.drvhost_runs.proofs.drawing.draw_run.Goals as goal
 
 pub returns : goal.returns
-returns c = rw c.end_of.ensures (run_drawn _ _ _ _ _ c.in_ok-stopped.ensures)
+returns c =
+    let (past, runs, shown, told) = c.in-Ok.ensures in
+    run_drawn _ _ _ past _ _ runs
