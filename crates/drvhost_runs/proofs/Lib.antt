@@ -1,13 +1,5 @@
 pub mod Serving
 pub mod Repeating
 pub mod Following
-pub mod ToldLines
-pub mod Unchanged
-pub mod ToldOn
-pub mod ToldAnswers
-pub mod ShownRuns
-pub mod ToldAlone
-pub mod PlainlySeen
-pub mod DrawnRuns
 pub mod Observing
 pub mod Lining

@@ -1,6 +1,4 @@
 pub mod Lined
 pub mod Repeats
-pub mod Seen
 pub mod Served
-pub mod Told
 pub mod Watching

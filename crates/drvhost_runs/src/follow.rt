@@ -169,7 +169,7 @@ fn add_words<O: Sink>(
 
 /// Whether the run ends with this reply: a bug check, or a wrong operand.
 #[inline]
-pub(crate) fn is_last(reply: &Reply) -> bool
+pub fn is_last(reply: &Reply) -> bool
     ensures { result ≡ is_last reply.now }
 {
     matches!(reply, Reply::Bug(_) | Reply::Wrong(_))

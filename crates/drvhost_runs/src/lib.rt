@@ -1,19 +1,11 @@
-//! What the program does that runs a driver set, over any devices: the trace of a run, the run told
-//! in words or drawn, and what comes of a script of commands that workers serve.
+//! What the program does that runs a driver set, over any devices: the loop over the events of a
+//! schedule, for whoever watches it, the trace of a run, and what comes of a script of commands that
+//! workers serve.
 #![tactic(auto)]
 
-mod alone;
-pub mod draw;
-mod drawing;
-mod follow;
+pub mod follow;
 pub mod host;
-mod levels;
 mod lined;
-mod page;
-mod running;
-mod seeing;
-mod show;
-pub mod tell;
-mod telling;
+pub mod running;
 pub mod trace;
-mod watching;
+pub mod watching;

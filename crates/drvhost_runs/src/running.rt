@@ -16,17 +16,17 @@ use model::event::{Event, Reply};
 
 /// The replies to an event that happened several times in a row.
 #[derive(Clone, Copy)]
-pub(crate) struct Replies {
+pub struct Replies {
     /// To how many of them the thread stepped, before the others.
-    pub(crate) stepped: usize,
+    pub stepped: usize,
     /// The reply to each of the others.
-    pub(crate) last: Reply,
+    pub last: Reply,
     /// How many others there are.
-    pub(crate) times: usize,
+    pub times: usize,
 }
 
 /// Something that runs events.
-pub(crate) trait Machine {
+pub trait Machine {
     ghost set_of: { Self → Set };
 
     /// It shows the run of these events, over so many threads.

@@ -16,15 +16,15 @@ use model::event::Event;
 
 /// What an observer has taken of an event that is to happen several times in a row.
 #[derive(Clone, Copy)]
-pub(crate) struct Taken {
+pub struct Taken {
     /// How often it has happened.
-    pub(crate) count: usize,
+    pub count: usize,
     /// Whether the run ended with it.
-    pub(crate) ended: bool,
+    pub ended: bool,
 }
 
 /// Something that has a machine run the events that come next, and tells of them.
-pub(crate) trait Observer<M: Machine> {
+pub trait Observer<M: Machine> {
     // From that state to this one it told the run of these events.
     ghost tells: { Self → Self → Set → ℕ → List Event → Type 0 };
 
@@ -48,7 +48,7 @@ pub(crate) trait Observer<M: Machine> {
 
 /// Has an observer tell the run of a schedule, up to a bug check or a wrong operand.
 #[inline(always)]
-pub(crate) fn observe<M: Machine, W: Observer<M>>(
+pub fn observe<M: Machine, W: Observer<M>>(
     machine: &mut M,
     schedule: &Schedule,
     observer: &mut W,

@@ -8,8 +8,8 @@ use Rattle.drvhost_devices.specs.Ends.{Answers, Ends, HoldsRun, IsCheckOf, IsLis
 use Rattle.drvhost_sets.specs.declared.explaining.Extent.{Extent}
 use Rattle.drvhost_sets.specs.Explained.{IsExplainedOf}
 use Rattle.drvhost_runs.specs.Served.{IsHostOf}
-use Rattle.drvhost_runs.specs.Told.{IsDrawOf, IsTellOf}
-use Rattle.drvhost_runs.specs.declared.tell.Manner.{Manner}
+use Rattle.drvhost_views.specs.Told.{IsDrawOf, IsTellOf}
+use Rattle.drvhost_views.specs.declared.tell.Manner.{Manner}
 use Rattle.drvhost_devices.specs.declared.verification.Verification.{Verification}
 use Rattle.drvhost_words.specs.declared.job.Job.{Job}
 use Rattle.drvhost_words.specs.declared.job.JobFault.{JobFault}

@@ -16,11 +16,11 @@ use Rattle.drvhost_words.specs.declared.job.JobFault.{JobFault}
 use Rattle.drvhost_words.specs.declared.job.JobFault.TheVariants.{Usage, Memory}
 use Rattle.drvhost_sets.specs.declared.explaining.Extent.{Extent}
 use Rattle.drvhost_sets.specs.declared.explaining.Extent.TheVariants.{First, Each}
-use Rattle.drvhost_runs.specs.declared.tell.Detail.{Detail}
-use Rattle.drvhost_runs.specs.declared.tell.Detail.TheVariants.{Every, Usual, Quiet}
-use Rattle.drvhost_runs.specs.declared.tell.Manner.{Manner}
-use Rattle.drvhost_runs.specs.declared.tell.Strictness.{Strictness}
-use Rattle.drvhost_runs.specs.declared.tell.Strictness.TheVariants.{Lenient, Strict}
+use Rattle.drvhost_views.specs.declared.tell.Detail.{Detail}
+use Rattle.drvhost_views.specs.declared.tell.Detail.TheVariants.{Every, Usual, Quiet}
+use Rattle.drvhost_views.specs.declared.tell.Manner.{Manner}
+use Rattle.drvhost_views.specs.declared.tell.Strictness.{Strictness}
+use Rattle.drvhost_views.specs.declared.tell.Strictness.TheVariants.{Lenient, Strict}
 use Rattle.drvhost_devices.specs.declared.verification.Verification.{Verification}
 use Rattle.drvhost_devices.specs.declared.verification.Verification.TheVariants.{Required, Skipped}
 

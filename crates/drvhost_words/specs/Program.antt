@@ -12,7 +12,7 @@ use Rattle.drvhost_devices.specs.declared.verification.Verification.TheVariants.
 use Rattle.drvhost_devices.specs.Ends.{HoldsRun, IsCheckOf, IsListOf, IsRewriteOf, IsTraceOf}
 use Rattle.drvhost_sets.specs.Explained.{IsExplainedOf}
 use Rattle.drvhost_runs.specs.Served.{IsHostOf}
-use Rattle.drvhost_runs.specs.Told.{IsDrawOf, IsTellOf}
+use Rattle.drvhost_views.specs.Told.{IsDrawOf, IsTellOf}
 use Rattle.drvhost_words.specs.declared.answer.Way.{Way}
 use Rattle.drvhost_words.specs.declared.answer.Way.TheVariants.{BySchedule, InWords, AsPicture}
 use Rattle.drvhost_words.specs.declared.job.Job.{Job}

@@ -2,8 +2,8 @@
 
 use drvhost_devices::device::Writer;
 use drvhost_devices::verification::Verification;
-use drvhost_runs::tell::{Detail, Manner, Strictness};
 use drvhost_sets::explaining::Extent;
+use drvhost_views::tell::{Detail, Manner, Strictness};
 use drvhost_words::job::{AloneJob, Job, JobFault, refuse_words};
 use model::abs::Rule;
 use std::alloc::Global;

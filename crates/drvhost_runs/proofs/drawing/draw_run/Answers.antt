@@ -1,7 +1,0 @@
-use Rattle.drvhost_runs.proofs.DrawnRuns.{run_drawn}
-use Rattle.drvhost_runs.proofs.drawing.draw_run.Goals as goal
-
-pub returns : goal.returns
-returns c =
-    let (past, runs, shown, told) = c.in-Ok.ensures in
-    run_drawn _ _ _ past _ _ runs

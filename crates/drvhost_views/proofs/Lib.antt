@@ -1,0 +1,8 @@
+pub mod ToldLines
+pub mod Unchanged
+pub mod ToldOn
+pub mod ToldAnswers
+pub mod ShownRuns
+pub mod ToldAlone
+pub mod PlainlySeen
+pub mod DrawnRuns

@@ -1,0 +1,84 @@
+//! Runs that are drawn.
+
+ghost use Rattle.std.specs.Prelude.{◌≡◌, [], IfOk, ⊤};
+ghost use Rattle.interleave.specs.Listing.{IsWithinLimits};
+ghost use Rattle.drvhost_devices.specs.declared.fault.Fault.TheVariants.{Memory};
+ghost use Rattle.model.specs.Machine.{ShowsWhole};
+ghost use Rattle.drvhost_devices.specs.Answer.{ended};
+ghost use Rattle.drvhost_views.specs.Told.{IsRunDrawn};
+
+use crate::telling::Told;
+use checked::Checked;
+use draw_picture::{Drawing, add_picture};
+use drvhost_devices::fault::Fault;
+use drvhost_runs::follow::is_last;
+use drvhost_runs::running::Machine;
+use drvhost_runs::watching::{Observer, Taken, observe};
+use interleave::schedule::Schedule;
+use model::event::Event;
+use std::alloc::{AllocError, Global};
+use tell_lines::kept::ToldLines;
+use tell_names::Book;
+use tell_words::Moment;
+
+/// Draws the run of a machine by a schedule, up to an event that stops it: with the names and the
+/// lines of a text that names its set.
+pub(crate) fn draw_run(
+    alloc: Global,
+    source: &[u8],
+    machine: &mut Checked,
+    schedule: &Schedule,
+) -> Result<Told, AllocError>
+    requires begun { ShowsWhole machine.old schedule.now.threads [] }
+    requires limits { IsWithinLimits schedule.now }
+    ensures { IfOk result (λ told. IsRunDrawn machine.old.set schedule.now.threads
+        schedule.now.events (ended told.end told.text)) }
+{
+    let book = Book::of(alloc, source)?;
+    let drawing = Drawing::begin(alloc, machine, &book)?;
+    let mut painter = Painter {
+        drawing,
+        book,
+        number: 0,
+    };
+    let Ok(end) = observe(machine, schedule, &mut painter) else {
+        return Err(AllocError);
+    };
+    let mut picture = String::new(alloc);
+    add_picture(&mut picture, &painter.drawing)?;
+    Ok(Told {
+        text: ToldLines::of_bytes(alloc, picture.into_bytes())?,
+        end,
+    })
+}
+
+/// A picture of the events of a run, of which each is drawn by itself.
+#[derive(Drop)]
+struct Painter<'a> {
+    drawing: Drawing,
+    book: Book<'a>,
+    number: u64,
+}
+
+impl<'a> Observer<Checked> for Painter<'a> {
+    ghost tells = { λ start now set threads past. ⊤ };
+
+    ghost breaks = { λ start now fault set threads past. fault ≡ Memory };
+
+    fn watch(
+        &mut self,
+        machine: &mut Checked,
+        event: &Event,
+        _count: usize,
+    ) -> Result<Taken, Fault> {
+        let moment = Moment::before(machine, event);
+        let reply = machine.answer(event);
+        self.drawing
+            .add_event(&self.book, self.number, event, &moment, &reply, machine)?;
+        self.number = self.number.saturating_add(1);
+        Ok(Taken {
+            count: 1,
+            ended: is_last(&reply),
+        })
+    }
+}
