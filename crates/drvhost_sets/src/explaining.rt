@@ -34,6 +34,13 @@ pub enum Extent {
     Each,
 }
 
+/// What words are asked for on a set: on which faults, and in the terms of what it was read from.
+#[derive(Clone, Copy)]
+struct Asked<'a> {
+    extent: Extent,
+    origin: Origin<'a>,
+}
+
 /// Writes whether a driver set is accepted, as [`check`](crate::check::check) does, and then words
 /// on it: the names of its routines, or what leads to the place of its refusal and why the rule is
 /// broken there; and, if asked for, the same of the first fault of each other routine. The answer
@@ -172,7 +179,11 @@ fn explain_set<O: Sink>(
     ensures reads { reads_failed result ≡ 0 }
     ensures writes { O.failures out.new ≡ O.failures out.old + writes_failed result }
 {
-    let end = explain_named(alloc, extent, origin_of(bytes), set, lines, out)?;
+    let asked = Asked {
+        extent,
+        origin: origin_of(bytes),
+    };
+    let end = explain_named(alloc, asked, set, lines, out)?;
     write_lines(lines, out)?;
     Ok(end)
 }
@@ -189,22 +200,21 @@ fn origin_of(bytes: &[u8]) -> Origin<'_> {
 /// Explains the verdict on a set, by what it was read from.
 fn explain_named<O: Sink>(
     alloc: Global,
-    extent: Extent,
-    origin: Origin<'_>,
+    asked: Asked<'_>,
     set: DriverSet,
     lines: &mut Lines,
     out: &mut O,
 ) -> Result<End, Fault>
     requires out { CanCount (O.failures out.old) }
     requires empty { lines.old ≡ [] }
-    ensures goes { Goes (IsExplained extent set) (O.contents out.old) (O.contents out.new) []
-        lines.new result }
+    ensures goes { Goes (IsExplained asked.entry.extent set) (O.contents out.old)
+        (O.contents out.new) [] lines.new result }
     ensures reads { reads_failed result ≡ 0 }
     ensures writes { O.failures out.new ≡ O.failures out.old + writes_failed result }
 {
     match verify(alloc, set) {
-        Ok(accepted) => explain_acceptance(alloc, origin, &accepted, lines, out),
-        Err((set, refusal)) => explain_refusal(alloc, extent, origin, &set, &refusal, lines, out),
+        Ok(accepted) => explain_acceptance(alloc, asked.origin, &accepted, lines, out),
+        Err((set, refusal)) => explain_refusal(alloc, asked, &set, &refusal, lines, out),
     }
 }
 
@@ -234,8 +244,7 @@ fn explain_acceptance<O: Sink>(
 /// anything goes out.
 fn explain_refusal<O: Sink>(
     alloc: Global,
-    extent: Extent,
-    origin: Origin<'_>,
+    asked: Asked<'_>,
     set: &DriverSet,
     refusal: &Refusal,
     lines: &mut Lines,
@@ -244,12 +253,12 @@ fn explain_refusal<O: Sink>(
     requires first { (refusal.now ≡ at_start Rule.Memory) ⊎ IsFirstFault set.now refusal.now }
     requires out { CanCount (O.failures out.old) }
     requires empty { lines.old ≡ [] }
-    ensures goes { Goes (IsRefusalExplained extent set.now) (O.contents out.old)
+    ensures goes { Goes (IsRefusalExplained asked.entry.extent set.now) (O.contents out.old)
         (O.contents out.new) [] lines.new result }
     ensures reads { reads_failed result ≡ 0 }
     ensures writes { O.failures out.new ≡ O.failures out.old + writes_failed result }
 {
-    let words = refusal_words(alloc, extent, origin, set, refusal)?;
+    let words = refusal_words(alloc, asked, set, refusal)?;
     let end = refuse(refusal, lines)?;
     write_words(lines, words.as_slice(), out)?;
     Ok(end)
@@ -258,15 +267,15 @@ fn explain_refusal<O: Sink>(
 /// What is told of a refused set behind the line of its refusal.
 fn refusal_words(
     alloc: Global,
-    extent: Extent,
-    origin: Origin<'_>,
+    asked: Asked<'_>,
     set: &DriverSet,
     refusal: &Refusal,
 ) -> Result<Vec<u8>, AllocError>
     requires { (refusal.now ≡ at_start Rule.Memory) ⊎ IsFirstFault set.now refusal.now }
-    ensures { IfOk result (λ words. AreWordsOf extent set.now words.items) }
+    ensures { IfOk result (λ words. AreWordsOf asked.entry.extent set.now words.items) }
 {
-    match extent {
+    let origin = asked.origin;
+    match asked.extent {
         Extent::First => one_block(alloc, explanation(alloc, origin, set, refusal)?.as_bytes()),
         Extent::Each => one_by_one(alloc, explanations(alloc, origin, set)?.as_slice()),
     }

@@ -7,7 +7,7 @@ use Rattle.drvhost_sets.proofs.explaining.explain_named.Goals as goal
 
 pub returns-in-Ok-clause-goes : goal.returns-in-Ok-clause-goes
 returns-in-Ok-clause-goes g c =
-    let extent = c.args.extent in
+    let extent = c.args.asked.extent in
     let accepted = c.in-Ok.ensures.accepted in
     goes_rightly (IsAcceptanceExplained c.args.set) (IsExplained extent c.args.set) _ _ _ _ _
     (λ answer right. inl right)
@@ -15,7 +15,7 @@ returns-in-Ok-clause-goes g c =
 
 pub returns-in-Err-clause-goes : goal.returns-in-Err-clause-goes
 returns-in-Err-clause-goes g c =
-    let extent = c.args.extent in
+    let extent = c.args.asked.extent in
     let refused = c.in-Err.ensures.refused in
     let Of : Set → Type 0 =
     λ set. Goes (IsRefusalExplained extent set) (g.O.Sink.contents c.args.out.now)

@@ -9,7 +9,7 @@ pub returns-in_err-write_words-clause-goes : goal.returns-in_err-write_words-cla
 returns-in_err-write_words-clause-goes g c =
     let p = err_from_is_err_and c.from_residual-in_err-write_words.result
     c.from_residual-in_err-write_words.ensures.1 in
-    let extent = c.args.extent in
+    let extent = c.args.asked.extent in
     let set = c.args.set.now in
     let refusal = c.args.refusal.now in
     let before = g.O.Sink.contents c.args.out.now in
@@ -31,7 +31,7 @@ returns-in_err-write_words-clause-goes g c =
 
 pub returns-clause-goes : goal.returns-clause-goes
 returns-clause-goes g c =
-    let extent = c.args.extent in
+    let extent = c.args.asked.extent in
     let set = c.args.set.now in
     let refusal = c.args.refusal.now in
     let before = g.O.Sink.contents c.args.out.now in
