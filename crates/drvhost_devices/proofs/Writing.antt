@@ -2,7 +2,7 @@
 use Rattle.std.proofs.Common.{◌≡◌, ◌∙◌, ℕ, List, [], ◌++◌, Option, Some, None, Result, Ok, Err, refl, sym, ap, subst, append_assoc}
 use Rattle.std.proofs.lemmas.List.{append-nil}
 use Rattle.std.specs.Io.KnownBytes.{Appends, Keeps}
-use Rattle.drvhost_devices.specs.Device.{Adds, TakesBeginning, Writes}
+use Rattle.drvhost_devices.specs.Device.{Adds, Says, SaysBehind, TakesBeginning, Writes}
 
 pub keeps_same : (a : Option (List ℕ)) → Keeps a a
 keeps_same None = tt
@@ -45,6 +45,14 @@ pub writes_behind : {T E : Type 0} (r : Result T E) (b m n : Option (List ℕ)) 
     → Appends b m xs → Writes m r n ys → Writes b r n (xs ++ ys)
 writes_behind (Ok x) b m n xs ys a w = appends_more b m n xs ys a w
 writes_behind (Err e) b m n xs ys a w = begins_behind b m n xs ys a w
+
+-- two texts are said behind, one after the other
+pub behind_more : (failures old mid new : ℕ) (b m n : Option (List ℕ)) (xs ys : List ℕ)
+    → SaysBehind failures old mid b m xs → SaysBehind failures mid new m n ys
+    → SaysBehind failures old new b n (xs ++ ys)
+behind_more failures old mid new b m n xs ys first second start told says =
+    let P : List ℕ → Type 0 = Says failures new start n in
+    subst P (append_assoc told xs ys) (second start (told ++ xs) (first start told says))
 
 -- lines that gather
 pub adds_none : (b : Option (List ℕ)) (l : List ℕ) → Adds b b l l []

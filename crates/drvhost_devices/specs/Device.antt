@@ -66,6 +66,13 @@ Says failures_before failures_after before after bytes =
     ((failures_after ≡ failures_before) × Appends before after bytes)
     ⊎ ((failures_after ≡ failures_before + 1) × TakesBeginning before after bytes)
 
+-- and a text behind bytes that were written so, where the writer had failed so often before them:
+-- both were written with no failure, or a beginning of both with one
+abbrev pub SaysBehind : ℕ → ℕ → ℕ → Option (List ℕ) → Option (List ℕ) → List ℕ → Type 0
+SaysBehind failures failures_before failures_after before after text =
+    (start : Option (List ℕ)) (told : List ℕ) → Says failures failures_before start before told
+    → Says failures failures_after start after (told ++ text)
+
 -- a text was added behind lines that had gathered: what a sink has taken since, and then what
 -- gathers now, is those lines and that text
 pub record Adds (before after : Option (List ℕ)) (gathered left text : List ℕ) : Type 0 where

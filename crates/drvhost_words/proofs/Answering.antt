@@ -1,9 +1,9 @@
 -- What is right for files is right for what is known of them, and how words are answered.
-use Rattle.std.proofs.Common.{◌≡◌, ◌≢◌, ◌∙◌, ◌⊎◌, ap, ℕ, ◌+◌, List, [], ◌∷◌, Option, None, true, string_bytes, arith, inl, inr, refl, subst}
+use Rattle.std.proofs.Common.{◌≡◌, ◌≢◌, ◌∙◌, ◌⊎◌, ap, ℕ, ◌+◌, List, [], ◌∷◌, Option, None, true, string_bytes, append-nil, arith, inl, inr, refl, subst, sym}
 use Rattle.std.proofs.KnownBytes.{Appends-nil, Keeps-refl}
 use Rattle.clap.specs.Words.{Text, subcommand_of, takes}
 use Rattle.drvhost_devices.specs.Answer.{Answer}
-use Rattle.drvhost_devices.specs.Device.{Bytes, Closed, Holds, IsSuppliedAs, MayBeClosed, Supply, Unknown}
+use Rattle.drvhost_devices.specs.Device.{Bytes, Closed, Holds, IsSuppliedAs, MayBeClosed, Says, Supply, Unknown}
 use Rattle.drvhost_devices.specs.Ends.{Answers, Ends, HoldsRun, IsCheckOf, IsListOf, IsRewriteOf, IsTraceOf, OutOfMemory, ReadFailed, Rightly, WriteFailed}
 use Rattle.drvhost_sets.specs.declared.explaining.Extent.{Extent}
 use Rattle.drvhost_sets.specs.Explained.{IsExplainedOf}
@@ -14,11 +14,12 @@ use Rattle.drvhost_devices.specs.declared.verification.Verification.{Verificatio
 use Rattle.drvhost_words.specs.declared.job.Job.{Job}
 use Rattle.drvhost_words.specs.declared.job.JobFault.{JobFault}
 use Rattle.drvhost_words.specs.declared.job.JobFault.TheVariants.{Memory, Usage}
-use Rattle.drvhost_words.specs.CommandLine.{Names, job_fault_status, job_fault_told, program, text_told}
+use Rattle.drvhost_words.specs.CommandLine.{Names, NamesJob, job_fault_status, job_fault_told, program, text_told}
 use Rattle.drvhost_words.specs.Files.{supply_of}
 use Rattle.drvhost_words.specs.declared.answer.Way.{Way}
 use Rattle.drvhost_words.specs.declared.answer.Way.TheVariants.{BySchedule, InWords, AsPicture}
-use Rattle.drvhost_words.specs.Program.{IsAnswerTo, IsQuietly, IsRunBy}
+use Rattle.drvhost_words.specs.Program.{IsAnswerTo, IsQuietly, IsRunBy, JobTells, WordsTell}
+use Rattle.drvhost_words.specs.Unread.{IsNamedUnread, SaysMore, SaysUnread}
 
 -- where more answers are right
 ends_rightly : (R Q : Answer → Type 0) (reads writes : ℕ) (b n : Option (List ℕ)) (status : ℕ)
@@ -61,6 +62,66 @@ answers_beside R k m w x u v b n Tells status a same =
       tells = a.tells;
       ends = a.ends;
     }
+
+-- where other texts may be told
+pub answers_telling : (R : Answer → Type 0) (k m w x : ℕ) (b n : Option (List ℕ))
+    (Tells Others : List ℕ → Type 0) (status : ℕ) → Answers R k m w x b n Tells status
+    → ((told : List ℕ) → Tells told → Others told) → Answers R k m w x b n Others status
+answers_telling R k m w x b n Tells Others status a on =
+    record {
+      reads = a.reads;
+      writes = a.writes;
+      told = a.told;
+      reads_are = a.reads_are;
+      writes_are = a.writes_are;
+      tells = on a.told a.tells;
+      ends = a.ends;
+    }
+
+-- nothing is said behind
+pub says_alone : (Tells : List ℕ → Type 0) (e f : ℕ) (b n : Option (List ℕ)) → Tells []
+    → (told : List ℕ) → Says e f b n told → SaysMore Tells e f b n told
+says_alone Tells e f b n none told says =
+    let P : List ℕ → Type 0 = Says e f b n in ([], none, subst P (sym (append-nil told)) says)
+
+pub answers_alone : (R : Answer → Type 0) (k m w x : ℕ) (b n : Option (List ℕ))
+    (Tells : List ℕ → Type 0) (e f : ℕ) (p q : Option (List ℕ)) (status : ℕ) → Tells []
+    → Answers R k m w x b n (Says e f p q) status
+    → Answers R k m w x b n (SaysMore Tells e f p q) status
+answers_alone R k m w x b n Tells e f p q status none a =
+    answers_telling R k m w x b n (Says e f p q) (SaysMore Tells e f p q) status a
+    (says_alone Tells e f p q none)
+
+-- what is told behind the answer of a job is so for words that name it
+pub words_tell : (words : List Text) (job : Job) (before after e f : ℕ) (b n : Option (List ℕ))
+    → NamesJob words job → (told : List ℕ)
+    → SaysMore (JobTells job before after) e f b n told
+    → SaysMore (WordsTell words before after) e f b n told
+words_tell words job before after e f b n named told (text, tells, says) =
+    (text, inr (job, named, tells), says)
+
+-- by other counts of failed reads
+unread_moved : (Such : List ℕ → Type 0) (reads before after : ℕ) (text : List ℕ)
+    → after ≡ before + reads → IsNamedUnread Such 0 reads text
+    → IsNamedUnread Such before after text
+unread_moved Such reads before after text are (inl (none, empty)) = inl (omega arith, empty)
+unread_moved Such reads before after text are (inr (some, named)) =
+    inr (λ same. some (omega arith), named)
+
+-- the name of a file that can't be read is said behind
+pub answers_unread : (R : Answer → Type 0) (k m w x : ℕ) (b n : Option (List ℕ))
+    (Such : List ℕ → Type 0) (reads before after e f h : ℕ) (p q r : Option (List ℕ))
+    (status : ℕ) → Answers R k m w x b n (Says e f p q) status
+    → SaysUnread Such reads e f h q r → after ≡ before + reads
+    → Answers R k m w x b n (SaysMore (IsNamedUnread Such before after) e h p r) status
+answers_unread R k m w x b n Such reads before after e f h p q r status a (text, unread, said) are =
+    answers_telling R k m w x b n (Says e f p q)
+    (SaysMore (IsNamedUnread Such before after) e h p r) status a
+    (λ told says. (
+      text,
+      unread_moved Such reads before after text are unread,
+      said p told says,
+    ))
 
 -- where the output goes to a file, and nothing to the standard output
 ends_quietly : (R Q : Answer → Type 0) (reads writes : ℕ) (b n c : Option (List ℕ)) (status : ℕ)

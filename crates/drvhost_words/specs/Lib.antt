@@ -2,3 +2,4 @@ pub mod CommandLine
 pub mod Files
 pub mod Program
 pub mod Outside
+pub mod Unread

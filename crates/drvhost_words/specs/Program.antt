@@ -1,5 +1,5 @@
--- What the program answers for the words of its command line, which files it opens, and what it
--- writes to one.
+-- What the program answers for the words of its command line, what it tells behind that, which
+-- files it opens, and what it writes to one.
 use Rattle.std.specs.Prelude.{ℕ, ◌≡◌, ◌≢◌, ◌+◌, ◌++◌, ◌⊎◌, List, [], map, true, Result, Ok, Err, String, drop, string_bytes}
 use Rattle.std.specs.Global.{Global, Vec}
 use Rattle.std.specs.declared.io.ErrorKind.{ErrorKind}
@@ -20,6 +20,7 @@ use Rattle.drvhost_words.specs.declared.job.Job.TheVariants.{Alone, Host}
 use Rattle.drvhost_words.specs.declared.job.AloneJob.TheVariants.{Check, Explain, ExplainRule, List as ListJob, Rewrite, Version, Trace, Tell, Draw}
 use Rattle.drvhost_words.specs.CommandLine.{Names, NamesJob, program, usage}
 use Rattle.drvhost_words.specs.Files.{Has}
+use Rattle.drvhost_words.specs.Unread.{IsNamedUnread, IsOneOf}
 
 -- what a run of a set by an input answers, where these are what their files have
 abbrev pub IsRunBy : Way → Supply → Supply → Answer → Type 0
@@ -61,6 +62,41 @@ IsJobOf supply (Alone (Draw set schedule verification)) answer =
 IsJobOf supply (Host set script workers) answer =
     IsHostOf workers (supply set.now) (supply script.now) answer
 
+-- the words after the program's name
+abbrev pub arguments : Vec (String Global) → List Text
+arguments words = map string_bytes (drop 1 words.items)
+
+-- what is told behind the answer of a job, for so many reads that had failed before it, and that
+-- have after it: the name of the file that can't be read, but for `check` and `rewrite`
+abbrev pub JobTells : Job → ℕ → ℕ → List ℕ → Type 0
+JobTells (Alone (Check set)) before after text = text ≡ []
+JobTells (Alone (Explain set extent)) before after text =
+    IsNamedUnread (λ name. name ≡ set.now) before after text
+JobTells (Alone (ExplainRule rule)) before after text = text ≡ []
+JobTells (Alone (ListJob set)) before after text =
+    IsNamedUnread (λ name. name ≡ set.now) before after text
+JobTells (Alone (Rewrite set output)) before after text = text ≡ []
+JobTells (Alone Version) before after text = text ≡ []
+JobTells (Alone (Trace set schedule verification)) before after text =
+    IsNamedUnread (IsOneOf set.now schedule.now) before after text
+JobTells (Alone (Tell set schedule verification manner)) before after text =
+    IsNamedUnread (IsOneOf set.now schedule.now) before after text
+JobTells (Alone (Draw set schedule verification)) before after text =
+    IsNamedUnread (IsOneOf set.now schedule.now) before after text
+JobTells (Host set script workers) before after text =
+    IsNamedUnread (IsOneOf set.now script.now) before after text
+
+-- what is told behind the answer to words: nothing where they name no job, and no read failed; or
+-- what is behind that of a job that they name
+abbrev pub WordsTell : List Text → ℕ → ℕ → List ℕ → Type 0
+WordsTell words before after text =
+    ((after ≡ before) × (text ≡ []))
+    ⊎ ((job : Job) × NamesJob words job × JobTells job before after text)
+
+abbrev pub ProgramTells : Result (Vec (String Global)) ErrorKind → ℕ → ℕ → List ℕ → Type 0
+ProgramTells (Ok words) before after text = WordsTell (arguments words) before after text
+ProgramTells (Err kind) before after text = text ≡ []
+
 -- how many files are opened for a run: that of its input for a set that is run alone
 abbrev pub OpensToTrace : Verification → Supply → ℕ → Type 0
 OpensToTrace verification set count =
@@ -98,10 +134,6 @@ IsAnswerTo supply words answer =
 abbrev pub IsAnswerToLost : ErrorKind → Answer → Type 0
 IsAnswerToLost kind answer =
     (kind ≢ OutOfMemory) × (answer ≡ record { status = 2; output = []; told = usage })
-
--- the words after the program's name
-abbrev pub arguments : Vec (String Global) → List Text
-arguments words = map string_bytes (drop 1 words.items)
 
 -- what is right for all words of a command line, the program's name first
 abbrev pub IsProgram : (List ℕ → Supply) → Result (Vec (String Global)) ErrorKind → Answer → Type 0

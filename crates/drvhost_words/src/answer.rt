@@ -1,7 +1,8 @@
 //! What the program answers.
 
 ghost use Rattle.std.specs.Prelude.{◌≡◌, ◌+◌, ◌<◌, ◌^◌, ◌⊎◌, ℕ, List, Option, drop, map, string_bytes, true};
-ghost use Rattle.drvhost_words.specs.Program.{IsAnswerTo, IsAnswerToLost, IsJobOf, IsOfNamed, IsProgram, IsRunBy, Opens, OpensFor, OpensToTrace, IsQuietly, JobStores, ProgramOpens, ProgramStores, RewritesFile, WordsStore, verification_of};
+ghost use Rattle.drvhost_words.specs.Program.{IsAnswerTo, IsAnswerToLost, IsJobOf, IsOfNamed, IsProgram, IsRunBy, Opens, OpensFor, OpensToTrace, IsQuietly, JobStores, JobTells, ProgramOpens, ProgramStores, ProgramTells, RewritesFile, WordsStore, WordsTell, verification_of};
+ghost use Rattle.drvhost_words.specs.Unread.{IsNamedUnread, IsOneOf, SaysMore};
 ghost use Rattle.drvhost_devices.specs.Device.{CanCount, Says};
 ghost use Rattle.drvhost_devices.specs.Ends.{Answers, HoldsRun, IsCheckOf, IsListOf, IsRewriteOf};
 ghost use Rattle.drvhost_sets.specs.Explained.{IsExplainedOf};
@@ -9,6 +10,7 @@ ghost use Rattle.drvhost_runs.specs.Served.{IsHostOf};
 
 use crate::files::{Files, Later, Pending};
 use crate::job::{AloneJob, Job, JobFault, Workers, refuse_unknown_words, refuse_words};
+use crate::unread::{Names, tell_if_unread, tell_which_unread};
 use drvhost_devices::device::{Sink, Source};
 use drvhost_devices::unopened::tell_unopened;
 use drvhost_devices::verification::Verification;
@@ -50,7 +52,8 @@ pub fn answer<F: Files, O: Sink, E: Sink, R: Threads + Wait + Sync>(
         (F.failures files.old) (F.failures files.new)
         (F.unwritten files.old + O.failures out.old) (F.unwritten files.new + O.failures out.new)
         (O.contents out.old) (O.contents out.new)
-        (Says (E.failures err.old) (E.failures err.new) (E.contents err.old) (E.contents err.new))
+        (SaysMore (ProgramTells words (F.failures files.old) (F.failures files.new))
+        (E.failures err.old) (E.failures err.new) (E.contents err.old) (E.contents err.new))
         result }
     ensures opened { (count : ℕ) × ProgramOpens (F.supply files.old) words count
         × (F.opened files.new ≡ F.opened files.old + count) }
@@ -108,7 +111,9 @@ fn answer_words<F: Files, O: Sink, E: Sink, R: Threads + Wait + Sync>(
         (F.failures files.old) (F.failures files.new)
         (F.unwritten files.old + O.failures out.old) (F.unwritten files.new + O.failures out.new)
         (O.contents out.old) (O.contents out.new)
-        (Says (E.failures err.old) (E.failures err.new) (E.contents err.old) (E.contents err.new))
+        (SaysMore (WordsTell (map string_bytes words.now)
+        (F.failures files.old) (F.failures files.new))
+        (E.failures err.old) (E.failures err.new) (E.contents err.old) (E.contents err.new))
         result }
     ensures opened { (count : ℕ) × OpensFor (F.supply files.old) (map string_bytes words.now) count
         × (F.opened files.new ≡ F.opened files.old + count) }
@@ -141,7 +146,8 @@ fn perform<F: Files, O: Sink, E: Sink, R: Threads + Wait + Sync>(
         (F.failures files.old) (F.failures files.new)
         (F.unwritten files.old + O.failures out.old) (F.unwritten files.new + O.failures out.new)
         (O.contents out.old) (O.contents out.new)
-        (Says (E.failures err.old) (E.failures err.new) (E.contents err.old) (E.contents err.new))
+        (SaysMore (JobTells job.now (F.failures files.old) (F.failures files.new))
+        (E.failures err.old) (E.failures err.new) (E.contents err.old) (E.contents err.new))
         result }
     ensures opened { (count : ℕ) × Opens (F.supply files.old) job.now count
         × (F.opened files.new ≡ F.opened files.old + count) }
@@ -154,7 +160,10 @@ fn perform<F: Files, O: Sink, E: Sink, R: Threads + Wait + Sync>(
             set,
             script,
             workers,
-        } => host_files(rt, alloc, set, script, workers, files, out, err),
+        } => {
+            let names = Names { set, input: script };
+            host_files(rt, alloc, Serving { names, workers }, files, out, err)
+        }
     }
 }
 
@@ -176,7 +185,8 @@ fn perform_alone<F: Files, O: Sink, E: Sink>(
         (F.failures files.old) (F.failures files.new)
         (F.unwritten files.old + O.failures out.old) (F.unwritten files.new + O.failures out.new)
         (O.contents out.old) (O.contents out.new)
-        (Says (E.failures err.old) (E.failures err.new) (E.contents err.old) (E.contents err.new))
+        (SaysMore (JobTells (Job.Alone job.entry) (F.failures files.old) (F.failures files.new))
+        (E.failures err.old) (E.failures err.new) (E.contents err.old) (E.contents err.new))
         result }
     ensures opened { (count : ℕ) × Opens (F.supply files.old) (Job.Alone job.entry) count
         × (F.opened files.new ≡ F.opened files.old + count) }
@@ -195,8 +205,12 @@ fn perform_alone<F: Files, O: Sink, E: Sink>(
             schedule,
             verification,
         } => {
+            let names = Names {
+                set,
+                input: schedule,
+            };
             let way = Way::BySchedule(verification);
-            run_files(alloc, set, schedule, way, files, out, err)
+            run_files(alloc, names, way, files, out, err)
         }
         AloneJob::Tell {
             set,
@@ -204,16 +218,24 @@ fn perform_alone<F: Files, O: Sink, E: Sink>(
             verification,
             manner,
         } => {
+            let names = Names {
+                set,
+                input: schedule,
+            };
             let way = Way::InWords(verification, manner);
-            run_files(alloc, set, schedule, way, files, out, err)
+            run_files(alloc, names, way, files, out, err)
         }
         AloneJob::Draw {
             set,
             schedule,
             verification,
         } => {
+            let names = Names {
+                set,
+                input: schedule,
+            };
             let way = Way::AsPicture(verification);
-            run_files(alloc, set, schedule, way, files, out, err)
+            run_files(alloc, names, way, files, out, err)
         }
     }
 }
@@ -246,7 +268,7 @@ fn check_file<F: Files, O: Sink, E: Sink>(
     status
 }
 
-/// Judges the set of a file, and explains the verdict. A file that can't be opened is named.
+/// Judges the set of a file, and explains the verdict. One that can't be opened or read is named.
 fn explain_file<F: Files, O: Sink, E: Sink>(
     alloc: Global,
     extent: Extent,
@@ -262,24 +284,28 @@ fn explain_file<F: Files, O: Sink, E: Sink>(
     ensures answers { Answers (IsOfNamed (IsExplainedOf extent) (F.supply files.old) set.now)
         (F.failures files.old) (F.failures files.new) (O.failures out.old) (O.failures out.new)
         (O.contents out.old) (O.contents out.new)
-        (Says (E.failures err.old) (E.failures err.new) (E.contents err.old) (E.contents err.new))
+        (SaysMore (IsNamedUnread (λ name. name ≡ set.now)
+        (F.failures files.old) (F.failures files.new))
+        (E.failures err.old) (E.failures err.new) (E.contents err.old) (E.contents err.new))
         result }
     ensures opened { F.opened files.new ≡ F.opened files.old + 1 }
     ensures supply { F.supply files.new ≡ F.supply files.old }
     ensures created { F.created files.new ≡ F.created files.old }
     ensures unwritten { F.unwritten files.new ≡ F.unwritten files.old }
 {
+    let failures = err.failures();
     let mut file = files.open(set);
     if files.is_closed(&file) {
         files.close(file);
-        return tell_unopened(alloc, set, err);
+        return tell_unopened(set, err);
     }
     let status = explain(alloc, extent, &mut file, out, err);
+    tell_if_unread(set, &file, failures, err);
     files.close(file);
     status
 }
 
-/// Writes the listing of the set of a file. One that can't be opened is named.
+/// Writes the listing of the set of a file. One that can't be opened or read is named.
 fn list_file<F: Files, O: Sink, E: Sink>(
     alloc: Global,
     set: &str,
@@ -294,19 +320,23 @@ fn list_file<F: Files, O: Sink, E: Sink>(
     ensures answers { Answers (IsOfNamed IsListOf (F.supply files.old) set.now)
         (F.failures files.old) (F.failures files.new) (O.failures out.old) (O.failures out.new)
         (O.contents out.old) (O.contents out.new)
-        (Says (E.failures err.old) (E.failures err.new) (E.contents err.old) (E.contents err.new))
+        (SaysMore (IsNamedUnread (λ name. name ≡ set.now)
+        (F.failures files.old) (F.failures files.new))
+        (E.failures err.old) (E.failures err.new) (E.contents err.old) (E.contents err.new))
         result }
     ensures opened { F.opened files.new ≡ F.opened files.old + 1 }
     ensures supply { F.supply files.new ≡ F.supply files.old }
     ensures created { F.created files.new ≡ F.created files.old }
     ensures unwritten { F.unwritten files.new ≡ F.unwritten files.old }
 {
+    let failures = err.failures();
     let mut file = files.open(set);
     if files.is_closed(&file) {
         files.close(file);
-        return tell_unopened(alloc, set, err);
+        return tell_unopened(set, err);
     }
     let status = list(alloc, &mut file, out, err);
+    tell_if_unread(set, &file, failures, err);
     files.close(file);
     status
 }
@@ -358,11 +388,11 @@ pub(crate) enum Way {
     AsPicture(Verification),
 }
 
-/// Runs the set of a file by the input of another one, which is opened for a run alone.
+/// Runs the set of a file by the input of another one, which is opened for a run alone. The one
+/// that can't be read is named.
 fn run_files<F: Files, O: Sink, E: Sink>(
     alloc: Global,
-    set: &str,
-    input: &str,
+    names: Names<'_>,
     way: Way,
     files: &mut F,
     out: &mut O,
@@ -372,22 +402,26 @@ fn run_files<F: Files, O: Sink, E: Sink>(
     requires files { CanCount (F.failures files.old) }
     requires out { CanCount (O.failures out.old) }
     requires err { CanCount (E.failures err.old) }
-    ensures answers { Answers (IsRunBy way (F.supply files.old set.now)
-        (F.supply files.old input.now))
+    ensures answers { Answers (IsRunBy way (F.supply files.old names.entry.set.now)
+        (F.supply files.old names.entry.input.now))
         (F.failures files.old) (F.failures files.new) (O.failures out.old) (O.failures out.new)
         (O.contents out.old) (O.contents out.new)
-        (Says (E.failures err.old) (E.failures err.new) (E.contents err.old) (E.contents err.new))
+        (SaysMore (IsNamedUnread (IsOneOf names.entry.set.now names.entry.input.now)
+        (F.failures files.old) (F.failures files.new))
+        (E.failures err.old) (E.failures err.new) (E.contents err.old) (E.contents err.new))
         result }
     ensures opened { (count : ℕ)
-        × OpensToTrace (verification_of way) (F.supply files.old set.now) count
+        × OpensToTrace (verification_of way) (F.supply files.old names.entry.set.now) count
         × (F.opened files.new ≡ F.opened files.old + count) }
     ensures supply { F.supply files.new ≡ F.supply files.old }
     ensures created { F.created files.new ≡ F.created files.old }
     ensures unwritten { F.unwritten files.new ≡ F.unwritten files.old }
 {
-    let mut file = files.open(set);
-    let mut later = Later::new(files, input);
+    let failures = err.failures();
+    let mut file = files.open(names.set);
+    let mut later = Later::new(files, names.input);
     let status = run(alloc, &mut file, &mut later, way, out, err);
+    tell_which_unread(names, &file, &later, failures, err);
     let inputs = later.into_file();
     files.close(file);
     if let Some(inputs) = inputs {
@@ -438,14 +472,19 @@ impl Gate for Open {
     }
 }
 
+/// Workers that serve the script of a file on the set of another one.
+#[derive(Clone, Copy)]
+struct Serving<'n> {
+    names: Names<'n>,
+    workers: Workers,
+}
+
 /// Has workers serve the script of a file on the set of another one. That of the script is opened
-/// for a set that is accepted.
+/// for a set that is accepted. The one that can't be read is named.
 fn host_files<F: Files, O: Sink, E: Sink, R: Threads + Wait + Sync>(
     rt: &R,
     alloc: Global,
-    set: &str,
-    script: &str,
-    workers: Workers,
+    serving: Serving<'_>,
     files: &mut F,
     out: &mut O,
     err: &mut E,
@@ -454,23 +493,31 @@ fn host_files<F: Files, O: Sink, E: Sink, R: Threads + Wait + Sync>(
     requires files { CanCount (F.failures files.old) }
     requires out { CanCount (O.failures out.old) }
     requires err { CanCount (E.failures err.old) }
-    ensures answers { Answers (IsHostOf workers (F.supply files.old set.now)
-        (F.supply files.old script.now))
+    ensures answers { Answers (IsHostOf serving.entry.workers
+        (F.supply files.old serving.entry.names.set.now)
+        (F.supply files.old serving.entry.names.input.now))
         (F.failures files.old) (F.failures files.new) (O.failures out.old) (O.failures out.new)
         (O.contents out.old) (O.contents out.new)
-        (Says (E.failures err.old) (E.failures err.new) (E.contents err.old) (E.contents err.new))
+        (SaysMore (IsNamedUnread
+        (IsOneOf serving.entry.names.set.now serving.entry.names.input.now)
+        (F.failures files.old) (F.failures files.new))
+        (E.failures err.old) (E.failures err.new) (E.contents err.old) (E.contents err.new))
         result }
     ensures opened { (count : ℕ)
-        × OpensToTrace Verification.Required (F.supply files.old set.now) count
+        × OpensToTrace Verification.Required
+        (F.supply files.old serving.entry.names.set.now) count
         × (F.opened files.new ≡ F.opened files.old + count) }
     ensures supply { F.supply files.new ≡ F.supply files.old }
     ensures created { F.created files.new ≡ F.created files.old }
     ensures unwritten { F.unwritten files.new ≡ F.unwritten files.old }
 {
-    let count = workers.count();
-    let mut file = files.open(set);
-    let mut later = Later::new(files, script);
+    let names = serving.names;
+    let count = serving.workers.count();
+    let failures = err.failures();
+    let mut file = files.open(names.set);
+    let mut later = Later::new(files, names.input);
     let status = host(rt, alloc, &mut file, &mut later, count, &Open, out, err);
+    tell_which_unread(names, &file, &later, failures, err);
     let commands = later.into_file();
     files.close(file);
     if let Some(commands) = commands {

@@ -5,3 +5,4 @@
 pub mod answer;
 pub mod files;
 pub mod job;
+mod unread;

@@ -2,7 +2,8 @@ use Rattle.std.proofs.Common.{◌≡◌, ◌∙◌, None, Some, arith, ap, inr, 
 use Rattle.drvhost_runs.specs.Served.{IsHostOf}
 use Rattle.drvhost_devices.specs.declared.verification.Verification.TheVariants.{Required}
 use Rattle.drvhost_words.specs.Files.{failures_of}
-use Rattle.drvhost_words.proofs.Answering.{answers_rightly, host_known, run_known, unopened}
+use Rattle.drvhost_words.specs.Unread.{IsOneOf}
+use Rattle.drvhost_words.proofs.Answering.{answers_rightly, answers_unread, host_known, run_known, unopened}
 use Rattle.drvhost_words.proofs.answer.host_files.Goals as goal
 
 pub returns-in-Some-clause-answers : goal.returns-in-Some-clause-answers
@@ -10,7 +11,7 @@ returns-in-Some-clause-answers g c =
     let failures = g.F.File.Source.failures in
     let named = g.F.Files.supply in
     let supply = g.F.File.Source.supply c.open-file.result in
-    let known = named c.args.files.now c.args.set.now in
+    let known = named c.args.files.now c.args.serving.names.set.now in
     let later = c.new-later.ensures in
     let scheduled =
     unopened g.F.File.Source.supply named _ _ _ _ _ later.files later.name later.unopened in
@@ -18,16 +19,20 @@ returns-in-Some-clause-answers g c =
     ap (failures_of failures) later.unopened in
     let after : failures_of failures c.host-status.new.script.file ≡ failures c.in-Some.commands =
     ap (failures_of failures) (sym c.into_file-commands.ensures ∙ c.in-Some.is) in
-    answers_rightly (IsHostOf c.args.workers supply _)
-    (IsHostOf c.args.workers known (named c.args.files.now c.args.script.now))
-    _ _ _ _ _ _ _ _ _ _ (rw c.count-count.ensures.count at c.host-status.ensures.answers)
-    (host_known c.args.workers known supply _ _ c.open-file.ensures.supply scheduled)
+    answers_rightly (IsHostOf c.args.serving.workers supply _)
+    (IsHostOf c.args.serving.workers known (named c.args.files.now c.args.serving.names.input.now))
+    _ _ _ _ _ _ _ _ _ _
+    (answers_unread _ _ _ _ _ _ _
+    (IsOneOf c.args.serving.names.set.now c.args.serving.names.input.now) _ _ _ _ _ _ _ _ _ _
+    (rw c.count-count.ensures.count at c.host-status.ensures.answers)
+    (rw c.failures-failures.ensures at c.tell_which_unread.ensures) (omega arith))
+    (host_known c.args.serving.workers known supply _ _ c.open-file.ensures.supply scheduled)
     (omega arith)
 
 pub returns-in-Some-clause-opened : goal.returns-in-Some-clause-opened
 returns-in-Some-clause-opened g c =
     let supply = g.F.File.Source.supply c.open-file.result in
-    let known = g.F.Files.supply c.args.files.now c.args.set.now in
+    let known = g.F.Files.supply c.args.files.now c.args.serving.names.set.now in
     let never : (c.host-status.new.script ≡ c.new-later.result) → ⊥ =
     λ same.
     let gone : Some c.in-Some.commands ≡ None =
@@ -48,7 +53,7 @@ returns-in_default-clause-answers g c =
     let failures = g.F.File.Source.failures in
     let named = g.F.Files.supply in
     let supply = g.F.File.Source.supply c.open-file.result in
-    let known = named c.args.files.now c.args.set.now in
+    let known = named c.args.files.now c.args.serving.names.set.now in
     let later = c.new-later.ensures in
     let scheduled =
     unopened g.F.File.Source.supply named _ _ _ _ _ later.files later.name later.unopened in
@@ -56,8 +61,12 @@ returns-in_default-clause-answers g c =
     ap (failures_of failures) later.unopened in
     let after : failures_of failures c.host-status.new.script.file ≡ 0 =
     ap (failures_of failures) (sym c.into_file-commands.ensures ∙ c.in_default.is) in
-    answers_rightly (IsHostOf c.args.workers supply _)
-    (IsHostOf c.args.workers known (named c.args.files.now c.args.script.now))
-    _ _ _ _ _ _ _ _ _ _ (rw c.count-count.ensures.count at c.host-status.ensures.answers)
-    (host_known c.args.workers known supply _ _ c.open-file.ensures.supply scheduled)
+    answers_rightly (IsHostOf c.args.serving.workers supply _)
+    (IsHostOf c.args.serving.workers known (named c.args.files.now c.args.serving.names.input.now))
+    _ _ _ _ _ _ _ _ _ _
+    (answers_unread _ _ _ _ _ _ _
+    (IsOneOf c.args.serving.names.set.now c.args.serving.names.input.now) _ _ _ _ _ _ _ _ _ _
+    (rw c.count-count.ensures.count at c.host-status.ensures.answers)
+    (rw c.failures-failures.ensures at c.tell_which_unread.ensures) (omega arith))
+    (host_known c.args.serving.workers known supply _ _ c.open-file.ensures.supply scheduled)
     (omega arith)

@@ -1,8 +1,9 @@
-use Rattle.std.proofs.Common.{arith, inl, inr}
+use Rattle.std.proofs.Common.{◌≡◌, arith, inl, inr, refl}
 use Rattle.drvhost_devices.specs.Answer.{IsUnopened}
 use Rattle.drvhost_devices.specs.Ends.{IsListOf}
 use Rattle.drvhost_words.specs.Program.{IsOfNamed}
-use Rattle.drvhost_words.proofs.Answering.{answers_rightly, closed_known, list_known}
+use Rattle.drvhost_words.specs.Unread.{IsNamedUnread}
+use Rattle.drvhost_words.proofs.Answering.{answers_alone, answers_rightly, answers_unread, closed_known, list_known}
 use Rattle.drvhost_words.proofs.answer.list_file.Goals as goal
 
 pub returns-then-is_closed-clause-answers : goal.returns-then-is_closed-clause-answers
@@ -11,7 +12,9 @@ returns-then-is_closed-clause-answers g c =
     let name = c.args.set.now in
     let closed = c.is_closed.ensures.0 c.if-is_closed.true in
     answers_rightly (IsUnopened name) (IsOfNamed IsListOf known name) _ _ _ _ _ _ _ _ _ _
-    (c.tell_unopened.ensures (g.F.Files.failures c.args.files.now) _ _)
+    (answers_alone _ _ _ _ _ _ _ (IsNamedUnread (λ unread. unread ≡ name) _ _) _ _ _ _ _
+    (inl (omega (arith, c.close.ensures.failures, c.open-file.ensures.unread), refl))
+    (c.tell_unopened.ensures (g.F.Files.failures c.args.files.now) _ _))
     (λ answer right. inr (closed_known (known name) _ c.open-file.ensures.supply closed, right))
     (omega (arith, c.close.ensures.failures, c.open-file.ensures.unread))
 
@@ -21,6 +24,8 @@ returns-clause-answers g c =
     let known = g.F.Files.supply c.args.files.now in
     let name = c.args.set.now in
     answers_rightly (IsListOf supply) (IsOfNamed IsListOf known name) _ _ _ _ _ _ _ _ _ _
-    c.list-status.ensures
+    (answers_unread _ _ _ _ _ _ _ (λ unread. unread ≡ name) _ _ _ _ _ _ _ _ _ _
+    c.list-status.ensures (rw c.failures-failures.ensures at c.tell_if_unread.ensures)
+    (omega (arith, c.close-2.ensures.failures)))
     (λ answer right. inl (list_known (known name) supply c.open-file.ensures.supply answer right))
     (omega (arith, c.close-2.ensures.failures, c.open-file.ensures.unread))

@@ -1,11 +1,12 @@
-use Rattle.std.proofs.Common.{refl}
-use Rattle.drvhost_words.proofs.Answering.{answers_beside}
+use Rattle.std.proofs.Common.{◌≡◌, [], refl}
+use Rattle.drvhost_words.proofs.Answering.{answers_alone, answers_beside}
 use Rattle.drvhost_words.proofs.answer.perform_alone.Goals as goal
 
 pub returns-in-Check-clause-answers : goal.returns-in-Check-clause-answers
 returns-in-Check-clause-answers g c =
     rw c.in-Check.is
-    (answers_beside _ _ _ _ _ _ _ _ _ _ _ c.check_file.ensures.answers c.check_file.ensures.unwritten)
+    (answers_alone _ _ _ _ _ _ _ (λ text. text ≡ []) _ _ _ _ _ refl
+    (answers_beside _ _ _ _ _ _ _ _ _ _ _ c.check_file.ensures.answers c.check_file.ensures.unwritten))
 
 pub returns-in-Check-clause-stores : goal.returns-in-Check-clause-stores
 returns-in-Check-clause-stores g c =
@@ -25,8 +26,9 @@ returns-in-Explain-clause-stores g c =
 pub returns-in-ExplainRule-clause-answers : goal.returns-in-ExplainRule-clause-answers
 returns-in-ExplainRule-clause-answers g c =
     rw c.in-ExplainRule.is
+    (answers_alone _ _ _ _ _ _ _ (λ text. text ≡ []) _ _ _ _ _ refl
     (answers_beside _ _ _ _ _ _ _ _ _ _ _ (c.explain_rule.ensures (g.F.Files.failures c.args.files.now))
-    refl)
+    refl))
 
 pub returns-in-ExplainRule-clause-stores : goal.returns-in-ExplainRule-clause-stores
 returns-in-ExplainRule-clause-stores g c =
@@ -45,8 +47,9 @@ returns-in-List-clause-stores g c =
 pub returns-in-Rewrite-clause-answers : goal.returns-in-Rewrite-clause-answers
 returns-in-Rewrite-clause-answers g c =
     rw c.in-Rewrite.is
+    (answers_alone _ _ _ _ _ _ _ (λ text. text ≡ []) _ _ _ _ _ refl
     (c.rewrite_file.ensures.answers (g.O.Sink.failures c.args.out.now)
-    (g.O.Sink.contents c.args.out.now))
+    (g.O.Sink.contents c.args.out.now)))
 
 pub returns-in-Rewrite-clause-stores : goal.returns-in-Rewrite-clause-stores
 returns-in-Rewrite-clause-stores g c = rw c.in-Rewrite.is c.rewrite_file.ensures.stores
@@ -54,8 +57,9 @@ returns-in-Rewrite-clause-stores g c = rw c.in-Rewrite.is c.rewrite_file.ensures
 pub returns-in-Version-clause-answers : goal.returns-in-Version-clause-answers
 returns-in-Version-clause-answers g c =
     rw c.in-Version.is
+    (answers_alone _ _ _ _ _ _ _ (λ text. text ≡ []) _ _ _ _ _ refl
     (answers_beside _ _ _ _ _ _ _ _ _ _ _ (c.version.ensures (g.F.Files.failures c.args.files.now))
-    refl)
+    refl))
 
 pub returns-in-Version-clause-stores : goal.returns-in-Version-clause-stores
 returns-in-Version-clause-stores g c =

@@ -1,7 +1,8 @@
 use Rattle.std.proofs.Common.{◌≡◌, ◌∙◌, None, Some, arith, ap, inr, refl, sym}
 use Rattle.drvhost_words.specs.Program.{IsRunBy, verification_of}
 use Rattle.drvhost_words.specs.Files.{failures_of}
-use Rattle.drvhost_words.proofs.Answering.{answers_rightly, run_known, way_known, unopened}
+use Rattle.drvhost_words.specs.Unread.{IsOneOf}
+use Rattle.drvhost_words.proofs.Answering.{answers_rightly, answers_unread, run_known, way_known, unopened}
 use Rattle.drvhost_words.proofs.answer.run_files.Goals as goal
 
 pub returns-in-Some-clause-answers : goal.returns-in-Some-clause-answers
@@ -9,7 +10,7 @@ returns-in-Some-clause-answers g c =
     let failures = g.F.File.Source.failures in
     let named = g.F.Files.supply in
     let supply = g.F.File.Source.supply c.open-file.result in
-    let known = named c.args.files.now c.args.set.now in
+    let known = named c.args.files.now c.args.names.set.now in
     let later = c.new-later.ensures in
     let scheduled =
     unopened g.F.File.Source.supply named _ _ _ _ _ later.files later.name later.unopened in
@@ -18,15 +19,19 @@ returns-in-Some-clause-answers g c =
     let after : failures_of failures c.run-status.new.input.file ≡ failures c.in-Some.inputs =
     ap (failures_of failures) (sym c.into_file-inputs.ensures ∙ c.in-Some.is) in
     answers_rightly (IsRunBy c.args.way supply _)
-    (IsRunBy c.args.way known (named c.args.files.now c.args.input.now))
-    _ _ _ _ _ _ _ _ _ _ c.run-status.ensures.answers
+    (IsRunBy c.args.way known (named c.args.files.now c.args.names.input.now))
+    _ _ _ _ _ _ _ _ _ _
+    (answers_unread _ _ _ _ _ _ _
+    (IsOneOf c.args.names.set.now c.args.names.input.now) _ _ _ _ _ _ _ _ _ _
+    c.run-status.ensures.answers (rw c.failures-failures.ensures at c.tell_which_unread.ensures)
+    (omega arith))
     (way_known c.args.way known supply _ _ c.open-file.ensures.supply scheduled)
     (omega arith)
 
 pub returns-in-Some-clause-opened : goal.returns-in-Some-clause-opened
 returns-in-Some-clause-opened g c =
     let supply = g.F.File.Source.supply c.open-file.result in
-    let known = g.F.Files.supply c.args.files.now c.args.set.now in
+    let known = g.F.Files.supply c.args.files.now c.args.names.set.now in
     let never : (c.run-status.new.input ≡ c.new-later.result) → ⊥ =
     λ same.
     let gone : Some c.in-Some.inputs ≡ None =
@@ -47,7 +52,7 @@ returns-in_default-clause-answers g c =
     let failures = g.F.File.Source.failures in
     let named = g.F.Files.supply in
     let supply = g.F.File.Source.supply c.open-file.result in
-    let known = named c.args.files.now c.args.set.now in
+    let known = named c.args.files.now c.args.names.set.now in
     let later = c.new-later.ensures in
     let scheduled =
     unopened g.F.File.Source.supply named _ _ _ _ _ later.files later.name later.unopened in
@@ -56,7 +61,11 @@ returns-in_default-clause-answers g c =
     let after : failures_of failures c.run-status.new.input.file ≡ 0 =
     ap (failures_of failures) (sym c.into_file-inputs.ensures ∙ c.in_default.is) in
     answers_rightly (IsRunBy c.args.way supply _)
-    (IsRunBy c.args.way known (named c.args.files.now c.args.input.now))
-    _ _ _ _ _ _ _ _ _ _ c.run-status.ensures.answers
+    (IsRunBy c.args.way known (named c.args.files.now c.args.names.input.now))
+    _ _ _ _ _ _ _ _ _ _
+    (answers_unread _ _ _ _ _ _ _
+    (IsOneOf c.args.names.set.now c.args.names.input.now) _ _ _ _ _ _ _ _ _ _
+    c.run-status.ensures.answers (rw c.failures-failures.ensures at c.tell_which_unread.ensures)
+    (omega arith))
     (way_known c.args.way known supply _ _ c.open-file.ensures.supply scheduled)
     (omega arith)
