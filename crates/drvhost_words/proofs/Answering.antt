@@ -114,13 +114,13 @@ pub answers_unread : (R : Answer → Type 0) (k m w x : ℕ) (b n : Option (List
     (status : ℕ) → Answers R k m w x b n (Says e f p q) status
     → SaysUnread Such reads e f h q r → after ≡ before + reads
     → Answers R k m w x b n (SaysMore (IsNamedUnread Such before after) e h p r) status
-answers_unread R k m w x b n Such reads before after e f h p q r status a (text, unread, behind) are =
+answers_unread R k m w x b n Such reads before after e f h p q r status a (text, unread, said) are =
     answers_telling R k m w x b n (Says e f p q)
     (SaysMore (IsNamedUnread Such before after) e h p r) status a
     (λ told says. (
       text,
       unread_moved Such reads before after text are unread,
-      behind p told says,
+      said p told says,
     ))
 
 -- where the output goes to a file, and nothing to the standard output

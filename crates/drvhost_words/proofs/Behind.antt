@@ -26,7 +26,7 @@ unread_one Such reads failures old new b n name such some behind =
 pub unread_other : (Such Others : List ℕ → Type 0) (reads all failures old new : ℕ)
     (b n : Option (List ℕ)) → ((name : List ℕ) → Such name → Others name) → all ≡ reads
     → SaysUnread Such reads failures old new b n → SaysUnread Others all failures old new b n
-unread_other Such Others reads all failures old new b n on same (text, inl (none, empty), behind) =
+unread_other Such Others reads all e f h b n on same (text, inl (none, empty), behind) =
     (text, inl (same ∙ none, empty), behind)
-unread_other Such Others reads all failures old new b n on same (text, inr (some, (name, such, is)), behind) =
+unread_other Such Others reads all e f h b n on same (text, inr (some, (name, such, is)), behind) =
     (text, inr (λ none. some (sym same ∙ none), (name, on name such, is)), behind)
