@@ -127,8 +127,8 @@ module _ {O : Type 0} (failures : O → ℕ) (contents : O → Option (List ℕ)
           length-replicate (length told) e,
         );
         adds =
-            subst (λ x. Adds (contents start.out.now) (contents next.out.now) start.lines.now next.lines.now x)
-            (sym lines)
+            subst (λ x. Adds (contents start.out.now) (contents next.out.now) start.lines.now
+            next.lines.now x) (sym lines)
             (adds_more _ _ _ _ _ _ _ _ l.adds adds);
       }
 

@@ -173,8 +173,8 @@ module _ {M W : Type 0} (set_of : M → Set) (ShowsRun : M → ℕ → List Even
     (start : W) where
   abbrev Observes_in : M → Set → W → Result End Fault → Type 0
   Observes_in m set now result =
-      Observes (ShowsOf set_of ShowsRun m set) (Told start now set) (λ fault. Broken start now fault set) set threads
-      events result
+      Observes (ShowsOf set_of ShowsRun m set) (Told start now set)
+      (λ fault. Broken start now fault set) set threads events result
 
   pub observed_first : (m : M) → ShowsRun m threads [] → Told start start (set_of m) threads []
       → Observed set_of ShowsRun Told (set_of m) threads events start m start events

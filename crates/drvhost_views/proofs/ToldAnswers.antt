@@ -61,11 +61,12 @@ run_told manner set threads events past m end start now amiss words found runs (
     shows.world ∙ ap (λ (s : Set). (run s threads past).world) same in
     let found_in : AreFindings set m.world now.sight.ledger found =
     subst (λ (s : Set). AreFindings s m.world now.sight.ledger found) same are in
-    let amiss_in : amiss ≡ has_findings set (world_by set threads events) (past_by set threads events) =
+    let amiss_in : amiss
+    ≡ has_findings set (world_by set threads events) (past_by set threads events) =
     any ∙ all_found set m.world now.sight.ledger found threads past found_in told.tells
     ∙ ap (λ (w : World). has_findings set w (run set threads past).past) world
-    ∙ ap (λ (es : List Event). has_findings set (run set threads es).world (run set threads es).past)
-    by in
+    ∙ ap (λ (es : List Event).
+    has_findings set (run set threads es).world (run set threads es).past) by in
     let strict : strictly
     ≡ fails_strictly manner.strictness (list_any is_refused (replies_by set threads events)) =
     ap (λ (b : Bool). fails_strictly manner.strictness b)

@@ -16,9 +16,9 @@ use tell_uses::standing::top_frame;
 
 impl<'a> Page<'a> {
     /// Lets the thread of a step that comes so often go on by itself for as many as it can make so:
-    /// in quiet nothing is told of them, and a line of each where each event has one. It answers how
-    /// many were made; none where another event comes, in quiet one that needs a look at it before
-    /// or comes a few times, and where it hangs on the step whether a line is told of it.
+    /// in quiet nothing is told of them, and a line of each where each event has one. It answers
+    /// how many were made; none where another event comes, in quiet one that needs a look at it
+    /// before or comes a few times, and where it hangs on the step whether a line is told of it.
     #[inline]
     pub(crate) fn go_ahead(
         &mut self,

@@ -15,7 +15,8 @@ returns-in_err-taken g c =
 
 pub returns-then-taken : goal.returns-then-taken
 returns-then-taken g c =
-    observed_end _ _ _ g.W.Observer.breaks _ _ _ _ _ _ _ 1 _ (rw c.in-Some.ensures at c.loop-event.invariant.observed)
+    observed_end _ _ _ g.W.Observer.breaks _ _ _ _ _ _ _ 1 _
+    (rw c.in-Some.ensures at c.loop-event.invariant.observed)
     _ _ _ _ c.in_ok-taken.ensures.takes c.in_ok-taken.ensures.few c.in_ok-taken.ensures.tells
     c.if-taken.true
 
@@ -51,7 +52,8 @@ returns-then-taken-2 g c =
     ≡ replicate run.count run.event ++ c.next_run.new.upcoming =
     ap (λ (later : List Event). awaited c.loop-event.rest later) (sym c.in_default.ensures)
     ∙ c.in-Some-next_run.ensures.1 in
-    observed_end _ _ _ g.W.Observer.breaks _ _ _ _ _ _ _ _ _ (rw next at c.loop-event.invariant.observed)
+    observed_end _ _ _ g.W.Observer.breaks _ _ _ _ _ _ _ _ _
+    (rw next at c.loop-event.invariant.observed)
     _ _ _ _ c.in_ok-taken-2.ensures.takes c.in_ok-taken-2.ensures.few
     c.in_ok-taken-2.ensures.tells c.if-taken-2.true
 

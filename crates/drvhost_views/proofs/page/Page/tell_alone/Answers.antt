@@ -30,8 +30,8 @@ loop-made-preserved c =
           c.tell_step.new.machine c.in_ok-tell_step.field-0 c.loop-made.invariant.goes
           c.in_ok-tell_step.ensures.goes c.in_ok-tell_step.ensures.few some;
       told =
-          told_one Every c.loop-made.made c.args.self.now.number c.loop-made.self.number c.args.self.now.text
-          c.loop-made.self.text c.tell_step.new.self.text c.loop-made.invariant.told
+          told_one Every c.loop-made.made c.args.self.now.number c.loop-made.self.number
+          c.args.self.now.text c.loop-made.self.text c.tell_step.new.self.text c.loop-made.invariant.told
           c.loop-made.invariant.numbered (c.in_ok-tell_step.ensures.told some);
       same = λ is. absurd (omega (arith, is));
     }

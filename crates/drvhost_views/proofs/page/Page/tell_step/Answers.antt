@@ -6,4 +6,7 @@ pub returns-in_default-clause-goes : goal.returns-in_default-clause-goes
 returns-in_default-clause-goes c = none
 
 pub returns-clause-told : goal.returns-clause-told
-returns-clause-told c some = (c.front.result.now ++ c.words.result.now, c.in_ok-add_line.ensures.added)
+returns-clause-told c some = (
+  c.front.result.now ++ c.words.result.now,
+  c.in_ok-add_line.ensures.added,
+)
