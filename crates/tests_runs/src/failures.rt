@@ -109,14 +109,14 @@ struct Case {
 
 /// What is answered: the exit status, what goes out, and what the error writer is given.
 #[derive(Clone, Copy)]
-struct Answer<'a> {
+struct Answered<'a> {
     status: u8,
     lines: &'a [u8],
     told: &'a [u8],
 }
 
 /// What is answered where a read fails.
-const UNREAD: Answer<'static> = Answer {
+const UNREAD: Answered<'static> = Answered {
     status: 2,
     lines: b"",
     told: b"read failed\n",
@@ -405,7 +405,7 @@ fn is_answered<R: Threads + Wait + Sync>(
     alloc: Global,
     case: &Case,
     devices: &Devices,
-    answered: &Answer<'_>,
+    answered: &Answered<'_>,
 ) -> bool {
     let mut set = Slow::new(case.set, devices.step, devices.set);
     let mut out = Narrow::new(alloc, devices.step, devices.out);
@@ -419,8 +419,8 @@ fn is_answered<R: Threads + Wait + Sync>(
 }
 
 /// What is answered of a case where no device fails.
-fn answer_of(case: &Case) -> Answer<'static> {
-    Answer {
+fn answered_by(case: &Case) -> Answered<'static> {
+    Answered {
         status: case.status,
         lines: case.lines,
         told: case.told,
@@ -428,8 +428,8 @@ fn answer_of(case: &Case) -> Answer<'static> {
 }
 
 /// What is answered where a write fails, behind such lines.
-fn unwritten(lines: &[u8]) -> Answer<'_> {
-    Answer {
+fn unwritten(lines: &[u8]) -> Answered<'_> {
+    Answered {
         status: 2,
         lines,
         told: b"write failed\n",
@@ -440,7 +440,7 @@ fn unwritten(lines: &[u8]) -> Answer<'_> {
 fn is_answered_slowly<R: Threads + Wait + Sync>(rt: &R, alloc: Global, case: &Case) -> bool {
     for step in [1, 7, 100] {
         let devices = Devices { step, ..WHOLE };
-        if !is_answered(rt, alloc, case, &devices, &answer_of(case)) {
+        if !is_answered(rt, alloc, case, &devices, &answered_by(case)) {
             return false;
         }
     }
@@ -577,7 +577,7 @@ fn tells_each_failed_block<R: Threads + Wait + Sync>(
             return false;
         }
     }
-    let drawn = Answer {
+    let drawn = Answered {
         status: 0,
         lines: picture,
         told: b"",
@@ -605,9 +605,9 @@ fn stays_untold<R: Threads + Wait + Sync>(rt: &R, alloc: Global, case: &Case) ->
             err: Some(calls),
             ..WHOLE
         };
-        let answered = Answer {
+        let answered = Answered {
             told: &case.told[..calls],
-            ..answer_of(case)
+            ..answered_by(case)
         };
         if !is_answered(rt, alloc, case, &devices, &answered) {
             return false;
@@ -634,7 +634,7 @@ fn stays_unread<R: Threads + Wait + Sync>(rt: &R, alloc: Global, case: &Case) ->
             err: Some(calls),
             ..WHOLE
         };
-        let answered = Answer {
+        let answered = Answered {
             told: &UNREAD.told[..calls],
             ..UNREAD
         };
@@ -653,7 +653,7 @@ fn stays_unwritten<R: Threads + Wait + Sync>(rt: &R, alloc: Global, case: &Case)
             err: Some(calls),
             ..WHOLE
         };
-        let answered = Answer {
+        let answered = Answered {
             told: &b"write failed\n"[..calls],
             ..unwritten(b"")
         };
