@@ -7,8 +7,8 @@ use Rattle.verifier_evidence.specs.declared.arrivals.Arrival.{Arrival}
 use Rattle.verifier_evidence.specs.Path.{member_of}
 use Rattle.verifier_evidence.specs.Table.{AreKnown, HasArrival}
 use Rattle.laws_locks.specs.Order.{TakesUnder, lock_named}
-use Rattle.verifier_orders.specs.declared.ranking.Edge.{Edge}
-use Rattle.verifier_orders.specs.Edges.{AreEdgesOf, AreEdgesTo, HasEdge, IsEdge, edge, edges_from, holds_number, number_of, number_taken}
+use Rattle.verifier_orders.specs.declared.ranking.NumberedEdge.{NumberedEdge}
+use Rattle.verifier_orders.specs.Edges.{AreEdgesOf, AreEdgesTo, HasEdge, IsNumberedEdge, edge, edges_from, holds_number, number_of, number_taken}
 use Rattle.verifier_orders.specs.Ranking.{AreWithin, IsWithin}
 use Rattle.verifier_evidence.proofs.Known.{known_covered}
 use Rattle.laws_runs.proofs.States.Kinds.{handed_locks}
@@ -77,24 +77,24 @@ number_named AcquireCancel n is = (CancelLock, refl, (let same : 8 ≡ n = cc in
 number_named _ n is = cc
 
 -- edges that are there stay
-get_before : (xs ys : List Edge) (k : ℕ) (e : Edge) → slice_get xs k ≡ Some e
+get_before : (xs ys : List NumberedEdge) (k : ℕ) (e : NumberedEdge) → slice_get xs k ≡ Some e
     → slice_get (xs ++ ys) k ≡ Some e
 get_before [] ys k e there = cc
 get_before (x ∷ xs) ys zero e there = there
 get_before (x ∷ xs) ys (suc k) e there = get_before xs ys k e there
 
-get_after : (xs ys : List Edge) (k : ℕ) (e : Edge) → slice_get ys k ≡ Some e
+get_after : (xs ys : List NumberedEdge) (k : ℕ) (e : NumberedEdge) → slice_get ys k ≡ Some e
     → (j : ℕ) × (slice_get (xs ++ ys) j ≡ Some e)
 get_after [] ys k e there = (k, there)
 get_after (x ∷ xs) ys k e there =
     let rest : (j : ℕ) × (slice_get (xs ++ ys) j ≡ Some e) = get_after xs ys k e there in
     (suc rest.0, rest.1)
 
-has_more : (xs ys : List Edge) (held taken : Guard) → HasEdge xs held taken
+has_more : (xs ys : List NumberedEdge) (held taken : Guard) → HasEdge xs held taken
     → HasEdge (xs ++ ys) held taken
 has_more xs ys held taken has = (has.0, has.1, get_before xs ys has.0 has.1 has.2, has.3, has.4)
 
-has_after : (xs ys : List Edge) (held taken : Guard) → HasEdge ys held taken
+has_after : (xs ys : List NumberedEdge) (held taken : Guard) → HasEdge ys held taken
     → HasEdge (xs ++ ys) held taken
 has_after xs ys held taken has =
     let place : (j : ℕ) × (slice_get (xs ++ ys) j ≡ Some has.1) =
@@ -129,7 +129,7 @@ eight_arrives m p s arrives =
     p s arrives
 
 -- routines one after another
-module _ (set : Set) (driver n : ℕ) (edges : List Edge) where
+module _ (set : Set) (driver n : ℕ) (edges : List NumberedEdge) where
   module _ (at : ℕ) (h : AreEdgesTo set driver n at edges) where
     next_by : ((held taken : Guard) (u : TakesUnder set driver held taken) → u.number ≡ n
         → at ≤ u.position → ⊥) → (held taken : Guard) (u : TakesUnder set driver held taken)
@@ -153,7 +153,7 @@ module _ (set : Set) (driver n : ℕ) (edges : List Edge) where
     next_routine never = record { within = h.within; each = h.each; all = next_in never }
 
     -- positions one after another
-    on_by : (more : List Edge)
+    on_by : (more : List NumberedEdge)
         → ((held taken : Guard) (u : TakesUnder set driver held taken) → u.number ≡ n
         → u.position ≡ at → HasEdge (edges ++ more) held taken)
         → (held taken : Guard) (u : TakesUnder set driver held taken)
@@ -168,14 +168,14 @@ module _ (set : Set) (driver n : ℕ) (edges : List Edge) where
           | inr late ↦ here held taken u low.0 (let l : u.position < at + 1 = low.1 in omega arith)
         ]
 
-    pub next_position : (more : List Edge) → AreWithin more → All (IsEdge set driver) more
+    pub next_position : (more : List NumberedEdge) → AreWithin more → All (IsNumberedEdge set driver) more
         → ((held taken : Guard) (u : TakesUnder set driver held taken) → u.number ≡ n
         → u.position ≡ at → HasEdge (edges ++ more) held taken)
         → AreEdgesTo set driver n (at + 1) (edges ++ more)
     next_position more small each here =
         record {
           within = All-append IsWithin edges more h.within small;
-          each = All-append (IsEdge set driver) edges more h.each each;
+          each = All-append (IsNumberedEdge set driver) edges more h.each each;
           all = on_by more here;
         }
 
@@ -201,7 +201,7 @@ module _ (set : Set) (driver number at n : ℕ) (s : Abs) (routine : RoutineOf) 
   what = number_named i n takes
 
   is_edge : (held : Guard) (lock : ℕ) → lock ≡ number_of held → holds_guard s held ≡ true
-      → IsEdge set driver (edge lock n number at)
+      → IsNumberedEdge set driver (edge lock n number at)
   is_edge held lock is holds =
       record {
         held = held;
@@ -225,7 +225,7 @@ module _ (set : Set) (driver number at n : ℕ) (s : Abs) (routine : RoutineOf) 
       }
 
   numbered_edge : (lock : ℕ) (b : Bool) → nat_eq lock 8 ≡ b → (lock ≡ 8) ⊎ (lock ≢ 8)
-      → holds_number s lock ≡ true → IsEdge set driver (edge lock n number at)
+      → holds_number s lock ≡ true → IsNumberedEdge set driver (edge lock n number at)
   numbered_edge lock true is (inl same) holds =
       is_edge CancelLock lock same (rw is at holds)
   numbered_edge lock false is (inr apart) holds =
@@ -236,15 +236,15 @@ module _ (set : Set) (driver number at n : ℕ) (s : Abs) (routine : RoutineOf) 
       (let no : nat_eq lock 8 ≡ true = eq-eqb lock 8 same in let x : false ≡ true = sym is ∙ no in cc)
 
   one_edge : (lock : ℕ) (b : Bool) → holds_number s lock ≡ b
-      → All (IsEdge set driver) (if b then edge lock n number at ∷ [] else [])
-  one_edge lock true holds = All-push (IsEdge set driver) [] (edge lock n number at) (λ k d l. absurd (omega arith))
+      → All (IsNumberedEdge set driver) (if b then edge lock n number at ∷ [] else [])
+  one_edge lock true holds = All-push (IsNumberedEdge set driver) [] (edge lock n number at) (λ k d l. absurd (omega arith))
       (numbered_edge lock (nat_eq lock 8) refl (cases_eq lock 8) holds)
   one_edge lock false holds = λ k d l. absurd (omega arith)
 
-  pub each_edge : (count : ℕ) → All (IsEdge set driver) (edges_from s n number at count)
+  pub each_edge : (count : ℕ) → All (IsNumberedEdge set driver) (edges_from s n number at count)
   each_edge zero = λ k d l. absurd (omega arith)
   each_edge (suc lock) =
-      All-append (IsEdge set driver) (edges_from s n number at lock) _ (each_edge lock)
+      All-append (IsNumberedEdge set driver) (edges_from s n number at lock) _ (each_edge lock)
       (one_edge lock (holds_number s lock) refl)
 
   -- and each that there is
@@ -302,7 +302,7 @@ found_by set driver n m (Some routine) there is own =
     }
 
 module _ (set : Set) (typable : IsTypable set) (driver n : ℕ) where
-  pub none_routine : (edges : List Edge) → member_of set driver n ≡ None
+  pub none_routine : (edges : List NumberedEdge) → member_of set driver n ≡ None
       → AreEdgesTo set driver n 0 edges → AreEdgesTo set driver (n + 1) 0 edges
   none_routine edges none h =
       next_routine set driver n edges 0 h
@@ -343,7 +343,7 @@ module _ (set : Set) (typable : IsTypable set) (driver n : ℕ) where
         let one : m ≡ member set driver u.number u.routine = cc in
         subst (λ (x : Member). Arrives x u.position u.state) (sym one) u.arrives
 
-    pub done_routine : (at : ℕ) (edges : List Edge) → length m.routine.code ≤ at
+    pub done_routine : (at : ℕ) (edges : List NumberedEdge) → length m.routine.code ≤ at
         → AreEdgesTo set driver n at edges → AreEdgesTo set driver (n + 1) 0 edges
     done_routine at edges late h =
         next_routine set driver n edges at h
@@ -356,7 +356,7 @@ module _ (set : Set) (typable : IsTypable set) (driver n : ℕ) where
     all_fine p low = right.each p (omega arith)
 
     module _ (at : ℕ) (i : Instr) (there : slice_get m.routine.code at ≡ Some i)
-        (edges : List Edge) (h : AreEdgesTo set driver n at edges) where
+        (edges : List NumberedEdge) (h : AreEdgesTo set driver n at edges) where
       within : at < length m.routine.code
       within = slice_get_within m.routine.code at i there
 
@@ -371,7 +371,7 @@ module _ (set : Set) (typable : IsTypable set) (driver n : ℕ) where
 
       pub position_none : number_taken i ≡ None → AreEdgesTo set driver n (at + 1) edges
       position_none none =
-          subst (λ (xs : List Edge). AreEdgesTo set driver n (at + 1) xs) (append-nil edges)
+          subst (λ (xs : List NumberedEdge). AreEdgesTo set driver n (at + 1) xs) (append-nil edges)
           (next_position set driver n edges at h [] (λ k d l. absurd (omega arith))
           (λ k d l. absurd (omega arith))
           (λ held taken u same place.
@@ -427,7 +427,7 @@ module _ (set : Set) (typable : IsTypable set) (driver n : ℕ) where
             (number_of held) 9 low.0 refl to low.1))
 
 -- all routines of the driver
-pub all_routines : (set : Set) (driver n : ℕ) (edges : List Edge)
+pub all_routines : (set : Set) (driver n : ℕ) (edges : List NumberedEdge)
     → AreEdgesTo set driver n 0 edges
     → ((held taken : Guard) (u : TakesUnder set driver held taken) → n ≤ u.number → ⊥)
     → AreEdgesOf set driver edges

@@ -1,22 +1,23 @@
 -- From places to an order of the locks, and from a cycle to that there is none.
-use Rattle.laws_runs.proofs.Common.{ap, arith, inl, inr, refl, subst, sym, ◌∙◌, cases_eq, cases_lt, eq-eqb, ◌⊎◌, get_or_from_slice_get, slice_get_within, ne_eqb, All, List, Some, [], false, if◌then◌else◌, length, nat_eq, slice_get, suc, zero, true, ℕ, ◌<◌, ◌∷◌, ◌≡◌, ◌≢◌, ◌≤◌, Set, member, IsSound, IsTypable, OperandFits, Abs, Instr, Acquire, AcquireCancel, CancelLock, DeviceLock, Guard, led}
+use Rattle.laws_runs.proofs.Common.{ap, arith, inl, inr, refl, subst, sym, ◌∙◌, cases_eq, cases_lt, eq-eqb, ◌⊎◌, get_or_from_slice_get, slice_get_within, ne_eqb, All, List, Some, [], false, length, slice_get, suc, zero, true, ℕ, ◌<◌, ◌∷◌, ◌≡◌, ◌≢◌, ◌≤◌, Set, member, IsSound, IsTypable, OperandFits, Abs, Instr, Acquire, AcquireCancel, CancelLock, DeviceLock, Guard, led}
 use Rattle.std.specs.Prelude.{get_or}
 use Rattle.laws_locks.specs.Order.{IsOrder, TakesUnder, lock_named}
-use Rattle.verifier_orders.specs.declared.ranking.Edge.{Edge}
+use Rattle.verifier_orders.specs.declared.ranking.NumberedEdge.{NumberedEdge}
 use Rattle.verifier_orders.specs.Cycle.{IsAmong, IsCycle, LeadBack}
-use Rattle.verifier_orders.specs.Edges.{AreEdgesOf, HasEdge, HasNoOrder, IsEdge, IsLockCycle, number_of, place_in}
-use Rattle.verifier_orders.specs.Ranking.{AreRanked}
+use Rattle.verifier_orders.specs.Edges.{AreEdgesOf, HasEdge, HasNoOrder, IsNumberedEdge, IsNumberedCycle, number_of, place_in}
+use Rattle.verifier_orders.specs.Names.{guard_of}
+use Rattle.verifier_orders.specs.Ranking.{AreRanked, AreWithin, IsWithin}
 use Rattle.verifier_orders.proofs.Finding.{beyond_false, eight_arrives}
 use Rattle.model.specs.LocalRule.{holds_guard, is_held}
 
-at_place : (P : Edge → Type 0) (edges : List Edge) (k : ℕ) (e : Edge) → All P edges
+at_place : (P : NumberedEdge → Type 0) (edges : List NumberedEdge) (k : ℕ) (e : NumberedEdge) → All P edges
     → slice_get edges k ≡ Some e → P e
 at_place P edges k e all there =
     subst P (get_or_from_slice_get edges k e e there)
     (all k e (slice_get_within edges k e there))
 
 -- places are an order
-pub ranked_order : (set : Set) (driver : ℕ) (edges : List Edge) (places : List ℕ)
+pub ranked_order : (set : Set) (driver : ℕ) (edges : List NumberedEdge) (places : List ℕ)
     → AreEdgesOf set driver edges → AreRanked edges places
     → IsOrder set driver (place_in places)
 ranked_order set driver edges places h ranked =
@@ -25,14 +26,14 @@ ranked_order set driver edges places h ranked =
       rises = λ held taken u.
           let has : HasEdge edges held taken = h.all held taken u in
           let up : get_or places has.1.held 0 < get_or places has.1.taken 0 =
-          at_place (λ (e : Edge). get_or places e.held 0 < get_or places e.taken 0) edges has.0 has.1 ranked.rises has.2 in
+          at_place (λ (e : NumberedEdge). get_or places e.held 0 < get_or places e.taken 0) edges has.0 has.1 ranked.rises has.2 in
           subst (λ (n : ℕ). get_or places n 0 < get_or places (number_of taken) 0) has.3
           (subst (λ (n : ℕ). get_or places has.1.held 0 < get_or places n 0) has.4 up);
     }
 
 -- a cycle of the edges is one of the driver
-pub cycle_shown : (set : Set) (driver : ℕ) (edges cycle : List Edge) → AreEdgesOf set driver edges
-    → IsCycle edges cycle → IsLockCycle set driver cycle
+pub cycle_shown : (set : Set) (driver : ℕ) (edges cycle : List NumberedEdge) → AreEdgesOf set driver edges
+    → IsCycle edges cycle → IsNumberedCycle set driver cycle
 cycle_shown set driver edges cycle h is =
     record {
       lock = is.lock;
@@ -40,12 +41,8 @@ cycle_shown set driver edges cycle h is =
       some = is.some;
       each = λ k d within.
           (let place : IsAmong edges (get_or cycle k d) = is.among k d within in
-          at_place (IsEdge set driver) edges place.0 (get_or cycle k d) h.each place.1);
+          at_place (IsNumberedEdge set driver) edges place.0 (get_or cycle k d) h.each place.1);
     }
-
--- a lock of a number
-abbrev guard_of : ℕ → Guard
-guard_of n = if nat_eq n 8 then CancelLock else DeviceLock n
 
 guard_by : (l : ℕ) → (l ≡ 8) ⊎ (l ≢ 8) → (l ≡ 8 → DeviceLock l ≡ CancelLock)
     → DeviceLock l ≡ guard_of l
@@ -76,7 +73,7 @@ module _ (set : Set) (typable : IsTypable set) (sound : IsSound set) (driver : �
   small_taken AcquireCancel g is fits eight = (let same : CancelLock ≡ g = cc in sym same)
   small_taken _ g is fits eight = cc
 
-  taken_guard : (held taken : Guard) (u : TakesUnder set driver held taken)
+  pub taken_guard : (held taken : Guard) (u : TakesUnder set driver held taken)
       → taken ≡ guard_of (number_of taken)
   taken_guard held taken u =
       guard_is taken
@@ -100,7 +97,7 @@ module _ (set : Set) (typable : IsTypable set) (sound : IsSound set) (driver : �
   held_eight s CancelLock eight holds same = refl
   held_eight s (DeviceLock l) eight holds same = held_small s l eight holds same
 
-  held_guard : (held taken : Guard) (u : TakesUnder set driver held taken)
+  pub held_guard : (held taken : Guard) (u : TakesUnder set driver held taken)
       → held ≡ guard_of (number_of held)
   held_guard held taken u =
       guard_is held
@@ -108,7 +105,7 @@ module _ (set : Set) (typable : IsTypable set) (sound : IsSound set) (driver : �
       (eight_arrives (member set driver u.number u.routine) u.position u.state u.arrives) u.holds)
 
   module _ (place : Guard → ℕ) (order : IsOrder set driver place) where
-    edge_rises : (e : Edge) → IsEdge set driver e
+    edge_rises : (e : NumberedEdge) → IsNumberedEdge set driver e
         → place (guard_of e.held) < place (guard_of e.taken)
     edge_rises e is =
         let up : place is.held < place is.taken = order.rises is.held is.taken is.under in
@@ -119,8 +116,8 @@ module _ (set : Set) (typable : IsTypable set) (sound : IsSound set) (driver : �
         subst (λ (g : Guard). place g < place (guard_of e.taken)) held
         (subst (λ (g : Guard). place is.held < place g) taken up)
 
-    back_falls : (lock to : ℕ) (way : List Edge) → LeadBack lock way to
-        → All (IsEdge set driver) way → place (guard_of to) ≤ place (guard_of lock)
+    back_falls : (lock to : ℕ) (way : List NumberedEdge) → LeadBack lock way to
+        → All (IsNumberedEdge set driver) way → place (guard_of to) ≤ place (guard_of lock)
     back_falls lock to [] back each = rw back (omega arith)
     back_falls lock to (e ∷ way) back each =
         let first : place (guard_of e.held) < place (guard_of e.taken) =
@@ -129,8 +126,8 @@ module _ (set : Set) (typable : IsTypable set) (sound : IsSound set) (driver : �
         back_falls e.held to way back.1 (λ k d l. each (suc k) d (omega arith)) in
         rw (← back.0) (omega arith)
 
-    cycle_never : (lock : ℕ) (way : List Edge) → LeadBack lock way lock → way ≢ []
-        → All (IsEdge set driver) way → ⊥
+    cycle_never : (lock : ℕ) (way : List NumberedEdge) → LeadBack lock way lock → way ≢ []
+        → All (IsNumberedEdge set driver) way → ⊥
     cycle_never lock [] back some each = some refl
     cycle_never lock (e ∷ way) back some each =
         let first : place (guard_of e.held) < place (guard_of e.taken) =
@@ -141,5 +138,12 @@ module _ (set : Set) (typable : IsTypable set) (sound : IsSound set) (driver : �
         ap (λ (n : ℕ). place (guard_of n)) back.0 in
         absurd (omega arith)
 
-  pub no_order : (cycle : List Edge) → IsLockCycle set driver cycle → HasNoOrder set driver
+  pub no_order : (cycle : List NumberedEdge) → IsNumberedCycle set driver cycle → HasNoOrder set driver
   no_order cycle is = λ place order. cycle_never place order is.lock cycle is.back is.some is.each
+
+-- the edges of a cycle are within the nine
+pub cycle_within : (edges cycle : List NumberedEdge) → AreWithin edges → IsCycle edges cycle
+    → AreWithin cycle
+cycle_within edges cycle within is = λ k d low.
+    (let place : IsAmong edges (get_or cycle k d) = is.among k d low in
+    at_place IsWithin edges place.0 (get_or cycle k d) within place.1)

@@ -1,8 +1,8 @@
 -- Locks are given places one after another, each when no edge leads to it from one without a place.
-use Rattle.std.proofs.Common.{◌≡◌, ◌≢◌, ◌<◌, ◌≤◌, ◌+◌, ◌∙◌, ℕ, zero, suc, List, [], ◌∷◌, length, All, get_or, refl, ap, arith, inl, inr, ◌⊎◌, nat_eq, slice_set, if◌then◌else◌, ne_eqb, get_or-set_same, get_or-set_other, length-set}
+use Rattle.std.proofs.Common.{◌≡◌, ◌≢◌, ◌<◌, ◌≤◌, ◌+◌, ◌∙◌, ℕ, zero, suc, List, [], ◌∷◌, length, All, get_or, refl, sym, ap, arith, inl, inr, ◌⊎◌, nat_eq, slice_set, if◌then◌else◌, ne_eqb, get_or-set_same, get_or-set_other, length-set}
 use Rattle.laws_runs.proofs.Common.{cases_eq, cases_lt}
-use Rattle.verifier_orders.specs.declared.ranking.Edge.{Edge}
-use Rattle.verifier_orders.specs.Ranking.{AreRanked, AreWithin, HasNowhere, IsFree, IsNowhere}
+use Rattle.verifier_orders.specs.declared.ranking.NumberedEdge.{NumberedEdge}
+use Rattle.verifier_orders.specs.Ranking.{AreRanked, AreWithin, HasAt, HasNowhere, IsFree, IsNowhere}
 
 -- how many have none
 abbrev pub nowhere : List ℕ → ℕ
@@ -10,14 +10,15 @@ nowhere [] = 0
 nowhere (p ∷ places) = (if nat_eq p 9 then 1 else 0) + nowhere places
 
 -- so many turns have given so many places
-pub record AreRankedTo (edges : List Edge) (places : List ℕ) (turn : ℕ) : Type 0 where
+pub record AreRankedTo (edges : List NumberedEdge) (places : List ℕ) (turn : ℕ) : Type 0 where
   pub long : length places ≡ 9
   pub low : (lock : ℕ) → lock < 9 → IsNowhere places lock ⊎ (get_or places lock 0 < turn)
-  pub rises : All (λ (e : Edge). IsNowhere places e.taken
+  pub rises : All (λ (e : NumberedEdge). IsNowhere places e.taken
       ⊎ (get_or places e.held 0 < get_or places e.taken 0)) edges
   pub left : nowhere places + turn ≡ 9
+  pub filled : (place : ℕ) → place < turn → place < 9 → HasAt places place
 
-pub ranked_begun : (edges : List Edge) (places : List ℕ) → length places ≡ 9
+pub ranked_begun : (edges : List NumberedEdge) (places : List ℕ) → length places ≡ 9
     → nowhere places ≡ 9 → ((lock : ℕ) → lock < 9 → IsNowhere places lock) → AreWithin edges
     → AreRankedTo edges places 0
 ranked_begun edges places long all each within =
@@ -26,6 +27,7 @@ ranked_begun edges places long all each within =
       low = λ lock l. inl (each lock l);
       rises = λ k d l. inl (each (get_or edges k d).taken (within k d l).1);
       left = omega arith;
+      filled = λ place l m. absurd (omega arith);
     }
 
 abbrev one_at : ℕ → ℕ
@@ -77,7 +79,7 @@ beyond [] lock h = refl
 beyond (p ∷ places) zero h = absurd (omega arith)
 beyond (p ∷ places) (suc lock) h = beyond places lock (omega arith)
 
-module _ (edges : List Edge) (places : List ℕ) (turn : ℕ) (h : AreRankedTo edges places turn)
+module _ (edges : List NumberedEdge) (places : List ℕ) (turn : ℕ) (h : AreRankedTo edges places turn)
   where
     pub ranked_left : turn < 9 → HasNowhere places
     ranked_left early =
@@ -93,7 +95,7 @@ module _ (edges : List Edge) (places : List ℕ) (turn : ℕ) (h : AreRankedTo e
     few_by late most lock (inl at) = absurd (placed late lock at)
     few_by late most lock (inr low) = omega arith
 
-    rises_by : 9 ≤ turn → (e : Edge)
+    rises_by : 9 ≤ turn → (e : NumberedEdge)
         → IsNowhere places e.taken ⊎ (get_or places e.held 0 < get_or places e.taken 0)
         → get_or places e.held 0 < get_or places e.taken 0
     rises_by late e (inl at) = absurd (placed late e.taken at)
@@ -106,6 +108,7 @@ module _ (edges : List Edge) (places : List ℕ) (turn : ℕ) (h : AreRankedTo e
             | inl within ↦ few_by late most lock (h.low lock within)
             | inr above ↦ omega (arith, beyond places lock (omega (arith, h.long)))
           ];
+          filled = λ place l. h.filled place (omega arith) l;
           rises = λ k d within. rises_by late (get_or edges k d) (h.rises k d within);
         }
 
@@ -159,15 +162,31 @@ module _ (edges : List Edge) (places : List ℕ) (turn : ℕ) (h : AreRankedTo e
           past_edge held taken known apart
           (elim (h.low taken small) [ inl at ↦ inr at | inr l ↦ inl l ])
 
+      -- the places that were filled are, and the turn's is
+      filled_before : (place : ℕ) → place < 9 → HasAt places place → HasAt after place
+      filled_before place low has =
+          let apart : has.0 ≢ lock = λ is.
+          (let same : get_or places has.0 0 ≡ 9 = ap (λ (k : ℕ). get_or places k 0) is ∙ free.1 in
+          let at : get_or places has.0 0 ≡ place = has.2 in
+          absurd (omega arith)) in
+          (has.0, has.1, other has.0 apart ∙ has.2)
+
+      filled_by : (place : ℕ) → place < 9 → (place < turn) ⊎ (turn ≤ place) → place < turn + 1
+          → HasAt after place
+      filled_by place low (inl before) most = filled_before place low (h.filled place before low)
+      filled_by place low (inr late) most =
+          (lock, free.0, (let same : place ≡ turn = omega arith in here ∙ sym same))
+
       pub ranked_more : AreWithin edges → AreRankedTo edges after (turn + 1)
       ranked_more within =
           record {
             long = length-set places lock turn ∙ h.long;
             low = λ k l. low_by k (h.low k l) (cases_eq k lock);
             rises = λ k d l.
-                let e : Edge = get_or edges k d in
+                let e : NumberedEdge = get_or edges k d in
                 edge_after e.held e.taken (within k d l).0 (within k d l).1 (h.rises k d l)
                 (free.2 k d l) (cases_eq e.taken lock);
+            filled = λ place l low. filled_by place low (cases_lt place turn) l;
             left = omega (
               arith,
               h.left,

@@ -11,7 +11,7 @@ use Rattle.model.specs.Set.{Set}
 use Rattle.laws_locks.specs.Order.{IsOrder, TakesUnder}
 use Rattle.verifier_orders.specs.Cycle.{LeadBack}
 use Rattle.verifier_orders.specs.Ranking.{AreWithin}
-use Rattle.verifier_orders.specs.declared.ranking.Edge.{Edge}
+use Rattle.verifier_orders.specs.declared.ranking.NumberedEdge.{NumberedEdge}
 
 -- locks by number
 abbrev pub number_of : Guard → ℕ
@@ -27,7 +27,7 @@ number_taken AcquireCancel = Some 8
 number_taken i = None
 
 -- an edge tells where a routine of the driver takes a lock under another
-pub record IsEdge (set : Set) (driver : ℕ) (e : Edge) : Type 0 where
+pub record IsNumberedEdge (set : Set) (driver : ℕ) (e : NumberedEdge) : Type 0 where
   pub held : Guard
   pub taken : Guard
   pub under : TakesUnder set driver held taken
@@ -37,35 +37,35 @@ pub record IsEdge (set : Set) (driver : ℕ) (e : Edge) : Type 0 where
   pub position : under.position ≡ e.at
 
 -- an edge between two locks is there
-abbrev pub HasEdge : List Edge → Guard → Guard → Type 0
+abbrev pub HasEdge : List NumberedEdge → Guard → Guard → Type 0
 HasEdge edges held taken =
-    (k : ℕ) × (e : Edge) × (slice_get edges k ≡ Some e) × (e.held ≡ number_of held)
+    (k : ℕ) × (e : NumberedEdge) × (slice_get edges k ≡ Some e) × (e.held ≡ number_of held)
     × (e.taken ≡ number_of taken)
 
 -- edges that an instruction makes which takes a lock in a state: from those of so many locks that
 -- are held
-abbrev pub edge : ℕ → ℕ → ℕ → ℕ → Edge
+abbrev pub edge : ℕ → ℕ → ℕ → ℕ → NumberedEdge
 edge held taken routine at =
     record { held = held; taken = taken; routine = routine; at = at }
 
-abbrev pub edges_from : Abs → ℕ → ℕ → ℕ → ℕ → List Edge
+abbrev pub edges_from : Abs → ℕ → ℕ → ℕ → ℕ → List NumberedEdge
 edges_from s taken routine at zero = []
 edges_from s taken routine at (suc lock) =
     edges_from s taken routine at lock
     ++ (if holds_number s lock then edge lock taken routine at ∷ [] else [])
 
 -- all edges of the routines before one, and of that one before a position
-pub record AreEdgesTo (set : Set) (driver routine at : ℕ) (edges : List Edge) : Type 0 where
+pub record AreEdgesTo (set : Set) (driver routine at : ℕ) (edges : List NumberedEdge) : Type 0 where
   pub within : AreWithin edges
-  pub each : All (IsEdge set driver) edges
+  pub each : All (IsNumberedEdge set driver) edges
   pub all : (held taken : Guard) (u : TakesUnder set driver held taken)
       → (u.number < routine) ⊎ ((u.number ≡ routine) × (u.position < at))
       → HasEdge edges held taken
 
 -- all edges of a driver
-pub record AreEdgesOf (set : Set) (driver : ℕ) (edges : List Edge) : Type 0 where
+pub record AreEdgesOf (set : Set) (driver : ℕ) (edges : List NumberedEdge) : Type 0 where
   pub within : AreWithin edges
-  pub each : All (IsEdge set driver) edges
+  pub each : All (IsNumberedEdge set driver) edges
   pub all : (held taken : Guard) → TakesUnder set driver held taken → HasEdge edges held taken
 
 -- how many routines a driver has
@@ -74,11 +74,11 @@ count_of None = 0
 count_of (Some d) = length d.routines
 
 -- edges that lead back to where they begin: the routines of a driver take locks in a cycle
-pub record IsLockCycle (set : Set) (driver : ℕ) (cycle : List Edge) : Type 0 where
+pub record IsNumberedCycle (set : Set) (driver : ℕ) (cycle : List NumberedEdge) : Type 0 where
   pub lock : ℕ
   pub back : LeadBack lock cycle lock
   pub some : cycle ≢ []
-  pub each : All (IsEdge set driver) cycle
+  pub each : All (IsNumberedEdge set driver) cycle
 
 -- the place of a lock among nine
 abbrev pub place_in : List ℕ → Guard → ℕ

@@ -2,13 +2,13 @@
 
 ghost use Rattle.std.specs.Prelude.{◌≡◌, ◌<◌, ◌≢◌, All, IfOk, IfSome, List, None};
 ghost use Rattle.verifier_orders.specs.Cycle.{HasTaken, IsAmong, IsCycle, IsCut, LeadBack, LeadsTo};
-ghost use Rattle.verifier_orders.specs.Ranking.{AreWithin, HasNowhere, IsNowhere, IsOpen, IsStuck};
+ghost use Rattle.verifier_orders.specs.Ranking.{AreWithin, HasNowhere, IsOpen, IsStuck};
 
-use crate::ranking::{Edge, LOCKS, NOWHERE};
+use crate::ranking::{LOCKS, NOWHERE, NumberedEdge, lock_at};
 use std::alloc::{AllocError, Global};
 
 /// An edge to a lock from one that has no place, if there is one.
-fn edge_into(edges: &[Edge], places: &[u8; LOCKS], lock: u8) -> Option<Edge>
+fn edge_into(edges: &[NumberedEdge], places: &[u8; LOCKS], lock: u8) -> Option<NumberedEdge>
     requires { AreWithin edges.now }
     ensures some { IfSome result (LeadsTo edges.now places.now lock) }
     ensures none { result ≡ None → IsOpen edges.now places.now lock }
@@ -21,22 +21,8 @@ fn edge_into(edges: &[Edge], places: &[u8; LOCKS], lock: u8) -> Option<Edge>
     None
 }
 
-/// The first lock that has no place.
-fn first_nowhere(places: &[u8; LOCKS]) -> u8
-    requires { HasNowhere places.now }
-    ensures low { result < 9 }
-    ensures nowhere { IsNowhere places.now result }
-{
-    for lock in 0..LOCKS as u8 {
-        if places[lock as usize] == NOWHERE {
-            return lock;
-        }
-    }
-    unreachable!()
-}
-
 /// The edges of a way back from the one that takes a lock on.
-fn from_lock(alloc: Global, way: &[Edge], lock: u8) -> Result<Vec<Edge>, AllocError>
+fn from_lock(alloc: Global, way: &[NumberedEdge], lock: u8) -> Result<Vec<NumberedEdge>, AllocError>
     requires { HasTaken way.now lock }
     ensures { IfOk result (λ cut. IsCut way.now lock cut.items) }
 {
@@ -56,15 +42,15 @@ fn from_lock(alloc: Global, way: &[Edge], lock: u8) -> Result<Vec<Edge>, AllocEr
 /// When memory runs out.
 pub fn cycle_of(
     alloc: Global,
-    edges: &[Edge],
+    edges: &[NumberedEdge],
     places: &[u8; LOCKS],
-) -> Result<Vec<Edge>, AllocError>
+) -> Result<Vec<NumberedEdge>, AllocError>
     requires within { AreWithin edges.now }
     requires stuck { IsStuck edges.now places.now }
     requires some { HasNowhere places.now }
     ensures { IfOk result (λ cycle. IsCycle edges.now cycle.items) }
 {
-    let mut at = first_nowhere(places);
+    let mut at = lock_at(places, NOWHERE);
     let mut seen = [false; LOCKS];
     let mut way = Vec::new(alloc);
     while !seen[at as usize] {

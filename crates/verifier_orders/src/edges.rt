@@ -5,7 +5,7 @@ ghost use Rattle.model.specs.Typable.{IsTypable};
 ghost use Rattle.model.specs.Sound.{IsSound};
 ghost use Rattle.verifier_orders.specs.Edges.{AreEdgesOf, AreEdgesTo, count_of, edges_from, holds_number, number_taken};
 
-use crate::ranking::{Edge, LOCKS};
+use crate::ranking::{LOCKS, NumberedEdge};
 use absstate::Abs;
 use driver_set::DriverSet;
 use model::instr::Instr;
@@ -41,7 +41,7 @@ fn taken_by(instr: &Instr) -> Option<u8>
 }
 
 /// Adds an edge if it is one.
-fn add_if(edges: &mut Vec<Edge>, is: bool, edge: Edge) -> Result<(), AllocError>
+fn add_if(edges: &mut Vec<NumberedEdge>, is: bool, edge: NumberedEdge) -> Result<(), AllocError>
     ensures { OnOk result
         (edges.new.items ≡ edges.old.items ++ (if is then edge ∷ [] else [])) }
 {
@@ -53,7 +53,7 @@ fn add_if(edges: &mut Vec<Edge>, is: bool, edge: Edge) -> Result<(), AllocError>
 
 /// Adds the edges that an instruction makes which takes a lock in a state.
 fn add_from(
-    edges: &mut Vec<Edge>,
+    edges: &mut Vec<NumberedEdge>,
     state: &Abs,
     taken: u8,
     routine: u8,
@@ -63,7 +63,7 @@ fn add_from(
         (edges.new.items ≡ edges.old.items ++ edges_from state.now taken routine at 9) }
 {
     for held in 0..LOCKS as u8 {
-        let edge = Edge {
+        let edge = NumberedEdge {
             held,
             taken,
             routine,
@@ -80,7 +80,7 @@ fn add_routine(
     set: &DriverSet,
     driver: u8,
     number: u8,
-    edges: &mut Vec<Edge>,
+    edges: &mut Vec<NumberedEdge>,
 ) -> Result<(), AllocError>
     requires typable { IsTypable set.now }
     requires own { number < 255 }
@@ -123,7 +123,11 @@ fn routine_count(set: &DriverSet, driver: u8) -> usize
 /// # Errors
 ///
 /// When memory runs out.
-pub fn edges_of(alloc: Global, accepted: &Accepted, driver: u8) -> Result<Vec<Edge>, AllocError>
+pub fn edges_of(
+    alloc: Global,
+    accepted: &Accepted,
+    driver: u8,
+) -> Result<Vec<NumberedEdge>, AllocError>
     ensures { IfOk result (λ edges. AreEdgesOf accepted.now driver edges.items) }
 {
     let set = accepted.set();

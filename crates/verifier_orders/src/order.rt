@@ -1,37 +1,57 @@
-//! The order of a driver's locks.
+//! The order of the locks of each driver.
 
-ghost use Rattle.std.specs.Prelude.{IfErr, IfOk};
-ghost use Rattle.laws_locks.specs.Order.{IsOrder};
-ghost use Rattle.verifier_orders.specs.Edges.{HasNoOrder, IsLockCycle, place_in};
+ghost use Rattle.std.specs.Prelude.{IfOk, length};
+ghost use Rattle.laws_locks.specs.Order.{HasLockOrders};
+ghost use Rattle.verifier_orders.specs.Orders.{AreAllOrdered, AreLockOrders, IsLockOrder};
 
 use crate::cycle::cycle_of;
 use crate::edges::edges_of;
-use crate::ranking::{Edge, LOCKS, rank};
+use crate::names::{Edge, locks_by_place, walked_forward};
+use crate::ranking::rank;
+use model::set::Guard;
 use std::alloc::{AllocError, Global};
 use verifier::Accepted;
 
-/// Places for the nine locks of a driver of an accepted set, in an order in which its routines take
-/// them; or a cycle: edges each of which takes the lock that the one before it is taken under, with
-/// the routines and positions that make them, exactly if there is no such order.
-///
-/// # Errors
-///
-/// When memory runs out.
-pub fn order_of(
-    alloc: Global,
-    accepted: &Accepted,
-    driver: u8,
-) -> Result<Result<[u8; LOCKS], Vec<Edge>>, AllocError>
-    ensures order { IfOk result
-        (λ found. IfOk found (λ places. IsOrder accepted.now driver (place_in places))) }
-    ensures cycle { IfOk result
-        (λ found. IfErr found (λ cycle. IsLockCycle accepted.now driver cycle.items)) }
-    ensures none { IfOk result (λ found. IfErr found (λ cycle. HasNoOrder accepted.now driver)) }
+/// What a driver's routines make of its nine locks: the eight spin locks of a device and the system
+/// cancel spin lock.
+#[derive(Drop)]
+pub enum LockOrder {
+    /// The nine in an order: none is taken while a later one is held, or itself.
+    Ordered(Vec<Guard>),
+    /// There is no order. Each edge takes the lock under which the next one is taken, and the last
+    /// the one under which the first is.
+    Cycle(Vec<Edge>),
+}
+
+/// The order of a driver's locks, or a cycle.
+fn order_of(alloc: Global, accepted: &Accepted, driver: u8) -> Result<LockOrder, AllocError>
+    ensures { IfOk result (IsLockOrder accepted.now driver) }
 {
     let _drivers = accepted.set().drivers();
     let edges = edges_of(alloc, accepted, driver)?;
     match rank(edges.as_slice()) {
-        Ok(places) => Ok(Ok(places)),
-        Err(places) => Ok(Err(cycle_of(alloc, edges.as_slice(), &places)?)),
+        Ok(places) => Ok(LockOrder::Ordered(locks_by_place(alloc, &places)?)),
+        Err(places) => {
+            let way = cycle_of(alloc, edges.as_slice(), &places)?;
+            Ok(LockOrder::Cycle(walked_forward(alloc, way.as_slice())?))
+        }
     }
+}
+
+/// For each driver of an accepted set its locks in an order, or a cycle, exactly if there is none.
+///
+/// # Errors
+///
+/// When memory runs out.
+pub fn orders_of(alloc: Global, accepted: &Accepted) -> Result<Vec<LockOrder>, AllocError>
+    ensures each { IfOk result
+        (λ orders. AreLockOrders accepted.now (length accepted.now.drivers) orders.items) }
+    ensures all { IfOk result
+        (λ orders. AreAllOrdered orders.items → HasLockOrders accepted.now) }
+{
+    let mut orders = Vec::new(alloc);
+    for driver in 0..accepted.set().drivers().len() {
+        orders.push(order_of(alloc, accepted, driver as u8)?)?;
+    }
+    Ok(orders)
 }

@@ -1,7 +1,7 @@
 //! Places for the nine locks of a driver, so that each edge leads to a later place; or a cycle.
 
-ghost use Rattle.std.specs.Prelude.{◌↔◌, ◌≡◌, IfErr, IfOk, IfSome, IsTrue, None};
-ghost use Rattle.verifier_orders.specs.Ranking.{AreRanked, AreWithin, HasNowhere, IsFree, IsOpen, IsStuck};
+ghost use Rattle.std.specs.Prelude.{◌↔◌, ◌<◌, ◌≡◌, IfErr, IfOk, IfSome, IsTrue, None};
+ghost use Rattle.verifier_orders.specs.Ranking.{AreRanked, AreWithin, HasAt, HasNowhere, IsAt, IsFree, IsOpen, IsStuck};
 
 /// How many locks a driver has by name: the spin locks of a device, and the system cancel spin lock.
 pub const LOCKS: usize = 9;
@@ -9,7 +9,7 @@ pub const LOCKS: usize = 9;
 /// A routine of a driver takes a lock while it holds another, at a position. Locks are numbered: the
 /// spin locks of a device by their numbers, and the system cancel spin lock by 8.
 #[derive(Clone, Copy)]
-pub struct Edge {
+pub struct NumberedEdge {
     pub held: u8,
     pub taken: u8,
     pub routine: u8,
@@ -19,8 +19,22 @@ pub struct Edge {
 /// The place of a lock that has none.
 pub const NOWHERE: u8 = 9;
 
+/// The first lock that has a place.
+pub fn lock_at(places: &[u8; LOCKS], place: u8) -> u8
+    requires { HasAt places.now place }
+    ensures low { result < 9 }
+    ensures at { IsAt places.now result place }
+{
+    for lock in 0..LOCKS as u8 {
+        if places[lock as usize] == place {
+            return lock;
+        }
+    }
+    unreachable!()
+}
+
 /// Whether no edge leads to a lock from one that has no place.
-fn is_open(edges: &[Edge], places: &[u8; LOCKS], lock: u8) -> bool
+fn is_open(edges: &[NumberedEdge], places: &[u8; LOCKS], lock: u8) -> bool
     requires { AreWithin edges.now }
     ensures { IsTrue result ↔ IsOpen edges.now places.now lock }
 {
@@ -28,7 +42,7 @@ fn is_open(edges: &[Edge], places: &[u8; LOCKS], lock: u8) -> bool
 }
 
 /// The first lock without a place to which no edge leads from such a one.
-fn first_free(edges: &[Edge], places: &[u8; LOCKS]) -> Option<u8>
+fn first_free(edges: &[NumberedEdge], places: &[u8; LOCKS]) -> Option<u8>
     requires { AreWithin edges.now }
     ensures free { IfSome result (IsFree edges.now places.now) }
     ensures stuck { result ≡ None → IsStuck edges.now places.now }
@@ -43,7 +57,7 @@ fn first_free(edges: &[Edge], places: &[u8; LOCKS]) -> Option<u8>
 
 /// A place for each lock, so that each edge leads to a later one; or the places of some, where to
 /// each other lock an edge leads from another such.
-pub fn rank(edges: &[Edge]) -> Result<[u8; LOCKS], [u8; LOCKS]>
+pub fn rank(edges: &[NumberedEdge]) -> Result<[u8; LOCKS], [u8; LOCKS]>
     requires { AreWithin edges.now }
     ensures ranked { IfOk result (AreRanked edges.now) }
     ensures stuck { IfErr result (IsStuck edges.now) }

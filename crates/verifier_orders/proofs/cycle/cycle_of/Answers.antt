@@ -1,5 +1,5 @@
 use Rattle.std.proofs.Common.{rules, ◌≡◌, ◌+◌, ◌<◌, List, arith, subst, sym, true, slice_set}
-use Rattle.verifier_orders.specs.declared.ranking.Edge.{Edge}
+use Rattle.verifier_orders.specs.declared.ranking.NumberedEdge.{NumberedEdge}
 use Rattle.verifier_orders.specs.Cycle.{IsCut}
 use Rattle.verifier_orders.proofs.Walking.{IsWalked, then_ok, unseen, unseen_set, walked_more, walked_round}
 use Rattle.verifier_orders.proofs.cycle.cycle_of.Goals as goal
@@ -17,7 +17,7 @@ loop-seen-smaller c =
 
 pub loop-seen-preserved : goal.loop-seen-preserved
 loop-seen-preserved c =
-    subst (λ (way : List Edge). IsWalked c.args.edges.now c.args.places.now way
+    subst (λ (way : List NumberedEdge). IsWalked c.args.edges.now c.args.places.now way
     (slice_set c.loop-seen.seen c.loop-seen.at true) c.in-Some.edge.held)
     (sym (c.in_ok-push.ensures {u = tt}).items)
     (walked_more c.args.edges.now c.args.places.now c.loop-seen.way.items c.loop-seen.seen
@@ -28,4 +28,4 @@ returns c =
     then_ok c.from_lock.result c.from_lock.ensures
     (λ cut is. walked_round c.args.edges.now c.args.places.now c.loop-seen.way.items
     c.loop-seen.seen c.loop-seen.at c.loop-seen.invariant cut.items
-    (subst (λ (way : List Edge). IsCut way c.loop-seen.at cut.items) c.as_slice.ensures.value is))
+    (subst (λ (way : List NumberedEdge). IsCut way c.loop-seen.at cut.items) c.as_slice.ensures.value is))

@@ -1,13 +1,13 @@
 use Rattle.std.proofs.Common.{◌≡◌, ◌∙◌, ◌+◌, ◌++◌, ◌∷◌, [], List, ap, suc, arith, append_assoc, if◌then◌else◌}
-use Rattle.verifier_orders.specs.declared.ranking.Edge.{Edge}
+use Rattle.verifier_orders.specs.declared.ranking.NumberedEdge.{NumberedEdge}
 use Rattle.verifier_orders.specs.Edges.{edge, edges_from, holds_number}
 use Rattle.verifier_orders.proofs.edges.add_from.Goals as goal
 
 pub loop-held-preserved : goal.loop-held-preserved
 loop-held-preserved c =
-    let before : List Edge =
+    let before : List NumberedEdge =
     edges_from c.args.state.now c.args.taken c.args.routine c.args.at c.loop-held.held in
-    let one : List Edge =
+    let one : List NumberedEdge =
     if holds_number c.args.state.now c.loop-held.held
     then edge c.loop-held.held c.args.taken c.args.routine c.args.at ∷ [] else [] in
     let next : c.loop-held.held + 1 ≡ suc c.loop-held.held = omega arith in

@@ -4,7 +4,7 @@ use Rattle.model.specs.declared.instr.Instr.{Instr}
 use Rattle.verifier_evidence.specs.declared.arrivals.Arrival.{Arrival}
 use Rattle.verifier_evidence.specs.Table.{AreKnown}
 use Rattle.verifier_evidence.proofs.Walked.{read_at}
-use Rattle.verifier_orders.specs.declared.ranking.Edge.{Edge}
+use Rattle.verifier_orders.specs.declared.ranking.NumberedEdge.{NumberedEdge}
 use Rattle.verifier_orders.specs.Edges.{AreEdgesTo}
 use Rattle.verifier_orders.proofs.Finding.{all_fine, done_routine, instruction_at, none_routine, position_none, position_reached, position_some}
 use Rattle.verifier_orders.proofs.edges.add_routine.Goals as goal
@@ -61,7 +61,7 @@ loop-at-preserved c =
     c.in_ok-table.table.items = c.in_ok-table.ensures {u = tt} in
     let same : length c.code-code.result.now ≡ length c.in-Some.subject.routine.code =
     ap (λ (xs : List Instr). length xs) c.code-code.ensures.code in
-    subst (λ (xs : List Edge). AreEdgesTo c.args.set.now c.args.driver c.args.number
+    subst (λ (xs : List NumberedEdge). AreEdgesTo c.args.set.now c.args.driver c.args.number
     (c.loop-at.at + 1) xs) (sym (c.in_ok-add_from.ensures {u = tt}))
     (position_some c.args.set.now c.requires.typable c.args.driver c.args.number c.in-Some.subject
     c.requires.own (sym c.of.ensures ∙ c.in-Some.is) c.loop-at.at c.index-code-at.result

@@ -1,0 +1,54 @@
+-- The order of the locks of each driver, or a cycle (Driver Verifier, deadlock detection).
+use Rattle.std.specs.Prelude.{ℕ, ◌≡◌, ◌≢◌, List, [], ◌∷◌, All, Some, slice_get, length, ⊤}
+use Rattle.model.specs.declared.set.Guard.{Guard}
+use Rattle.model.specs.Set.{Set}
+use Rattle.laws_locks.specs.Order.{IsOrder, TakesUnder, lock_names}
+use Rattle.verifier_orders.specs.declared.names.Edge.{Edge}
+use Rattle.verifier_orders.specs.declared.order.LockOrder.{LockOrder}
+use Rattle.verifier_orders.specs.declared.order.LockOrder.TheVariants.{Ordered, Cycle}
+use Rattle.verifier_orders.specs.Edges.{HasNoOrder}
+
+-- an edge tells where a routine of a driver takes a lock under another
+pub record IsEdge (set : Set) (driver : ℕ) (e : Edge) : Type 0 where
+  pub under : TakesUnder set driver e.held e.taken
+  pub routine : under.number ≡ e.routine
+  pub position : under.position ≡ e.at
+
+-- edges from a lock to another: each takes the lock under which the next one is taken
+abbrev pub LeadOn : Guard → List Edge → Guard → Type 0
+LeadOn lock [] to = lock ≡ to
+LeadOn lock (e ∷ edges) to = (e.held ≡ lock) × LeadOn e.taken edges to
+
+-- the routines of a driver take locks in a cycle
+pub record IsLockCycle (set : Set) (driver : ℕ) (cycle : List Edge) : Type 0 where
+  pub lock : Guard
+  pub on : LeadOn lock cycle lock
+  pub some : cycle ≢ []
+  pub each : All (IsEdge set driver) cycle
+
+-- the nine locks of a driver in an order in which its routines take them
+pub record AreOrdered (set : Set) (driver : ℕ) (locks : List Guard) : Type 0 where
+  pub place : Guard → ℕ
+  pub order : IsOrder set driver place
+  pub nine : length locks ≡ lock_names
+  pub placed : (k : ℕ) (lock : Guard) → slice_get locks k ≡ Some lock → place lock ≡ k
+
+-- a driver's locks in an order, or a cycle where there is none
+abbrev pub IsLockOrder : Set → ℕ → LockOrder → Type 0
+IsLockOrder set driver (Ordered locks) = AreOrdered set driver locks.items
+IsLockOrder set driver (Cycle edges) = IsLockCycle set driver edges.items × HasNoOrder set driver
+
+-- those of the drivers before one
+pub record AreLockOrders (set : Set) (count : ℕ) (orders : List LockOrder) : Type 0 where
+  pub long : length orders ≡ count
+  pub each : (driver : ℕ) (order : LockOrder) → slice_get orders driver ≡ Some order
+      → IsLockOrder set driver order
+
+-- each is an order
+abbrev pub IsOrdered : LockOrder → Type 0
+IsOrdered (Ordered locks) = ⊤
+IsOrdered (Cycle edges) = ⊥
+
+abbrev pub AreAllOrdered : List LockOrder → Type 0
+AreAllOrdered orders =
+    (driver : ℕ) (order : LockOrder) → slice_get orders driver ≡ Some order → IsOrdered order
