@@ -7,9 +7,9 @@ they are followed to the letter, and `explain` is asked again. The text has to b
 further on, or of a later rule at the same place: of two faults of an instruction the one of the lesser rule is told first.
 A mend after which it is refused there by the same rule, or earlier, is printed with its break, and the exit status is 1 then.
 Otherwise each mend is printed with how often it was told, whether it is known, and one of its breaks;
-with --each every break is. The last line counts. With --store one break of each of the mends that are told most often is
-stored, with what is told of it, and the mended text with its verdict: crates/tests_stored/data/mends and runs/mends.txt are
-written anew.
+with --each every break is. The last line counts. With --store a break of each reason and of each mend is stored, with what
+is told of it, and, where the mend is followed, the mended text with its verdict: crates/tests_stored/data/mends and
+runs/mends.txt are written anew.
 
 Where a mend speaks of a label L, the place that it names is made: the guard of the queue is released there, and the routine
 returns. Where it leaves open which status, SUCCESS is taken. Mends that ask for a decision of the author (states that differ,
@@ -21,7 +21,7 @@ EXAMPLES, GALLERY = os.path.join(TOP, 'examples'), os.path.join(TOP, 'crates/tes
 MENDS, RUNS = (os.path.join(TOP, 'crates/tests_stored', path) for path in ('data/mends', 'runs/mends.txt'))
 # Texts in which instructions are added, at the start of a routine and before each return.
 SMALL = 'cancel', 'filter', 'queue', 'startio'
-# How many are stored.
+# How many mends are stored at least with the text that they mend.
 STORED = 69
 FORMS = 'SUCCESS', 'PENDING', 'lower r0', 'continue', 'stop', 'void'
 ADDED = ('mark r0', 'complete r0 SUCCESS', 'complete r0 PENDING', 'pass r0', 'call r0', 'start r0', 'begin r0', 'next', 'acqc',
@@ -283,19 +283,31 @@ def store(program, firsts):
     lines = ['; Drivers broken in one place: how the fault came about and how to mend it, and the verdict on the text that is '
              'mended so.']
     for number, it in enumerate(firsts, 1):
-        lines += ['', '# ' + it.what, *run_of(program, 'explain', 'broken-%02d.drv' % number, it.lines),
-                  *run_of(program, 'check', 'mended-%02d.drv' % number, it.mended)]
+        lines += ['', '# ' + it.what, *run_of(program, 'explain', 'broken-%02d.drv' % number, it.lines)]
+        if it.mends:
+            lines += run_of(program, 'check', 'mended-%02d.drv' % number, it.mended)
     with open(RUNS, 'w') as file:
         file.write('\n'.join(lines) + '\n')
 
+def plain(words):
+    """Words without the names of registers, queues, locks and labels."""
+    return re.sub(r'\b(r\d+|l\d+)\b|(?<=queue )\w+', '_', words)
+
 def firsts_of(all_told):
-    """The first break of each mend that is followed, by rule; of mends that name other registers, queues or labels one, and
-    of all those that are told most often."""
+    """By rule, a break of each reason and of each mend that is told, and of the mends that are followed those that are told
+    most often; of each the first, and one that is mended, if there is one."""
     kinds = {}
-    for (rule, _, mend), found in sorted(all_told.items()):
-        kinds.setdefault((rule, re.sub(r'`[^`]*`|\b[rl]\d+\b', '', mend)), []).extend(it for it in found if it.mends)
-    often = sorted((kind for kind, found in kinds.items() if found), key=lambda kind: (-len(kinds[kind]), kind))
-    return [kinds[kind][0] for kind in sorted(often[:STORED])]
+    for (rule, why, mend), found in sorted(all_told.items()):
+        kinds.setdefault((rule, plain(why), plain(mend)), []).extend(found)
+    often = sorted(kinds, key=lambda kind: (all(it.mends is None for it in kinds[kind]), -len(kinds[kind]), kind))
+    chosen, covered = [], set()
+    for kind in often:
+        if not {('why', kind[1]), ('mend', kind[2])} <= covered:
+            chosen.append(kind)
+            covered |= {('why', kind[1]), ('mend', kind[2])}
+    followed = [kind for kind in chosen if any(it.mends for it in kinds[kind])]
+    chosen += [kind for kind in often if kind not in chosen and any(it.mends for it in kinds[kind])][:max(0, STORED - len(followed))]
+    return [next((it for it in kinds[kind] if it.mends), kinds[kind][0]) for kind in sorted(chosen)]
 
 def main():
     flags = [word for word in sys.argv[1:] if word.startswith('--')]
