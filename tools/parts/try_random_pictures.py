@@ -157,6 +157,8 @@ class Run:
         self.events = list(events_of(text))
         self.write(self.set, listing)
         self.write(self.by, text)
+        told = answer(program, 'tell', self.set, self.by, '--unchecked', '--every')[0].partition('\naudit\n')[0]
+        self.told = [' '.join(line.split()[1:]) for line in told.splitlines()]
 
     def write(self, path, content):
         with open(path, 'w') as out:
@@ -171,8 +173,7 @@ class Run:
     def worlds(self):
         """The machine behind each event, one after another, by the replies."""
         world = World(read_set(self.listing), value_of(self.text.split()[1]))
-        told = answer(self.program, 'tell', self.set, self.by, '--unchecked', '--every')[0].partition('\naudit\n')[0]
-        self.told, self.waiting = [' '.join(line.split()[1:]) for line in told.splitlines()], set()
+        self.waiting = set()
         for line, words in zip(self.told, self.events):
             if words[0] != 'interrupt':
                 self.waiting.discard(value_of(words[1]))
