@@ -21,6 +21,18 @@ fn tasks(rt: HostRuntime) -> Result<(), Fail> {
         let job = Job::of(alloc, &words)?;
         assert!(rt; matches!(job, Job::Alone(AloneJob::Version)), "{word}");
     }
+    let job = Job::of(alloc, &["explain", "a.set"])?;
+    assert!(rt; is_to_explain(&job, "a.set", Extent::First));
+    for words in [["explain", "a.set", "--all"], ["explain", "--all", "a.set"]] {
+        let job = Job::of(alloc, &words)?;
+        assert!(rt; is_to_explain(&job, "a.set", Extent::Each));
+    }
+    Ok(())
+}
+
+#[test]
+fn traces(rt: HostRuntime) -> Result<(), Fail> {
+    let alloc = rt.alloc();
     let job = Job::of(alloc, &["trace", "a.set", "b.schedule"])?;
     assert!(rt;
         matches!(
@@ -32,12 +44,6 @@ fn tasks(rt: HostRuntime) -> Result<(), Fail> {
             })
         )
     );
-    let job = Job::of(alloc, &["explain", "a.set"])?;
-    assert!(rt; is_to_explain(&job, "a.set", Extent::First));
-    for words in [["explain", "a.set", "--all"], ["explain", "--all", "a.set"]] {
-        let job = Job::of(alloc, &words)?;
-        assert!(rt; is_to_explain(&job, "a.set", Extent::Each));
-    }
     for words in [
         ["trace", "a", "b", "--unchecked"],
         ["trace", "--unchecked", "a", "b"],
@@ -54,6 +60,12 @@ fn tasks(rt: HostRuntime) -> Result<(), Fail> {
             )
         );
     }
+    Ok(())
+}
+
+#[test]
+fn runs_that_are_shown(rt: HostRuntime) -> Result<(), Fail> {
+    let alloc = rt.alloc();
     let job = Job::of(alloc, &["tell", "a", "b"])?;
     assert!(rt; is_to_tell(&job, Verification::Required, leniently(Detail::Usual)));
     let job = Job::of(alloc, &["tell", "a", "--quiet", "b"])?;

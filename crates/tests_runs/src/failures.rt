@@ -349,20 +349,27 @@ static RUNS: [Case; 10] = [
     },
 ];
 
+/// The set of a case, and where what is answered goes.
+#[derive(Drop)]
+struct Streams<'a> {
+    set: Slow<'a>,
+    out: Narrow,
+    err: Narrow,
+}
+
 /// The exit status of a case with such devices.
 fn answer<R: Threads + Wait + Sync>(
     rt: &R,
     alloc: Global,
     case: &Case,
     devices: &Devices,
-    set: &mut Slow<'_>,
-    out: &mut Narrow,
-    err: &mut Narrow,
+    streams: &mut Streams<'_>,
 ) -> u8
-    requires set { ⟦<Slow<'static> as Source>⟧.failures set.old ≡ 0 }
-    requires out { ⟦<Narrow as Sink>⟧.failures out.old ≡ 0 }
-    requires err { ⟦<Narrow as Sink>⟧.failures err.old ≡ 0 }
+    requires set { ⟦<Slow<'static> as Source>⟧.failures streams.old.set ≡ 0 }
+    requires out { ⟦<Narrow as Sink>⟧.failures streams.old.out ≡ 0 }
+    requires err { ⟦<Narrow as Sink>⟧.failures streams.old.err ≡ 0 }
 {
+    let Streams { set, out, err } = streams;
     match case.job {
         Job::Check => check(alloc, set, out, err),
         Job::Explain(extent) => explain(alloc, extent, set, out, err),
@@ -407,15 +414,17 @@ fn is_answered<R: Threads + Wait + Sync>(
     devices: &Devices,
     answered: &Answered<'_>,
 ) -> bool {
-    let mut set = Slow::new(case.set, devices.step, devices.set);
-    let mut out = Narrow::new(alloc, devices.step, devices.out);
-    let mut err = Narrow::new(alloc, devices.step, devices.err);
-    answer(rt, alloc, case, devices, &mut set, &mut out, &mut err) == answered.status
-        && set.failures() == devices.set.is_some() as u64
-        && out.failures() == devices.out.is_some() as u64
-        && err.failures() == devices.err.is_some() as u64
-        && out.written.as_slice() == answered.lines
-        && err.written.as_slice() == answered.told
+    let mut streams = Streams {
+        set: Slow::new(case.set, devices.step, devices.set),
+        out: Narrow::new(alloc, devices.step, devices.out),
+        err: Narrow::new(alloc, devices.step, devices.err),
+    };
+    answer(rt, alloc, case, devices, &mut streams) == answered.status
+        && streams.set.failures() == devices.set.is_some() as u64
+        && streams.out.failures() == devices.out.is_some() as u64
+        && streams.err.failures() == devices.err.is_some() as u64
+        && streams.out.written.as_slice() == answered.lines
+        && streams.err.written.as_slice() == answered.told
 }
 
 /// What is answered of a case where no device fails.
