@@ -1,5 +1,5 @@
 -- Which edges the passes over the routines of a driver find: each that there is, and no other.
-use Rattle.laws_runs.proofs.Common.{ap, append-nil, arith, inl, inr, refl, subst, sym, zero, ◌-◌, ◌∙◌, cases_eq, eq-eqb, ne_eqb, cases_lt, slice_get-get_or, slice_get_within, All, Bool, List, None, Option, Some, [], false, if◌then◌else◌, length, nat_eq, option_and_then, option_map, slice_get, slice_index_or, suc, true, ℕ, ◌++◌, ◌+◌, ◌<◌, ◌∷◌, ◌≡◌, ◌≢◌, ◌≤◌, ◌⊎◌, Member, Set, member, routine_of, default_number, default_routine, default_code, IsTypable, IsTypableRoutine, entry_of_sort, handed_at_label, Arrives, Abs, Instr, Acquire, AcquireCancel, IfPending, Remove, Disarm, Take, CancelLock, DeviceLock, Guard, Driver, RoutineOf, Sort, Cancel, Dispatch, Dpc, Hold, Propagate, StartIo, QueueName, arrives_keep}
+use Rattle.laws_runs.proofs.Common.{ap, append-nil, arith, inl, inr, refl, subst, sym, zero, ◌-◌, ◌∙◌, cases_eq, eq-eqb, ne_eqb, cases_lt, slice_get-get_or, slice_get_within, get_or_from_slice_get, All, Bool, List, None, Option, Some, [], false, if◌then◌else◌, length, nat_eq, option_and_then, option_map, slice_get, slice_index_or, suc, true, ℕ, ◌++◌, ◌+◌, ◌<◌, ◌∷◌, ◌≡◌, ◌≢◌, ◌≤◌, ◌⊎◌, Member, Set, member, routine_of, default_number, default_routine, default_code, IsTypable, IsTypableRoutine, entry_of_sort, handed_at_label, Arrives, Abs, Instr, Acquire, AcquireCancel, IfPending, Remove, Disarm, Take, CancelLock, DeviceLock, Guard, Driver, RoutineOf, Sort, Cancel, Dispatch, Dpc, Hold, Propagate, StartIo, QueueName, arrives_keep}
 use Rattle.std.proofs.lemmas.List.Elements.{All-append, All-push}
 use Rattle.model.specs.LocalRule.{holds_guard, is_held}
 use Rattle.model.specs.Typable.{IsFineAt}
@@ -8,7 +8,7 @@ use Rattle.verifier_evidence.specs.Path.{member_of}
 use Rattle.verifier_evidence.specs.Table.{AreKnown, HasArrival}
 use Rattle.laws_locks.specs.Order.{TakesUnder, lock_named}
 use Rattle.verifier_orders.specs.declared.ranking.NumberedEdge.{NumberedEdge}
-use Rattle.verifier_orders.specs.Edges.{AreEdgesOf, AreEdgesTo, HasEdge, IsNumberedEdge, edge, edges_from, holds_number, number_of, number_taken}
+use Rattle.verifier_orders.specs.Edges.{AreAdded, AreEdgesOf, AreEdgesTo, AreOnce, HasEdge, IsAdded, IsNew, IsNumberedEdge, edge, holds_number, number_of, number_taken}
 use Rattle.verifier_orders.specs.Ranking.{AreWithin, IsWithin}
 use Rattle.verifier_evidence.proofs.Known.{known_covered}
 use Rattle.laws_runs.proofs.States.Kinds.{handed_locks}
@@ -90,7 +90,7 @@ get_after (x ∷ xs) ys k e there =
     let rest : (j : ℕ) × (slice_get (xs ++ ys) j ≡ Some e) = get_after xs ys k e there in
     (suc rest.0, rest.1)
 
-has_more : (xs ys : List NumberedEdge) (held taken : Guard) → HasEdge xs held taken
+pub has_more : (xs ys : List NumberedEdge) (held taken : Guard) → HasEdge xs held taken
     → HasEdge (xs ++ ys) held taken
 has_more xs ys held taken has = (has.0, has.1, get_before xs ys has.0 has.1 has.2, has.3, has.4)
 
@@ -150,47 +150,170 @@ module _ (set : Set) (driver n : ℕ) (edges : List NumberedEdge) where
 
     pub next_routine : ((held taken : Guard) (u : TakesUnder set driver held taken)
         → u.number ≡ n → at ≤ u.position → ⊥) → AreEdgesTo set driver (n + 1) 0 edges
-    next_routine never = record { within = h.within; each = h.each; all = next_in never }
+    next_routine never = record { within = h.within; once = h.once; each = h.each; all = next_in never }
 
     -- positions one after another
-    on_by : (more : List NumberedEdge)
-        → ((held taken : Guard) (u : TakesUnder set driver held taken) → u.number ≡ n
-        → u.position ≡ at → HasEdge (edges ++ more) held taken)
-        → (held taken : Guard) (u : TakesUnder set driver held taken)
-        → (u.number < n) ⊎ ((u.number ≡ n) × (u.position < at + 1))
-        → HasEdge (edges ++ more) held taken
-    on_by more here held taken u (inl less) =
-        has_more edges more held taken (h.all held taken u (inl less))
-    on_by more here held taken u (inr low) =
-        elim (cases_lt u.position at) [
-          | inl before ↦
-              has_more edges more held taken (h.all held taken u (inr (low.0, before)))
-          | inr late ↦ here held taken u low.0 (let l : u.position < at + 1 = low.1 in omega arith)
-        ]
+    module _ (new : List NumberedEdge)
+        (stay : (held taken : Guard) → HasEdge edges held taken → HasEdge new held taken) where
+      on_by : ((held taken : Guard) (u : TakesUnder set driver held taken) → u.number ≡ n
+          → u.position ≡ at → HasEdge new held taken)
+          → (held taken : Guard) (u : TakesUnder set driver held taken)
+          → (u.number < n) ⊎ ((u.number ≡ n) × (u.position < at + 1)) → HasEdge new held taken
+      on_by here held taken u (inl less) = stay held taken (h.all held taken u (inl less))
+      on_by here held taken u (inr low) =
+          elim (cases_lt u.position at) [
+            | inl before ↦ stay held taken (h.all held taken u (inr (low.0, before)))
+            | inr late ↦ here held taken u low.0 (let l : u.position < at + 1 = low.1 in omega arith)
+          ]
 
-    pub next_position : (more : List NumberedEdge) → AreWithin more → All (IsNumberedEdge set driver) more
-        → ((held taken : Guard) (u : TakesUnder set driver held taken) → u.number ≡ n
-        → u.position ≡ at → HasEdge (edges ++ more) held taken)
-        → AreEdgesTo set driver n (at + 1) (edges ++ more)
-    next_position more small each here =
-        record {
-          within = All-append IsWithin edges more h.within small;
-          each = All-append (IsNumberedEdge set driver) edges more h.each each;
-          all = on_by more here;
-        }
+      pub next_position : AreWithin new → AreOnce new → All (IsNumberedEdge set driver) new
+          → ((held taken : Guard) (u : TakesUnder set driver held taken) → u.number ≡ n
+          → u.position ≡ at → HasEdge new held taken)
+          → AreEdgesTo set driver n (at + 1) new
+      next_position small once each here =
+          record { within = small; once = once; each = each; all = on_by here }
 
-small_one : (b : Bool) (lock k n at : ℕ) → lock < 9 → k < 9
-    → AreWithin (if b then edge lock k n at ∷ [] else [])
-small_one true lock k n at low few =
-    All-push IsWithin [] (edge lock k n at) (λ j d l. absurd (omega arith)) (low, few)
-small_one false lock k n at low few = λ j d l. absurd (omega arith)
+-- an edge is added once
+first_apart : (e : NumberedEdge) (edges : List NumberedEdge) (held taken : ℕ)
+    → (e.taken ≡ taken → e.held ≡ held → ⊥) → IsNew edges held taken
+    → IsNew (e ∷ edges) held taken
+first_apart e edges held taken apart rest zero d l = apart
+first_apart e edges held taken apart rest (suc k) d l = rest k d (omega arith)
 
-small_edges : (s : Abs) (k n at : ℕ) → k < 9 → (count : ℕ) → count ≤ 9
-    → AreWithin (edges_from s k n at count)
-small_edges s k n at few zero low = λ j d l. absurd (omega arith)
-small_edges s k n at few (suc lock) low =
-    All-append IsWithin (edges_from s k n at lock) _ (small_edges s k n at few lock (omega arith))
-    (small_one (holds_number s lock) lock k n at (omega arith) few)
+abbrev Pair : List NumberedEdge → ℕ → ℕ → Type 0
+Pair edges held taken =
+    (k : ℕ) × (e : NumberedEdge) × (slice_get edges k ≡ Some e) × (e.held ≡ held)
+    × (e.taken ≡ taken)
+
+pair_by : (e : NumberedEdge) (edges : List NumberedEdge) (held taken : ℕ)
+    → (e.held ≡ held) ⊎ (e.held ≢ held) → (e.taken ≡ taken) ⊎ (e.taken ≢ taken)
+    → ((e.taken ≡ taken → e.held ≡ held → ⊥) → Pair edges held taken)
+    → Pair (e ∷ edges) held taken
+pair_by e edges held taken (inl first) (inl second) rest = (zero, e, refl, first, second)
+pair_by e edges held taken (inl first) (inr apart) rest =
+    (let there : Pair edges held taken = rest (λ t h. apart t) in
+    (suc there.0, there.1, there.2, there.3, there.4))
+pair_by e edges held taken (inr apart) second rest =
+    (let there : Pair edges held taken = rest (λ t h. apart h) in
+    (suc there.0, there.1, there.2, there.3, there.4))
+
+not_new : (edges : List NumberedEdge) (held taken : ℕ) → (IsNew edges held taken → ⊥)
+    → Pair edges held taken
+not_new [] held taken old = absurd (old (λ k d l. absurd (omega arith)))
+not_new (e ∷ edges) held taken old =
+    pair_by e edges held taken (cases_eq e.held held) (cases_eq e.taken taken)
+    (λ apart. not_new edges held taken
+    (λ rest. old (first_apart e edges held taken apart rest)))
+
+module _ (is : Bool) (e : NumberedEdge) (old new : List NumberedEdge) where
+  added_all : (P : NumberedEdge → Type 0) → IsAdded is e old new → All P old
+      → (is ≡ true → P e) → All P new
+  added_all P (inl same) all one = subst (λ (xs : List NumberedEdge). All P xs) (sym same.0) all
+  added_all P (inr more) all one =
+      subst (λ (xs : List NumberedEdge). All P xs) (sym more.2) (All-push P old e all (one more.0))
+
+  added_stays : (held taken : Guard) → IsAdded is e old new → HasEdge old held taken
+      → HasEdge new held taken
+  added_stays held taken (inl same) has =
+      subst (λ (xs : List NumberedEdge). HasEdge xs held taken) (sym same.0) has
+  added_stays held taken (inr more) has =
+      subst (λ (xs : List NumberedEdge). HasEdge xs held taken) (sym more.2)
+      (has_more old (e ∷ []) held taken has)
+
+  added_has : (held taken : Guard) → IsAdded is e old new → is ≡ true
+      → e.held ≡ number_of held → e.taken ≡ number_of taken → HasEdge new held taken
+  added_has held taken (inl same) one first second =
+      let there : Pair old e.held e.taken = not_new old e.held e.taken (same.1 one) in
+      subst (λ (xs : List NumberedEdge). HasEdge xs held taken) (sym same.0)
+      (there.0, there.1, there.2, there.3 ∙ first, there.4 ∙ second)
+  added_has held taken (inr more) one first second =
+      subst (λ (xs : List NumberedEdge). HasEdge xs held taken) (sym more.2)
+      (has_after old (e ∷ []) held taken (zero, e, refl, first, second))
+
+get_last : (edges : List NumberedEdge) (e f : NumberedEdge) (k : ℕ)
+    → slice_get (edges ++ e ∷ []) k ≡ Some f
+    → (slice_get edges k ≡ Some f) ⊎ ((k ≡ length edges) × (e ≡ f))
+get_last [] e f zero there = inr (refl, (let same : Some e ≡ Some f = there in cc))
+get_last [] e f (suc k) there = cc
+get_last (g ∷ edges) e f zero there = inl there
+get_last (g ∷ edges) e f (suc k) there =
+    elim (get_last edges e f k there) [
+      | inl before ↦ inl before
+      | inr last ↦ inr (ap suc last.0, last.1)
+    ]
+
+module _ (old : List NumberedEdge) (e : NumberedEdge) (fresh : IsNew old e.held e.taken)
+    (once : AreOnce old) where
+  never_there : (k : ℕ) (f : NumberedEdge) → slice_get old k ≡ Some f → f.taken ≡ e.taken
+      → f.held ≡ e.held → ⊥
+  never_there k f there =
+      subst (λ (g : NumberedEdge). g.taken ≡ e.taken → g.held ≡ e.held → ⊥)
+      (get_or_from_slice_get old k f f there) (fresh k f (slice_get_within old k f there))
+
+  once_by : (j k : ℕ) (f g : NumberedEdge)
+      → (slice_get old j ≡ Some f) ⊎ ((j ≡ length old) × (e ≡ f))
+      → (slice_get old k ≡ Some g) ⊎ ((k ≡ length old) × (e ≡ g))
+      → f.held ≡ g.held → f.taken ≡ g.taken → j ≡ k
+  once_by j k f g (inl first) (inl second) held taken = once j k f g first second held taken
+  once_by j k f g (inl first) (inr second) held taken =
+      absurd (never_there j f first (taken ∙ ap (λ (x : NumberedEdge). x.taken) (sym second.1))
+      (held ∙ ap (λ (x : NumberedEdge). x.held) (sym second.1)))
+  once_by j k f g (inr first) (inl second) held taken =
+      absurd (never_there k g second
+      (sym taken ∙ ap (λ (x : NumberedEdge). x.taken) (sym first.1))
+      (sym held ∙ ap (λ (x : NumberedEdge). x.held) (sym first.1)))
+  once_by j k f g (inr first) (inr second) held taken = first.0 ∙ sym second.0
+
+  once_more : AreOnce (old ++ e ∷ [])
+  once_more = λ j k f g first second.
+      once_by j k f g (get_last old e f j first) (get_last old e g k second)
+
+added_once : (is : Bool) (e : NumberedEdge) (old new : List NumberedEdge) → IsAdded is e old new
+    → AreOnce old → AreOnce new
+added_once is e old new (inl same) once = subst AreOnce (sym same.0) once
+added_once is e old new (inr more) once = subst AreOnce (sym more.2) (once_more old e more.1 once)
+
+-- and so are those of an instruction
+module _ (s : Abs) (k n at : ℕ) (old : List NumberedEdge) where
+  adds_all : (P : NumberedEdge → Type 0) (count : ℕ) (new : List NumberedEdge)
+      → AreAdded s k n at count old new → All P old
+      → ((lock : ℕ) → lock < count → holds_number s lock ≡ true → P (edge lock k n at))
+      → All P new
+  adds_all P zero new added all each =
+      subst (λ (xs : List NumberedEdge). All P xs) (sym added) all
+  adds_all P (suc lock) new added all each =
+      added_all (holds_number s lock) (edge lock k n at) added.0 new P added.2
+      (adds_all P lock added.0 added.1 all (λ l low. each l (omega arith)))
+      (each lock (omega arith))
+
+  adds_stay : (held taken : Guard) (count : ℕ) (new : List NumberedEdge)
+      → AreAdded s k n at count old new → HasEdge old held taken → HasEdge new held taken
+  adds_stay held taken zero new added has =
+      subst (λ (xs : List NumberedEdge). HasEdge xs held taken) (sym added) has
+  adds_stay held taken (suc lock) new added has =
+      added_stays (holds_number s lock) (edge lock k n at) added.0 new held taken added.2
+      (adds_stay held taken lock added.0 added.1 has)
+
+  adds_once : (count : ℕ) (new : List NumberedEdge) → AreAdded s k n at count old new
+      → AreOnce old → AreOnce new
+  adds_once zero new added once = subst AreOnce (sym added) once
+  adds_once (suc lock) new added once =
+      added_once (holds_number s lock) (edge lock k n at) added.0 new added.2
+      (adds_once lock added.0 added.1 once)
+
+  adds_has : (held taken : Guard) (lock count : ℕ) (new : List NumberedEdge) → lock < count
+      → AreAdded s k n at count old new → lock ≡ number_of held → k ≡ number_of taken
+      → holds_number s lock ≡ true → HasEdge new held taken
+  adds_has held taken lock zero new low added is to holds = absurd (omega arith)
+  adds_has held taken lock (suc count) new low added is to holds =
+      elim (cases_eq lock count) [
+        | inl same ↦
+            added_has (holds_number s count) (edge count k n at) added.0 new held taken added.2
+            (ap (λ (l : ℕ). holds_number s l) (sym same) ∙ holds) (sym same ∙ is) to
+        | inr apart ↦
+            added_stays (holds_number s count) (edge count k n at) added.0 new held taken added.2
+            (adds_has held taken lock count added.0 (omega arith) added.1 is to holds)
+      ]
 
 -- the edges that one instruction makes
 module _ (set : Set) (driver number at n : ℕ) (s : Abs) (routine : RoutineOf) (i : Instr)
@@ -235,32 +358,9 @@ module _ (set : Set) (driver number at n : ℕ) (s : Abs) (routine : RoutineOf) 
   numbered_edge lock false is (inl same) holds =
       (let no : nat_eq lock 8 ≡ true = eq-eqb lock 8 same in let x : false ≡ true = sym is ∙ no in cc)
 
-  one_edge : (lock : ℕ) (b : Bool) → holds_number s lock ≡ b
-      → All (IsNumberedEdge set driver) (if b then edge lock n number at ∷ [] else [])
-  one_edge lock true holds = All-push (IsNumberedEdge set driver) [] (edge lock n number at) (λ k d l. absurd (omega arith))
-      (numbered_edge lock (nat_eq lock 8) refl (cases_eq lock 8) holds)
-  one_edge lock false holds = λ k d l. absurd (omega arith)
-
-  pub each_edge : (count : ℕ) → All (IsNumberedEdge set driver) (edges_from s n number at count)
-  each_edge zero = λ k d l. absurd (omega arith)
-  each_edge (suc lock) =
-      All-append (IsNumberedEdge set driver) (edges_from s n number at lock) _ (each_edge lock)
-      (one_edge lock (holds_number s lock) refl)
-
-  -- and each that there is
-  taken_edge : (held taken : Guard) (lock count : ℕ) → lock < count → lock ≡ number_of held
-      → n ≡ number_of taken → holds_number s lock ≡ true
-      → HasEdge (edges_from s n number at count) held taken
-  taken_edge held taken lock zero low is to holds = absurd (omega arith)
-  taken_edge held taken lock (suc k) low is to holds =
-      elim (cases_eq lock k) [
-        | inl same ↦
-            has_after (edges_from s n number at k) _ held taken
-            (rw (← same, holds) (zero, edge lock n number at, refl, is, to))
-        | inr apart ↦
-            has_more (edges_from s n number at k) _ held taken
-            (taken_edge held taken lock k (omega arith) is to holds)
-      ]
+  pub one_edge : (lock : ℕ) → holds_number s lock ≡ true
+      → IsNumberedEdge set driver (edge lock n number at)
+  one_edge lock holds = numbered_edge lock (nat_eq lock 8) refl (cases_eq lock 8) holds
 
 pub beyond_false : (locks : List Bool) (l : ℕ) → length locks ≤ l → slice_index_or locks l false ≡ false
 beyond_false [] l h = refl
@@ -371,16 +471,14 @@ module _ (set : Set) (typable : IsTypable set) (driver n : ℕ) where
 
       pub position_none : number_taken i ≡ None → AreEdgesTo set driver n (at + 1) edges
       position_none none =
-          subst (λ (xs : List NumberedEdge). AreEdgesTo set driver n (at + 1) xs) (append-nil edges)
-          (next_position set driver n edges at h [] (λ k d l. absurd (omega arith))
-          (λ k d l. absurd (omega arith))
+          next_position set driver n edges at h edges (λ held taken has. has) h.within h.once h.each
           (λ held taken u same place.
           let is : i ≡ u.instruction = its_instruction held taken u same place in
           let takes : number_taken i ≡ Some (number_of taken) =
           subst (λ (x : Instr). number_taken x ≡ Some (number_of taken)) (sym is)
           (named_number u.instruction taken u.takes) in
           let no : None ≡ Some (number_of taken) = sym none ∙ takes in
-          cc))
+          cc)
 
       module _ (table : List (Option Arrival))
           (known : AreKnown m (length m.routine.code - 1) table) where
@@ -394,9 +492,9 @@ module _ (set : Set) (typable : IsTypable set) (driver n : ℕ) where
             cc
 
         pub position_some : (a : Arrival) (k : ℕ) → slice_get table at ≡ Some (Some a)
-            → number_taken i ≡ Some k → k < 9
-            → AreEdgesTo set driver n (at + 1) (edges ++ edges_from a.state k n at 9)
-        position_some a k noted takes few =
+            → number_taken i ≡ Some k → k < 9 → (new : List NumberedEdge)
+            → AreAdded a.state k n at 9 edges new → AreEdgesTo set driver n (at + 1) new
+        position_some a k noted takes few new added =
             let s : Abs = a.state in
             let arrives : Arrives m at s = (known.traced at a noted).arrives in
             let fine : IsFineAt m at = right.each at within in
@@ -404,9 +502,13 @@ module _ (set : Set) (typable : IsTypable set) (driver n : ℕ) where
             subst (λ (x : Member). Arrives x at s) parts.is arrives in
             let code : slice_get parts.routine.code at ≡ Some i =
             subst (λ (x : Member). slice_get x.routine.code at ≡ Some i) parts.is there in
-            next_position set driver n edges at h (edges_from s k n at 9)
-            (small_edges s k n at few 9 (omega arith))
-            (each_edge set driver n at k s parts.routine i parts.is_of code takes here 9)
+            next_position set driver n edges at h new
+            (λ held taken has. adds_stay s k n at edges held taken 9 new added has)
+            (adds_all s k n at edges IsWithin 9 new added h.within (λ lock low holds. (low, few)))
+            (adds_once s k n at edges 9 new added h.once)
+            (adds_all s k n at edges (IsNumberedEdge set driver) 9 new added h.each
+            (λ lock low. one_edge set driver n at k s parts.routine i parts.is_of code takes here
+            lock))
             (λ held taken u same place.
             let is : i ≡ u.instruction = its_instruction held taken u same place in
             let its : Some k ≡ Some (number_of taken) =
@@ -422,9 +524,7 @@ module _ (set : Set) (typable : IsTypable set) (driver n : ℕ) where
             subst (λ (x : Abs). holds_guard x held ≡ true) one u.holds in
             let low : (number_of held < 9) × (holds_number s (number_of held) ≡ true) =
             held_number s held (eight_arrives m at s arrives) holds in
-            has_after edges (edges_from s k n at 9) held taken
-            (taken_edge set driver n at k s parts.routine i parts.is_of code takes here held taken
-            (number_of held) 9 low.0 refl to low.1))
+            adds_has s k n at edges held taken (number_of held) 9 new low.0 added refl to low.1)
 
 -- all routines of the driver
 pub all_routines : (set : Set) (driver n : ℕ) (edges : List NumberedEdge)
@@ -434,6 +534,7 @@ pub all_routines : (set : Set) (driver n : ℕ) (edges : List NumberedEdge)
 all_routines set driver n edges h never =
     record {
       within = h.within;
+      once = h.once;
       each = h.each;
       all = λ held taken u. elim (cases_lt u.number n) [
         | inl less ↦ h.all held taken u (inl less)

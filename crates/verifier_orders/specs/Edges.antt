@@ -1,5 +1,5 @@
 -- The edges of a driver: which lock its routines take while they hold which, and where.
-use Rattle.std.specs.Prelude.{ℕ, ◌≡◌, ◌≢◌, ◌<◌, ◌⊎◌, get_or, Bool, List, [], ◌∷◌, ◌++◌, All, Option, None, Some, zero, suc, nat_eq, if◌then◌else◌, slice_get, length}
+use Rattle.std.specs.Prelude.{ℕ, ◌≡◌, ◌≢◌, ◌<◌, ◌⊎◌, get_or, Bool, true, List, [], ◌∷◌, ◌++◌, All, Option, None, Some, zero, suc, nat_eq, if◌then◌else◌, slice_get, length}
 use Rattle.model.specs.declared.abs.Abs.{Abs}
 use Rattle.model.specs.declared.instr.Instr.{Instr}
 use Rattle.model.specs.declared.instr.Instr.TheVariants.{Acquire, AcquireCancel}
@@ -42,21 +42,39 @@ HasEdge edges held taken =
     (k : ℕ) × (e : NumberedEdge) × (slice_get edges k ≡ Some e) × (e.held ≡ number_of held)
     × (e.taken ≡ number_of taken)
 
--- edges that an instruction makes which takes a lock in a state: from those of so many locks that
--- are held
+-- no edge between two locks is there
+abbrev pub IsNew : List NumberedEdge → ℕ → ℕ → Type 0
+IsNew edges held taken =
+    All (λ (e : NumberedEdge). e.taken ≡ taken → e.held ≡ held → ⊥) edges
+
+-- an edge is added to some if it is one, and new
+abbrev pub IsAdded : Bool → NumberedEdge → List NumberedEdge → List NumberedEdge → Type 0
+IsAdded is e old new =
+    ((new ≡ old) × (is ≡ true → IsNew old e.held e.taken → ⊥))
+    ⊎ ((is ≡ true) × IsNew old e.held e.taken × (new ≡ old ++ e ∷ []))
+
+-- edges that an instruction makes which takes a lock in a state are: from those of so many locks
+-- that are held
 abbrev pub edge : ℕ → ℕ → ℕ → ℕ → NumberedEdge
 edge held taken routine at =
     record { held = held; taken = taken; routine = routine; at = at }
 
-abbrev pub edges_from : Abs → ℕ → ℕ → ℕ → ℕ → List NumberedEdge
-edges_from s taken routine at zero = []
-edges_from s taken routine at (suc lock) =
-    edges_from s taken routine at lock
-    ++ (if holds_number s lock then edge lock taken routine at ∷ [] else [])
+abbrev pub AreAdded : Abs → ℕ → ℕ → ℕ → ℕ → List NumberedEdge → List NumberedEdge → Type 0
+AreAdded s taken routine at zero old new = new ≡ old
+AreAdded s taken routine at (suc lock) old new =
+    (before : List NumberedEdge) × AreAdded s taken routine at lock old before
+    × IsAdded (holds_number s lock) (edge lock taken routine at) before new
+
+-- no two edges are between the same locks
+abbrev pub AreOnce : List NumberedEdge → Type 0
+AreOnce edges =
+    (j k : ℕ) (e f : NumberedEdge) → slice_get edges j ≡ Some e → slice_get edges k ≡ Some f
+    → e.held ≡ f.held → e.taken ≡ f.taken → j ≡ k
 
 -- all edges of the routines before one, and of that one before a position
 pub record AreEdgesTo (set : Set) (driver routine at : ℕ) (edges : List NumberedEdge) : Type 0 where
   pub within : AreWithin edges
+  pub once : AreOnce edges
   pub each : All (IsNumberedEdge set driver) edges
   pub all : (held taken : Guard) (u : TakesUnder set driver held taken)
       → (u.number < routine) ⊎ ((u.number ≡ routine) × (u.position < at))
@@ -65,6 +83,7 @@ pub record AreEdgesTo (set : Set) (driver routine at : ℕ) (edges : List Number
 -- all edges of a driver
 pub record AreEdgesOf (set : Set) (driver : ℕ) (edges : List NumberedEdge) : Type 0 where
   pub within : AreWithin edges
+  pub once : AreOnce edges
   pub each : All (IsNumberedEdge set driver) edges
   pub all : (held taken : Guard) → TakesUnder set driver held taken → HasEdge edges held taken
 

@@ -1,9 +1,9 @@
 //! The edges of a driver: which lock its routines take while they hold which.
 
-ghost use Rattle.std.specs.Prelude.{◌≡◌, ◌<◌, ◌≤◌, slice_get, ◌+◌, ◌++◌, ◌∷◌, [], if◌then◌else◌, IfOk, IfSome, OnOk};
+ghost use Rattle.std.specs.Prelude.{◌↔◌, ◌≡◌, ◌<◌, ◌≤◌, slice_get, ◌+◌, IfOk, IfSome, IsTrue, OnOk};
 ghost use Rattle.model.specs.Typable.{IsTypable};
 ghost use Rattle.model.specs.Sound.{IsSound};
-ghost use Rattle.verifier_orders.specs.Edges.{AreEdgesOf, AreEdgesTo, count_of, edges_from, holds_number, number_taken};
+ghost use Rattle.verifier_orders.specs.Edges.{AreEdgesOf, AreEdgesTo, IsAdded, IsNew, AreAdded, count_of, holds_number, number_taken};
 
 use crate::ranking::{LOCKS, NumberedEdge};
 use absstate::Abs;
@@ -40,12 +40,20 @@ fn taken_by(instr: &Instr) -> Option<u8>
     }
 }
 
-/// Adds an edge if it is one.
-fn add_if(edges: &mut Vec<NumberedEdge>, is: bool, edge: NumberedEdge) -> Result<(), AllocError>
-    ensures { OnOk result
-        (edges.new.items ≡ edges.old.items ++ (if is then edge ∷ [] else [])) }
+/// Whether no edge between two locks is there.
+fn is_new(edges: &[NumberedEdge], held: u8, taken: u8) -> bool
+    ensures { IsTrue result ↔ IsNew edges.now held taken }
 {
-    if is {
+    !edges
+        .iter()
+        .any(|edge| edge.taken == taken && edge.held == held)
+}
+
+/// Adds an edge if it is one, and the first between its locks.
+fn add_if(edges: &mut Vec<NumberedEdge>, is: bool, edge: NumberedEdge) -> Result<(), AllocError>
+    ensures { OnOk result (IsAdded is edge edges.old.items edges.new.items) }
+{
+    if is && is_new(edges.as_slice(), edge.held, edge.taken) {
         edges.push(edge)?;
     }
     Ok(())
@@ -60,7 +68,7 @@ fn add_from(
     at: u16,
 ) -> Result<(), AllocError>
     ensures { OnOk result
-        (edges.new.items ≡ edges.old.items ++ edges_from state.now taken routine at 9) }
+        (AreAdded state.now taken routine at 9 edges.old.items edges.new.items) }
 {
     for held in 0..LOCKS as u8 {
         let edge = NumberedEdge {
@@ -118,7 +126,7 @@ fn routine_count(set: &DriverSet, driver: u8) -> usize
     }
 }
 
-/// All edges of a driver of an accepted set.
+/// The edges of a driver of an accepted set: for each two locks the first, by routine and position.
 ///
 /// # Errors
 ///

@@ -61,9 +61,7 @@ loop-at-preserved c =
     c.in_ok-table.table.items = c.in_ok-table.ensures {u = tt} in
     let same : length c.code-code.result.now ≡ length c.in-Some.subject.routine.code =
     ap (λ (xs : List Instr). length xs) c.code-code.ensures.code in
-    subst (λ (xs : List NumberedEdge). AreEdgesTo c.args.set.now c.args.driver c.args.number
-    (c.loop-at.at + 1) xs) (sym (c.in_ok-add_from.ensures {u = tt}))
-    (position_some c.args.set.now c.requires.typable c.args.driver c.args.number c.in-Some.subject
+    position_some c.args.set.now c.requires.typable c.args.driver c.args.number c.in-Some.subject
     c.requires.own (sym c.of.ensures ∙ c.in-Some.is) c.loop-at.at c.index-code-at.result
     (ap (λ (xs : List Instr). slice_get xs c.loop-at.at) (sym c.code-code.ensures.code)
     ∙ instruction_at c.code-code.result.now c.loop-at.at c.index-code-at.result
@@ -73,7 +71,8 @@ loop-at-preserved c =
     (read_at c.in_ok-table.table.items c.loop-at.at c.index.result.now
     (omega (arith, known.long, same, c.loop-at-test.true)) c.index.ensures
     ∙ ap (λ (r : Option Arrival). Some r) c.in-Some-index.is)
-    (sym c.taken_by.ensures.taken ∙ c.in-Some-taken_by.is) (search rules))
+    (sym c.taken_by.ensures.taken ∙ c.in-Some-taken_by.is) (search rules)
+    c.add_from.new.edges.items (c.in_ok-add_from.ensures {u = tt})
 
 pub returns : goal.returns
 returns c =
