@@ -1,7 +1,8 @@
 //! Threads that wait for each other in a ring.
 
 ghost use Rattle.std.specs.Prelude.{◌≡◌, Some};
-ghost use Rattle.tell_audit.specs.Ring.{acquired_by, is_in_ring, is_met, other_owner, sought_by, waits_for};
+ghost use Rattle.laws_locks.specs.Waiting.{acquired_by, other_owner, sought_by, waits_for};
+ghost use Rattle.tell_audit.specs.Ring.{is_in_ring, is_met};
 
 use checked::Checked;
 use checked_parts::shared::locks::spin_lock;
