@@ -1,13 +1,10 @@
 -- Lines of instructions in their usual form are read as the exact reading says.
-use Rattle.std.proofs.Common.{◌≡◌, ℕ, ◌+◌, ◌-◌, ◌*◌, ◌<◌, ◌≤◌, ◌^◌, nat_eq, nat_le, nat_lt, true, false, Bool, ◌||◌, ◌&&◌, not, List, [], ◌∷◌, ◌++◌, length, get_or, take, is_some, Option, Some, None, Ok, refl, sym, ◌∙◌, arith, append_assoc, codes, drop, length-append}
-use Rattle.std.proofs.lemmas.Int.Digits.{digits_value_more}
+use Rattle.std.proofs.Common.{◌≡◌, ℕ, ◌+◌, ◌-◌, ◌<◌, ◌≤◌, ◌^◌, nat_eq, nat_le, true, false, ◌||◌, ◌&&◌, List, [], ◌∷◌, ◌++◌, length, is_some, Option, Some, None, Ok, refl, sym, arith, append_assoc, codes, length-append}
 use Rattle.std.proofs.Math.Seq.{get_or-append_seam, take-append_seam}
-use Rattle.std.proofs.lemmas.List.{append-nil, take-append-drop, take_more}
 use Rattle.std.proofs.lemmas.List.Folds.{list_all-append}
 use Rattle.std.proofs.lemmas.Bool.{and_from, and_parts, ne_eqb, lt-ltb, le-leb, or_right}
 use Rattle.std.proofs.lemmas.Bool.Decides.{nat_tests}
-use Rattle.std.specs.Char.{is_digit, digit_value}
-use Rattle.std.specs.List.{list_all, prefix_len}
+use Rattle.std.specs.List.{list_all}
 use Rattle.std.specs.Option.{ok_or}
 use Rattle.std.specs.Str.Parse.{digits_value}
 use Rattle.model.specs.declared.instr.Instr.{Instr}
@@ -17,14 +14,16 @@ use Rattle.model.specs.declared.instr.Field.TheVariants.{Major as MajorField, Ar
 use Rattle.model.specs.declared.instr.Return.TheVariants.{WithStatus, Lower, Continue, Stop, Void}
 use Rattle.model.specs.declared.status.Status.{Status}
 use Rattle.model.specs.declared.status.Status.TheVariants.{Success, Pending, Busy, Unsuccessful, InvalidParameter, InvalidDeviceRequest, Cancelled}
-use Rattle.text.specs.Class.{begins_name, is_name, is_name_byte, is_name_start, is_word, is_number, is_prefixed, is_token, label_name}
-use Rattle.text.specs.Cut.{closed, parts_from, code_of, is_blank, is_clean, is_written, tokens_of}
-use Rattle.text.specs.Number.{number_in, numbered_in}
-use Rattle.text.specs.declared.number.Numeral.TheVariants.{Number}
+use Rattle.text.specs.Class.{begins_name, is_name, is_name_byte, is_name_start, is_word, is_number, label_name}
+use Rattle.text.specs.Number.{numbered_in}
+use Rattle.text.specs.Digits.{BeginsWith, Digits}
+use Rattle.text.specs.Spaced.{is_inner, spaced, ArePlain, IsPlain}
+use Rattle.text.proofs.Digits.{all_digits, all_inner, digits_number, digits_plain, some_bytes}
+use Rattle.text.proofs.Spaced.{plain_word, spaced_lexical, spaced_tokens}
 use Rattle.text.specs.declared.class.TheConstants.{MAX_NAME}
 use Rattle.asm_line.specs.Cursor.{Reading, called, capped, cell, cell_of, constant, constant_of, field, label, lock_of, number, numbered, one, paged_cell, queue, ranged, register, register_of, returned, returned_by, so_far, spin_lock, status, then_read, three, turns, turns_of, two}
 use Rattle.asm_line.specs.Line.{body, if_in_range, line_of, read_line}
-use Rattle.asm_line.specs.Usual.{at, same, spaced, unnamed, is_inner, with_label, with_queue, with_routine, word_of, ArePlain, BeginsWith, Digits, IsPlain, Reads, ReadsStep, Takes, TakesName, TakesStatus}
+use Rattle.asm_line.specs.Usual.{at, same, unnamed, with_label, with_queue, with_routine, word_of, Reads, ReadsStep, Takes, TakesName, TakesStatus}
 use Rattle.asm_line.specs.Words.{field_of, status_of}
 use Rattle.asm_line.specs.declared.cursor.Cursor.{Cursor}
 use Rattle.asm_line.specs.declared.line.Body.{Body}
@@ -33,110 +32,11 @@ use Rattle.asm_line.specs.declared.line.LineFault.TheVariants.{UnknownWord}
 use Rattle.asm_line.specs.declared.line.UsedNames.{UsedNames}
 use Rattle.asm_line.proofs.Usual.{digits_are_name_bytes}
 
--- what the reading asks of a byte of a token
-record Inner (b : ℕ) : Type 0 where
-  pub code : nat_eq b 59 ≡ false
-  pub held : is_blank b ≡ false
-  pub written : is_written b ≡ true
-
-not_true : (b : Bool) → not b ≡ true → b ≡ false
-not_true false is = refl
-not_true true is = sym is
-
-inner : (b : ℕ) → is_inner b ≡ true → Inner b
-inner b is =
-    let parts = and_parts (not (nat_eq b 59) && not (is_blank b)) (is_written b) is in
-    let more = and_parts (not (nat_eq b 59)) (not (is_blank b)) parts.0 in
-    record {
-      code = not_true (nat_eq b 59) more.0;
-      held = not_true (is_blank b) more.1;
-      written = parts.1;
-    }
-
--- the first byte of a token, and the others
-first_inner : (b : ℕ) (bs : List ℕ) → list_all is_inner (b ∷ bs) ≡ true
-    → Inner b × (list_all is_inner bs ≡ true)
-first_inner b bs is =
-    let parts = and_parts (is_inner b) (list_all is_inner bs) is in (inner b parts.0, parts.1)
-
--- a token holds no comment
-abbrev IsCode : List ℕ → Type 0
-IsCode line = prefix_len (λ b. not (nat_eq b 59)) line ≡ length line
-
-code_on : (word rest : List ℕ) → list_all is_inner word ≡ true → IsCode rest
-    → IsCode (word ++ rest)
-code_on [] rest is later = later
-code_on (b ∷ bs) rest is later =
-    let first = first_inner b bs is in
-    let after = code_on bs rest first.1 later in
-    rw (first.0.code) (omega (arith, after))
-
--- a token is held up to its end
-part_on : (held word rest : List ℕ) → list_all is_inner word ≡ true
-    → parts_from held (word ++ rest) ≡ parts_from (held ++ word) rest
-part_on held [] rest is = rw (append-nil held) refl
-part_on held (b ∷ bs) rest is =
-    let first = first_inner b bs is in
-    rw (
-      first.0.held,
-      part_on (held ++ b ∷ []) bs rest first.1,
-      append_assoc held (b ∷ []) bs,
-    ) refl
-
-clean_on : (word rest : List ℕ) → list_all is_inner word ≡ true → is_clean rest ≡ true
-    → is_clean (word ++ rest) ≡ true
-clean_on [] rest is later = later
-clean_on (b ∷ bs) rest is later =
-    let first = first_inner b bs is in rw (first.0.written) (clean_on bs rest first.1 later)
-
-closed_plain : (word : List ℕ) → IsPlain word → closed word ≡ word ∷ []
-closed_plain [] is = let no = is.some in cc
-closed_plain (b ∷ bs) is = refl
-
--- words that each stand after a space
-spaced_code : (words : List (List ℕ)) → ArePlain words → IsCode (spaced words)
-spaced_code [] are = refl
-spaced_code (word ∷ words) (is, are) =
-    let after = code_on word (spaced words) is.inner (spaced_code words are) in omega (arith, after)
-
-spaced_clean : (words : List (List ℕ)) → ArePlain words → is_clean (spaced words) ≡ true
-spaced_clean [] are = refl
-spaced_clean (word ∷ words) (is, are) =
-    clean_on word (spaced words) is.inner (spaced_clean words are)
-
-spaced_parts : (word : List ℕ) (words : List (List ℕ)) → IsPlain word → ArePlain words
-    → parts_from word (spaced words) ≡ word ∷ words
-spaced_parts word [] is are = closed_plain word is
-spaced_parts word (next ∷ words) is (next_is, are) =
-    rw (
-      closed_plain word is,
-      part_on [] next (spaced words) next_is.inner,
-      spaced_parts next words next_is are,
-    ) refl
-
-spaced_tokens : (words : List (List ℕ)) → ArePlain words → list_all is_token words ≡ true
-spaced_tokens [] are = refl
-spaced_tokens (word ∷ words) (is, are) = rw (is.token) (spaced_tokens words are)
-
--- no byte begins a comment
-all_code : (line : List ℕ) → IsCode line → code_of line ≡ line
-all_code line none =
-    let no : nat_lt (length line) (length line) ≡ false = grind (arith, nat_tests) in
-    rw (none, no) refl
-
 -- a word and words after it are the tokens of the line
 read_plain : (word : List ℕ) (words : List (List ℕ)) → IsPlain word → ArePlain words
     → read_line (word ++ spaced words) ≡ ok_or (line_of (word ∷ words)) UnknownWord
 read_plain word words is are =
-    let line = word ++ spaced words in
-    let code : code_of line ≡ line =
-    all_code line (code_on word (spaced words) is.inner (spaced_code words are)) in
-    let parts : parts_from [] line ≡ word ∷ words =
-    part_on [] word (spaced words) is.inner ∙ spaced_parts word words is are in
-    let tokens : tokens_of line ≡ word ∷ words = rw code parts in
-    let clean : is_clean line ≡ true =
-    clean_on word (spaced words) is.inner (spaced_clean words are) in
-    rw (tokens, clean, is.token, spaced_tokens words are) refl
+    rw (spaced_lexical word words is are, spaced_tokens word words is are) refl
 
 -- a step without a label
 step_of : (line : List ℕ) (step : Body) (is : ReadsStep line step)
@@ -200,15 +100,6 @@ labelled_line {raw} {name} {rest} {after} {step} parts named behind is =
       tokens,
     ) refl
 
--- a word and what stands behind it
-pub parted : (bytes : List ℕ) (i : ℕ) → bytes ≡ take i bytes ++ drop i bytes
-parted bytes i = sym (take-append-drop i bytes)
-
--- a token by its tests
-pub plain_word : (word : List ℕ) → nat_eq (length word) 0 ≡ false
-    → list_all is_inner word ≡ true → is_token word ≡ true → IsPlain word
-plain_word word some inner token = record { some = some; inner = inner; token = token }
-
 -- operands of which an instruction is made
 pub one_read : {A : Type 0} (f : A → Instr) {first : Cursor → Reading A} {note : UsedNames → UsedNames}
     {a e : List ℕ} {x : A} → Takes first note a x e → e ≡ []
@@ -270,63 +161,6 @@ step_read word reading is own begins {line} {a} {i} {used} parts reads = record 
   unlabelled = own;
   labelled = λ label. refl;
 }
-
--- what the reading asks of a digit
-plain_digit : (b : ℕ) → 48 ≤ b → b ≤ 57 → (is_inner b ≡ true) × (is_digit b 10 ≡ true)
-    × (nat_eq 120 b ≡ false)
-plain_digit b low high =
-    (grind (arith, nat_tests), grind (arith, nat_tests), grind (arith, nat_tests))
-
-all_inner : (ds : List ℕ) → Digits ds → list_all is_inner ds ≡ true
-all_inner [] digits = refl
-all_inner (d ∷ ds) (low, high, digits) =
-    let is = plain_digit d low high in rw (is.0) (all_inner ds digits)
-
-all_digits : (ds : List ℕ) → Digits ds → list_all (λ b. is_digit b 10) ds ≡ true
-all_digits [] digits = refl
-all_digits (d ∷ ds) (low, high, digits) =
-    let is = plain_digit d low high in rw (is.1) (all_digits ds digits)
-
--- digits are a number and a token
-and_no : (a : Bool) → (a && false) ≡ false
-and_no true = refl
-and_no false = refl
-
-not_prefixed : (ds : List ℕ) → Digits ds → is_prefixed ds ≡ false
-not_prefixed [] digits = refl
-not_prefixed (d ∷ []) digits = and_no (nat_eq 48 d)
-not_prefixed (d ∷ e ∷ ds) (low, high, (below, above, digits)) =
-    let is = plain_digit e below above in rw (is.2) (and_no (nat_eq 48 d))
-
-some_bytes : (ds : List ℕ) → 0 < length ds → nat_eq (length ds) 0 ≡ false
-some_bytes ds some = ne_eqb (length ds) 0 (λ e. omega (arith, e))
-
-digits_form : (ds : List ℕ) → 0 < length ds → Digits ds → is_number ds ≡ true
-digits_form ds some digits =
-    rw (not_prefixed ds digits, all_digits ds digits, some_bytes ds some) refl
-
-or_third : (a b c e : Bool) → c ≡ true → (a || b || c || e) ≡ true
-or_third true b c e is = refl
-or_third false true c e is = refl
-or_third false false c e is = rw is refl
-
-digits_plain : (ds : List ℕ) → 0 < length ds → Digits ds → IsPlain ds
-digits_plain ds some digits = record {
-  some = some_bytes ds some;
-  inner = all_inner ds digits;
-  token = or_third (is_name ds) (is_word ds) (is_number ds) (is_some (label_name ds))
-      (digits_form ds some digits);
-}
-
-digits_number : (ds : List ℕ) (n : ℕ) → 0 < length ds → Digits ds → n ≡ digits_value 10 ds
-    → n < 2 ^ 64 → number_in ds ≡ Number n
-digits_number ds n some digits writes small =
-    rw (
-      digits_form ds some digits,
-      not_prefixed ds digits,
-      sym writes,
-      lt-ltb n (2 ^ 64) small,
-    ) refl
 
 -- a number that is in range
 number_taken : {most : ℕ} {line a e : List ℕ} {n : ℕ} (stand_in : ℕ) (of : ℕ → Option ℕ)
@@ -550,47 +384,3 @@ lower_taken {a} {e} {x} p done = record {
   plain = (plain_word (codes "lower") refl refl refl, (p.plain, tt));
   says = rw (p.reads [] unnamed) refl;
 }
-
--- one digit, two digits
-digit_is : (digit : ℕ) → digit < 10 → digit_value (48 + digit) ≡ digit
-digit_is digit few = grind (arith, nat_tests)
-
-pub one_digit : {bytes rest : List ℕ} {b d : ℕ} → bytes ≡ b ∷ rest → d < 10 → b ≡ 48 + d
-    → BeginsWith 2 bytes d rest
-one_digit {bytes} {rest} {b} {d} parts few is = record {
-  digits = b ∷ [];
-  some = omega arith;
-  few = omega arith;
-  all = (omega arith, omega arith, tt);
-  writes = rw (is, digit_is d few) (omega arith);
-  parts = parts;
-}
-
-pub two_digits : {bytes more rest : List ℕ} {b c d e : ℕ} → bytes ≡ b ∷ more → more ≡ c ∷ rest
-    → d < 10 → b ≡ 48 + d → e < 10 → c ≡ 48 + e → BeginsWith 2 bytes (d * 10 + e) rest
-two_digits {bytes} {more} {rest} {b} {c} {d} {e} parts then few is low unit = record {
-  digits = b ∷ c ∷ [];
-  some = omega arith;
-  few = omega arith;
-  all = (omega arith, omega arith, (omega arith, omega arith, tt));
-  writes = rw (is, unit, digit_is d few, digit_is e low) (omega arith);
-  parts = rw (parts, then) refl;
-}
-
--- one more digit
-digits_push : (ds : List ℕ) (b : ℕ) → Digits ds → 48 ≤ b → b ≤ 57 → Digits (ds ++ b ∷ [])
-digits_push [] b digits low high = (low, high, tt)
-digits_push (d ∷ ds) b (below, above, digits) low high =
-    (below, above, digits_push ds b digits low high)
-
-pub digits_more : (bytes : List ℕ) (i digit : ℕ) → i < length bytes → digit < 10
-    → get_or bytes i 0 ≡ 48 + digit → Digits (take i bytes) → Digits (take (i + 1) bytes)
-digits_more bytes i digit inside few is digits =
-    rw (take_more bytes i 0 inside)
-    (digits_push (take i bytes) (get_or bytes i 0) digits (omega arith) (omega arith))
-
-pub number_more : (bytes : List ℕ) (i digit number : ℕ) → i < length bytes → digit < 10
-    → get_or bytes i 0 ≡ 48 + digit → number ≡ digits_value 10 (take i bytes)
-    → number * 10 + digit ≡ digits_value 10 (take (i + 1) bytes)
-number_more bytes i digit number inside few byte is =
-    rw (digits_value_more 10 bytes i inside, byte, digit_is digit few, is) refl

@@ -8,7 +8,8 @@ use Rattle.model.specs.declared.status.Status.{Status}
 use Rattle.asm_line.specs.Cursor.{called, cell, constant, field, label, one, paged_cell, queue, register, returned, so_far, spin_lock, status, three, turns, two}
 use Rattle.asm_line.specs.Usual.{same, unnamed, with_label, with_queue, with_routine, ReadsStep, Takes, TakesStatus}
 use Rattle.asm_line.specs.declared.line.Body.TheVariants.{Step}
-use Rattle.asm_line.proofs.Plain.{lower_taken, none_called, nothing_read, one_read, plain_word, status_taken, step_read, three_read, two_read}
+use Rattle.text.proofs.Spaced.{plain_word}
+use Rattle.asm_line.proofs.Plain.{lower_taken, none_called, nothing_read, one_read, status_taken, step_read, three_read, two_read}
 
 pub add_read : {line a b e : List ℕ} {x y : ℕ}
     → line ≡ codes "add" ++ a → Takes register same a x b → Takes register same b y e → e ≡ []

@@ -1,50 +1,15 @@
 -- The usual form of an instruction's line: words that each stand after one space.
-use Rattle.std.specs.Prelude.{◌≡◌, ℕ, Bool, true, false, nat_eq, not, ◌&&◌, ◌<◌, ◌≤◌, List, [], ◌∷◌, ◌++◌, length, codes, Some, None}
-use Rattle.std.specs.List.{list_all}
-use Rattle.std.specs.Str.Parse.{digits_value}
+use Rattle.std.specs.Prelude.{◌≡◌, ℕ, true, List, [], ◌∷◌, ◌++◌, codes, Some, None}
 use Rattle.model.specs.declared.instr.Instr.{Instr}
 use Rattle.model.specs.declared.status.Status.{Status}
 use Rattle.model.specs.declared.status.Status.TheVariants.{Success, Pending, Busy, Unsuccessful, InvalidParameter, InvalidDeviceRequest, Cancelled}
-use Rattle.text.specs.Class.{is_name, is_token, label_name}
-use Rattle.text.specs.Cut.{is_blank, is_written}
+use Rattle.text.specs.Class.{is_name, label_name}
+use Rattle.text.specs.Spaced.{spaced, ArePlain, IsPlain}
 use Rattle.asm_line.specs.Cursor.{Reading, so_far}
 use Rattle.asm_line.specs.Line.{body_of, labelled}
 use Rattle.asm_line.specs.declared.cursor.Cursor.{Cursor}
 use Rattle.asm_line.specs.declared.line.Body.{Body}
 use Rattle.asm_line.specs.declared.line.UsedNames.{UsedNames}
-
--- each byte is a decimal digit
-abbrev pub Digits : List ℕ → Type 0
-Digits [] = Unit {0}
-Digits (b ∷ bytes) = (48 ≤ b) × (b ≤ 57) × Digits bytes
-
--- the bytes begin with so many digits at most that write the number, and the rest stands after them
-pub record BeginsWith (most : ℕ) (bytes : List ℕ) (number : ℕ) (rest : List ℕ) : Type 0 where
-  pub digits : List ℕ
-  pub some : 0 < length digits
-  pub few : length digits ≤ most
-  pub all : Digits digits
-  pub writes : number ≡ digits_value 10 digits
-  pub parts : bytes ≡ digits ++ rest
-
--- a byte that may stand in a line, parts no tokens and begins no comment
-abbrev pub is_inner : ℕ → Bool
-is_inner b = not (nat_eq b 59) && not (is_blank b) && is_written b
-
--- a token, apart from where it stands
-pub record IsPlain (word : List ℕ) : Type 0 where
-  pub some : nat_eq (length word) 0 ≡ false
-  pub inner : list_all is_inner word ≡ true
-  pub token : is_token word ≡ true
-
-abbrev pub ArePlain : List (List ℕ) → Type 0
-ArePlain [] = Unit {0}
-ArePlain (word ∷ words) = IsPlain word × ArePlain words
-
--- each word after a space
-abbrev pub spaced : List (List ℕ) → List ℕ
-spaced [] = []
-spaced (word ∷ words) = 32 ∷ word ++ spaced words
 
 -- before these tokens, with all numbers in range and these names noted
 abbrev pub at : List (List ℕ) → UsedNames → Cursor

@@ -1,16 +1,16 @@
 //! The operands of a line in its usual form: each stands after one space.
 
-ghost use Rattle.std.specs.Prelude.{◌≡◌, ◌+◌, ◌<◌, ◌≤◌, ◌++◌, ◌∷◌, [], IfSome, None, bytes_eq, length, take, if◌then◌else◌};
-ghost use Rattle.std.specs.Str.Parse.{digits_value};
+ghost use Rattle.std.specs.Prelude.{◌≡◌, ◌<◌, ◌≤◌, ◌++◌, ◌∷◌, [], IfSome, None, if◌then◌else◌};
 ghost use Rattle.model.specs.declared.limits.TheConstants.{CELLS, MAX_TURNS, REGISTERS, SPIN_LOCKS};
 ghost use Rattle.model.specs.Sound.{FormFits};
 ghost use Rattle.asm_line.specs.Cursor.{called, cell, constant, field, label, paged_cell, queue, register, returned, spin_lock, turns};
-ghost use Rattle.asm_line.specs.Usual.{same, with_label, with_queue, with_routine, BeginsWith, Digits, Takes, TakesName, TakesStatus};
+ghost use Rattle.asm_line.specs.Usual.{same, with_label, with_queue, with_routine, Takes, TakesName, TakesStatus};
 
 use model::instr::{Cell, Field, Register, Return, SpinLock, Turns};
 use model::status::Status;
 use std::marker::Model;
 use text::class::is_name;
+use text::head::{after_word, number_at_head, short_number, word_at_head};
 use text::piece::Piece;
 
 /// The bytes of a line behind its word that are not read yet. What an operand is read from begins
@@ -35,7 +35,7 @@ impl<'a> Operands<'a> {
         ensures read { IfSome result (λ r. Takes register same self.old r self.new) }
         ensures within { IfSome result (λ r. r < REGISTERS) }
     {
-        let found = small_number(after_word(self.rest, b" r")?)?;
+        let found = short_number(after_word(self.rest, b" r")?)?;
         let register = Register::of(found.number as u8)?;
         self.rest = found.rest;
         Some(register)
@@ -47,7 +47,7 @@ impl<'a> Operands<'a> {
         ensures read { IfSome result (λ l. Takes spin_lock same self.old l self.new) }
         ensures within { IfSome result (λ l. l < SPIN_LOCKS) }
     {
-        let found = small_number(after_word(self.rest, b" l")?)?;
+        let found = short_number(after_word(self.rest, b" l")?)?;
         let lock = SpinLock::of(found.number as u8)?;
         self.rest = found.rest;
         Some(lock)
@@ -59,7 +59,7 @@ impl<'a> Operands<'a> {
         ensures read { IfSome result (λ c. Takes cell same self.old c self.new) }
         ensures within { IfSome result (λ c. c < CELLS) }
     {
-        let found = small_number(after_word(self.rest, b" c")?)?;
+        let found = short_number(after_word(self.rest, b" c")?)?;
         let cell = Cell::of(found.number as u8)?;
         self.rest = found.rest;
         Some(cell)
@@ -71,7 +71,7 @@ impl<'a> Operands<'a> {
         ensures read { IfSome result (λ c. Takes paged_cell same self.old c self.new) }
         ensures within { IfSome result (λ c. c < CELLS) }
     {
-        let found = small_number(after_word(self.rest, b" p")?)?;
+        let found = short_number(after_word(self.rest, b" p")?)?;
         let cell = Cell::of(found.number as u8)?;
         self.rest = found.rest;
         Some(cell)
@@ -234,141 +234,5 @@ pub fn behind<'a>(bytes: &'a [u8], word: &[u8]) -> Option<Operands<'a>>
 {
     Some(Operands {
         rest: after_word(bytes, word)?,
-    })
-}
-
-/// What stands behind this word, if the bytes begin with it.
-#[inline(always)]
-pub fn after_word<'a>(bytes: &'a [u8], word: &[u8]) -> Option<&'a [u8]>
-    ensures { IfSome result (λ rest. bytes.now ≡ word.now ++ rest.now) }
-{
-    if bytes.len() < word.len() {
-        return None;
-    }
-    let (head, rest) = bytes.split_at(word.len());
-    if are_same(head, word) {
-        Some(rest)
-    } else {
-        None
-    }
-}
-
-/// Whether as many bytes are the same: of a word that is written out, this becomes a comparison or
-/// two, where `==` has branches and a call.
-#[inline(always)]
-fn are_same(bytes: &[u8], word: &[u8]) -> bool
-    requires { length bytes.now ≡ length word.now }
-    ensures { result ≡ bytes_eq bytes.now word.now }
-{
-    let mut same = true;
-    let mut i = word.len();
-    while i > 0 {
-        i -= 1;
-        same = (bytes[i] == word[i]) & same;
-    }
-    same
-}
-
-/// A word, and what stands behind it.
-#[derive(Drop)]
-pub struct Parted<'a> {
-    pub word: &'a [u8],
-    pub rest: &'a [u8],
-}
-
-/// The bytes up to the first that parts words.
-#[tactic(auto, using(crate::proofs::Plain::parted))]
-pub fn word_at_head(bytes: &[u8]) -> Parted<'_>
-    ensures { bytes.now ≡ result.word.now ++ result.rest.now }
-{
-    for (i, byte) in bytes.iter().enumerate() {
-        if matches!(*byte, b' ' | b':' | b';') {
-            return Parted {
-                word: &bytes[..i],
-                rest: &bytes[i..],
-            };
-        }
-    }
-    Parted {
-        word: bytes,
-        rest: &[],
-    }
-}
-
-/// A number, and what stands after its digits.
-#[derive(Drop)]
-struct Numbered<'a> {
-    number: u64,
-    rest: &'a [u8],
-}
-
-/// The number that one or two digits at the head of these bytes write. What stands after them may
-/// be another digit.
-#[tactic(auto, using(crate::proofs::Plain::one_digit))]
-fn small_number(bytes: &[u8]) -> Option<Numbered<'_>>
-    ensures read { IfSome result (λ found. BeginsWith 2 bytes.now found.number found.rest.now) }
-    ensures small { IfSome result (λ found. found.number < 100) }
-{
-    let (first, rest) = bytes.split_first()?;
-    let number = digit(*first)?;
-    if let Some((second, rest)) = rest.split_first() {
-        if let Some(unit) = digit(*second) {
-            return Some(Numbered {
-                number: number * 10 + unit,
-                rest,
-            });
-        }
-    }
-    Some(Numbered { number, rest })
-}
-
-/// Numbers that take another digit, at most: ten times as much is below 2^64.
-const MOST_TO_GROW: u64 = 1_000_000_000_000_000_000;
-
-/// The number that the digits at the head of these bytes write, if there is one and it isn't far
-/// out of range.
-fn number_at_head(bytes: &[u8]) -> Option<Numbered<'_>>
-    ensures { IfSome result (λ found. BeginsWith (length bytes.now) bytes.now found.number
-        found.rest.now) }
-{
-    let mut number: u64 = 0;
-    for (i, byte) in bytes.iter().enumerate() {
-        match digit(*byte) {
-            Some(digit) => {
-                if number > MOST_TO_GROW {
-                    return None;
-                }
-                number = number * 10 + digit;
-            }
-            None => return after(number, i, bytes),
-        }
-    }
-    after(number, bytes.len(), bytes)
-}
-
-/// What a decimal digit stands for.
-fn digit(byte: u8) -> Option<u64>
-    ensures { IfSome result (λ digit. (digit < 10) × (byte ≡ 48 + digit)) }
-{
-    match byte {
-        b'0'..=b'9' => Some(u64::from(byte - b'0')),
-        _ => None,
-    }
-}
-
-/// The number that so many digits write, if there are any, and what stands after them.
-fn after(number: u64, digits: usize, bytes: &[u8]) -> Option<Numbered<'_>>
-    requires within { digits ≤ length bytes.now }
-    requires digits { Digits (take digits bytes.now) }
-    requires number { number ≡ digits_value 10 (take digits bytes.now) }
-    ensures { IfSome result (λ found. BeginsWith (length bytes.now) bytes.now found.number
-        found.rest.now) }
-{
-    if digits == 0 {
-        return None;
-    }
-    Some(Numbered {
-        number,
-        rest: &bytes[digits..],
     })
 }

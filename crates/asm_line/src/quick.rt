@@ -9,9 +9,10 @@ ghost use Rattle.asm_line.specs.Usual.{unnamed, with_label, with_queue, with_rou
 ghost use Rattle.asm_line.specs.declared.line.Body.TheVariants.{Step};
 
 use crate::line::{Body, Line, UsedNames};
-use crate::operands::{after_word, behind, word_at_head};
+use crate::operands::behind;
 use model::instr::{Instr, Return};
 use text::class::is_name;
+use text::head::{after_word, word_at_head};
 use text::piece::Piece;
 
 /// The instruction of a line in the usual form, if the line has no label and uses no name: a word

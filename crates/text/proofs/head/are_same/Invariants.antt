@@ -1,6 +1,6 @@
 use Rattle.std.proofs.Common.{◌≡◌, ◌≤◌, length, drop}
 use Rattle.std.specs.Str.{bytes_eq}
-use Rattle.asm_line.proofs.operands.are_same.Given as goal
+use Rattle.text.proofs.head.are_same.Given as goal
 
 -- it is told whether the bytes that were compared are the same
 abbrev pub invariant-loop-i : goal.invariant-loop-i

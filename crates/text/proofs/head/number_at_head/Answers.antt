@@ -1,6 +1,6 @@
 use Rattle.std.proofs.Common.{arith}
-use Rattle.asm_line.proofs.Plain.{digits_more, number_more}
-use Rattle.asm_line.proofs.operands.number_at_head.Goals as goal
+use Rattle.text.proofs.Digits.{digits_more, number_more}
+use Rattle.text.proofs.head.number_at_head.Goals as goal
 
 pub loop-i-preserved : goal.loop-i-preserved
 loop-i-preserved c =
@@ -11,5 +11,9 @@ loop-i-preserved c =
     let before = c.loop-i.invariant in
     record {
       digits = digits_more bytes i digit (omega arith) is.0 is.1 before.digits;
-      number = number_more bytes i digit c.loop-i.number (omega arith) is.0 is.1 before.number;
+      number = omega (
+        arith,
+        c.from.ensures,
+        number_more bytes i digit c.loop-i.number (omega arith) is.0 is.1 before.number,
+      );
     }

@@ -1,7 +1,7 @@
 use Rattle.std.proofs.Common.{◌≡◌, take}
 use Rattle.std.specs.Str.Parse.{digits_value}
-use Rattle.asm_line.specs.Usual.{Digits}
-use Rattle.asm_line.proofs.operands.number_at_head.Given as goal
+use Rattle.text.specs.Digits.{Digits}
+use Rattle.text.proofs.head.number_at_head.Given as goal
 
 -- the bytes so far are digits, and write the number
 abbrev pub invariant-loop-i : goal.invariant-loop-i
