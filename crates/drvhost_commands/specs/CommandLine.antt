@@ -8,12 +8,12 @@ use Rattle.interleave.specs.Line.{number_within}
 use Rattle.model.specs.declared.abs.Rule.{Rule as VerdictRule}
 use Rattle.model.specs.declared.limits.TheConstants.{MAX_THREADS}
 use Rattle.report.specs.Rule.{IsRuleWord}
-use Rattle.drvhost_words.specs.declared.job.Job.{Job}
-use Rattle.drvhost_words.specs.declared.job.Job.TheVariants.{Alone, Host}
-use Rattle.drvhost_words.specs.declared.job.AloneJob.{AloneJob}
-use Rattle.drvhost_words.specs.declared.job.AloneJob.TheVariants.{Check, Explain, ExplainRule, List as ListJob, Rewrite, Version, Trace, Tell, Draw}
-use Rattle.drvhost_words.specs.declared.job.JobFault.{JobFault}
-use Rattle.drvhost_words.specs.declared.job.JobFault.TheVariants.{Usage, Memory}
+use Rattle.drvhost_commands.specs.declared.job.Job.{Job}
+use Rattle.drvhost_commands.specs.declared.job.Job.TheVariants.{Alone, Host}
+use Rattle.drvhost_commands.specs.declared.job.AloneJob.{AloneJob}
+use Rattle.drvhost_commands.specs.declared.job.AloneJob.TheVariants.{Check, Explain, ExplainRule, List as ListJob, Rewrite, Version, Trace, Tell, Draw}
+use Rattle.drvhost_commands.specs.declared.job.JobFault.{JobFault}
+use Rattle.drvhost_commands.specs.declared.job.JobFault.TheVariants.{Usage, Memory}
 use Rattle.drvhost_sets.specs.declared.explaining.Extent.{Extent}
 use Rattle.drvhost_sets.specs.declared.explaining.Extent.TheVariants.{First, Each}
 use Rattle.drvhost_views.specs.declared.tell.Detail.{Detail}

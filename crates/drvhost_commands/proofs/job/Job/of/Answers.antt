@@ -4,11 +4,11 @@ use Rattle.clap.specs.Words.{App, HasKind, IsAmong, Kinds, Row, Text, app_of, fa
 use Rattle.clap.specs.declared.error.Error.{Error}
 use Rattle.clap.specs.declared.error.ErrorKind.{ErrorKind}
 use Rattle.clap.specs.declared.error.ErrorKind.TheVariants.{DisplayVersion, OutOfMemory}
-use Rattle.drvhost_words.specs.declared.job.Job.{Job}
-use Rattle.drvhost_words.specs.declared.job.JobFault.{JobFault}
-use Rattle.drvhost_words.specs.declared.job.JobFault.TheVariants.{Memory}
-use Rattle.drvhost_words.specs.CommandLine.{Names, program}
-use Rattle.drvhost_words.proofs.job.Job.of.Goals as goal
+use Rattle.drvhost_commands.specs.declared.job.Job.{Job}
+use Rattle.drvhost_commands.specs.declared.job.JobFault.{JobFault}
+use Rattle.drvhost_commands.specs.declared.job.JobFault.TheVariants.{Memory}
+use Rattle.drvhost_commands.specs.CommandLine.{Names, program}
+use Rattle.drvhost_commands.proofs.job.Job.of.Goals as goal
 
 -- `clap` says exactly which words the command line takes
 is_exact : is_simple_and_free program ≡ true
