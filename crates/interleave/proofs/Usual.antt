@@ -1,5 +1,5 @@
 -- Lines in their usual form are read as the exact reading says.
-use Rattle.std.proofs.Common.{◌≡◌, ℕ, ◌+◌, ◌-◌, ◌<◌, ◌≤◌, ◌^◌, nat_eq, true, false, List, [], ◌∷◌, ◌++◌, Option, Some, None, Result, IfSome, refl, ◌∙◌, arith, append_assoc, codes}
+use Rattle.std.proofs.Common.{◌≡◌, ℕ, ◌+◌, ◌-◌, ◌<◌, ◌≤◌, ◌^◌, nat_eq, true, false, List, [], ◌∷◌, ◌++◌, Option, Some, None, Result, IfSome, refl, ◌∙◌, arith, append_assoc}
 use Rattle.std.proofs.lemmas.List.{append-nil}
 use Rattle.std.proofs.lemmas.Bool.{le-leb}
 use Rattle.std.proofs.lemmas.Bool.Decides.{nat_tests}
@@ -8,7 +8,7 @@ use Rattle.model.specs.declared.event.Event.TheVariants.{Issue, Cancel, Interrup
 use Rattle.model.specs.declared.status.Major.{Major}
 use Rattle.model.specs.declared.status.Major.TheVariants.{Read, Write, Control}
 use Rattle.text.specs.Cut.{is_written, lines_from, lines_of}
-use Rattle.text.specs.Major.{major_of}
+use Rattle.text.specs.Major.{major_of, major_text}
 use Rattle.text.specs.Digits.{BeginsWith}
 use Rattle.text.specs.Spaced.{is_inner, spaced, ArePlain, IsPlain}
 use Rattle.text.proofs.Digits.{digits_form, digits_number, digits_plain}
@@ -185,23 +185,17 @@ takes_number bytes operand rest space n parts blank is small = record {
   writes = digits_number is.digits n is.some is.all is.writes small;
 }
 
--- the word of a major function
-abbrev pub name_of : Major → List ℕ
-name_of Read = codes "READ"
-name_of Write = codes "WRITE"
-name_of Control = codes "CONTROL"
-
-name_plain : (m : Major) → IsPlain (name_of m) × (major_of (name_of m) ≡ Some m)
-name_plain Read = (record { some = refl; inner = refl; token = refl }, refl)
-name_plain Write = (record { some = refl; inner = refl; token = refl }, refl)
-name_plain Control = (record { some = refl; inner = refl; token = refl }, refl)
+word_plain : (m : Major) → IsPlain (major_text m) × (major_of (major_text m) ≡ Some m)
+word_plain Read = (record { some = refl; inner = refl; token = refl }, refl)
+word_plain Write = (record { some = refl; inner = refl; token = refl }, refl)
+word_plain Control = (record { some = refl; inner = refl; token = refl }, refl)
 
 -- a space and such a word
-pub major_taken : {bytes rest : List ℕ} {m : Major} → bytes ≡ 32 ∷ name_of m ++ rest
+pub major_taken : {bytes rest : List ℕ} {m : Major} → bytes ≡ 32 ∷ major_text m ++ rest
     → TakesMajor bytes m rest
 major_taken {bytes} {rest} {m} parts = record {
-  word = name_of m;
+  word = major_text m;
   parts = parts;
-  plain = (name_plain m).0;
-  names = (name_plain m).1;
+  plain = (word_plain m).0;
+  names = (word_plain m).1;
 }
