@@ -8,6 +8,7 @@ use Rattle.model.specs.InstructionForm.{Operand, ARegister, ACell, APagedCell, A
 pub use Rattle.asm_line.specs.Words.{field_text, status_text}
 pub use Rattle.model.specs.Words.{sort_text}
 pub use Rattle.text.specs.Major.{major_text}
+pub use Rattle.text.specs.Spaced.{spaced}
 use Rattle.asm_listing.specs.declared.entry.Entry.{Entry}
 use Rattle.asm_listing.specs.declared.entry.Entry.TheVariants as line
 
@@ -107,15 +108,10 @@ words_of line.EndDriver = codes "endd" ∷ []
 words_of (line.Device number d) =
     codes "device" ∷ device number ∷ driver d.driver ∷ decimal d.stack ∷ optional device d.lower
 
--- words behind the first, each after a space
-abbrev pub rest_joined : List (List ℕ) → List ℕ
-rest_joined [] = []
-rest_joined (word ∷ words) = 32 ∷ word ++ rest_joined words
-
 -- words with one space between them
 abbrev pub joined : List (List ℕ) → List ℕ
 joined [] = []
-joined (word ∷ words) = word ++ rest_joined words
+joined (word ∷ words) = word ++ spaced words
 
 -- an instruction and the end of its line
 abbrev pub instruction_text : Instr → List ℕ

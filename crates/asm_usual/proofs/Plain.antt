@@ -19,7 +19,7 @@ use Rattle.text.specs.Number.{numbered_in}
 use Rattle.text.specs.Digits.{BeginsWith, Digits}
 use Rattle.text.specs.Spaced.{is_inner, spaced, ArePlain, IsPlain}
 use Rattle.text.proofs.Digits.{all_digits, all_inner, digits_number, digits_plain, some_bytes}
-use Rattle.text.proofs.Spaced.{plain_word, spaced_lexical, spaced_tokens}
+use Rattle.text.proofs.Spaced.{plain_word, plain_lexical, plain_tokens}
 use Rattle.text.specs.declared.class.TheConstants.{MAX_NAME}
 use Rattle.asm_line.specs.Cursor.{Reading, called, capped, cell, cell_of, constant, constant_of, field, label, lock_of, number, numbered, one, paged_cell, queue, ranged, register, register_of, returned, returned_by, so_far, spin_lock, status, then_read, three, turns, turns_of, two}
 use Rattle.asm_line.specs.Line.{body, if_in_range, line_of, read_line}
@@ -37,7 +37,7 @@ use Rattle.asm_line.proofs.Usual.{digits_are_name_bytes}
 read_plain : (word : List ℕ) (words : List (List ℕ)) → IsPlain word → ArePlain words
     → read_line (word ++ spaced words) ≡ ok_or (line_of (word ∷ words)) UnknownWord
 read_plain word words is are =
-    rw (spaced_lexical word words is are, spaced_tokens word words is are) refl
+    rw (plain_lexical word words is are, plain_tokens word words is are) refl
 
 -- a step without a label
 step_of : (line : List ℕ) (step : Body) (is : ReadsStep line step)
