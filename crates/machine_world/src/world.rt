@@ -9,7 +9,7 @@ ghost use Rattle.laws_words.specs.WordsDone.{WordEventDone, IssueDone};
 ghost use Rattle.laws_words.specs.WordsFit.{WordEventFits};
 ghost use Rattle.laws_slots.specs.ShownSlots.{meant_shared};
 ghost use Rattle.laws_slots.specs.Slots.{packet_at};
-ghost use Rattle.laws_words.specs.ShownWords.{words_at, words_of_thread};
+ghost use Rattle.laws_words.specs.ShownWords.{words_at};
 ghost use Rattle.laws_words.specs.WordViews.{word_thread_at};
 ghost use Rattle.laws_words.specs.WordEvents.{cancel_word, dpc_word, interrupt_word, opening_words, startio_word};
 ghost use Rattle.laws_words.specs.WordStep.{word_step};
@@ -17,7 +17,7 @@ ghost use Rattle.model.specs.declared.event.Reply.TheVariants.{Stepped};
 ghost use Rattle.machine_frames.specs.Left.{frame_over};
 ghost use Rattle.laws_words.specs.Words.{WordRoutine, entered};
 ghost use Rattle.machine_world.specs.GoingOn.{after, reply_after};
-ghost use Rattle.machine_world.specs.Threads.{stepped_on, told_of};
+ghost use Rattle.machine_world.specs.Threads.{stepped_on};
 
 use crate::thread::Thread;
 use driver_devices::{device_of, driver_of};
@@ -146,13 +146,6 @@ impl Slots {
     pub fn thread(&self, number: u8) -> Option<ThreadView>
         ensures { result ≡ word_thread_at self.now number }
     {
-        self.view_of(number)
-    }
-
-    /// The same of the thread where it stands.
-    fn view_of(&self, number: u8) -> Option<ThreadView>
-        ensures { result ≡ told_of self.now (slice_get self.now.threads number) }
-    {
         match self.thread_list.get(number as usize) {
             Some(thread) => Some(thread.view(&self.shared)),
             None => None,
@@ -176,14 +169,6 @@ impl Slots {
     /// The words in the registers of the routine on the top of a thread, if one stands there.
     pub fn words(&self, thread: u8) -> Option<&[u64; REGISTERS]>
         ensures { option_map (λ words. words.now) result ≡ words_at self.now thread }
-    {
-        self.words_of(thread)
-    }
-
-    /// The same of the thread where it stands.
-    fn words_of(&self, thread: u8) -> Option<&[u64; REGISTERS]>
-        ensures { option_map (λ words. words.now) result
-            ≡ words_of_thread (slice_get self.now.threads thread) }
     {
         match self.thread_list.get(thread as usize) {
             Some(runner) => runner.words(),
