@@ -9,7 +9,7 @@ use crate::acts::{Onward, UseStep};
 use crate::standing::{frames_on, thread_of};
 use crate::uses::{LocationUse, Note, Uses};
 use checked::Checked;
-use checked_parts::Frame;
+use checked_frames::Frame;
 use driver_set::{DriverSet, Sort};
 use laws_runs::pending_returns_agree;
 use model::event::{Event, Reply};
