@@ -1,8 +1,8 @@
 //! A step of a frame: who runs, and what it leaves of the frame.
 
 ghost use Rattle.std.specs.Prelude.{◌≡◌};
-ghost use Rattle.checked_parts.specs.Frames.{cancels_next};
-ghost use Rattle.checked_parts.specs.Ran.{frame_over as frame_over_of, wrong_reply};
+ghost use Rattle.checked_frames.specs.Frames.{cancels_next};
+ghost use Rattle.checked_frames.specs.Ran.{frame_over as frame_over_of, wrong_reply};
 
 use crate::frame::Managing;
 use model::event::{Bug, BugCheck, Place, Reply, Subject};

@@ -16,7 +16,7 @@ use Rattle.model.specs.Fault.{bug_if, first_or, is_dispatch_level}
 use Rattle.model.specs.Set.{Set}
 use Rattle.model.specs.World.{Shared, packet_of}
 use Rattle.irql_locks.specs.Owns.{owns, owns_any}
-use Rattle.checked_parts.specs.declared.ran.Runner.{Runner}
+use Rattle.checked_frames.specs.declared.ran.Runner.{Runner}
 
 -- a packet was issued and isn't live: it has topped out
 abbrev pub is_gone : Shared → ℕ → Bool

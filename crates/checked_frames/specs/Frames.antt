@@ -4,8 +4,8 @@ use Rattle.model.specs.declared.world.Activation.{Activation}
 use Rattle.model.specs.declared.world.CancelStep.{CancelStep}
 use Rattle.model.specs.declared.world.Frame.{Frame}
 use Rattle.model.specs.declared.world.Frame.TheVariants.{Routine, Walk, Cancel}
-use Rattle.checked_parts.specs.declared.frame.Managing.{Managing}
-use Rattle.checked_parts.specs.declared.frame.Managing.TheVariants.{Completes, Cancels}
+use Rattle.checked_frames.specs.declared.frame.Managing.{Managing}
+use Rattle.checked_frames.specs.declared.frame.Managing.TheVariants.{Completes, Cancels}
 
 -- the I/O manager's frame, of what it does
 abbrev pub manager_frame : Managing → Frame

@@ -1,7 +1,7 @@
 use Rattle.std.proofs.Common.{◌≡◌, refl, ap, sym, ◌∙◌, None, Some}
 use Rattle.std.specs.Prelude.{slice_get}
 use Rattle.std.proofs.lemmas.Option.{slice_get-get_or, slice_get_past}
-use Rattle.machine_world.proofs.world.Slots.words_of.Goals as goal
+use Rattle.machine_world.proofs.world.Slots.words.Goals as goal
 
 pub returns-in-None : goal.returns-in-None
 returns-in-None c =

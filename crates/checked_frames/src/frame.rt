@@ -2,7 +2,7 @@
 
 ghost use Rattle.std.specs.Prelude.{◌≡◌, None, option_map};
 ghost use Rattle.std.specs.Borrow.{sem};
-ghost use Rattle.checked_parts.specs.Ran.{frame_over as frame_over_of, is_last as is_last_over};
+ghost use Rattle.checked_frames.specs.Ran.{frame_over as frame_over_of, is_last as is_last_over};
 
 use crate::activation::{enter, entered};
 use crate::ran::Over;
@@ -32,7 +32,7 @@ pub struct Frame {
 
 impl Model for Frame {
     ghost use Rattle.model.specs.declared.world.Frame.{Frame};
-    ghost use Rattle.checked_parts.specs.Frames.{shown};
+    ghost use Rattle.checked_frames.specs.Frames.{shown};
 
     ghost Value = { Frame };
 
@@ -50,8 +50,8 @@ impl Default for Frame {
 
 impl Frame {
     ghost use Rattle.model.specs.declared.world.Frame.TheVariants.{Routine as RoutineFrame};
-    ghost use Rattle.checked_parts.specs.Frames.{activation_of, manager_of, walked_packet};
-    ghost use Rattle.checked_parts.specs.Lending.{LendsActivation};
+    ghost use Rattle.checked_frames.specs.Frames.{activation_of, manager_of, walked_packet};
+    ghost use Rattle.checked_frames.specs.Lending.{LendsActivation};
     ghost use Rattle.model.specs.View.{frame_view};
 
     /// The frame of a routine.

@@ -1,15 +1,16 @@
 //! Routines that begin.
 
 ghost use Rattle.std.specs.Prelude.{◌≡◌, Some, option_map, slice_get};
-ghost use Rattle.checked_parts.specs.Ran.{frame_over};
+ghost use Rattle.checked_frames.specs.Ran.{frame_over};
 ghost use Rattle.model.specs.declared.world.Frame.TheVariants.{Routine as RoutineFrame};
 ghost use Rattle.model.specs.declared.world.Value.TheVariants.{Ref};
 ghost use Rattle.model.specs.Set.{cancel_routine_named};
 ghost use Rattle.model.specs.World.{entered as entered_of};
-ghost use Rattle.model.specs.Effect.{serving_for as serving_for_of, dispatched as dispatched_of, completes_with, routine_of_device};
+ghost use Rattle.model.specs.Effect.{dispatched as dispatched_of, completes_with, routine_of_device};
 
 use crate::ran::Over;
 use arrayvec::ArrayVec;
+use driver_devices::{driver_of, serving_for};
 use driver_set::DriverSet;
 use model::limits::{DEFAULT_ROUTINE, REGISTERS};
 use model::status::Major;
@@ -42,26 +43,6 @@ pub(crate) fn enter(a: &mut Activation, driver: u8, routine: u8, device: u8, fir
     a.loops.clear();
     a.registers = [Value::Blank; REGISTERS];
     a.registers[0] = first;
-}
-
-/// The number of the driver of a device.
-pub fn driver_of(set: &DriverSet, device: u8) -> u8
-    ensures { result ≡ routine_of_device (slice_get set.now.devices device) }
-{
-    match set.devices().get(device as usize) {
-        Some(device) => device.driver,
-        None => 0,
-    }
-}
-
-/// The number of the routine of a driver that serves what a packet asks for.
-fn serving_for(set: &DriverSet, driver: u8, major: Option<Major>) -> u8
-    ensures { result ≡ serving_for_of set.now driver major }
-{
-    match major {
-        Some(major) => set.handler(driver, major),
-        None => DEFAULT_ROUTINE,
-    }
 }
 
 /// The dispatch routine begins that serves what a packet asks of a device.

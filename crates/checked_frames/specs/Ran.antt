@@ -9,13 +9,13 @@ use Rattle.model.specs.declared.world.Frame.TheVariants.{Routine}
 use Rattle.model.specs.declared.world.Value.TheVariants.{Ref}
 use Rattle.model.specs.Effect.{Outcome}
 use Rattle.model.specs.World.{Shared, entered}
-use Rattle.checked_parts.specs.declared.ran.Over.{Over}
-use Rattle.checked_parts.specs.declared.ran.Over.TheVariants.{Manager, Routine as RoutineOver}
-use Rattle.checked_parts.specs.declared.ran.Ran.{Ran}
-use Rattle.checked_parts.specs.declared.ran.Ran.TheVariants.{Stays, Under, Becomes, Gone, Stopped, Returned}
-use Rattle.checked_parts.specs.declared.ran.Runner.{Runner}
-use Rattle.checked_parts.specs.Frames.{manager_frame}
-use Rattle.checked_parts.specs.Left.{Left, judged, bounded, stays}
+use Rattle.checked_frames.specs.declared.ran.Over.{Over}
+use Rattle.checked_frames.specs.declared.ran.Over.TheVariants.{Manager, Routine as RoutineOver}
+use Rattle.checked_frames.specs.declared.ran.Ran.{Ran}
+use Rattle.checked_frames.specs.declared.ran.Ran.TheVariants.{Stays, Under, Becomes, Gone, Stopped, Returned}
+use Rattle.checked_frames.specs.declared.ran.Runner.{Runner}
+use Rattle.checked_frames.specs.Frames.{manager_frame}
+use Rattle.checked_frames.specs.Left.{Left, judged, bounded, stays}
 
 -- a frame that is put over another, or into its place
 abbrev pub frame_over : Over → Frame
