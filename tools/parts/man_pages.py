@@ -104,9 +104,7 @@ def shown(kind, lines):
     return ".PP\n%s\n" % inline(words)
 
 def body(text):
-    """A document's blocks; a paragraph right behind a head needs no macro."""
-    out = "".join(shown(kind, lines) for kind, lines in blocks(text))
-    return re.sub(r"(\.S[HS] [^\n]+\n)\.PP\n(?!\.RS)", r"\1", out)
+    return "".join(shown(kind, lines) for kind, lines in blocks(text))
 
 def part(text, title):
     """What stands below a head of the second depth, without it."""
@@ -166,15 +164,18 @@ def library(date):
             + ".SH THE HEADER\n" + header() + see("drvhost.1", "drvhost-texts.5"))
 
 def pages(date):
-    """Each page by its name. `date` is the second that it is dated by."""
-    return dict(zip(PAGES, (drvhost(date), texts(date), library(date))))
+    """Each page by its name. `date` is the second that it is dated by. A paragraph right behind a
+    head needs no macro."""
+    made = [drvhost(date), texts(date), library(date)]
+    return {name: re.sub(r"(\.S[HS] [^\n]+\n)\.PP\n", r"\1", text)
+            for name, text in zip(PAGES, made)}
 
 def main():
     folder = sys.argv[1] if len(sys.argv) > 1 else os.path.join(TOP, "out/man")
     os.makedirs(folder, exist_ok=True)
     for name, text in pages(int(os.environ.get("SOURCE_DATE_EPOCH", time.time()))).items():
         with open(os.path.join(folder, name), "w", encoding="ascii") as file:
-            file.write(re.sub(r"(\.S[HS] [^\n]+\n)\.PP\n", r"\1", text))
+            file.write(text)
     print("%d pages" % len(PAGES))
 
 if __name__ == "__main__":

@@ -33,7 +33,7 @@ static uint32_t ask(const char *word, const char *more, const uint8_t *set, size
     put_file(two, events, events_length);
     const char *program = getenv("PAFTEIS_PROGRAM");
     snprintf(line, sizeof line, "%s %s %s %s %s 2>&1", program ? program : "drvhost", word,
-             length ? one : "", events ? two : "", more);
+             set ? one : "", events ? two : "", more);
     FILE *pipe = popen(line, "r");
     size_t room = 1 << 16, got;
     *told = malloc(room);
