@@ -1,6 +1,7 @@
 #!/usr/bin/env python3
-"""tools/try install [--program FILE] [--library DIR]: installs into a folder, tries what is there,
-and takes it away; makes the packages twice, and compares them.
+"""tools/try install [--program FILE] [--library DIR] [--root DIR]: installs into a folder, tries
+what is there, and takes it away; makes the packages twice, and compares them. With a root that
+debootstrap has made, it installs the packages there, as root, and purges them.
 
 What wants a program that isn't there (mandoc, fish, zsh, lintian) is told, and left out."""
 import argparse, filecmp, os, shutil, subprocess, sys, tempfile
@@ -103,7 +104,31 @@ def try_install(given, folder):
     want(tool("install", "--prefix", prefix, *given).returncode != 0, "another's file is lost")
     want(below(prefix) == ["bin/drvhost"], f"put there: {below(prefix)}")
 
-def try_packages(given, folder):
+def files_of(root):
+    """All files of a root but those in which dpkg and ldconfig keep books."""
+    kept = "var/lib/dpkg/", "var/log/", "var/cache/", "etc/ld.so.cache"
+    return [name for name in below(root) if not name.startswith(kept)]
+
+def try_root(root, packages):
+    """Installs packages into a clean root, tries them there, and purges them."""
+    before = files_of(root)
+    for path in packages:
+        shutil.copy(path, f"{root}/tmp")
+    inside = [f"/tmp/{os.path.basename(path)}" for path in packages]
+    told = answered(["chroot", root, "dpkg", "-i", *inside])
+    want(not told.endswith("failed"), told)
+    shutil.copy(os.path.join(TOP, "examples/twice.drv"), f"{root}/tmp")
+    told = answered(["chroot", root, "drvhost", "check", "/tmp/twice.drv"])
+    want(told.startswith("refused V5 "), f"in a clean root drvhost answers {told}")
+    told = answered(["chroot", root, "ldconfig", "-p"])
+    want("libpafteis.so.1 " in told, "in a clean root the library isn't found")
+    told = answered(["chroot", root, "dpkg", "-P", "libpafteis-dev", "libpafteis1", "pafteis"])
+    want(not told.endswith("failed"), told)
+    for path in [*inside, "/tmp/twice.drv"]:
+        os.unlink(root + path)
+    want(files_of(root) == before, "something is left in a clean root")
+
+def try_packages(given, folder, clean):
     one, two = os.path.join(folder, "one"), os.path.join(folder, "two")
     for into in (one, two):
         done = tool("package", "--into", into, *given)
@@ -123,14 +148,18 @@ def try_packages(given, folder):
     told = answered([*words, "-i", *packages])
     want(not told.endswith("failed"), told)
     want(not answered([*words, "--verify"]), "a package's file is another one")
+    if clean:
+        try_root(clean, packages)
 
 def main():
-    words = packing.arguments(argparse.ArgumentParser(description=__doc__.split(":")[0]))
-    program, library = packing.built(words.parse_args())
+    parser = packing.arguments(argparse.ArgumentParser(description=__doc__.split(":")[0]))
+    parser.add_argument("--root", metavar="DIR", help="a root that debootstrap has made")
+    asked = parser.parse_args()
+    program, library = packing.built(asked)
     given = ["--program", os.path.abspath(program), "--library", os.path.abspath(library)]
     with tempfile.TemporaryDirectory() as folder:
         try_install(given, folder)
-        try_packages(given, folder)
+        try_packages(given, folder, asked.root)
     print(f"{len(faults)} faults")
     return int(bool(faults))
 
