@@ -453,12 +453,6 @@ open_drivers Outside = 0
 open_drivers InDriver = 1
 open_drivers InRoutine = 1
 
--- how many routines are open in a place
-abbrev pub open_routines : Place → ℕ
-open_routines Outside = 0
-open_routines InDriver = 0
-open_routines InRoutine = 1
-
 -- the sort of the routine that is open in a place
 abbrev pub open_sort : Place → Sort → List Sort
 open_sort Outside sort = []
@@ -483,29 +477,57 @@ pub record ClosedFits (uses : ℕ) (routine : ClosedRoutine) : Type 0 where
   pub queues : All (λ (step : Linked). QueueUsed uses step.instr step.queue) routine.code
 
 -- each device has the number of its name, and all of them fit
-pub record DevicesKnown (o : Outline) : Type 0 where
-  pub count : length o.devices ≡ length o.device_names
-  pub fit : DevicesFit (length o.driver_names) 0 o.devices
+pub record DevicesKnown (drivers names : List (List ℕ)) (devices : List Device) : Type 0 where
+  pub count : length devices ≡ length names
+  pub fit : DevicesFit (length drivers) 0 devices
 
--- what was read is within the limits of a set, and its numbers name things, those of its drivers
--- and devices where no name is unknown
-pub record IsOrderly (o : Outline) : Type 0 where
-  pub few_drivers : length o.driver_names ≤ MAX_DRIVERS
-  pub few_devices : length o.device_names ≤ MAX_DEVICES
-  pub few_routines : length o.routine_names ≤ MAX_ROUTINES
-  pub few_queues : length o.queue_names ≤ MAX_QUEUES
-  pub few_steps : length o.steps ≤ MAX_INSTRUCTIONS
-  pub idle : open_routines o.place ≡ 0 → o.steps ≡ []
-  pub positions_fit : All (λ position. position < length o.steps) o.positions
-  pub operands_fit : All (λ (step : StepOf). OperandFits step.instr) o.steps
-  pub queues_used : All (λ (step : StepOf). QueueUsed (length o.queue_uses) step.instr step.queue)
-      o.steps
-  pub guards_fit : All (λ (queue : QueueLine). IsSpinLock queue.guard) o.queues
-  pub queue_count : length o.queues ≡ length o.queue_names
-  pub driver_count : length o.drivers + open_drivers o.place ≡ length o.driver_names
-  pub routine_count : length o.routines + open_routines o.place ≡ length o.routine_names
-  pub sorts_known : map (λ (routine : ClosedRoutine). routine.sort) o.routines
-      ++ open_sort o.place o.sort ≡ o.sorts
-  pub drivers_fit : o.unknown ≡ None → All DriverFits o.drivers
-  pub devices_known : o.unknown ≡ None → DevicesKnown o
-  pub routines_fit : All (ClosedFits (length o.queue_uses)) o.routines
+-- the drivers, of which so many are open, are within the limits of a set, and fit where no name is
+-- unknown
+pub record DriversOrderly (opened : ℕ) (names : List (List ℕ)) (drivers : List Driver)
+    (unknown : Option ℕ) : Type 0 where
+  pub few : length names ≤ MAX_DRIVERS
+  pub count : length drivers + opened ≡ length names
+  pub fit : unknown ≡ None → All DriverFits drivers
+
+-- so are the devices, which have the numbers of their drivers
+pub record DevicesOrderly (drivers names : List (List ℕ)) (devices : List Device)
+    (unknown : Option ℕ) : Type 0 where
+  pub few : length names ≤ MAX_DEVICES
+  pub known : unknown ≡ None → DevicesKnown drivers names devices
+
+-- so are the routines of the open driver, where the routine of this sort is open, if one is
+pub record RoutinesOrderly (opened : List Sort) (names : List (List ℕ)) (sorts : List Sort)
+    (routines : List ClosedRoutine) (uses : ℕ) : Type 0 where
+  pub few : length names ≤ MAX_ROUTINES
+  pub count : length routines + length opened ≡ length names
+  pub sorts_known : map (λ (routine : ClosedRoutine). routine.sort) routines ++ opened ≡ sorts
+  pub fit : All (ClosedFits uses) routines
+
+-- so are its queues
+pub record QueuesOrderly (names : List (List ℕ)) (queues : List QueueLine) : Type 0 where
+  pub few : length names ≤ MAX_QUEUES
+  pub count : length queues ≡ length names
+  pub guards : All (λ (queue : QueueLine). IsSpinLock queue.guard) queues
+
+-- so are the instructions of the open routine, and there are none where none is open
+pub record StepsOrderly (opened : List Sort) (positions : List ℕ) (steps : List StepOf) (uses : ℕ)
+    : Type 0 where
+  pub few : length steps ≤ MAX_INSTRUCTIONS
+  pub idle : opened ≡ [] → steps ≡ []
+  pub positions_fit : All (λ position. position < length steps) positions
+  pub operands_fit : All (λ (step : StepOf). OperandFits step.instr) steps
+  pub queues_used : All (λ (step : StepOf). QueueUsed uses step.instr step.queue) steps
+
+-- what was read up to a place is within the limits of a set, and its numbers name things, those of
+-- its drivers and devices where no name is unknown
+pub record OrderlyAt (place : Place) (o : Outline) : Type 0 where
+  pub drivers : DriversOrderly (open_drivers place) o.driver_names o.drivers o.unknown
+  pub devices : DevicesOrderly o.driver_names o.device_names o.devices o.unknown
+  pub routines :
+      RoutinesOrderly (open_sort place o.sort) o.routine_names o.sorts o.routines
+      (length o.queue_uses)
+  pub queues : QueuesOrderly o.queue_names o.queues
+  pub steps : StepsOrderly (open_sort place o.sort) o.positions o.steps (length o.queue_uses)
+
+abbrev pub IsOrderly : Outline → Type 0
+IsOrderly o = OrderlyAt o.place o
