@@ -1,6 +1,6 @@
 -- What the lines of a driver text say so far, and what the next line adds to it, as the program
 -- keeps it: a step of the proof, and no definition to believe.
-use Rattle.std.specs.Prelude.{ℕ, ⊤, ◌≡◌, ◌<◌, ◌≤◌, All, map, slice_get, unwrap_or, ◌+◌, min, Bool, true, false, not, nat_lt, List, [], ◌∷◌, ◌++◌, length, Option, Some, None, is_some, option_map, option_and_then, option_to_list, if◌then◌else◌}
+use Rattle.std.specs.Prelude.{ℕ, ⊤, ◌≡◌, ◌<◌, ◌≤◌, All, map, slice_get, unwrap_or, ◌+◌, Bool, true, false, not, nat_lt, List, [], ◌∷◌, ◌++◌, length, Option, Some, None, is_some, option_map, option_and_then, option_to_list, if◌then◌else◌}
 use Rattle.model.specs.declared.instr.Instr.{Instr}
 use Rattle.model.specs.declared.limits.TheConstants.{MAX_DEVICES, MAX_DRIVERS, MAX_INSTRUCTIONS, MAX_QUEUES, MAX_ROUTINES}
 use Rattle.model.specs.declared.set.Device.{Device}
@@ -19,15 +19,16 @@ use Rattle.asm.specs.declared.draft.Linked.{Linked}
 use Rattle.asm.specs.declared.draft.QueueLine.{QueueLine}
 use Rattle.asm.specs.declared.draft.StartIoLine.{StartIoLine}
 use Rattle.asm.specs.declared.draft.Step.{Step as StepOf}
-use Rattle.asm.specs.declared.draft.Use.{Use}
-use Rattle.asm.specs.declared.routines.Role.{Role}
-use Rattle.asm.specs.declared.routines.Role.TheVariants.{Handler, Completion, StartIo as StartIoRole, Dpc as DpcRole, Cancel as CancelRole}
+use Rattle.asm_names.specs.declared.names.Use.{Use}
+use Rattle.asm_names.specs.declared.roles.Role.{Role}
+use Rattle.asm_names.specs.declared.roles.Role.TheVariants.{Handler, Completion, StartIo as StartIoRole, Dpc as DpcRole, Cancel as CancelRole}
 use Rattle.asm.specs.declared.fault.AsmKind.{AsmKind}
 use Rattle.asm.specs.declared.fault.AsmKind.TheVariants.{UnknownWord, DuplicateName, OutOfRange, OverLimit}
 use Rattle.asm_line.specs.declared.line.Body.{Body}
 use Rattle.asm_line.specs.declared.line.Body.TheVariants.{Blank, OpenDriver, CloseDriver, AddQueue, Handle, HandleStartIo, HandleDpc, OpenRoutine, CloseRoutine, AddDevice, Step}
 use Rattle.asm_line.specs.declared.line.Line.{Line}
 use Rattle.asm_line.specs.declared.line.UsedNames.{UsedNames}
+pub use Rattle.asm_names.specs.Uses.{earliest, is_known_label, missed, number_used, use_place, used_at}
 pub use Rattle.asm.specs.Names.{is_among, is_known, number_of, serves, number_for, routine_named, Inventory}
 pub use Rattle.asm.specs.Faults.{stands, is_stack_size, is_out_of_range}
 pub use Rattle.asm.specs.Said.{with_label, with_queue, with_routine}
@@ -97,11 +98,6 @@ handler_of o Read = o.read
 handler_of o Write = o.write
 handler_of o Control = o.control
 
--- there is a label, and it is one of these
-abbrev pub is_known_label : List (List ℕ) → Option (List ℕ) → Bool
-is_known_label labels None = false
-is_known_label labels (Some label) = is_among labels label
-
 -- the line gives a name, a table entry or a label again
 abbrev pub draft_is_again : Outline → Option (List ℕ) → Body → Bool
 draft_is_again o label (OpenDriver name) = is_among o.driver_names name
@@ -144,17 +140,6 @@ pub record IsFitting (o : Outline) (l : Line) : Type 0 where
   pub fresh : draft_is_again o l.label l.body ≡ false
   pub in_range : is_out_of_range l.body ≡ false
   pub room : draft_has_room o l.body ≡ true
-
--- the line of a use of a name, where the name isn't among these
-abbrev pub missed : List (List ℕ) → Option Use → Option ℕ
-missed names None = None
-missed names (Some u) = if is_among names u.name then None else Some u.line
-
--- the lesser of two lines
-abbrev pub earliest : Option ℕ → Option ℕ → Option ℕ
-earliest None b = b
-earliest (Some a) None = Some a
-earliest (Some a) (Some b) = Some (min a b)
 
 -- `driver NAME`
 abbrev pub driver_opened : Outline → List ℕ → Outline
@@ -372,10 +357,6 @@ routine_closed o = record o {
   unknown = missed_from o.labels o.unknown o.steps;
 }
 
--- the number of a name that is used, if one is
-abbrev pub number_used : List (List ℕ) → Option Use → Option ℕ
-number_used names u = option_and_then (λ u. number_of names u.name) u
-
 -- a device of the driver with this name, if there is one before it
 abbrev pub device_of : Outline → List ℕ → ℕ → Option Use → Option Device
 device_of o driver stack lower =
@@ -401,14 +382,6 @@ label_added o label = record o {
   labels = o.labels ++ option_to_list label;
   positions = o.positions ++ option_to_list (option_map (λ label. length o.steps) label);
 }
-
--- the use of a name in a line, if there is one
-abbrev pub used_at : ℕ → Option (List ℕ) → Option Use
-used_at n name = option_map (λ name. record { line = n; name = name }) name
-
--- the place of the use of a name, if there is one, among those of its kind, which were so many
-abbrev pub use_place : ℕ → Option (List ℕ) → Option ℕ
-use_place count name = option_map (λ name. count) name
 
 -- an instruction, and the names that it uses
 abbrev pub step_added : Outline → ℕ → Instr → UsedNames → Outline
