@@ -22,7 +22,7 @@ use Rattle.asm_line.specs.declared.line.Body.TheVariants.{Blank, OpenDriver, Clo
 use Rattle.asm_line.specs.declared.line.Line.{Line}
 use Rattle.asm_line.specs.declared.line.UsedNames.{UsedNames}
 use Rattle.asm_line.specs.Line.{BodyFits, IsNoted, QueueNoted}
-use Rattle.asm.specs.Outline.{Outline, label_added, use_place, label_resolved, used_at, stands, is_out_of_range, is_stack_size, draft_has_room, noted, finished_driver, missed, missed_in_driver, missed_queue, missed_routine, queue_added, earliest, driver_opened, driver_closed, handled, routine_opened, routine_closed, device_added, stepped, ClosedFits, IsFitting, IsOrderly, IsUse, OrderlyAt, QueueUsed}
+use Rattle.asm.specs.Outline.{Outline, label_added, nothing_read, use_place, label_resolved, used_at, stands, is_out_of_range, is_stack_size, draft_has_room, noted, finished_driver, missed, missed_in_driver, missed_queue, missed_routine, queue_added, earliest, driver_opened, driver_closed, handled, routine_opened, routine_closed, device_added, stepped, ClosedFits, IsFitting, IsOrderly, IsUse, OrderlyAt, QueueUsed}
 use Rattle.asm.proofs.Fitting.{only_outside, only_in_driver, only_in_routine}
 use Rattle.asm.proofs.Added.{with_entries, added_step}
 use Rattle.asm.proofs.Orderly.Names.{neither, none_before}
@@ -355,4 +355,29 @@ sound o h closed known =
       few_devices = omega (arith, devices.count, h.devices.few);
       drivers = h.drivers.fit known;
       devices = subst (λ (n : ℕ). DevicesFit n 0 o.devices) same devices.fit;
+    }
+
+-- where nothing was read
+pub nothing_orderly : IsOrderly nothing_read
+nothing_orderly =
+    record {
+      drivers = record { few = omega arith; count = refl; fit = λ known. All-nil DriverFits };
+      devices = record {
+        few = omega arith;
+        known = λ known. record { count = refl; fit = tt };
+      };
+      routines = record {
+        few = omega arith;
+        count = refl;
+        sorts_known = refl;
+        fit = All-nil (ClosedFits 0);
+      };
+      queues = record { few = omega arith; count = refl; guards = All-nil GuardIs };
+      steps = record {
+        few = omega arith;
+        idle = λ none. refl;
+        positions_fit = All-nil _;
+        operands_fit = All-nil _;
+        queues_used = All-nil _;
+      };
     }
