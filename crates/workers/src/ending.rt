@@ -2,15 +2,17 @@
 
 ghost use Rattle.std.specs.Prelude.{◌≡◌, ◌+◌, None, length};
 ghost use Rattle.hostcore.specs.Core.{world_of};
+ghost use Rattle.workers.specs.Standing.{IsWaiting, StandStill};
 ghost use Rattle.workers.specs.Turned.{IsNext};
 
+use crate::locked::Beginning;
 use hostcore::{Core, Seat};
 use intake::{Drained, Intake};
 use std::marker::Model;
 
 /// Shows that a worker had nothing left to do, at a moment: its thread had nothing to do of itself
-/// and the queue was empty after it was closed, or the history was full. Contracts see the number
-/// of its thread.
+/// and the queue was empty after it was closed; or its thread waited, and no worker's thread went
+/// on; or the history was full. Contracts see the number of its thread.
 #[derive(Drop)]
 pub struct End {
     thread: usize,
@@ -34,6 +36,15 @@ impl End {
         End {
             thread: seat.thread() as usize,
         }
+    }
+
+    /// The thread of a worker waited, and of the threads of all workers none went on.
+    pub(crate) fn stuck<B: Beginning>(_core: &Core, number: usize) -> End
+        requires waits { IsWaiting _core.now number }
+        requires still { StandStill _core.now (length B.takers) }
+        ensures { result ≡ number }
+    {
+        End { thread: number }
     }
 
     /// The history was full.
