@@ -1,6 +1,6 @@
 -- Threads that are marked as waiting, and that stand still.
-use Rattle.std.proofs.Common.{◌≡◌, ℕ, zero, suc, ◌+◌, ◌<◌, inl, inr, Bool, true, false, List, [], ◌∷◌, Some, get_or, length, replicate, sym, subst, ap, ◌∙◌, arith}
-use Rattle.std.specs.Prelude.{◌⊎◌, slice_get, slice_set}
+use Rattle.std.proofs.Common.{◌≡◌, ℕ, zero, suc, ◌+◌, ◌<◌, inl, inr, Bool, true, false, List, [], ◌∷◌, Some, get_or, length, refl, replicate, sym, subst, ap, ◌∙◌, arith}
+use Rattle.std.specs.Prelude.{◌⊎◌, ◌||◌, slice_get, slice_set}
 use Rattle.std.specs.List.{range_with_len}
 use Rattle.std.proofs.lemmas.Bool.Decides.{eqb_tells}
 use Rattle.std.proofs.lemmas.List.FromFn.{get_or-range_with_len, length-range_with_len}
@@ -33,20 +33,28 @@ read_true [] t h = cc
 read_true (mark ∷ marks) zero h = ap Some h
 read_true (mark ∷ marks) (suc t) h = read_true marks t h
 
--- where each thread is marked or has no frames, they stand still
-module _ (c : CoreState) (n : ℕ) (marks : List Bool) (are : AreWaiting c marks) where
-  one_stands : (t : ℕ) → busy_at (world_of c) t ≡ true
-      → (get_or marks t false ≡ true) ⊎ (busy_at (world_of c) t ≡ false) → IsWaiting c t
-  one_stands t busy (inl marked) = are t (read_true marks t marked)
-  one_stands t busy (inr idle) = cc
+-- one of two marks
+other_mark : (a b : Bool) → (a || b) ≡ true → b ≡ false → a ≡ true
+other_mark true b h g = refl
+other_mark false b h g = cc
+
+-- where each thread is marked, is gone or has no frames, they stand still
+module _ (c : CoreState) (n : ℕ) (marks gone : List Bool) (are : AreWaiting c marks) where
+  one_stands : (t : ℕ) → get_or gone t false ≡ false → busy_at (world_of c) t ≡ true
+      → ((get_or marks t false || get_or gone t false) ≡ true)
+      ⊎ (busy_at (world_of c) t ≡ false) → IsWaiting c t
+  one_stands t unmarked busy (inl h) =
+      are t (read_true marks t (other_mark (get_or marks t false) (get_or gone t false) h unmarked))
+  one_stands t unmarked busy (inr idle) = cc
 
   pub stand_still : (seats : List ℕ) → seats ≡ range_with_len 0 n
-      → ((t : ℕ) → t < length seats → (get_or marks t false ≡ true)
-      ⊎ (busy_at (world_of c) (get_or seats t t) ≡ false)) → StandStill c n
-  stand_still seats are_seats each t few busy =
+      → ((t : ℕ) → t < length seats → ((get_or marks t false || get_or gone t false) ≡ true)
+      ⊎ (busy_at (world_of c) (get_or seats t t) ≡ false)) → StandStill c gone n
+  stand_still seats are_seats each t few unmarked busy =
       let same : 0 + t ≡ t = omega arith in
       let long : length seats ≡ n = ap length are_seats ∙ length-range_with_len 0 n in
       let seat : get_or seats t t ≡ t = ap (λ (xs : List ℕ). get_or xs t t) are_seats
       ∙ (get_or-range_with_len 0 n t t few ∙ same) in
-      one_stands t busy (subst (λ (s : ℕ). (get_or marks t false ≡ true)
+      one_stands t unmarked busy (subst (λ (s : ℕ).
+      ((get_or marks t false || get_or gone t false) ≡ true)
       ⊎ (busy_at (world_of c) s ≡ false)) seat (each t (omega (arith, few, long))))

@@ -1,5 +1,5 @@
 -- Threads that wait, and a standstill: no thread goes on, since each that has frames waits.
-use Rattle.std.specs.Prelude.{ℕ, ◌≡◌, ◌<◌, Bool, true, false, List, Some, slice_get}
+use Rattle.std.specs.Prelude.{ℕ, ◌≡◌, ◌<◌, Bool, true, false, List, Some, get_or, slice_get}
 use Rattle.model.specs.declared.event.Event.TheVariants.{Step}
 use Rattle.model.specs.History.{is_kept}
 use Rattle.model.specs.View.{busy_at}
@@ -10,10 +10,12 @@ pub record IsWaiting (c : CoreState) (t : ℕ) : Type 0 where
   pub busy : busy_at (world_of c) t ≡ true
   pub unchanged : is_kept (reply_in c (Step t)) ≡ false
 
--- of the first so many threads none goes on: each that has frames waits
-abbrev pub StandStill : CoreState → ℕ → Type 0
-StandStill c count =
-    (t : ℕ) → t < count → busy_at (world_of c) t ≡ true → IsWaiting c t
+-- of the first so many threads none goes on: each that has frames waits, but for those that are marked
+-- as gone, which no one steps any more
+abbrev pub StandStill : CoreState → List Bool → ℕ → Type 0
+StandStill c gone count =
+    (t : ℕ) → t < count → get_or gone t false ≡ false → busy_at (world_of c) t ≡ true
+    → IsWaiting c t
 
 -- the threads that are marked wait
 abbrev pub AreWaiting : CoreState → List Bool → Type 0

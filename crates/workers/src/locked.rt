@@ -12,7 +12,7 @@ ghost use Rattle.workers.specs.Serves.{Serves};
 ghost use Rattle.workers.specs.Standing.{AreWaiting, IsWaiting};
 ghost use Rattle.workers.specs.Turned.{Progressed};
 
-use crate::ending::{End, Ends};
+use crate::ending::{End, Ends, Gone};
 use crate::seating::give_back;
 use crate::served::Served;
 use crate::standing::{Marks, none_goes_on};
@@ -55,6 +55,8 @@ pub struct Service<B: Beginning> {
     full: bool,
     /// The threads that are known to wait, as a step of them has shown since the last entry.
     waiting: Marks,
+    /// The threads whose workers have ended while these waited.
+    gone: Gone,
     of: PhantomData<B>,
 }
 
@@ -99,6 +101,7 @@ impl<B: Beginning> Service<B> {
             held: None,
             full: false,
             waiting: [false; MAX_THREADS],
+            gone: Gone::none(),
             of: PhantomData,
         }
     }
@@ -137,7 +140,10 @@ impl<B: Beginning> Service<B> {
                 self.waiting = [false; MAX_THREADS];
                 Progress::Advanced(self.core.counted(&self.seats[number]))
             }
-            Turn::Waits => wait::<B>(&self.core, &self.seats, &mut self.waiting, number),
+            Turn::Waits => {
+                let waiting = &mut self.waiting;
+                wait::<B>(&self.core, &self.seats, waiting, &mut self.gone, number)
+            }
             Turn::Rests => Progress::Stalled,
             Turn::Ended(end) => Progress::Over(end),
             Turn::Full(taken) => {
@@ -168,6 +174,7 @@ impl<B: Beginning> Service<B> {
             held,
             full,
             waiting: _,
+            gone: _,
             of: _,
         } = self;
         book.audit(&mut all);
@@ -187,7 +194,13 @@ impl<B: Beginning> Service<B> {
 
 /// The thread of a worker waits: it is marked. Where of all workers' threads none goes on, no worker
 /// can ever change anything again for those that wait, and the worker has nothing left to do.
-fn wait<B: Beginning>(core: &Core, seats: &[Seat], waiting: &mut Marks, number: usize) -> Progress
+fn wait<B: Beginning>(
+    core: &Core,
+    seats: &[Seat],
+    waiting: &mut Marks,
+    gone: &mut Gone,
+    number: usize,
+) -> Progress
     requires seats { seats.now ≡ range_with_len 0 (length B.takers) }
     requires few { length B.takers ≤ MAX_TAKERS }
     requires number { number < length B.takers }
@@ -197,10 +210,12 @@ fn wait<B: Beginning>(core: &Core, seats: &[Seat], waiting: &mut Marks, number: 
     ensures progress { Progressed number core.now core.now result }
 {
     waiting[number] = true;
-    if none_goes_on(core, seats, waiting) {
-        return Progress::Over(End::stuck::<B>(core, number));
+    if !none_goes_on(core, seats, waiting, gone) {
+        return Progress::Stalled;
     }
-    Progress::Stalled
+    let end = End::stuck::<B>(core, gone, number);
+    gone.add(&end);
+    Progress::Over(end)
 }
 
 /// Puts a command that is held into a list that has none.
