@@ -1,6 +1,6 @@
 -- Which edges the passes over the routines of a driver find: each that there is, and no other.
-use Rattle.laws_runs.proofs.Common.{ap, append-nil, arith, inl, inr, refl, subst, sym, zero, ◌-◌, ◌∙◌, cases_eq, eq-eqb, ne_eqb, cases_lt, slice_get-get_or, slice_get_within, get_or_from_slice_get, All, Bool, List, None, Option, Some, [], false, if◌then◌else◌, length, nat_eq, option_and_then, option_map, slice_get, slice_index_or, suc, true, ℕ, ◌++◌, ◌+◌, ◌<◌, ◌∷◌, ◌≡◌, ◌≢◌, ◌≤◌, ◌⊎◌, Member, Set, member, routine_of, default_number, default_routine, default_code, IsTypable, IsTypableRoutine, entry_of_sort, handed_at_label, Arrives, Abs, Instr, Acquire, AcquireCancel, IfPending, Remove, Disarm, Take, CancelLock, DeviceLock, Guard, Driver, RoutineOf, Sort, Cancel, Dispatch, Dpc, Hold, Propagate, StartIo, QueueName, arrives_keep}
-use Rattle.std.proofs.lemmas.List.Elements.{All-append, All-push}
+use Rattle.laws_runs.proofs.Common.{ap, arith, inl, inr, refl, subst, sym, zero, ◌-◌, ◌∙◌, cases_eq, eq-eqb, ne_eqb, cases_lt, slice_get-get_or, slice_get_within, get_or_from_slice_get, All, Bool, List, None, Option, Some, [], false, length, nat_eq, option_and_then, option_map, slice_get, slice_index_or, suc, true, ℕ, ◌++◌, ◌+◌, ◌<◌, ◌∷◌, ◌≡◌, ◌≢◌, ◌≤◌, ◌⊎◌, Member, Set, member, routine_of, default_number, default_routine, default_code, IsTypable, IsTypableRoutine, entry_of_sort, handed_at_label, Arrives, Abs, Instr, Acquire, AcquireCancel, IfPending, Remove, Disarm, Take, CancelLock, DeviceLock, Guard, Driver, RoutineOf, Sort, Cancel, Dispatch, Dpc, Hold, Propagate, StartIo, QueueName, arrives_keep}
+use Rattle.std.proofs.lemmas.List.Elements.{All-push}
 use Rattle.model.specs.LocalRule.{holds_guard, is_held}
 use Rattle.model.specs.Typable.{IsFineAt}
 use Rattle.verifier_evidence.specs.declared.arrivals.Arrival.{Arrival}

@@ -9,7 +9,7 @@ use Rattle.model.specs.declared.set.Guard.TheVariants.{DeviceLock, CancelLock}
 use Rattle.model.specs.LocalRule.{is_held}
 use Rattle.model.specs.Set.{Set}
 use Rattle.laws_locks.specs.Order.{IsOrder, TakesUnder}
-use Rattle.verifier_orders.specs.Cycle.{LeadBack}
+use Rattle.verifier_orders.specs.Cycle.{LeadFrom}
 use Rattle.verifier_orders.specs.Ranking.{AreWithin}
 use Rattle.verifier_orders.specs.declared.ranking.NumberedEdge.{NumberedEdge}
 
@@ -92,10 +92,10 @@ abbrev pub count_of : Option Driver → ℕ
 count_of None = 0
 count_of (Some d) = length d.routines
 
--- edges that lead back to where they begin: the routines of a driver take locks in a cycle
+-- edges that come back to where they begin: the routines of a driver take locks in a cycle
 pub record IsNumberedCycle (set : Set) (driver : ℕ) (cycle : List NumberedEdge) : Type 0 where
   pub lock : ℕ
-  pub back : LeadBack lock cycle lock
+  pub on : LeadFrom lock cycle lock
   pub some : cycle ≢ []
   pub each : All (IsNumberedEdge set driver) cycle
 

@@ -1,5 +1,5 @@
--- The order of the locks of each driver, or a cycle (Driver Verifier, deadlock detection).
-use Rattle.std.specs.Prelude.{ℕ, ◌≡◌, ◌≢◌, List, [], ◌∷◌, All, Some, slice_get, length, ⊤}
+-- The order of the locks of each driver, or a shortest cycle (Driver Verifier, deadlock detection).
+use Rattle.std.specs.Prelude.{ℕ, ◌≡◌, ◌≢◌, ◌≤◌, List, [], ◌∷◌, All, Some, slice_get, length, ⊤}
 use Rattle.model.specs.declared.set.Guard.{Guard}
 use Rattle.model.specs.Set.{Set}
 use Rattle.laws_locks.specs.Order.{IsOrder, TakesUnder, lock_names}
@@ -26,6 +26,11 @@ pub record IsLockCycle (set : Set) (driver : ℕ) (cycle : List Edge) : Type 0 w
   pub some : cycle ≢ []
   pub each : All (IsEdge set driver) cycle
 
+-- in none that is shorter
+pub record IsShortestCycle (set : Set) (driver : ℕ) (cycle : List Edge) : Type 0 where
+  pub is : IsLockCycle set driver cycle
+  pub shortest : (other : List Edge) → IsLockCycle set driver other → length cycle ≤ length other
+
 -- the nine locks of a driver in an order in which its routines take them
 pub record AreOrdered (set : Set) (driver : ℕ) (locks : List Guard) : Type 0 where
   pub place : Guard → ℕ
@@ -33,10 +38,11 @@ pub record AreOrdered (set : Set) (driver : ℕ) (locks : List Guard) : Type 0 w
   pub nine : length locks ≡ lock_names
   pub placed : (k : ℕ) (lock : Guard) → slice_get locks k ≡ Some lock → place lock ≡ k
 
--- a driver's locks in an order, or a cycle where there is none
+-- a driver's locks in an order, or a shortest cycle where there is none
 abbrev pub IsLockOrder : Set → ℕ → LockOrder → Type 0
 IsLockOrder set driver (Ordered locks) = AreOrdered set driver locks.items
-IsLockOrder set driver (Cycle edges) = IsLockCycle set driver edges.items × HasNoOrder set driver
+IsLockOrder set driver (Cycle edges) =
+    IsShortestCycle set driver edges.items × HasNoOrder set driver
 
 -- those of the drivers before one
 pub record AreLockOrders (set : Set) (count : ℕ) (orders : List LockOrder) : Type 0 where
