@@ -4,12 +4,12 @@ use Rattle.std.specs.Prelude.{get_or, take}
 use Rattle.laws_locks.specs.Order.{TakesUnder}
 use Rattle.verifier_orders.specs.declared.names.Edge.{Edge}
 use Rattle.verifier_orders.specs.declared.ranking.NumberedEdge.{NumberedEdge}
-use Rattle.verifier_orders.specs.Cycle.{IsLeastCycle, LeadFrom}
-use Rattle.verifier_orders.specs.Edges.{AreEdgesOf, IsNumberedCycle, IsNumberedEdge, number_of, place_in}
+use Rattle.verifier_orders.specs.Cycle.{LeadFrom}
+use Rattle.verifier_orders.specs.Edges.{IsNumberedCycle, IsNumberedEdge, number_of, place_in}
 use Rattle.verifier_orders.specs.Names.{AreByPlace, all_named, guard_of, named}
-use Rattle.verifier_orders.specs.Orders.{IsEdge, IsLockCycle, IsShortestCycle, LeadOn}
+use Rattle.verifier_orders.specs.Orders.{IsEdge, IsLockCycle, LeadOn}
 use Rattle.verifier_orders.specs.Ranking.{IsAt}
-use Rattle.verifier_orders.proofs.Ordering.{cycle_shown, held_guard, no_shorter, taken_guard}
+use Rattle.verifier_orders.proofs.Ordering.{held_guard, taken_guard}
 
 -- the number of the lock of a number
 guarded_by : (n : ℕ) → (n ≡ 8) ⊎ (n ≢ 8) → number_of (guard_of n) ≡ n
@@ -76,7 +76,7 @@ named_each P (e ∷ way) each zero d l = each zero e (omega arith)
 named_each P (e ∷ way) each (suc k) d l =
     named_each P way (λ j x m. each (suc j) x (omega arith)) k d (omega arith)
 
-named_long : (way : List NumberedEdge) → length (all_named way) ≡ length way
+pub named_long : (way : List NumberedEdge) → length (all_named way) ≡ length way
 named_long [] = refl
 named_long (e ∷ way) = ap suc (named_long way)
 
@@ -142,7 +142,7 @@ module _ (set : Set) (typable : IsTypable set) (sound : IsSound set) (driver : �
       }
 
 -- and by number as they do by name
-abbrev numbered : Edge → NumberedEdge
+abbrev pub numbered : Edge → NumberedEdge
 numbered e =
     record {
       held = number_of e.held;
@@ -151,11 +151,11 @@ numbered e =
       at = e.at;
     }
 
-abbrev all_numbered : List Edge → List NumberedEdge
+abbrev pub all_numbered : List Edge → List NumberedEdge
 all_numbered [] = []
 all_numbered (e ∷ edges) = numbered e ∷ all_numbered edges
 
-lead_numbered : (lock to : Guard) (edges : List Edge) → LeadOn lock edges to
+pub lead_numbered : (lock to : Guard) (edges : List Edge) → LeadOn lock edges to
     → LeadFrom (number_of lock) (all_numbered edges) (number_of to)
 lead_numbered lock to [] on = ap number_of on
 lead_numbered lock to (e ∷ edges) on =
@@ -165,7 +165,7 @@ numbered_some : (edges : List Edge) → edges ≢ [] → all_numbered edges ≢ 
 numbered_some [] some = absurd (some refl)
 numbered_some (e ∷ edges) some = λ is. cc
 
-numbered_long : (edges : List Edge) → length (all_numbered edges) ≡ length edges
+pub numbered_long : (edges : List Edge) → length (all_numbered edges) ≡ length edges
 numbered_long [] = refl
 numbered_long (e ∷ edges) = ap suc (numbered_long edges)
 
@@ -182,7 +182,7 @@ numbered_edge set driver e is =
       position = is.position;
     }
 
-numbered_each : (set : Set) (driver : ℕ) (edges : List Edge) → All (IsEdge set driver) edges
+pub numbered_each : (set : Set) (driver : ℕ) (edges : List Edge) → All (IsEdge set driver) edges
     → All (IsNumberedEdge set driver) (all_numbered edges)
 numbered_each set driver [] each k d l = absurd (omega arith)
 numbered_each set driver (e ∷ edges) each zero d l =
@@ -190,7 +190,7 @@ numbered_each set driver (e ∷ edges) each zero d l =
 numbered_each set driver (e ∷ edges) each (suc k) d l =
     numbered_each set driver edges (λ j x m. each (suc j) x (omega arith)) k d (omega arith)
 
-cycle_numbered : (set : Set) (driver : ℕ) (cycle : List Edge) → IsLockCycle set driver cycle
+pub cycle_numbered : (set : Set) (driver : ℕ) (cycle : List Edge) → IsLockCycle set driver cycle
     → IsNumberedCycle set driver (all_numbered cycle)
 cycle_numbered set driver cycle is =
     record {
@@ -198,17 +198,4 @@ cycle_numbered set driver cycle is =
       on = lead_numbered is.lock is.lock cycle is.on;
       some = numbered_some cycle is.some;
       each = numbered_each set driver cycle is.each;
-    }
-
-pub shortest_named : (set : Set) (typable : IsTypable set) (sound : IsSound set) (driver : ℕ)
-    (edges cycle : List NumberedEdge) → AreEdgesOf set driver edges → IsLeastCycle edges cycle
-    → IsShortestCycle set driver (all_named cycle)
-shortest_named set typable sound driver edges cycle h least =
-    record {
-      is = cycle_named set typable sound driver cycle (cycle_shown set driver edges cycle h least);
-      shortest = λ other is.
-          (let fewest : length cycle ≤ length (all_numbered other) =
-          no_shorter set driver edges h cycle (all_numbered other) least
-          (cycle_numbered set driver other is) in
-          omega (arith, fewest, named_long cycle, numbered_long other));
     }

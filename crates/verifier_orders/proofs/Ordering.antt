@@ -75,7 +75,7 @@ module _ (set : Set) (driver : ℕ) (edges : List NumberedEdge) (h : AreEdgesOf 
         let has : HasEdge edges is.held is.taken = h.all is.held is.taken is.under in
         (has.1, (has.0, has.2), has.3 ∙ sym is.held_is, has.4 ∙ sym is.taken_is)
 
-    way_of : (from to : ℕ) (way : List NumberedEdge) → LeadFrom from way to
+    pub way_of : (from to : ℕ) (way : List NumberedEdge) → LeadFrom from way to
         → All (IsNumberedEdge set driver) way → HasWay edges from to (length way)
     way_of from to [] lead each = lead
     way_of from to (f ∷ way) lead each =

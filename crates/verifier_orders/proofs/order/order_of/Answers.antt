@@ -7,7 +7,7 @@ use Rattle.verifier_orders.specs.Edges.{place_in}
 use Rattle.verifier_orders.specs.Names.{all_named}
 use Rattle.verifier_orders.specs.Orders.{IsShortestCycle}
 use Rattle.verifier_orders.specs.Ranking.{AreRanked, AreWithin}
-use Rattle.verifier_orders.proofs.Naming.{shortest_named}
+use Rattle.verifier_orders.proofs.Least.{shortest_named}
 use Rattle.verifier_orders.proofs.Ordering.{cycle_shown, cycle_within, no_order, ranked_order}
 use Rattle.verifier_orders.proofs.order.order_of.Goals as goal
 
@@ -42,8 +42,8 @@ returns c =
           (sym (ap all_named c.as_slice-in-Err-2.ensures.value)
           ∙ sym (c.in_ok-edges_named-in-Err.ensures {u = tt}))
           (shortest_named c.args.accepted.now c.set.ensures.typable sound c.args.driver
-          c.in_ok-edges.edges.items c.in_ok-cycle-in-Err.cycle.items
-          (c.in_ok-edges.ensures {u = tt}) least),
+          c.in_ok-edges.edges.items (c.in_ok-edges.ensures {u = tt})
+          c.in_ok-cycle-in-Err.cycle.items least),
       no_order c.args.accepted.now c.set.ensures.typable sound c.args.driver
           c.in_ok-cycle-in-Err.cycle.items
           (cycle_shown c.args.accepted.now c.args.driver c.in_ok-edges.edges.items
