@@ -44,6 +44,8 @@ def built(folder):
         subprocess.run(["cc", *here, EXAMPLES / f"{name}.c", LIBRARY / "libpafteis.a", "-o",
                         f"{folder}/{name}"], check=True)
     found["C"] = [f"{folder}/answer"]
+    subprocess.run(["c++", "-std=c++17", *here[1:], EXAMPLES / "step.cpp",
+                    LIBRARY / "libpafteis.a", "-o", f"{folder}/step_cpp"], check=True)
     if shutil.which("rustc"):
         subprocess.run(["rustc", "-O", "--edition", "2024", EXAMPLES / "answer.rs", "-L", LIBRARY,
                         "-o", f"{folder}/answer_rs"], check=True)
@@ -95,6 +97,11 @@ def main():
         if (status, output) != (0, steps):
             wrong += 1
             print("a world from C answers otherwise")
+        plus = answered([f"{folder}/step_cpp", "examples/echo.drv"])
+        tried += 1
+        if plus[:2] != (0, b"started 0\nstepped\ntopped 0\nfinished\nidle\n"):
+            wrong += 1
+            print("a world from C++ answers otherwise")
     print(f"{tried} tried, {wrong} wrong")
     return int(wrong > 0)
 
