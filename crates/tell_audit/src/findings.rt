@@ -3,7 +3,9 @@
 ghost use Rattle.std.specs.Prelude.{◌≡◌, ◌++◌, IfOk, OnOk};
 ghost use Rattle.tell_audit.specs.Findings.{AreFindings, any_of, ring_at, ringed_threads};
 
-use crate::laws::{accepted_runs_leave_no_lock, accepted_runs_lose_no_packet};
+use crate::laws::{
+    accepted_runs_have_no_ring, accepted_runs_leave_no_lock, accepted_runs_lose_no_packet,
+};
 use crate::left::{LeftLock, left_locks};
 use crate::missed::missed_packets;
 use crate::naming::lost_packets;
@@ -41,6 +43,7 @@ impl Findings {
     {
         accepted_runs_lose_no_packet();
         accepted_runs_leave_no_lock();
+        accepted_runs_have_no_ring();
         let lost = lost_packets(alloc, machine)?;
         let left = left_locks(alloc, machine)?;
         let ringed = ringed_threads(alloc, machine)?;
@@ -79,7 +82,11 @@ fn add_ringed(ringed: &mut Vec<u8>, machine: &Checked, thread: u8) -> Result<(),
 }
 
 /// The threads that wait in a ring, the lowest number first.
-fn ringed_threads(alloc: Global, machine: &Checked) -> Result<Vec<u8>, AllocError>
+///
+/// # Errors
+///
+/// When memory runs out.
+pub fn ringed_threads(alloc: Global, machine: &Checked) -> Result<Vec<u8>, AllocError>
     ensures { IfOk result (λ ringed. ringed.items
         ≡ ringed_threads machine.now.set machine.now.world) }
 {
