@@ -2,10 +2,12 @@
 """Builds the library for C into out/: out/lib/libpafteis.a and .so, out/include/pafteis.h and
 out/lib/pkgconfig/pafteis.pc.
 
-    python3 tools/build_library.py [--prefix PREFIX]
+    python3 tools/build_library.py [--prefix PREFIX] [--archive FILE] [--into FOLDER]
 
-It proves crates/pafteis and all below it first, over what earlier checks kept. PREFIX is where the
-folder out/ will stand for who links, out/ itself if it isn't given. It wants `rt`, `ar` and `cc`.
+It proves crates/pafteis and all below it first, over what earlier checks kept; with FILE, a static
+library that was built elsewhere, it proves nothing. PREFIX is where the folder FOLDER (out/) will
+stand for who links, FOLDER itself if it isn't given. Both libraries have no global names but those
+of the header. It wants `rt`, `ar`, `ld`, `objcopy` and `cc`.
 """
 
 import argparse
@@ -17,7 +19,11 @@ import sys
 import tempfile
 
 TOP = pathlib.Path(__file__).resolve().parent.parent
-OUT = TOP / "out"
+sys.path.insert(0, str(TOP / "tools/parts"))
+from versions import MAJOR, VERSION  # noqa: E402
+
+SONAME = f"libpafteis.so.{MAJOR}"
+WILDCARD = "pafteis_*"
 
 
 def kit():
@@ -26,34 +32,70 @@ def kit():
     return pathlib.Path(os.environ.get("RATTLE_KIT", rt.parent.parent))
 
 
-def merged(archives, into):
-    """One archive of the objects of several."""
-    with tempfile.TemporaryDirectory() as folder:
-        for archive in archives:
-            subprocess.run(["ar", "x", archive], cwd=folder, check=True)
-        objects = sorted(str(it) for it in pathlib.Path(folder).glob("*.o"))
-        into.unlink(missing_ok=True)
-        subprocess.run(["ar", "rcs", into, *objects], check=True)
+def proved_archives():
+    """The archives of the proved library and of the heap that it calls."""
+    if subprocess.run(["rt", "lib"], cwd=TOP / "crates/pafteis").returncode:
+        sys.exit("build_library: the library was not built")
+    return [TOP / "crates/pafteis/out/libpafteis.a", kit() / "c/liblibc_c.a"]
+
+
+def whole(archives):
+    return ["--whole-archive", *archives, "--no-whole-archive"]
+
+
+def one_object(archives, into):
+    """One object of all that archives have, in which the header's calls alone are global."""
+    subprocess.run(["ld", "-r", "-o", into, *whole(archives)], check=True)
+    keep = ["--wildcard", f"--keep-global-symbol={WILDCARD}"]
+    subprocess.run(["objcopy", *keep, into], check=True)
+
+
+def put_archive(piece, lib):
+    archive = lib / "libpafteis.a"
+    archive.unlink(missing_ok=True)
+    subprocess.run(["ar", "rcsD", archive, piece], check=True)
+    return archive
+
+
+def put_shared(piece, lib):
+    """The shared library, by its whole version, and the names by which it is found."""
+    shared = lib / f"libpafteis.so.{VERSION}"
+    script = TOP / "include/pafteis.map"
+    words = [f"-Wl,-soname,{SONAME}", f"-Wl,--version-script={script}", "-Wl,-z,relro,-z,now"]
+    subprocess.run(["cc", "-shared", *words, "-o", shared, piece], check=True)
+    for name in (SONAME, "libpafteis.so"):
+        (lib / name).unlink(missing_ok=True)
+        (lib / name).symlink_to(shared.name)
+
+
+def pc_text(prefix, libdir="${prefix}/lib"):
+    """The text of the pkg-config file."""
+    text = (TOP / "include/pafteis.pc.in").read_text(encoding="utf-8")
+    for name, value in (("PREFIX", prefix), ("LIBDIR", libdir), ("VERSION", VERSION)):
+        text = text.replace(f"@{name}@", value)
+    return text
 
 
 def main():
     words = argparse.ArgumentParser(description=__doc__.split("\n")[0])
-    words.add_argument("--prefix", default=str(OUT))
-    prefix = words.parse_args().prefix
-    if subprocess.run(["rt", "lib"], cwd=TOP / "crates/pafteis").returncode:
-        sys.exit("build_library: the library was not built")
-    for folder in ("lib/pkgconfig", "include"):
-        (OUT / folder).mkdir(parents=True, exist_ok=True)
-    archive = OUT / "lib/libpafteis.a"
-    merged([TOP / "crates/pafteis/out/libpafteis.a", kit() / "c/liblibc_c.a"], archive)
-    whole = ["-Wl,--whole-archive", archive, "-Wl,--no-whole-archive"]
-    shared = OUT / "lib/libpafteis.so"
-    subprocess.run(["cc", "-shared", "-o", shared, *whole], check=True)
-    shutil.copy(TOP / "include/pafteis.h", OUT / "include")
-    text = (TOP / "include/pafteis.pc.in").read_text(encoding="utf-8")
-    found = OUT / "lib/pkgconfig/pafteis.pc"
-    found.write_text(text.replace("@PREFIX@", prefix), encoding="utf-8")
+    words.add_argument("--prefix")
+    words.add_argument("--archive", action="append", type=pathlib.Path)
+    words.add_argument("--into", type=pathlib.Path, default=TOP / "out")
+    given = words.parse_args()
+    archives = given.archive or proved_archives()
+    lib = given.into / "lib"
+    for folder in (lib / "pkgconfig", given.into / "include"):
+        folder.mkdir(parents=True, exist_ok=True)
+    with tempfile.TemporaryDirectory() as folder:
+        piece = pathlib.Path(folder, "pafteis.o")
+        one_object(archives, piece)
+        archive = put_archive(piece, lib)
+        put_shared(piece, lib)
+    shutil.copy(TOP / "include/pafteis.h", given.into / "include")
+    found = pc_text(given.prefix or str(given.into.resolve()))
+    (lib / "pkgconfig/pafteis.pc").write_text(found, encoding="utf-8")
     print(f"{archive}: {archive.stat().st_size} bytes")
 
 
-main()
+if __name__ == "__main__":
+    main()

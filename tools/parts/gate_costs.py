@@ -1,7 +1,8 @@
 #!/usr/bin/env python3
-"""tools/measure gate [WORDS OF rt]: runs `rt ci` at the top of the tree (or `rt` with these words, as `must-fail asm`), passes its
-output on, and prints by crate the processor seconds of the proof, of the tests and of the must-fail edits, as a table of
-docs/GATE.md has them. It looks twice a second at the processes that rt starts, so a figure may lack half a second."""
+"""tools/measure gate [--family] [WORDS OF rt]: runs `rt ci` at the top of the tree (or `rt` with these words, as `must-fail asm`),
+passes its output on, and prints by crate the processor seconds of the proof, of the tests and of the must-fail edits; with
+--family by the first word of the crates' names, as the table of docs/GATE.md has them. It looks twice a second at the processes
+that rt starts, so a figure may lack half a second."""
 import collections, os, re, resource, subprocess, sys, threading
 
 TOP = os.path.dirname(os.path.dirname(os.path.dirname(os.path.abspath(__file__))))
@@ -101,18 +102,38 @@ def functions(lines):
             found[crate] = int(proved[1])
     return found
 
+def family(crate):
+    return crate.split('_')[0]
+
+def summed(counts, name):
+    """The counts of crates (numbers, or counters) by what `name` calls each."""
+    sums = {}
+    for crate, count in counts.items():
+        sums[name(crate)] = sums[name(crate)] + count if name(crate) in sums else count
+    return sums
+
+def edits_of(crates):
+    """How many must-fail edits each crate has that has some."""
+    folders = {crate: os.path.join(TOP, 'crates', crate, 'must-fail') for crate in crates}
+    return {crate: len(os.listdir(folder)) for crate, folder in folders.items() if os.path.isdir(folder)}
+
+def print_table(first, table, proved, edits):
+    print('\n| %s | Functions | Proof | Tests | Edits | All edits |' % first)
+    print('|---|---|---|---|---|---|')
+    for row in sorted(table, key=lambda it: -sum(table[it].values())):
+        costs = ['%d' % round(table[row][what]) if what in table[row] else '' for what in PHASES]
+        print('| `%s` | %s | %s | %s | %s | %s |' % (row, proved.get(row, ''), costs[0], costs[1], edits.get(row, ''), costs[2]))
+
 def main():
-    words = sys.argv[1:] or ['ci']
+    words = [word for word in sys.argv[1:] if word != '--family'] or ['ci']
     status, lines, watch = run(words)
     table, proved = watch.by_crate(), functions(lines)
-    edits = {crate: len(os.listdir(os.path.join(TOP, 'crates', crate, 'must-fail')))
-             for crate in table if os.path.isdir(os.path.join(TOP, 'crates', crate, 'must-fail'))}
-    print('\n| Crate | Functions | Proof | Tests | Edits | All edits |')
-    print('|---|---|---|---|---|---|')
-    for crate in sorted(table, key=lambda it: -sum(table[it].values())):
-        costs = ['%d' % round(table[crate][what]) if what in table[crate] else '' for what in PHASES]
-        print('| `%s` | %s | %s | %s | %s | %s |' % (crate, proved.get(crate, ''), costs[0], costs[1], edits.get(crate, ''), costs[2]))
+    edits = edits_of(table)
     sums = [round(sum(costs[what] for costs in table.values())) for what in PHASES]
+    if '--family' in sys.argv:
+        print_table('Family', summed(table, family), summed(proved, family), summed(edits, family))
+    else:
+        print_table('Crate', table, proved, edits)
     used = resource.getrusage(resource.RUSAGE_CHILDREN)
     print('| all | %d | %d | %d | %d | %d |' % (sum(proved.values()), sums[0], sums[1], sum(edits.values()), sums[2]))
     print('%.1f processor minutes in all, of which %.1f are of no crate' % (

@@ -1,5 +1,5 @@
 #!/usr/bin/env python3
-"""tools/try documents [PROGRAM]: runs the program (crates/drvhost/out/drvhost) on every example of README.md and of the documents
+"""tools/try documents [--write] [PROGRAM]: runs the program (crates/drvhost/out/drvhost) on every example of README.md and of the documents
 of docs/ that have some, and tells where it says anything else than the document does. An example begins with a line of its own,
 
     <!-- example: COMMAND, status N -->
@@ -9,13 +9,14 @@ single line `...` there stands for some text, whatever it is. COMMAND is `check`
 `trace --unchecked` or `host --workers N`, whose files are the blocks between, in their order: `drv`, `sched` and `interleave_script` are texts, and `image` has
 the bytes of an image in hexadecimal, up to `;` in a line. Or COMMAND is `run`, and each line of the block `sh` between is a
 command that starts where a copy of examples/ lies; a block `drv` there has to be the text of the file that ends the first of
-them. The last line counts."""
+them, a block `drv part` some of its lines. What is written to a file, behind `>`, has to be that file of the tree. The last line
+counts. With --write the blocks called `output` and these files become what the program writes."""
 import os, re, shlex, shutil, subprocess, sys, tempfile
 
 TOP = os.path.dirname(os.path.dirname(os.path.dirname(os.path.abspath(__file__))))
-DOCUMENTS = ['README.md', 'docs/COMMANDS.md', 'docs/TEXTS.md', 'docs/RULES.md']
+DOCUMENTS = ['README.md', 'docs/COMMANDS.md', 'docs/TEXTS.md', 'docs/RULES.md', 'docs/GUIDE.md']
 MARK = re.compile(r'<!-- example: (.+), status (\d+) -->$')
-KINDS = ('drv', 'image', 'sched', 'script', 'sh', 'output')
+KINDS = ('drv', 'drv part', 'image', 'sched', 'script', 'sh', 'output')
 FILES = ('drv', 'image', 'sched', 'script')
 
 class Example:
@@ -68,29 +69,41 @@ def answer(program, words, folder):
     return (done.stdout + done.stderr).decode('utf-8', 'replace'), done.returncode
 
 def unlike(example, lines):
-    """What is said of a driver that isn't the text of the file that ends the first line."""
+    """What is said of a driver that isn't the text of the file that ends the first line, or of a part that it hasn't."""
     with open(os.path.join(TOP, lines[0].split()[-1]), newline='') as file:
         text = file.read()
-    return ''.join('the file has another text\n' for _, shown in example.of_kinds(('drv',)) if shown != text)
+    whole = ['the file has another text\n' for _, shown in example.of_kinds(('drv',)) if shown != text]
+    parts = [shown for _, shown in example.of_kinds(('drv part',)) if '\n' + shown not in '\n' + text]
+    return ''.join(whole + ['the file has no such lines:\n' + part for part in parts])
 
-def run_lines(program, example):
+def written(path, told, write):
+    """What is said of a file of the tree that has something else than a command wrote to it."""
+    path = os.path.join(TOP, path)
+    if write:
+        with open(path, 'w', encoding='utf-8') as out:
+            out.write(told)
+    with open(path, encoding='utf-8') as file:
+        return '' if file.read() == told else '%s has something else\n' % path
+
+def run_lines(program, example, write):
     """The answers to the lines of a block, one after another, with the last exit status."""
     told, status = '', None
     lines = ''.join(text for _, text in example.of_kinds(('sh',))).splitlines()
-    if example.of_kinds(('drv',)):
+    if example.of_kinds(('drv', 'drv part')):
         told = unlike(example, lines)
     with tempfile.TemporaryDirectory() as folder:
         shutil.copytree(os.path.join(TOP, 'examples'), os.path.join(folder, 'examples'))
         for line in lines:
+            line, _, path = line.partition(' > ')
             more, status = answer(program, shlex.split(line)[1:], folder)
-            told += more
+            told += written(path, more, write) if path else more
     return told, status
 
-def run(program, example):
+def run(program, example, write):
     """What the program writes for an example, with the exit status."""
     command, *options = example.command.split()
     if command == 'run':
-        return run_lines(program, example)
+        return run_lines(program, example, write)
     with tempfile.TemporaryDirectory() as folder:
         names = []
         for number, (kind, text) in enumerate(example.of_kinds(FILES)):
@@ -102,19 +115,36 @@ def run(program, example):
 def is_as(wanted, told):
     return bool(told) if wanted == '...\n' else wanted == told
 
+def rewritten(lines, example, told):
+    """Puts what the program writes into the lines of a document, in place of the block called `output`."""
+    begin = lines.index('```output', example.line) + 1
+    lines[begin:lines.index('```', begin)] = told.split('\n')[:-1]
+
+def compared(program, document, write):
+    """How many examples of a document there are, and how many are answered otherwise."""
+    with open(os.path.join(TOP, document)) as source:
+        text = source.read()
+    found, differ, lines = list(examples(text)), 0, text.split('\n')
+    for example in reversed(found):
+        told, status = run(program, example, write) if example.is_whole() else ('no block output\n', None)
+        if is_as(example.blocks[-1][1] if example.blocks else None, told) and status == example.status:
+            continue
+        differ += 1
+        if write and example.is_whole():
+            rewritten(lines, example, told)
+        else:
+            print('%s line %d: status %s\n%s' % (document, example.line, status, told), end='')
+    if write:
+        with open(os.path.join(TOP, document), 'w') as out:
+            out.write('\n'.join(lines))
+    return len(found), differ
+
 def main():
-    program = os.path.abspath(sys.argv[1]) if len(sys.argv) > 1 else os.path.join(TOP, 'crates/drvhost/out/drvhost')
-    tried = differ = 0
-    for document in DOCUMENTS:
-        with open(os.path.join(TOP, document)) as source:
-            text = source.read()
-        for example in examples(text):
-            tried += 1
-            told, status = run(program, example) if example.is_whole() else ('no block output\n', None)
-            if not is_as(example.blocks[-1][1] if example.blocks else None, told) or status != example.status:
-                differ += 1
-                print('%s line %d: status %s\n%s' % (document, example.line, status, told), end='')
-    print('%d examples, %d differ' % (tried, differ))
+    words = [word for word in sys.argv[1:] if word != '--write']
+    program = os.path.abspath(words[0]) if words else os.path.join(TOP, 'crates/drvhost/out/drvhost')
+    counts = [compared(program, document, '--write' in sys.argv) for document in DOCUMENTS]
+    differ = sum(count for _, count in counts)
+    print('%d examples, %d differ' % (sum(count for count, _ in counts), differ))
     return 1 if differ else 0
 
 if __name__ == '__main__':

@@ -1,3 +1,1 @@
 pub mod Usual
-pub mod Plain
-pub mod Steps

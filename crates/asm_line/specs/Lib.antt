@@ -2,5 +2,4 @@ pub mod Words
 pub mod Cursor
 pub mod Instruction
 pub mod Line
-pub mod Usual
 pub mod Plain

@@ -13,44 +13,10 @@ ghost use Rattle.asm_line.specs.declared.line.LineFault.{LineFault};
 use crate::cursor::Cursor;
 use crate::instruction::instruction;
 use crate::line::{Body, Line, LineFault};
-use crate::quick::{named_line, plain_line, unnamed};
 use text::class::{MAX_NAME, is, label_name};
 use text::cut::is_clean;
 use text::piece::Piece;
 use text::token::Tokens;
-
-/// The line of these bytes.
-///
-/// # Errors
-///
-/// `Lex` where a byte or token is of no form, `UnknownWord` where the line is of none.
-pub fn read_line<'a>(raw: &'a [u8]) -> Result<Line<'a>, LineFault>
-    ensures line { result ≡ read_line raw.now }
-    ensures fits { IfOk result (λ line. BodyFits line.body) }
-{
-    match plain_line(raw) {
-        Some(instr) => Ok(Line {
-            label: None,
-            body: unnamed(instr),
-        }),
-        None => read_other_line(raw),
-    }
-}
-
-/// The same, where `plain_line` has read the line in vain.
-///
-/// # Errors
-///
-/// Those of `read_line`.
-pub fn read_other_line<'a>(raw: &'a [u8]) -> Result<Line<'a>, LineFault>
-    ensures line { result ≡ read_line raw.now }
-    ensures fits { IfOk result (λ line. BodyFits line.body) }
-{
-    match named_line(raw) {
-        Some(line) => Ok(line),
-        None => exact_line(raw),
-    }
-}
 
 /// A line that a comment begins, by the test of its bytes alone: it says nothing, if they may all
 /// stand in it.
@@ -72,8 +38,12 @@ pub fn comment_line(raw: &[u8]) -> Option<Result<(), LineFault>>
     }
 }
 
-/// The line of these bytes, whatever its form.
-fn exact_line<'a>(raw: &'a [u8]) -> Result<Line<'a>, LineFault>
+/// The line of these bytes.
+///
+/// # Errors
+///
+/// `Lex` where a byte or token is of no form, `UnknownWord` where the line is of none.
+pub fn read_exactly<'a>(raw: &'a [u8]) -> Result<Line<'a>, LineFault>
     ensures line { result ≡ read_line raw.now }
     ensures fits { IfOk result (λ line. BodyFits line.body) }
 {

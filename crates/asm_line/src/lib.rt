@@ -6,10 +6,8 @@ mod cursor;
 pub mod form;
 mod instruction;
 pub mod line;
-mod operands;
-mod quick;
 mod words;
 
-pub use form::{comment_line, read_line, read_other_line};
+pub use form::{comment_line, read_exactly};
 pub use line::{Body, Line, LineFault, UsedNames};
-pub use quick::plain_line;
+pub use words::{field_text, status_text};

@@ -5,7 +5,8 @@ ghost use Rattle.asm_places.specs.Outline.{begins_outline, is_outline_word, may_
 ghost use Rattle.asm_places.specs.Source.{body_on};
 ghost use Rattle.text.specs.Places.{IsIn, numbers};
 
-use asm_line::{Body, read_line};
+use asm_line::Body;
+use asm_usual::read_line;
 use std::alloc::{AllocError, Global};
 use text::class::is;
 use text::token::Tokens;

@@ -5,9 +5,12 @@ use Rattle.std.specs.Str.Parse.{digits_value}
 use Rattle.model.specs.declared.event.Event.TheVariants.{Step}
 use Rattle.text.specs.Cut.{lines_from, lines_of}
 use Rattle.interleave.specs.Line.{step_line}
-use Rattle.interleave.specs.Usual.{BeginsWith, Digits, Once, TakesStep}
+use Rattle.text.specs.Digits.{BeginsWith, Digits}
+use Rattle.text.proofs.Digits.{number_more}
+use Rattle.text.proofs.Spaced.{plain_word}
+use Rattle.interleave.specs.Usual.{Once, TakesStep}
 use Rattle.interleave.specs.declared.read.Repeated.{Repeated}
-use Rattle.interleave.proofs.Usual.{line_taken, number_more, plain_word, steps_read, takes_number}
+use Rattle.interleave.proofs.Usual.{line_taken, steps_read, takes_number}
 
 -- the first line of a text, and the lines after it
 abbrev Cuts : List ℕ → List ℕ → List ℕ → List (List ℕ) → Type 0
@@ -66,9 +69,10 @@ step_taken : (text digits later : List ℕ) (thread : ℕ)
     → TakesStep (lines_of text) thread (lines_of later)
 step_taken text digits later thread is some are writes small =
     let operand = digits ++ 10 ∷ later in
-    let begins : BeginsWith operand thread (10 ∷ later) = record {
+    let begins : BeginsWith (length digits) operand thread (10 ∷ later) = record {
       digits = digits;
       some = some;
+      few = omega arith;
       all = are;
       writes = writes;
       parts = refl;

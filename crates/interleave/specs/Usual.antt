@@ -1,49 +1,15 @@
 -- The usual form of a line: a word, and operands that each stand after one space.
-use Rattle.std.specs.Prelude.{◌≡◌, ℕ, Bool, true, false, nat_eq, not, ◌&&◌, ◌<◌, ◌≤◌, List, [], ◌∷◌, ◌++◌, length, Option, Some, Result, Ok}
-use Rattle.std.specs.List.{list_all}
-use Rattle.std.specs.Str.Parse.{digits_value}
+use Rattle.std.specs.Prelude.{◌≡◌, ℕ, true, ◌<◌, ◌≤◌, List, [], ◌∷◌, ◌++◌, Option, Some, Result, Ok}
 use Rattle.model.specs.declared.event.Event.TheVariants.{Step}
 use Rattle.model.specs.declared.status.Major.{Major}
-use Rattle.text.specs.Class.{is_number, is_token}
-use Rattle.text.specs.Cut.{is_blank, is_written}
+use Rattle.text.specs.Class.{is_number}
+use Rattle.text.specs.Spaced.{ArePlain, IsPlain}
 use Rattle.text.specs.Major.{major_of}
 use Rattle.text.specs.Number.{number_in}
 use Rattle.text.specs.declared.number.Numeral.TheVariants.{Number}
 use Rattle.interleave.specs.Line.{event_line}
 use Rattle.interleave.specs.declared.read.Repeated.{Repeated}
 use Rattle.interleave.specs.declared.schedule.ScheduleKind.{ScheduleKind}
-
--- each byte is a decimal digit
-abbrev pub Digits : List ℕ → Type 0
-Digits [] = Unit {0}
-Digits (b ∷ bytes) = (48 ≤ b) × (b ≤ 57) × Digits bytes
-
--- the bytes begin with digits that write the number, and the rest stands after them
-pub record BeginsWith (bytes : List ℕ) (number : ℕ) (rest : List ℕ) : Type 0 where
-  pub digits : List ℕ
-  pub some : 0 < length digits
-  pub all : Digits digits
-  pub writes : number ≡ digits_value 10 digits
-  pub parts : bytes ≡ digits ++ rest
-
--- a byte that may stand in a line, parts no tokens and begins no comment
-abbrev pub is_inner : ℕ → Bool
-is_inner b = not (nat_eq b 59) && not (is_blank b) && is_written b
-
--- a token, apart from where it stands
-pub record IsPlain (word : List ℕ) : Type 0 where
-  pub some : nat_eq (length word) 0 ≡ false
-  pub inner : list_all is_inner word ≡ true
-  pub token : is_token word ≡ true
-
-abbrev pub ArePlain : List (List ℕ) → Type 0
-ArePlain [] = Unit {0}
-ArePlain (word ∷ words) = IsPlain word × ArePlain words
-
--- each word after a space
-abbrev pub spaced : List (List ℕ) → List ℕ
-spaced [] = []
-spaced (word ∷ words) = 32 ∷ word ++ spaced words
 
 -- each word after a space, and what stands behind them
 abbrev pub lined : List (List ℕ) → List ℕ → List ℕ

@@ -5,9 +5,10 @@ ghost use Rattle.interleave.specs.Usual.{TakesStep, TakesUsual};
 ghost use Rattle.text.specs.Cut.{lines_of};
 
 use crate::kept::Kept;
-use crate::quick::{Operands, after_word, digit, usual_line};
+use crate::quick::{Operands, usual_line};
 use std::marker::Model;
 use text::cut::Lines;
+use text::head::{after_word, digit};
 
 /// The lines of a text that are not read yet, in order, without their LF.
 #[derive(Drop)]

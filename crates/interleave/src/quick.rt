@@ -1,16 +1,16 @@
 //! Lines of events in their usual form, read in one pass: most lines of a schedule have it.
 
-ghost use Rattle.std.specs.Prelude.{◌≡◌, ◌+◌, ◌<◌, ◌≤◌, ◌++◌, ◌∷◌, IfSome, IsTrue, bytes_eq, false, length, take};
-ghost use Rattle.std.specs.Str.Parse.{digits_value};
+ghost use Rattle.std.specs.Prelude.{◌≡◌, ◌∷◌, IfSome, IsTrue, false};
 ghost use Rattle.text.specs.Cut.{lines_of};
 ghost use Rattle.interleave.specs.Line.{cancel_line, dpc_line, interrupt_line, issue_line, startio_line, step_line};
-ghost use Rattle.interleave.specs.Usual.{BeginsWith, Digits, IsCount, Reads, TakesMajor, TakesNumber, TakesUsual};
+ghost use Rattle.interleave.specs.Usual.{IsCount, Reads, TakesMajor, TakesNumber, TakesUsual};
 
 use crate::kept::Kept;
 use crate::read::{MAX_REPEATS, Repeated};
 use model::event::Event;
 use model::status::Major;
 use std::marker::Model;
+use text::head::{after_word, number_at_head};
 
 /// The events that the first line of a text stands for, if it has the usual form: a word and its
 /// operands, each after one space, with numbers in decimal digits and in range, and an LF behind
@@ -225,93 +225,4 @@ impl Operands<'_> {
         }
         false
     }
-}
-
-/// What stands behind this word, if the bytes begin with it.
-#[inline(always)]
-pub(crate) fn after_word<'a>(bytes: &'a [u8], word: &[u8]) -> Option<&'a [u8]>
-    ensures { IfSome result (λ rest. bytes.now ≡ word.now ++ rest.now) }
-{
-    if bytes.len() < word.len() {
-        return None;
-    }
-    let (head, rest) = bytes.split_at(word.len());
-    if are_same(head, word) {
-        Some(rest)
-    } else {
-        None
-    }
-}
-
-/// Whether as many bytes are the same: of a word that is written out, this becomes a comparison or
-/// two, where `==` has branches and a call.
-#[inline(always)]
-fn are_same(bytes: &[u8], word: &[u8]) -> bool
-    requires { length bytes.now ≡ length word.now }
-    ensures { result ≡ bytes_eq bytes.now word.now }
-{
-    let mut same = true;
-    let mut i = word.len();
-    while i > 0 {
-        i -= 1;
-        same = (bytes[i] == word[i]) & same;
-    }
-    same
-}
-
-/// A number, and what stands after its digits.
-#[derive(Drop)]
-struct Numbered<'a> {
-    number: u64,
-    rest: &'a [u8],
-}
-
-/// Numbers that take another digit, at most: ten times as much is below 2^64.
-const MOST_TO_GROW: u64 = 1_000_000_000_000_000_000;
-
-/// The number that the digits at the head of these bytes write, if there is one and it isn't far
-/// out of range.
-fn number_at_head(bytes: &[u8]) -> Option<Numbered<'_>>
-    ensures { IfSome result (λ found. BeginsWith bytes.now found.number found.rest.now) }
-{
-    let mut number: u64 = 0;
-    for (i, byte) in bytes.iter().enumerate() {
-        match digit(*byte) {
-            Some(digit) => {
-                if number > MOST_TO_GROW {
-                    return None;
-                }
-                number = number * 10 + u64::from(digit);
-            }
-            None => return after(number, i, bytes),
-        }
-    }
-    after(number, bytes.len(), bytes)
-}
-
-/// What a decimal digit stands for.
-#[inline]
-pub(crate) fn digit(byte: u8) -> Option<u8>
-    ensures { IfSome result (λ digit. (digit < 10) × (byte ≡ 48 + digit)) }
-{
-    match byte {
-        b'0'..=b'9' => Some(byte - b'0'),
-        _ => None,
-    }
-}
-
-/// The number that so many digits write, if there are any, and what stands after them.
-fn after(number: u64, digits: usize, bytes: &[u8]) -> Option<Numbered<'_>>
-    requires within { digits ≤ length bytes.now }
-    requires digits { Digits (take digits bytes.now) }
-    requires number { number ≡ digits_value 10 (take digits bytes.now) }
-    ensures { IfSome result (λ found. BeginsWith bytes.now found.number found.rest.now) }
-{
-    if digits == 0 {
-        return None;
-    }
-    Some(Numbered {
-        number,
-        rest: &bytes[digits..],
-    })
 }

@@ -11,7 +11,8 @@ use Rattle.laws_runs.proofs.Room.Changes.{AllWays}
 use Rattle.laws_runs.proofs.Room.Ways.{back_room}
 use Rattle.laws_runs.proofs.Past.Packets.{found}
 use Rattle.laws_runs.proofs.States.Frames.{due}
-use Rattle.laws_locks.proofs.Weights.{completes, depth_put, depth_removed, depth_same, depths, fresh_weight, pays_frames, price_by, price_le, small, up, weight}
+use Rattle.laws_locks.proofs.Weights.{completes, depth_put, depth_removed, depth_same, depths, fresh_weight, pays_frames, price_by, price_le, small, weight}
+use Rattle.laws_locks.specs.Rest.{up}
 
 -- what is one more, and what isn't, at a cost
 scaled : (b : Bool) (x y : ℕ) → x ≤ y + (if b then 0 else 1)

@@ -1,5 +1,5 @@
 -- Steps that go on come to an end, and rounds of steps to rest.
-use Rattle.laws_runs.proofs.Common.{ap, append-nil, arith, append_assoc, eqb_tells, cases_eq, inl, inr, refl, subst, sym, take, ◌*◌, ◌-◌, ◌∙◌, Bool, List, None, Option, Some, [], false, length, list_any, nat_eq, nat_lt, option_map, slice_get, true, ℕ, ◌++◌, ◌+◌, ◌<◌, ◌∷◌, ◌≡◌, ◌≤◌, Outcome, frame_effect, top_of, told_to, Change, effect, finished_or, settled, standing, step_thread, with_stack, Answered, reply_to, run, Run, begun, step, Set, IsSound, IsTypable, Event, Step, Reply, Stepped, Frame, Walk, Thread, World, States, IsGood, comes, on_top, stack_sum, stood, told_is, led, slice_get_within}
+use Rattle.laws_runs.proofs.Common.{ap, append-nil, arith, append_assoc, eqb_tells, cases_eq, inl, inr, refl, subst, sym, take, ◌*◌, ◌-◌, ◌∙◌, Bool, List, None, Option, Some, [], false, if◌then◌else◌, length, list_any, nat_eq, nat_lt, option_map, slice_get, true, ℕ, ◌++◌, ◌+◌, ◌<◌, ◌∷◌, ◌≡◌, ◌≤◌, Outcome, frame_effect, top_of, told_to, Change, effect, finished_or, settled, standing, step_thread, with_stack, Answered, reply_to, run, Run, begun, step, Set, IsSound, IsTypable, Event, Step, Reply, Stepped, Frame, Walk, Thread, World, States, IsGood, comes, on_top, stack_sum, stood, told_is, led, slice_get_within}
 use Rattle.model.specs.View.{busy_at, has_frames, thread_view}
 use Rattle.laws_runs.specs.Waits.{says_unchanged}
 use Rattle.laws_runs.proofs.Accepted.Lasts.{GoesOn as EventGoesOn, Lasts, goes_on_at, lasts}
@@ -11,10 +11,10 @@ use Rattle.laws_runs.proofs.Runs.Events.{StepsFrame, happens_step}
 use Rattle.laws_runs.proofs.Runs.Threads.{thread_other}
 use Rattle.laws_locks.specs.NoRing.{GoesOn}
 use Rattle.laws_locks.specs.Order.{HasLockOrders}
-use Rattle.laws_locks.specs.Rest.{AcceptedRunsComeToRest, AllGoOn, AreRounds, steps_in, steps_of}
+use Rattle.laws_locks.specs.Rest.{AllGoOn, AreRounds, changes_one, steps_in, steps_of, up}
 use Rattle.laws_locks.proofs.Climbing.{HasTop, accepted_no_ring, change_is, has_top}
 use Rattle.laws_locks.proofs.Falling.{frame_falls}
-use Rattle.laws_locks.proofs.Weights.{depths, measure, told_weighs, up, weight}
+use Rattle.laws_locks.proofs.Weights.{depths, measure, told_weighs, weight}
 
 -- a reply that tells that something changed, of a thread that finished or not
 finished_on : (frames : List Frame) (reply : Reply)
@@ -140,7 +140,7 @@ module _ (set : Set) (typable : IsTypable set) (sound : IsSound set) where
         (finished_on (standing set h.below h.outcome) h.outcome.reply says)))
 
   -- so only so many go on
-  few_go_on : (threads : ℕ) (events : List Event) (turns : List ℕ)
+  pub few_go_on : (threads : ℕ) (events : List Event) (turns : List ℕ)
       → AllGoOn set threads events turns
       → length turns ≤ measure set (run set threads events).world
   few_go_on threads events [] all = omega arith
@@ -169,6 +169,23 @@ module _ (set : Set) (typable : IsTypable set) (sound : IsSound set) where
       → GoesOn set threads events t
   on_by threads events t on =
       busy_by threads events t (busy_at (run set threads events).world t) refl on
+
+  -- a step that changes something is paid for by what it makes less
+  pays_by : (threads : ℕ) (events : List Event) (t : ℕ) (b : Bool)
+      → says_unchanged (reply_to set threads events (Step t)) ≡ b
+      → (if b then 0 else 1) + measure set (run set threads (events ++ Step t ∷ [])).world
+      ≤ measure set (run set threads events).world
+  pays_by threads events t true says =
+      omega (arith, ap (measure set) (waits_same set threads events (Step t) says))
+  pays_by threads events t false says =
+      omega (arith, on_falls threads events t (on_by threads events t says))
+
+  pub step_pays : (threads : ℕ) (events : List Event) (t : ℕ)
+      → changes_one set threads events (Step t)
+      + measure set (run set threads (events ++ Step t ∷ [])).world
+      ≤ measure set (run set threads events).world
+  step_pays threads events t =
+      pays_by threads events t (says_unchanged (reply_to set threads events (Step t))) refl
 
   module _ (threads : ℕ) where
     abbrev left : List Event → ℕ
@@ -370,19 +387,10 @@ module _ (set : Set) (typable : IsTypable set) (sound : IsSound set) where
           let more : length rounds < left events = rounds_fall events rounds v are is in
           absurd (omega arith)
 
-  comes_to_rest : HasLockOrders set → (threads : ℕ) (events : List Event)
+  pub comes_to_rest : HasLockOrders set → (threads : ℕ) (events : List Event)
       (rounds : List (List ℕ)) → AreRounds threads rounds
       → measure set (run set threads events).world ≤ length rounds
       → (t : ℕ) → busy_at (run set threads (events ++ steps_in rounds)).world t ≡ false
   comes_to_rest orders threads events rounds are enough t =
       idle_by threads orders events rounds t
       (busy_at (run set threads (events ++ steps_in rounds)).world t) are enough refl
-
-pub accepted_rest : AcceptedRunsComeToRest
-accepted_rest set typable sound threads events =
-    record {
-      most = measure set (run set threads events).world;
-      ends = few_go_on set typable sound threads events;
-      ring = λ orders. accepted_no_ring set typable sound orders threads events;
-      rests = λ orders. comes_to_rest set typable sound orders threads events;
-    }

@@ -7,6 +7,7 @@ use Rattle.laws_runs.proofs.Common.{ap, arith, inl, inr, refl, subst, zero, ◌*
 use Rattle.std.proofs.Math.Nat.{mul-le-mul_left, mul-le-mul_right}
 use Rattle.std.proofs.lemmas.Nat.{mul-le}
 use Rattle.model.specs.declared.limits.TheConstants.{MAX_CERTIFICATE}
+use Rattle.laws_locks.specs.Rest.{price, up}
 use Rattle.model.specs.Certificate.{certificate_in, certificate_to}
 use Rattle.laws_runs.proofs.Certificates.Owed.{Pays}
 use Rattle.laws_runs.proofs.Certificates.Steps.{frame_due}
@@ -42,15 +43,6 @@ module _ (set : Set) (typable : IsTypable set) (driver number : ℕ) where
         | inl e ↦ rw e.0 (omega arith)
         | inr e ↦ rw e.0 (small_of (slice_get set.drivers driver) refl)
       ]
-
--- what a step of the I/O manager to the location above costs
-abbrev pub up : ℕ
-up = MAX_CERTIFICATE + 1
-
--- what an instruction of a routine for a device costs
-abbrev pub price : ℕ → ℕ
-price zero = up + 2
-price (suc d) = up + 2 + MAX_CERTIFICATE * price d
 
 pub price_some : (d : ℕ) → up + 2 ≤ price d
 price_some zero = omega arith

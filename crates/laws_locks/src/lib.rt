@@ -6,7 +6,8 @@
 ghost use Rattle.laws_locks.specs.Rest.{AcceptedRunsComeToRest};
 ghost use Rattle.laws_locks.specs.RingAt.{AcceptedRingsAreAtOneDevice};
 
-/// From the world of any run of an accepted set, only so many steps of threads change anything
+/// In any run of an accepted set each event that begins something brings about only so many steps
+/// that change anything, a number of the set. From the world of any run only so many change anything
 /// before another event comes: every routine ends. Where the locks of each driver stand in an order
 /// in which its routines take them, no threads wait for each other's locks in a ring, while any
 /// thread has frames one with frames goes on, and all threads are idle after so many rounds of

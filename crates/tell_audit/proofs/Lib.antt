@@ -2,3 +2,4 @@ pub mod Found
 pub mod Holding
 pub mod Leaving
 pub mod Refusals
+pub mod Ringing

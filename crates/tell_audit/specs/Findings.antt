@@ -10,6 +10,7 @@ use Rattle.model.specs.Sound.{IsSound}
 use Rattle.model.specs.Trace.{Entry, Serving}
 use Rattle.model.specs.Typable.{IsTypable}
 use Rattle.model.specs.World.{World}
+use Rattle.laws_locks.specs.Order.{HasLockOrders}
 use Rattle.tell_audit.specs.declared.findings.Findings.{Findings}
 use Rattle.tell_audit.specs.declared.left.LeftLock.{LeftLock}
 use Rattle.tell_uses.specs.Ledger.{Disagreeing, LedgerState, NoneIfAccepted}
@@ -52,7 +53,8 @@ pub record IsOfAccepted (set : Set) (w : World) : Type 0 where
   pub of : w ≡ (run set threads events).world
 
 -- these are all that there is to find, in a world and in the runs that a ledger tells; where the set
--- is accepted no packet is lost, no lock is left behind and no use disagrees
+-- is accepted no packet is lost, no lock is left behind and no use disagrees, and where each of its
+-- drivers takes its locks in an order no thread waits in a ring
 pub record AreFindings (set : Set) (w : World) (l : LedgerState) (found : Findings) : Type 0 where
   pub lost : found.lost.items ≡ lost_packets w
   pub left : found.left.items ≡ left_locks w (length set.devices)
@@ -61,4 +63,5 @@ pub record AreFindings (set : Set) (w : World) (l : LedgerState) (found : Findin
   pub disagreeing : Disagreeing l found.disagreeing.items
   pub none_lost : IsOfAccepted set w → found.lost.items ≡ []
   pub none_left : IsOfAccepted set w → found.left.items ≡ []
+  pub none_ringed : IsOfAccepted set w → HasLockOrders set → found.ringed.items ≡ []
   pub none_disagree : NoneIfAccepted l found.disagreeing.items

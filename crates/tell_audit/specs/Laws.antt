@@ -10,6 +10,8 @@ use Rattle.model.specs.Set.{Set}
 use Rattle.model.specs.Sound.{IsSound}
 use Rattle.model.specs.Typable.{IsTypable}
 use Rattle.model.specs.World.{World}
+use Rattle.laws_locks.specs.Order.{HasLockOrders}
+use Rattle.tell_audit.specs.Findings.{ringed_threads}
 use Rattle.tell_audit.specs.Left.{left_locks}
 use Rattle.tell_audit.specs.Naming.{lost_packets}
 use Rattle.tell_audit.specs.Refusal.{why_refused}
@@ -25,6 +27,13 @@ abbrev pub AcceptedRunsLeaveNoLock : Type 0
 AcceptedRunsLeaveNoLock =
     (set : Set) → IsTypable set → IsSound set → (threads : ℕ) (events : List Event)
     → left_locks (run set threads events).world (length set.devices) ≡ []
+
+-- nor has threads that wait in a ring, where each driver takes its locks in an order
+abbrev pub AcceptedRunsHaveNoRing : Type 0
+AcceptedRunsHaveNoRing =
+    (set : Set) → IsTypable set → IsSound set → HasLockOrders set
+    → (threads : ℕ) (events : List Event)
+    → ringed_threads set (run set threads events).world ≡ []
 
 -- an event is refused exactly where there is a reason
 abbrev pub HasReason : Set → World → Event → Type 0

@@ -3,7 +3,9 @@
 ghost use Rattle.std.specs.Prelude.{◌≡◌, ◌++◌, IfOk, OnOk};
 ghost use Rattle.tell_audit.specs.Findings.{AreFindings, any_of, ring_at, ringed_threads};
 
-use crate::laws::{accepted_runs_leave_no_lock, accepted_runs_lose_no_packet};
+use crate::laws::{
+    accepted_runs_have_no_ring, accepted_runs_leave_no_lock, accepted_runs_lose_no_packet,
+};
 use crate::left::{LeftLock, left_locks};
 use crate::missed::missed_packets;
 use crate::naming::lost_packets;
@@ -41,6 +43,7 @@ impl Findings {
     {
         accepted_runs_lose_no_packet();
         accepted_runs_leave_no_lock();
+        accepted_runs_have_no_ring();
         let lost = lost_packets(alloc, machine)?;
         let left = left_locks(alloc, machine)?;
         let ringed = ringed_threads(alloc, machine)?;

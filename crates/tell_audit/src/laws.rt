@@ -1,7 +1,8 @@
 //! Laws of the audit. Nothing runs here.
 
-ghost use Rattle.tell_audit.specs.Laws.{AcceptedRunsLeaveNoLock, AcceptedRunsLoseNoPacket, RefusalsHaveReasons};
+ghost use Rattle.tell_audit.specs.Laws.{AcceptedRunsHaveNoRing, AcceptedRunsLeaveNoLock, AcceptedRunsLoseNoPacket, RefusalsHaveReasons};
 
+use laws_locks::accepted_runs_come_to_rest;
 use laws_runs::packets_have_one_holder;
 
 /// No run of an accepted set loses a packet.
@@ -15,6 +16,14 @@ pub fn accepted_runs_lose_no_packet()
 pub fn accepted_runs_leave_no_lock()
     ensures { AcceptedRunsLeaveNoLock }
 {}
+
+/// No run of an accepted set whose drivers each take their locks in an order has threads that wait
+/// in a ring.
+pub fn accepted_runs_have_no_ring()
+    ensures { AcceptedRunsHaveNoRing }
+{
+    accepted_runs_come_to_rest();
+}
 
 /// An event that is no step of a thread is refused, in any world, exactly where there is a reason.
 pub fn refusals_have_reasons()

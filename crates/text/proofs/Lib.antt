@@ -1,2 +1,4 @@
 pub mod Cuts
 pub mod Places
+pub mod Spaced
+pub mod Digits

@@ -4,3 +4,5 @@ pub mod Number
 pub mod Lexical
 pub mod Major
 pub mod Places
+pub mod Spaced
+pub mod Digits

@@ -7,6 +7,7 @@
 
 pub mod class;
 pub mod cut;
+pub mod head;
 pub mod major;
 pub mod number;
 pub mod piece;

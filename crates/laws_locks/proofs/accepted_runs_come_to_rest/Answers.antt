@@ -1,4 +1,4 @@
-use Rattle.laws_locks.proofs.Resting.{accepted_rest}
+use Rattle.laws_locks.proofs.Beginning.{accepted_rest}
 use Rattle.laws_locks.proofs.accepted_runs_come_to_rest.Goals as goal
 
 pub returns : goal.returns

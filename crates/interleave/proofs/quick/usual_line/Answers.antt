@@ -1,6 +1,7 @@
 use Rattle.std.proofs.Common.{codes, refl}
 use Rattle.interleave.specs.Line.{cancel_line, dpc_line, interrupt_line, issue_line, startio_line, step_line}
-use Rattle.interleave.proofs.Usual.{line_taken, plain_word}
+use Rattle.text.proofs.Spaced.{plain_word}
+use Rattle.interleave.proofs.Usual.{line_taken}
 use Rattle.interleave.proofs.quick.usual_line.Goals as goal
 
 pub returns-in-Some : goal.returns-in-Some

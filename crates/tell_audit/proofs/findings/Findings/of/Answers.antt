@@ -1,4 +1,5 @@
 use Rattle.tell_audit.proofs.Found.{none_left, none_lost}
+use Rattle.tell_audit.proofs.Ringing.{none_ringed}
 use Rattle.tell_audit.proofs.findings.Findings.of.Goals as goal
 
 pub returns : goal.returns
@@ -13,5 +14,7 @@ returns c =
           c.args.machine.now.world _ c.in_ok-lost.ensures;
       none_left = none_left c.accepted_runs_leave_no_lock.ensures c.args.machine.now.set
           c.args.machine.now.world _ c.in_ok-left.ensures;
+      none_ringed = none_ringed c.accepted_runs_have_no_ring.ensures c.args.machine.now.set
+          c.args.machine.now.world _ c.in_ok-ringed.ensures;
       none_disagree = c.in_ok-disagreeing.ensures.accepted;
     }

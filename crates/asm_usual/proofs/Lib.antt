@@ -1,0 +1,2 @@
+pub mod Plain
+pub mod Steps

@@ -1,0 +1,61 @@
+"""Pafteis, a proved host for driver routines, over the library libpafteis.
+
+`check` judges a driver set, `explain` says in words why it is refused, `trace` runs it by a
+schedule, and a `World` is its machine, driven event by event. docs/TEXTS.md says what stands in
+texts and schedules.
+"""
+
+from pathlib import Path
+
+from pafteis.errors import (
+    Faulty,
+    FaultyImage,
+    FaultyText,
+    LibraryMissing,
+    NoMemory,
+    NoWorld,
+    PafteisError,
+    Refused,
+    WrongArgument,
+)
+from pafteis.replies import Irql, Major, Reply, ReplyKind, Status
+from pafteis.verdicts import (
+    ImageFault,
+    Place,
+    Rule,
+    Source,
+    TextFault,
+    Trace,
+    Verdict,
+    check,
+    explain,
+    explain_rule,
+    library_version,
+    listing,
+    report,
+    rewrite,
+    trace,
+)
+from pafteis.worlds import (
+    Armed,
+    ArmedKind,
+    Due,
+    Event,
+    EventKind,
+    Frame,
+    FrameKind,
+    Packet,
+    PacketKind,
+    Thread,
+    World,
+)
+
+__version__ = (Path(__file__).parent / "VERSION").read_text(encoding="ascii").strip()
+
+__all__ = [
+    "Armed", "ArmedKind", "Due", "Event", "EventKind", "Faulty", "FaultyImage", "FaultyText",
+    "Frame", "FrameKind", "ImageFault", "Irql", "LibraryMissing", "Major", "NoMemory", "NoWorld",
+    "Packet", "PacketKind", "PafteisError", "Place", "Refused", "Reply", "ReplyKind", "Rule",
+    "Source", "Status", "TextFault", "Thread", "Trace", "Verdict", "World", "WrongArgument",
+    "check", "explain", "explain_rule", "library_version", "listing", "report", "rewrite", "trace",
+]
