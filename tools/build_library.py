@@ -1,6 +1,6 @@
 #!/usr/bin/env python3
-"""Builds the library for C into out/: out/lib/libpafteis.a and .so, out/include/pafteis.h and
-out/lib/pkgconfig/pafteis.pc.
+"""Builds the library for C into out/: out/lib/libpafteis.a and .so, out/include/pafteis.h,
+pafteis.hpp, and out/lib/pkgconfig/pafteis.pc.
 
     python3 tools/build_library.py [--prefix PREFIX] [--archive FILE] [--into FOLDER]
 
@@ -91,7 +91,8 @@ def main():
         one_object(archives, piece)
         archive = put_archive(piece, lib)
         put_shared(piece, lib)
-    shutil.copy(TOP / "include/pafteis.h", given.into / "include")
+    for name in ("pafteis.h", "pafteis.hpp"):
+        shutil.copy(TOP / "include" / name, given.into / "include")
     found = pc_text(given.prefix or str(given.into.resolve()))
     (lib / "pkgconfig/pafteis.pc").write_text(found, encoding="utf-8")
     print(f"{archive}: {archive.stat().st_size} bytes")

@@ -16,16 +16,40 @@ typedef struct {
     size_t length;
 } text;
 
+/* A whole file, of any size. */
 static text read_file(const char *name) {
     FILE *file = fopen(name, "rb");
-    text found = {malloc(1 << 20), 0};
-    if (file == NULL || found.bytes == NULL) {
+    text found = {NULL, 0};
+    for (size_t room = 0, got = 1; file != NULL && got > 0; found.length += got) {
+        if (found.length == room) {
+            room = room == 0 ? 4096 : 2 * room;
+            uint8_t *more = realloc(found.bytes, room);
+            if (more == NULL)
+                exit(PAFTEIS_NO_MEMORY);
+            found.bytes = more;
+        }
+        got = fread(found.bytes + found.length, 1, room - found.length, file);
+    }
+    if (file == NULL || ferror(file)) {
         fprintf(stderr, "cannot read %s\n", name);
         exit(2);
     }
-    found.length = fread(found.bytes, 1, 1 << 20, file);
     fclose(file);
     return found;
+}
+
+/* The words that it knows, and how many stand behind each. */
+static const struct {
+    const char *word;
+    int more;
+} WORDS[] = {{"check", 1}, {"explain", 1}, {"explain-each", 1}, {"list", 1}, {"rewrite", 1},
+             {"trace", 2}, {"trace-unchecked", 2}, {"rule", 1}, {"version", 0}};
+
+static bool is_known(int count, char **words) {
+    for (size_t at = 0; at < sizeof WORDS / sizeof WORDS[0]; at++)
+        if (count == WORDS[at].more + 2 && strcmp(words[1], WORDS[at].word) == 0)
+            return true;
+    return false;
 }
 
 /* What is answered of one file. */
@@ -52,10 +76,10 @@ static uint32_t trace(text set, text events, uint32_t flags, text buffer, size_t
 static uint32_t answer(int count, char **words, text buffer, size_t *needed) {
     if (strcmp(words[1], "version") == 0)
         return pafteis_version(buffer.bytes, buffer.length, needed);
-    if (count < 3)
-        return PAFTEIS_WRONG_ARGUMENT;
-    if (strcmp(words[1], "rule") == 0)
-        return pafteis_explain_rule((uint32_t)atoi(words[2]), buffer.bytes, buffer.length, needed);
+    if (strcmp(words[1], "rule") == 0) {
+        uint32_t rule = (uint32_t)strtoul(words[2], NULL, 10);
+        return pafteis_explain_rule(rule, buffer.bytes, buffer.length, needed);
+    }
     text set = read_file(words[2]);
     uint32_t status;
     if (count > 3) {
@@ -74,8 +98,10 @@ int main(int count, char **words) {
     uint8_t small[64];
     text buffer = {small, sizeof small};
     size_t needed = 0;
-    if (count < 2)
+    if (!is_known(count, words)) {
+        fputs("answer: see the head of answer.c for its words\n", stderr);
         return 2;
+    }
     uint32_t status = answer(count, words, buffer, &needed);
     if (needed > buffer.length) {
         buffer.bytes = malloc(needed);

@@ -30,27 +30,34 @@ fn called(call: impl Fn(*mut u8, usize, *mut usize) -> u32) -> (u32, Vec<u8>) {
 }
 
 fn answered(words: &[String]) -> (u32, Vec<u8>) {
-    let read = |at: usize| std::fs::read(&words[at]).unwrap_or_else(|_| exit(2));
-    match words[1].as_str() {
+    let read = |at: usize| {
+        let data = words.get(at).and_then(|name| std::fs::read(name).ok());
+        data.unwrap_or_else(|| exit(2))
+    };
+    let word = words.get(1).map_or("", String::as_str);
+    match word {
         "version" => return called(|b, c, n| unsafe { pafteis_version(b, c, n) }),
         "rule" => {
-            let rule = words[2].parse().unwrap_or(0);
+            let rule = words.get(2).and_then(|rule| rule.parse().ok()).unwrap_or(0);
             return called(|b, c, n| unsafe { pafteis_explain_rule(rule, b, c, n) });
         }
         _ => {}
     }
     let set = read(2);
     let (at, length) = (set.as_ptr(), set.len());
-    match words[1].as_str() {
+    match word {
         "check" => called(|b, c, n| unsafe { pafteis_report(at, length, b, c, n) }),
         "list" => called(|b, c, n| unsafe { pafteis_list(at, length, b, c, n) }),
         "rewrite" => called(|b, c, n| unsafe { pafteis_rewrite(at, length, b, c, n) }),
         "explain" | "explain-each" => {
-            let extent = u32::from(words[1] != "explain");
+            let extent = u32::from(word != "explain");
             called(|b, c, n| unsafe { pafteis_explain(at, length, extent, b, c, n) })
         }
         _ => {
-            let flags = u32::from(words[1] != "trace");
+            if !word.starts_with("trace") {
+                exit(2);
+            }
+            let flags = u32::from(word != "trace");
             let events = read(3);
             called(|b, c, n| unsafe {
                 pafteis_trace(at, length, events.as_ptr(), events.len(), flags, b, c, n)

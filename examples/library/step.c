@@ -20,12 +20,17 @@ static void apply(pafteis_world *world, pafteis_event event) {
 }
 
 int main(int count, char **words) {
-    static uint8_t set[1 << 20];
+    static uint8_t set[1 << 16];
     FILE *file = fopen(count > 1 ? words[1] : "examples/echo.drv", "rb");
     if (file == NULL)
         return 2;
     size_t length = fread(set, 1, sizeof set, file);
+    bool is_whole = length < sizeof set && !ferror(file);
     fclose(file);
+    if (!is_whole) {
+        fputs("step: it reads files of up to 64 KiB\n", stderr);
+        return 2;
+    }
     pafteis_world world = PAFTEIS_EMPTY_WORLD;
     pafteis_verdict verdict;
     uint32_t status = pafteis_world_new(set, length, 2, &world, &verdict);

@@ -67,8 +67,8 @@ def library(folder, prefix, places):
     yield Piece(DEVELOPMENT, f"{lib}/libpafteis.so", shared)
     archive = read(os.path.join(folder, "lib/libpafteis.a"))
     yield Piece(DEVELOPMENT, f"{lib}/libpafteis.a", archive)
-    header = read(os.path.join(folder, "include/pafteis.h"))
-    yield Piece(DEVELOPMENT, "include/pafteis.h", header)
+    for header in ("include/pafteis.h", "include/pafteis.hpp"):
+        yield Piece(DEVELOPMENT, header, read(os.path.join(folder, header)))
     text = build_library.pc_text(prefix, "${prefix}/" + lib)
     yield Piece(DEVELOPMENT, f"{lib}/pkgconfig/pafteis.pc", text.encode())
 

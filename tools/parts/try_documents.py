@@ -9,12 +9,12 @@ single line `...` there stands for some text, whatever it is. COMMAND is `check`
 `trace --unchecked` or `host --workers N`, whose files are the blocks between, in their order: `drv`, `sched` and `interleave_script` are texts, and `image` has
 the bytes of an image in hexadecimal, up to `;` in a line. Or COMMAND is `run`, and each line of the block `sh` between is a
 command that starts where a copy of examples/ lies; a block `drv` there has to be the text of the file that ends the first of
-them, a block `drv part` some of its lines. What is written to a file, behind `>`, has to be that file of the tree. The last line
-counts. With --write the blocks called `output` and these files become what the program writes."""
+them, a block `drv part` some of its lines. What is written to a file, behind `>`, has to be that file of the tree. A block behind a line
+`<!-- file: NAME -->` has to be the text of that file. The last line counts. With --write the blocks called `output` and these files become what the program writes."""
 import os, re, shlex, shutil, subprocess, sys, tempfile
 
 TOP = os.path.dirname(os.path.dirname(os.path.dirname(os.path.abspath(__file__))))
-DOCUMENTS = ['README.md', 'docs/COMMANDS.md', 'docs/TEXTS.md', 'docs/RULES.md', 'docs/GUIDE.md']
+DOCUMENTS = ['README.md', 'docs/COMMANDS.md', 'docs/TEXTS.md', 'docs/RULES.md', 'docs/GUIDE.md', 'docs/EMBEDDING.md']
 MARK = re.compile(r'<!-- example: (.+), status (\d+) -->$')
 KINDS = ('drv', 'drv part', 'image', 'sched', 'script', 'sh', 'output')
 FILES = ('drv', 'image', 'sched', 'script')
@@ -115,6 +115,13 @@ def run(program, example, write):
 def is_as(wanted, told):
     return bool(told) if wanted == '...\n' else wanted == told
 
+def copies_differ(document, text):
+    """Which blocks of a document aren't the files that they are copies of; how many such blocks there are."""
+    copies = re.findall(r'^<!-- file: ([^\n]+) -->\n```\w*\n(.*?)^```$', text, re.M | re.S)
+    differ = [name for name, shown in copies if open(os.path.join(TOP, name)).read() != shown]
+    print(end=''.join('%s: the file %s has another text\n' % (document, name) for name in differ))
+    return len(copies), len(differ)
+
 def rewritten(lines, example, told):
     """Puts what the program writes into the lines of a document, in place of the block called `output`."""
     begin = lines.index('```output', example.line) + 1
@@ -124,7 +131,8 @@ def compared(program, document, write):
     """How many examples of a document there are, and how many are answered otherwise."""
     with open(os.path.join(TOP, document)) as source:
         text = source.read()
-    found, differ, lines = list(examples(text)), 0, text.split('\n')
+    found, lines = list(examples(text)), text.split('\n')
+    copies, differ = copies_differ(document, text)
     for example in reversed(found):
         told, status = run(program, example, write) if example.is_whole() else ('no block output\n', None)
         if is_as(example.blocks[-1][1] if example.blocks else None, told) and status == example.status:
@@ -137,7 +145,7 @@ def compared(program, document, write):
     if write:
         with open(os.path.join(TOP, document), 'w') as out:
             out.write('\n'.join(lines))
-    return len(found), differ
+    return len(found) + copies, differ
 
 def main():
     words = [word for word in sys.argv[1:] if word != '--write']

@@ -79,6 +79,7 @@ def try_compiler(prefix, folder):
     want(told == VERSION, f"pkg-config tells the version {told}")
     flags = answered(["pkg-config", "--cflags", "--libs", "pafteis"], env=env).split()
     ways = {"shared": ["cc", source, *flags], "C++": ["c++", "-x", "c++", source, *flags],
+            "C++ header": ["c++", "-x", "c++", "-include", "pafteis.hpp", source, *flags],
             "static": ["cc", source, f"-I{prefix}/include", f"{prefix}/lib/libpafteis.a"]}
     for way, words in ways.items():
         told = answered([*words, "-Wall", "-o", f"{folder}/own"])

@@ -40,10 +40,12 @@ def built(folder):
     """The commands that answer as the program does, by their language."""
     found = {}
     here = ["-std=c11", "-Wall", "-Wextra", "-Werror", "-I", TOP / "include"]
-    for name in ("answer", "step"):
+    for name in ("answer", "step", "first"):
         subprocess.run(["cc", *here, EXAMPLES / f"{name}.c", LIBRARY / "libpafteis.a", "-o",
                         f"{folder}/{name}"], check=True)
     found["C"] = [f"{folder}/answer"]
+    subprocess.run(["c++", "-std=c++17", *here[1:], EXAMPLES / "step.cpp",
+                    LIBRARY / "libpafteis.a", "-o", f"{folder}/step_cpp"], check=True)
     if shutil.which("rustc"):
         subprocess.run(["rustc", "-O", "--edition", "2024", EXAMPLES / "answer.rs", "-L", LIBRARY,
                         "-o", f"{folder}/answer_rs"], check=True)
@@ -95,6 +97,19 @@ def main():
         if (status, output) != (0, steps):
             wrong += 1
             print("a world from C answers otherwise")
+        own = {"PYTHONPATH": str(TOP / "python"), "PAFTEIS_LIBRARY": os.environ["PAFTEIS"]}
+        os.environ.update(own)
+        first = [answered(words)[:2] for words in ([f"{folder}/first"],
+                                                   [sys.executable, EXAMPLES / "first.py"])]
+        tried += 1
+        if first[0] != first[1] or first[0][0] != 0 or b"packet 0: 0x00000000" not in first[0][1]:
+            wrong += 1
+            print("the first programs in C and Python answer otherwise")
+        plus = answered([f"{folder}/step_cpp", "examples/echo.drv"])
+        tried += 1
+        if plus[:2] != (0, b"started 0\nstepped\ntopped 0\nfinished\nidle\n"):
+            wrong += 1
+            print("a world from C++ answers otherwise")
     print(f"{tried} tried, {wrong} wrong")
     return int(wrong > 0)
 

@@ -1,12 +1,31 @@
-//! Names and what they number.
+//! Names, what they number, and the lines that use them.
 
-ghost use Rattle.std.specs.Prelude.{◌≡◌, ◌≤◌, ◌^◌, ◌++◌, [], ◌∷◌, false, length, IfOk, OnOk, option_to_list};
-ghost use Rattle.asm.specs.Outline.{earliest, is_among, is_known_label, missed, number_of, number_used, use_place, used_at};
+ghost use Rattle.std.specs.Prelude.{◌≡◌, ◌≤◌, ◌^◌, ◌++◌, [], ◌∷◌, false, length, IfOk, OnOk, Some, option_to_list};
+ghost use Rattle.asm_names.specs.Names.{is_among, number_of};
+ghost use Rattle.asm_names.specs.Uses.{earliest, is_known_label, missed, number_used, use_place, used_at};
 
-use crate::draft::Use;
 use indexmap::IndexSet;
 use std::alloc::AllocError;
 use text::piece::Piece;
+
+/// A line that uses a name: its number and the name.
+#[derive(Drop)]
+pub struct Use<'a> {
+    pub line: u64,
+    pub name: Piece<'a>,
+}
+
+impl<'a> Use<'a> {
+    /// The use of this name in this line.
+    pub fn of(line: u64, name: &Piece<'a>) -> Use<'a>
+        ensures { result ≡ record { line = line; name = name.now } }
+    {
+        Use {
+            line,
+            name: name.again(),
+        }
+    }
+}
 
 /// Whether the name is one of these.
 pub fn is_among(names: &IndexSet<Piece<'_>>, name: &Piece<'_>) -> bool
@@ -60,14 +79,19 @@ pub fn missed(names: &IndexSet<Piece<'_>>, used: &Option<Use<'_>>) -> Option<u64
     ensures { result ≡ missed names.now.keys used.now }
 {
     match used {
-        Some(used) => {
-            if is_among(names, &used.name) {
-                None
-            } else {
-                Some(used.line)
-            }
-        }
+        Some(used) => missed_use(names, used),
         None => None,
+    }
+}
+
+/// The line of this use of a name, if it isn't among these.
+pub fn missed_use(names: &IndexSet<Piece<'_>>, used: &Use<'_>) -> Option<u64>
+    ensures { result ≡ missed names.now.keys (Some used.now) }
+{
+    if is_among(names, &used.name) {
+        None
+    } else {
+        Some(used.line)
     }
 }
 

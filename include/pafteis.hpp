@@ -1,0 +1,133 @@
+// Pafteis for C++17 and later: the calls of pafteis.h with strings, exceptions, and worlds that free
+// themselves. What each call answers is said there.
+#ifndef PAFTEIS_HPP
+#define PAFTEIS_HPP
+
+#include "pafteis.h"
+
+#include <stdexcept>
+#include <string>
+#include <string_view>
+#include <utility>
+
+namespace pafteis {
+
+// What is thrown where a call answers no verdict and no run: `status` is the call's answer, `what`
+// tells the fault in the program's words where it is one of a text, an image or a schedule.
+class error : public std::runtime_error {
+public:
+    error(std::uint32_t status, const std::string &told) : std::runtime_error(told), status(status) {}
+    std::uint32_t status;
+};
+
+// What is thrown where a world of a refused or a faulty set is asked for.
+class no_set : public error {
+public:
+    no_set(std::uint32_t status, const pafteis_verdict &verdict)
+        : error(status, "no world: the set is refused or faulty"), verdict(verdict) {}
+    pafteis_verdict verdict;
+};
+
+inline void expect(std::uint32_t status) {
+    if (status != PAFTEIS_DONE)
+        throw error(status, "pafteis: status " + std::to_string(status));
+}
+
+inline const std::uint8_t *bytes(std::string_view text) {
+    static const std::uint8_t none = 0;
+    return text.empty() ? &none : reinterpret_cast<const std::uint8_t *>(text.data());
+}
+
+// The words of a call that puts its answer into a buffer; `accepted` becomes whether it is done.
+template <typename Call> std::string told(Call call, bool *accepted = nullptr) {
+    std::string text(256, '\0');
+    for (;;) {
+        std::size_t needed = 0;
+        auto *buffer = reinterpret_cast<std::uint8_t *>(&text[0]);
+        std::uint32_t status = call(buffer, text.size(), &needed);
+        if (status > PAFTEIS_FAULTY)
+            expect(status);
+        bool fits = needed <= text.size();
+        text.resize(needed);
+        if (fits && status == PAFTEIS_FAULTY)
+            throw error(status, text);
+        if (fits && accepted != nullptr)
+            *accepted = status == PAFTEIS_DONE;
+        if (fits)
+            return text;
+    }
+}
+
+// Whether a set is accepted; `verdict` tells why not.
+inline bool check(std::string_view set, pafteis_verdict &verdict) {
+    std::uint32_t status = pafteis_check(bytes(set), set.size(), &verdict);
+    if (status > PAFTEIS_REFUSED)
+        throw no_set(status, verdict);
+    return status == PAFTEIS_DONE;
+}
+
+inline std::string explain(std::string_view set, std::uint32_t extent = PAFTEIS_FIRST) {
+    return told([=](std::uint8_t *buffer, std::size_t capacity, std::size_t *needed) {
+        return pafteis_explain(bytes(set), set.size(), extent, buffer, capacity, needed);
+    });
+}
+
+inline std::string trace(std::string_view set, std::string_view schedule, bool *complete = nullptr,
+                         std::uint32_t flags = PAFTEIS_CHECKED) {
+    return told([=](std::uint8_t *buffer, std::size_t capacity, std::size_t *needed) {
+        return pafteis_trace(bytes(set), set.size(), bytes(schedule), schedule.size(), flags, buffer,
+                             capacity, needed);
+    }, complete);
+}
+
+// The world of an accepted set. It can be moved, and not copied.
+class world {
+public:
+    world(std::string_view set, std::uint8_t threads) {
+        pafteis_verdict verdict;
+        std::uint32_t status =
+            pafteis_world_new(bytes(set), set.size(), threads, &handle, &verdict);
+        if (status == PAFTEIS_REFUSED || status == PAFTEIS_FAULTY)
+            throw no_set(status, verdict);
+        expect(status);
+    }
+    world(world &&other) noexcept : handle(std::exchange(other.handle, pafteis_world{})) {}
+    world &operator=(world &&other) noexcept {
+        std::swap(handle, other.handle);
+        return *this;
+    }
+    ~world() { pafteis_world_free(&handle); }
+
+    pafteis_reply apply(const pafteis_event &event) {
+        pafteis_reply reply;
+        expect(pafteis_world_apply(&handle, &event, &reply));
+        return reply;
+    }
+    pafteis_reply issue(std::uint8_t thread, std::uint8_t device, std::uint8_t major,
+                        std::uint64_t argument) {
+        return apply({0, argument, PAFTEIS_ISSUE, thread, device, major, 0});
+    }
+    pafteis_reply step(std::uint8_t thread) { return apply({0, 0, PAFTEIS_STEP, thread, 0, 0, 0}); }
+    pafteis_thread thread(std::uint8_t number) {
+        pafteis_thread found;
+        expect(pafteis_world_thread(&handle, number, &found));
+        return found;
+    }
+    pafteis_packet packet(std::uint64_t number) {
+        pafteis_packet found;
+        expect(pafteis_world_packet(&handle, number, &found));
+        return found;
+    }
+    pafteis_due due(std::uint8_t device) {
+        pafteis_due found;
+        expect(pafteis_world_due(&handle, device, &found));
+        return found;
+    }
+
+private:
+    pafteis_world handle = PAFTEIS_EMPTY_WORLD;
+};
+
+} // namespace pafteis
+
+#endif

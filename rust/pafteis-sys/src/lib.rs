@@ -1,0 +1,115 @@
+//! The calls of `include/pafteis.h`, which says of each what it takes and answers.
+#![allow(non_camel_case_types)]
+
+use std::ffi::c_void;
+
+pub const PAFTEIS_DONE: u32 = 0;
+pub const PAFTEIS_REFUSED: u32 = 1;
+pub const PAFTEIS_FAULTY: u32 = 2;
+pub const PAFTEIS_NO_MEMORY: u32 = 3;
+pub const PAFTEIS_WRONG_ARGUMENT: u32 = 4;
+pub const PAFTEIS_NO_WORLD: u32 = 5;
+
+#[repr(C)]
+#[derive(Clone, Copy, Debug, Default, PartialEq, Eq)]
+pub struct pafteis_verdict {
+    pub line: u64,
+    pub rule: u32,
+    pub driver: u32,
+    pub routine: u32,
+    pub position: u32,
+    pub text_fault: u32,
+    pub image_fault: u32,
+}
+
+#[repr(C)]
+#[derive(Debug)]
+pub struct pafteis_world {
+    pub live: bool,
+    pub inside: *mut c_void,
+}
+
+#[repr(C)]
+#[derive(Clone, Copy, Debug, Default)]
+pub struct pafteis_event {
+    pub packet: u64,
+    pub argument: u64,
+    pub kind: u32,
+    pub thread: u8,
+    pub device: u8,
+    pub major: u8,
+    pub level: u8,
+}
+
+#[repr(C)]
+#[derive(Clone, Copy, Debug, Default)]
+pub struct pafteis_reply {
+    pub packet: u64,
+    pub info: u64,
+    pub kind: u32,
+    pub status: u32,
+}
+
+#[repr(C)]
+#[derive(Clone, Copy, Debug, Default, PartialEq, Eq)]
+pub struct pafteis_frame {
+    pub packet: u64,
+    pub kind: u32,
+    pub position: u32,
+    pub driver: u8,
+    pub routine: u8,
+    pub device: u8,
+    pub next: u8,
+}
+
+#[repr(C)]
+#[derive(Clone, Copy, Debug, Default, PartialEq, Eq)]
+pub struct pafteis_thread {
+    pub frames: u64,
+    pub level: u32,
+    pub top: pafteis_frame,
+}
+
+#[repr(C)]
+#[derive(Clone, Copy, Debug, Default, PartialEq, Eq)]
+pub struct pafteis_armed {
+    pub kind: u8,
+    pub device: u8,
+    pub queue: u8,
+}
+
+#[repr(C)]
+#[derive(Clone, Copy, Debug, Default, PartialEq, Eq)]
+pub struct pafteis_packet {
+    pub kind: u32,
+    pub depth: u8,
+    pub armed: pafteis_armed,
+    pub cancel: bool,
+    pub marks: [bool; 16],
+}
+
+#[repr(C)]
+#[derive(Clone, Copy, Debug, Default, PartialEq, Eq)]
+pub struct pafteis_due {
+    pub start_io: bool,
+    pub dpc: bool,
+}
+
+#[rustfmt::skip]
+unsafe extern "C" {
+    pub fn pafteis_check(set: *const u8, length: usize, verdict: *mut pafteis_verdict) -> u32;
+    pub fn pafteis_report(set: *const u8, length: usize, buffer: *mut u8, capacity: usize, needed: *mut usize) -> u32;
+    pub fn pafteis_explain(set: *const u8, length: usize, extent: u32, buffer: *mut u8, capacity: usize, needed: *mut usize) -> u32;
+    pub fn pafteis_explain_rule(rule: u32, buffer: *mut u8, capacity: usize, needed: *mut usize) -> u32;
+    pub fn pafteis_trace(set: *const u8, length: usize, schedule: *const u8, schedule_length: usize, flags: u32, buffer: *mut u8, capacity: usize, needed: *mut usize) -> u32;
+    pub fn pafteis_list(set: *const u8, length: usize, buffer: *mut u8, capacity: usize, needed: *mut usize) -> u32;
+    pub fn pafteis_rewrite(set: *const u8, length: usize, buffer: *mut u8, capacity: usize, needed: *mut usize) -> u32;
+    pub fn pafteis_version(buffer: *mut u8, capacity: usize, needed: *mut usize) -> u32;
+    pub fn pafteis_world_new(set: *const u8, length: usize, threads: u8, world: *mut pafteis_world, verdict: *mut pafteis_verdict) -> u32;
+    pub fn pafteis_world_apply(world: *mut pafteis_world, event: *const pafteis_event, reply: *mut pafteis_reply) -> u32;
+    pub fn pafteis_world_steps(world: *mut pafteis_world, thread: u8, count: usize, made: *mut usize, reply: *mut pafteis_reply) -> u32;
+    pub fn pafteis_world_thread(world: *mut pafteis_world, number: u8, thread: *mut pafteis_thread) -> u32;
+    pub fn pafteis_world_packet(world: *mut pafteis_world, number: u64, packet: *mut pafteis_packet) -> u32;
+    pub fn pafteis_world_due(world: *mut pafteis_world, device: u8, due: *mut pafteis_due) -> u32;
+    pub fn pafteis_world_free(world: *mut pafteis_world) -> u32;
+}

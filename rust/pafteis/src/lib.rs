@@ -1,0 +1,12 @@
+//! Pafteis, a proved host for driver routines, over the library libpafteis: verdicts on driver sets,
+//! words on them, traces of their runs, and worlds, driven event by event. docs/TEXTS.md says what
+//! stands in texts and schedules.
+mod error;
+mod verdict;
+mod words;
+mod world;
+
+pub use error::Error;
+pub use verdict::{check, Place, Refusal};
+pub use words::{explain, explain_rule, list, report, rewrite, trace, Extent, Trace};
+pub use world::{Due, Event, Level, Major, Packet, Reply, Thread, World};

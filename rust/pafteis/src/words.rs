@@ -1,0 +1,95 @@
+use crate::error::{done, Error};
+use crate::verdict::check;
+use pafteis_sys as sys;
+
+/// Of which faults `explain` tells.
+#[derive(Clone, Copy, Debug, PartialEq, Eq)]
+pub enum Extent {
+    /// The first one.
+    First,
+    /// The first one of each routine.
+    Each,
+}
+
+/// A run of a schedule: what `drvhost trace` prints, and whether it came to the schedule's end.
+#[derive(Clone, Debug, PartialEq, Eq)]
+pub struct Trace {
+    pub text: String,
+    pub complete: bool,
+}
+
+/// The bytes of a call that puts its answer into a buffer, and whether all went well.
+fn told(call: impl Fn(*mut u8, usize, *mut usize) -> u32) -> Result<(Vec<u8>, bool), Error> {
+    let mut buffer = vec![0; 1024];
+    loop {
+        let mut needed = 0;
+        let status = call(buffer.as_mut_ptr(), buffer.len(), &mut needed);
+        if status > sys::PAFTEIS_FAULTY {
+            done(status)?;
+        }
+        if needed > buffer.len() {
+            buffer.resize(needed, 0);
+            continue;
+        }
+        buffer.truncate(needed);
+        if status == sys::PAFTEIS_FAULTY {
+            return Err(Error::Faulty(text(buffer)));
+        }
+        return Ok((buffer, status == sys::PAFTEIS_DONE));
+    }
+}
+
+fn text(bytes: Vec<u8>) -> String {
+    String::from_utf8_lossy(&bytes).into_owned()
+}
+
+/// What `drvhost check` prints: the verdict, and a certificate for each routine.
+///
+/// # Errors
+///
+/// `Faulty`, `NoMemory`; so have the calls below.
+pub fn report(set: &[u8]) -> Result<String, Error> {
+    let (at, length) = (set.as_ptr(), set.len());
+    told(|b, c, n| unsafe { sys::pafteis_report(at, length, b, c, n) }).map(|(it, _)| text(it))
+}
+
+/// What `drvhost explain` prints.
+pub fn explain(set: &[u8], extent: Extent) -> Result<String, Error> {
+    let (at, length, extent) = (set.as_ptr(), set.len(), u32::from(extent == Extent::Each));
+    told(|b, c, n| unsafe { sys::pafteis_explain(at, length, extent, b, c, n) })
+        .map(|(it, _)| text(it))
+}
+
+/// A rule in words, 1 to 20; `WrongArgument` where there is none of this number.
+pub fn explain_rule(rule: u32) -> Result<String, Error> {
+    told(|b, c, n| unsafe { sys::pafteis_explain_rule(rule, b, c, n) }).map(|(it, _)| text(it))
+}
+
+/// A text that names the same set.
+pub fn list(set: &[u8]) -> Result<String, Error> {
+    let (at, length) = (set.as_ptr(), set.len());
+    told(|b, c, n| unsafe { sys::pafteis_list(at, length, b, c, n) }).map(|(it, _)| text(it))
+}
+
+/// The image of the set, of edition 2.
+pub fn rewrite(set: &[u8]) -> Result<Vec<u8>, Error> {
+    let (at, length) = (set.as_ptr(), set.len());
+    told(|b, c, n| unsafe { sys::pafteis_rewrite(at, length, b, c, n) }).map(|(it, _)| it)
+}
+
+/// A run of a schedule of events; of a refused set only where it is `unchecked`, else `Refused`.
+pub fn trace(set: &[u8], schedule: &[u8], unchecked: bool) -> Result<Trace, Error> {
+    let (at, length, events, flags) = (set.as_ptr(), set.len(), schedule, u32::from(unchecked));
+    let (bytes, complete) = told(|b, c, n| unsafe {
+        sys::pafteis_trace(at, length, events.as_ptr(), events.len(), flags, b, c, n)
+    })?;
+    if !complete && !unchecked {
+        if let Some(refusal) = check(set)? {
+            return Err(Error::Refused(refusal));
+        }
+    }
+    Ok(Trace {
+        text: text(bytes),
+        complete,
+    })
+}

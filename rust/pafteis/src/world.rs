@@ -1,0 +1,226 @@
+use crate::error::{done, Error};
+use crate::verdict::judged;
+use pafteis_sys as sys;
+use std::ptr;
+
+pub use pafteis_sys::{pafteis_due as Due, pafteis_packet as Packet, pafteis_thread as Thread};
+
+/// Major functions of requests.
+#[derive(Clone, Copy, Debug, PartialEq, Eq)]
+pub enum Major {
+    Read = 3,
+    Write = 4,
+    Control = 14,
+}
+
+/// Levels of who calls IoCancelIrp.
+#[derive(Clone, Copy, Debug, PartialEq, Eq)]
+pub enum Level {
+    Passive = 0,
+    Apc = 1,
+    Dispatch = 2,
+}
+
+/// Events, each of which is one atomic step. Threads, devices and packets are counted from 0.
+#[derive(Clone, Copy, Debug, PartialEq, Eq)]
+pub enum Event {
+    Issue {
+        thread: u8,
+        device: u8,
+        major: Major,
+        argument: u64,
+    },
+    Cancel {
+        thread: u8,
+        packet: u64,
+        level: Level,
+    },
+    Interrupt {
+        device: u8,
+    },
+    Dpc {
+        thread: u8,
+        device: u8,
+    },
+    StartIo {
+        thread: u8,
+        device: u8,
+    },
+    Step {
+        thread: u8,
+    },
+}
+
+/// Replies. `Refused` is an event that can't be: nothing changed.
+#[derive(Clone, Copy, Debug, PartialEq, Eq)]
+pub enum Reply {
+    Started { packet: u64 },
+    Stepped,
+    Finished,
+    Topped { packet: u64, status: u32, info: u64 },
+    Waited,
+    Idle,
+    Refused,
+}
+
+impl From<Event> for sys::pafteis_event {
+    fn from(event: Event) -> Self {
+        let empty = sys::pafteis_event::default();
+        match event {
+            Event::Issue {
+                thread,
+                device,
+                major,
+                argument,
+            } => sys::pafteis_event {
+                kind: 1,
+                thread,
+                device,
+                major: major as u8,
+                argument,
+                ..empty
+            },
+            Event::Cancel {
+                thread,
+                packet,
+                level,
+            } => sys::pafteis_event {
+                kind: 2,
+                thread,
+                packet,
+                level: level as u8,
+                ..empty
+            },
+            Event::Interrupt { device } => sys::pafteis_event {
+                kind: 3,
+                device,
+                ..empty
+            },
+            Event::Dpc { thread, device } => sys::pafteis_event {
+                kind: 4,
+                thread,
+                device,
+                ..empty
+            },
+            Event::StartIo { thread, device } => sys::pafteis_event {
+                kind: 5,
+                thread,
+                device,
+                ..empty
+            },
+            Event::Step { thread } => sys::pafteis_event {
+                kind: 6,
+                thread,
+                ..empty
+            },
+        }
+    }
+}
+
+impl From<sys::pafteis_reply> for Reply {
+    fn from(reply: sys::pafteis_reply) -> Self {
+        let sys::pafteis_reply {
+            packet,
+            info,
+            status,
+            ..
+        } = reply;
+        match reply.kind {
+            1 => Reply::Started { packet },
+            2 => Reply::Stepped,
+            3 => Reply::Finished,
+            4 => Reply::Topped {
+                packet,
+                status,
+                info,
+            },
+            5 => Reply::Waited,
+            6 => Reply::Idle,
+            _ => Reply::Refused,
+        }
+    }
+}
+
+/// The world of an accepted driver set, which is freed when it is dropped.
+#[derive(Debug)]
+pub struct World {
+    handle: sys::pafteis_world,
+}
+
+// A world is in no thread's own memory, and each call wants it alone.
+unsafe impl Send for World {}
+
+impl World {
+    /// Makes the world of a set, with 1 to 64 threads.
+    ///
+    /// # Errors
+    ///
+    /// `Refused`, `FaultyText`, `FaultyImage`, `WrongArgument` of another number of threads,
+    /// `NoMemory`.
+    pub fn new(set: &[u8], threads: u8) -> Result<World, Error> {
+        let mut handle = sys::pafteis_world {
+            live: false,
+            inside: ptr::null_mut(),
+        };
+        let mut found = sys::pafteis_verdict::default();
+        let (at, length) = (set.as_ptr(), set.len());
+        let status =
+            unsafe { sys::pafteis_world_new(at, length, threads, &mut handle, &mut found) };
+        judged(status, &found).map(|()| World { handle })
+    }
+
+    /// Does an event.
+    pub fn apply(&mut self, event: Event) -> Reply {
+        let (event, mut reply) = (event.into(), sys::pafteis_reply::default());
+        let status = unsafe { sys::pafteis_world_apply(&mut self.handle, &event, &mut reply) };
+        debug_assert_eq!(status, sys::PAFTEIS_DONE);
+        reply.into()
+    }
+
+    /// One step of a thread.
+    pub fn step(&mut self, thread: u8) -> Reply {
+        self.apply(Event::Step { thread })
+    }
+
+    /// At most so many steps of a thread, up to the first that replies otherwise than `Stepped`: how
+    /// many were made, and the reply to the last of them.
+    pub fn steps(&mut self, thread: u8, count: usize) -> (usize, Reply) {
+        let (mut made, mut reply) = (0, sys::pafteis_reply::default());
+        let handle = &mut self.handle;
+        let status =
+            unsafe { sys::pafteis_world_steps(handle, thread, count, &mut made, &mut reply) };
+        debug_assert_eq!(status, sys::PAFTEIS_DONE);
+        (made, reply.into())
+    }
+
+    /// Tells of a thread.
+    ///
+    /// # Errors
+    ///
+    /// `WrongArgument` where there is none of this number.
+    pub fn thread(&mut self, number: u8) -> Result<Thread, Error> {
+        let mut found = Thread::default();
+        done(unsafe { sys::pafteis_world_thread(&mut self.handle, number, &mut found) })?;
+        Ok(found)
+    }
+
+    /// Tells of a packet, by the number that `Started` told: its kind is 0 where none was issued.
+    pub fn packet(&mut self, number: u64) -> Packet {
+        let mut found = Packet::default();
+        unsafe { sys::pafteis_world_packet(&mut self.handle, number, &mut found) };
+        found
+    }
+
+    /// Tells what is due of a device: nothing where there is none of this number.
+    pub fn due(&mut self, device: u8) -> Due {
+        let mut found = Due::default();
+        unsafe { sys::pafteis_world_due(&mut self.handle, device, &mut found) };
+        found
+    }
+}
+
+impl Drop for World {
+    fn drop(&mut self) {
+        unsafe { sys::pafteis_world_free(&mut self.handle) };
+    }
+}

@@ -1,0 +1,66 @@
+//! Over the library, and the examples of the tree.
+use pafteis::{check, trace, Error, Event, Major, Reply, World};
+use std::fs;
+
+fn example(name: &str) -> Vec<u8> {
+    fs::read(format!(
+        "{}/../../examples/{name}",
+        env!("CARGO_MANIFEST_DIR")
+    ))
+    .unwrap()
+}
+
+#[test]
+fn verdicts() {
+    assert_eq!(check(&example("echo.drv")), Ok(None));
+    let refusal = check(&example("twice.drv")).unwrap().unwrap();
+    assert_eq!(refusal.to_string(), "refused V5 driver 0 routine 0 at 1");
+    assert_eq!(check(b"what"), Err(Error::FaultyText { fault: 2, line: 1 }));
+    assert_eq!(check(b"DVB2"), Err(Error::FaultyImage { fault: 2 }));
+    assert_eq!(check(b"").unwrap().unwrap().rule, 1);
+}
+
+#[test]
+fn traces() {
+    let (set, schedule) = (example("twice.drv"), example("one-read.sched"));
+    assert!(matches!(
+        trace(&set, &schedule, false),
+        Err(Error::Refused(_))
+    ));
+    let run = trace(&set, &schedule, true).unwrap();
+    assert!(!run.complete && run.text.ends_with("3 bug 0x44 packet 0\n"));
+    assert!(matches!(trace(&set, b"what", true), Err(Error::Faulty(_))));
+}
+
+#[test]
+fn worlds() {
+    let mut world = World::new(&example("echo.drv"), 2).unwrap();
+    let read = Event::Issue {
+        thread: 0,
+        device: 0,
+        major: Major::Read,
+        argument: 7,
+    };
+    assert_eq!(world.apply(read), Reply::Started { packet: 0 });
+    assert_eq!(world.apply(read), Reply::Refused);
+    assert_eq!(world.step(0), Reply::Stepped);
+    assert_eq!(
+        world.steps(0, 9),
+        (
+            1,
+            Reply::Topped {
+                packet: 0,
+                status: 0,
+                info: 0
+            }
+        )
+    );
+    assert_eq!(world.step(0), Reply::Finished);
+    assert_eq!(world.step(0), Reply::Idle);
+    assert!(matches!(world.thread(2), Err(Error::WrongArgument)));
+    assert!(matches!(World::new(b"", 1), Err(Error::Refused(_))));
+    assert!(matches!(
+        World::new(&example("echo.drv"), 65),
+        Err(Error::WrongArgument)
+    ));
+}
