@@ -22,6 +22,7 @@ ROOMS = [
     ('workers', 'threads over one core', ('hostcore', 'intake', 'workers')),
     ('tell', 'runs in words', ('tell_',)),
     ('draw', 'pictures', ('draw_',)),
+    ('hunt', 'runs that end amiss', ('hunt_',)),
     ('drvhost', 'the program', ('report', 'drvhost')),
     ('pafteis', 'the library for C', ('pafteis',)),
     ('tests', 'tests, an example', ('tests_', 'example_')),
