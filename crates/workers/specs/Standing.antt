@@ -10,8 +10,8 @@ pub record IsWaiting (c : CoreState) (t : ℕ) : Type 0 where
   pub busy : busy_at (world_of c) t ≡ true
   pub unchanged : is_kept (reply_in c (Step t)) ≡ false
 
--- of the first so many threads none goes on: each that has frames waits, but for those that are marked
--- as gone, which no one steps any more
+-- of the first so many threads none goes on: each that has frames waits, but for those that are
+-- marked as gone, which no one steps any more
 abbrev pub StandStill : CoreState → List Bool → ℕ → Type 0
 StandStill c gone count =
     (t : ℕ) → t < count → get_or gone t false ≡ false → busy_at (world_of c) t ≡ true

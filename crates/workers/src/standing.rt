@@ -21,8 +21,8 @@ fn is_still(marks: &Marks, gone: &Gone, thread: usize) -> bool
     marks[thread] || gone.has(thread)
 }
 
-/// Whether none of the threads of these seats goes on: each is known to wait, or no one steps it any
-/// more, or it has no frames.
+/// Whether none of the threads of these seats goes on: each is known to wait, or no one steps it
+/// any more, or it has no frames.
 pub(crate) fn none_goes_on(core: &Core, seats: &[Seat], marks: &Marks, gone: &Gone) -> bool
     requires few { length seats.now ≤ MAX_TAKERS }
     ensures { IsTrue result ↔ ((t : ℕ) → t < length seats.now
