@@ -13,7 +13,7 @@ DRAWN = os.path.join(TOP, 'docs', 'rooms.svg')
 ROOMS = [
     ('model', 'what is spoken of', ('model',)),
     ('laws', 'laws of runs', ('laws_',)),
-    ('text', 'texts and images', ('text', 'driver_set', 'image', 'asm')),
+    ('text', 'texts and images', ('text', 'driver_', 'image', 'asm')),
     ('verifier', 'verdicts', ('absstate', 'verifier')),
     ('packets', 'packets, queues, locks', ('irp', 'devqueue', 'iomgr', 'irql_locks')),
     ('checked', 'runs any set', ('checked',)),
@@ -22,6 +22,7 @@ ROOMS = [
     ('workers', 'threads over one core', ('hostcore', 'intake', 'workers')),
     ('tell', 'runs in words', ('tell_',)),
     ('draw', 'pictures', ('draw_',)),
+    ('hunt', 'runs that end amiss', ('hunt_',)),
     ('drvhost', 'the program', ('report', 'drvhost')),
     ('pafteis', 'the library for C', ('pafteis',)),
     ('tests', 'tests, an example', ('tests_', 'example_')),

@@ -120,7 +120,8 @@ CASES = [
     ('check twice', 1, 'refused V5 DoubleCompletion driver 0 routine 1 at 5\n', ''),
     ('check open', 2, '', 'text fault 6 Unclosed line 2\n'),
     ('explain image', 0, 'accepted\ndriver 0 routine 0 dispatch certificate 2\n'
-     'driver 0 routine 0: driver d0, routine f0 (dispatch)\n', ''),
+     'driver 0 routine 0: driver d0, routine f0 (dispatch)\n'
+     'No threads ever wait for each other in a ring, and every routine ends.\n', ''),
     ('explain twice', 1, EXPLAINED, ''),
     ('explain --all twice', 1, EXPLAINED, ''),
     ('explain --all both', 1, EXPLAINED_EACH, ''),

@@ -31,7 +31,8 @@ IMAGES = {
 LISTED = b'driver d0\ndispatch READ f0\nroutine f0 dispatch\ncomplete r0 SUCCESS\nret SUCCESS\nendr\nendd\ndevice v0 d0 1\n'
 ACCEPTED = b'accepted\ndriver 0 routine 0 dispatch certificate 2\n'
 REFUSED = b'refused V5 DoubleCompletion driver 0 routine 0 at 1\n'
-NAMED = ACCEPTED + b'driver 0 routine 0: driver d, routine f (dispatch)\n'
+NAMED = (ACCEPTED + b'driver 0 routine 0: driver d, routine f (dispatch)\n'
+         b'No threads ever wait for each other in a ring, and every routine ends.\n')
 EXPLAINED = REFUSED + b'''
 in driver d, routine f (dispatch), position 1, line 5:
     3  routine f dispatch

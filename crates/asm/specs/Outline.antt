@@ -1,6 +1,6 @@
 -- What the lines of a driver text say so far, and what the next line adds to it, as the program
 -- keeps it: a step of the proof, and no definition to believe.
-use Rattle.std.specs.Prelude.{ℕ, ⊤, ◌≡◌, ◌<◌, ◌≤◌, All, map, slice_get, unwrap_or, ◌+◌, min, Bool, true, false, not, nat_lt, List, [], ◌∷◌, ◌++◌, length, Option, Some, None, is_some, option_map, option_and_then, option_to_list, if◌then◌else◌}
+use Rattle.std.specs.Prelude.{ℕ, ⊤, ◌≡◌, ◌<◌, ◌≤◌, All, map, slice_get, unwrap_or, ◌+◌, Bool, true, false, not, nat_lt, List, [], ◌∷◌, ◌++◌, length, Option, Some, None, is_some, option_map, option_and_then, option_to_list, if◌then◌else◌}
 use Rattle.model.specs.declared.instr.Instr.{Instr}
 use Rattle.model.specs.declared.limits.TheConstants.{MAX_DEVICES, MAX_DRIVERS, MAX_INSTRUCTIONS, MAX_QUEUES, MAX_ROUTINES}
 use Rattle.model.specs.declared.set.Device.{Device}
@@ -19,15 +19,16 @@ use Rattle.asm.specs.declared.draft.Linked.{Linked}
 use Rattle.asm.specs.declared.draft.QueueLine.{QueueLine}
 use Rattle.asm.specs.declared.draft.StartIoLine.{StartIoLine}
 use Rattle.asm.specs.declared.draft.Step.{Step as StepOf}
-use Rattle.asm.specs.declared.draft.Use.{Use}
-use Rattle.asm.specs.declared.routines.Role.{Role}
-use Rattle.asm.specs.declared.routines.Role.TheVariants.{Handler, Completion, StartIo as StartIoRole, Dpc as DpcRole, Cancel as CancelRole}
+use Rattle.asm_names.specs.declared.names.Use.{Use}
+use Rattle.asm_names.specs.declared.roles.Role.{Role}
+use Rattle.asm_names.specs.declared.roles.Role.TheVariants.{Handler, Completion, StartIo as StartIoRole, Dpc as DpcRole, Cancel as CancelRole}
 use Rattle.asm.specs.declared.fault.AsmKind.{AsmKind}
 use Rattle.asm.specs.declared.fault.AsmKind.TheVariants.{UnknownWord, DuplicateName, OutOfRange, OverLimit}
 use Rattle.asm_line.specs.declared.line.Body.{Body}
 use Rattle.asm_line.specs.declared.line.Body.TheVariants.{Blank, OpenDriver, CloseDriver, AddQueue, Handle, HandleStartIo, HandleDpc, OpenRoutine, CloseRoutine, AddDevice, Step}
 use Rattle.asm_line.specs.declared.line.Line.{Line}
 use Rattle.asm_line.specs.declared.line.UsedNames.{UsedNames}
+pub use Rattle.asm_names.specs.Uses.{earliest, is_known_label, missed, number_used, use_place, used_at}
 pub use Rattle.asm.specs.Names.{is_among, is_known, number_of, serves, number_for, routine_named, Inventory}
 pub use Rattle.asm.specs.Faults.{stands, is_stack_size, is_out_of_range}
 pub use Rattle.asm.specs.Said.{with_label, with_queue, with_routine}
@@ -97,11 +98,6 @@ handler_of o Read = o.read
 handler_of o Write = o.write
 handler_of o Control = o.control
 
--- there is a label, and it is one of these
-abbrev pub is_known_label : List (List ℕ) → Option (List ℕ) → Bool
-is_known_label labels None = false
-is_known_label labels (Some label) = is_among labels label
-
 -- the line gives a name, a table entry or a label again
 abbrev pub draft_is_again : Outline → Option (List ℕ) → Body → Bool
 draft_is_again o label (OpenDriver name) = is_among o.driver_names name
@@ -144,17 +140,6 @@ pub record IsFitting (o : Outline) (l : Line) : Type 0 where
   pub fresh : draft_is_again o l.label l.body ≡ false
   pub in_range : is_out_of_range l.body ≡ false
   pub room : draft_has_room o l.body ≡ true
-
--- the line of a use of a name, where the name isn't among these
-abbrev pub missed : List (List ℕ) → Option Use → Option ℕ
-missed names None = None
-missed names (Some u) = if is_among names u.name then None else Some u.line
-
--- the lesser of two lines
-abbrev pub earliest : Option ℕ → Option ℕ → Option ℕ
-earliest None b = b
-earliest (Some a) None = Some a
-earliest (Some a) (Some b) = Some (min a b)
 
 -- `driver NAME`
 abbrev pub driver_opened : Outline → List ℕ → Outline
@@ -372,10 +357,6 @@ routine_closed o = record o {
   unknown = missed_from o.labels o.unknown o.steps;
 }
 
--- the number of a name that is used, if one is
-abbrev pub number_used : List (List ℕ) → Option Use → Option ℕ
-number_used names u = option_and_then (λ u. number_of names u.name) u
-
 -- a device of the driver with this name, if there is one before it
 abbrev pub device_of : Outline → List ℕ → ℕ → Option Use → Option Device
 device_of o driver stack lower =
@@ -401,14 +382,6 @@ label_added o label = record o {
   labels = o.labels ++ option_to_list label;
   positions = o.positions ++ option_to_list (option_map (λ label. length o.steps) label);
 }
-
--- the use of a name in a line, if there is one
-abbrev pub used_at : ℕ → Option (List ℕ) → Option Use
-used_at n name = option_map (λ name. record { line = n; name = name }) name
-
--- the place of the use of a name, if there is one, among those of its kind, which were so many
-abbrev pub use_place : ℕ → Option (List ℕ) → Option ℕ
-use_place count name = option_map (λ name. count) name
 
 -- an instruction, and the names that it uses
 abbrev pub step_added : Outline → ℕ → Instr → UsedNames → Outline
@@ -453,12 +426,6 @@ open_drivers Outside = 0
 open_drivers InDriver = 1
 open_drivers InRoutine = 1
 
--- how many routines are open in a place
-abbrev pub open_routines : Place → ℕ
-open_routines Outside = 0
-open_routines InDriver = 0
-open_routines InRoutine = 1
-
 -- the sort of the routine that is open in a place
 abbrev pub open_sort : Place → Sort → List Sort
 open_sort Outside sort = []
@@ -483,29 +450,57 @@ pub record ClosedFits (uses : ℕ) (routine : ClosedRoutine) : Type 0 where
   pub queues : All (λ (step : Linked). QueueUsed uses step.instr step.queue) routine.code
 
 -- each device has the number of its name, and all of them fit
-pub record DevicesKnown (o : Outline) : Type 0 where
-  pub count : length o.devices ≡ length o.device_names
-  pub fit : DevicesFit (length o.driver_names) 0 o.devices
+pub record DevicesKnown (drivers names : List (List ℕ)) (devices : List Device) : Type 0 where
+  pub count : length devices ≡ length names
+  pub fit : DevicesFit (length drivers) 0 devices
 
--- what was read is within the limits of a set, and its numbers name things, those of its drivers
--- and devices where no name is unknown
-pub record IsOrderly (o : Outline) : Type 0 where
-  pub few_drivers : length o.driver_names ≤ MAX_DRIVERS
-  pub few_devices : length o.device_names ≤ MAX_DEVICES
-  pub few_routines : length o.routine_names ≤ MAX_ROUTINES
-  pub few_queues : length o.queue_names ≤ MAX_QUEUES
-  pub few_steps : length o.steps ≤ MAX_INSTRUCTIONS
-  pub idle : open_routines o.place ≡ 0 → o.steps ≡ []
-  pub positions_fit : All (λ position. position < length o.steps) o.positions
-  pub operands_fit : All (λ (step : StepOf). OperandFits step.instr) o.steps
-  pub queues_used : All (λ (step : StepOf). QueueUsed (length o.queue_uses) step.instr step.queue)
-      o.steps
-  pub guards_fit : All (λ (queue : QueueLine). IsSpinLock queue.guard) o.queues
-  pub queue_count : length o.queues ≡ length o.queue_names
-  pub driver_count : length o.drivers + open_drivers o.place ≡ length o.driver_names
-  pub routine_count : length o.routines + open_routines o.place ≡ length o.routine_names
-  pub sorts_known : map (λ (routine : ClosedRoutine). routine.sort) o.routines
-      ++ open_sort o.place o.sort ≡ o.sorts
-  pub drivers_fit : o.unknown ≡ None → All DriverFits o.drivers
-  pub devices_known : o.unknown ≡ None → DevicesKnown o
-  pub routines_fit : All (ClosedFits (length o.queue_uses)) o.routines
+-- the drivers, of which so many are open, are within the limits of a set, and fit where no name is
+-- unknown
+pub record DriversOrderly (opened : ℕ) (names : List (List ℕ)) (drivers : List Driver)
+    (unknown : Option ℕ) : Type 0 where
+  pub few : length names ≤ MAX_DRIVERS
+  pub count : length drivers + opened ≡ length names
+  pub fit : unknown ≡ None → All DriverFits drivers
+
+-- so are the devices, which have the numbers of their drivers
+pub record DevicesOrderly (drivers names : List (List ℕ)) (devices : List Device)
+    (unknown : Option ℕ) : Type 0 where
+  pub few : length names ≤ MAX_DEVICES
+  pub known : unknown ≡ None → DevicesKnown drivers names devices
+
+-- so are the routines of the open driver, where the routine of this sort is open, if one is
+pub record RoutinesOrderly (opened : List Sort) (names : List (List ℕ)) (sorts : List Sort)
+    (routines : List ClosedRoutine) (uses : ℕ) : Type 0 where
+  pub few : length names ≤ MAX_ROUTINES
+  pub count : length routines + length opened ≡ length names
+  pub sorts_known : map (λ (routine : ClosedRoutine). routine.sort) routines ++ opened ≡ sorts
+  pub fit : All (ClosedFits uses) routines
+
+-- so are its queues
+pub record QueuesOrderly (names : List (List ℕ)) (queues : List QueueLine) : Type 0 where
+  pub few : length names ≤ MAX_QUEUES
+  pub count : length queues ≡ length names
+  pub guards : All (λ (queue : QueueLine). IsSpinLock queue.guard) queues
+
+-- so are the instructions of the open routine, and there are none where none is open
+pub record StepsOrderly (opened : List Sort) (positions : List ℕ) (steps : List StepOf) (uses : ℕ)
+    : Type 0 where
+  pub few : length steps ≤ MAX_INSTRUCTIONS
+  pub idle : opened ≡ [] → steps ≡ []
+  pub positions_fit : All (λ position. position < length steps) positions
+  pub operands_fit : All (λ (step : StepOf). OperandFits step.instr) steps
+  pub queues_used : All (λ (step : StepOf). QueueUsed uses step.instr step.queue) steps
+
+-- what was read up to a place is within the limits of a set, and its numbers name things, those of
+-- its drivers and devices where no name is unknown
+pub record OrderlyAt (place : Place) (o : Outline) : Type 0 where
+  pub drivers : DriversOrderly (open_drivers place) o.driver_names o.drivers o.unknown
+  pub devices : DevicesOrderly o.driver_names o.device_names o.devices o.unknown
+  pub routines :
+      RoutinesOrderly (open_sort place o.sort) o.routine_names o.sorts o.routines
+      (length o.queue_uses)
+  pub queues : QueuesOrderly o.queue_names o.queues
+  pub steps : StepsOrderly (open_sort place o.sort) o.positions o.steps (length o.queue_uses)
+
+abbrev pub IsOrderly : Outline → Type 0
+IsOrderly o = OrderlyAt o.place o

@@ -3,10 +3,10 @@
 ghost use Rattle.std.specs.Prelude.{◌≡◌};
 ghost use Rattle.asm.specs.Outline.{handler_of, draft_has_room, draft_is_again, is_out_of_range, is_stack_size, draft_misfit, stands};
 
-use crate::draft::{Draft, Place, Use};
+use crate::draft::{Draft, Place};
 use crate::fault::AsmKind;
-use crate::names::{is_among, is_known};
 use asm_line::{Body, Line};
+use asm_names::names::{Use, is_among, is_known};
 use model::limits::{
     MAX_DEVICES, MAX_DRIVERS, MAX_INSTRUCTIONS, MAX_QUEUES, MAX_ROUTINES, MAX_STACK,
 };

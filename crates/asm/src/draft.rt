@@ -4,6 +4,7 @@ ghost use Rattle.std.specs.Prelude.{◌≡◌};
 ghost use Rattle.asm.specs.Outline.{nothing_read};
 
 use crate::code::{ClosedCode, OpenCode};
+use asm_names::names::Use;
 use indexmap::IndexSet;
 use model::instr::{Instr, SpinLock};
 use model::set::{Device, Driver, Sort};
@@ -17,25 +18,6 @@ pub enum Place {
     Outside,
     InDriver,
     InRoutine,
-}
-
-/// A line that uses a name: its number and the name.
-#[derive(Drop)]
-pub struct Use<'a> {
-    pub line: u64,
-    pub name: Piece<'a>,
-}
-
-impl<'a> Use<'a> {
-    /// The use of this name in this line.
-    pub fn of(line: u64, name: &Piece<'a>) -> Use<'a>
-        ensures { result ≡ record { line = line; name = name.now } }
-    {
-        Use {
-            line,
-            name: name.again(),
-        }
-    }
 }
 
 /// An instruction of the open routine. Where it jumps, `label` is the use of its label's name;

@@ -13,7 +13,6 @@ mod draft;
 mod fault;
 pub mod laws;
 mod link;
-mod names;
 mod note;
 mod queues;
 mod reading;

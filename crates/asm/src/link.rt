@@ -4,8 +4,8 @@ ghost use Rattle.std.specs.Prelude.{◌≡◌, ◌++◌, [], ◌∷◌, IfOk, On
 ghost use Rattle.asm.specs.Outline.{earliest, missed, missed_from, label_resolved, target_position, with_label};
 
 use crate::code::{Closed, ClosedCode, is_bare};
-use crate::draft::{Step, Use};
-use crate::names::earliest;
+use crate::draft::Step;
+use asm_names::names::{Use, earliest};
 use indexmap::IndexSet;
 use model::instr::Instr;
 use std::alloc::AllocError;

@@ -4,9 +4,11 @@ ghost use Rattle.std.specs.Prelude.{◌≡◌, ◌≤◌, ◌<◌, false, true, 
 ghost use Rattle.model.specs.declared.limits.TheConstants.{MAX_DEVICES, MAX_DRIVERS, MAX_INSTRUCTIONS, MAX_QUEUES, MAX_ROUTINES};
 ghost use Rattle.asm.specs.Outline.{device_added, device_of, dpc_handled, driver_closed, driver_opened, handled, is_among, is_known_label, is_stack_size, label_added, noted, queue_added, routine_closed, routine_opened, startio_handled, step_added, stepped, IsFitting, IsOrderly};
 
-use crate::draft::{ClosedRoutine, Draft, Place, QueueLine, StartIoLine, Step, Use};
-use crate::names::{add, add_use, earliest, missed, number_of, number_used, push_some, used_at};
+use crate::draft::{ClosedRoutine, Draft, Place, QueueLine, StartIoLine, Step};
 use asm_line::{Body, Line, UsedNames};
+use asm_names::names::{
+    Use, add, add_use, earliest, missed, number_of, number_used, push_some, used_at,
+};
 use model::instr::{Instr, SpinLock};
 use model::set::{Device, Sort};
 use model::status::Major;

@@ -1,17 +1,15 @@
 //! The queues of a driver put in place of their names, once all of them are known.
 
-ghost use Rattle.std.specs.Prelude.{◌≡◌, ◌≤◌, length, map, IfOk, Some};
+ghost use Rattle.std.specs.Prelude.{◌≡◌, ◌≤◌, length, map, IfOk};
 ghost use Rattle.model.specs.declared.limits.TheConstants.{MAX_QUEUES, MAX_ROUTINES};
-ghost use Rattle.asm.specs.Outline.{finished_queue, missed, missed_queue, queue_at, queue_used, with_queue};
+ghost use Rattle.asm.specs.Outline.{finished_queue, missed_queue, queue_at, queue_used, with_queue};
 
-use crate::draft::{Draft, QueueLine, Use};
-use crate::names::{earliest, is_among, number_of};
-use crate::routines::Role;
-use indexmap::IndexSet;
+use crate::draft::{Draft, QueueLine};
+use asm_names::names::{earliest, missed_use, number_of};
+use asm_names::roles::Role;
 use model::instr::Instr;
 use model::set::Queue;
 use std::alloc::{AllocError, Global};
-use text::piece::Piece;
 
 /// The instruction with this queue in place of its own, if it touches one.
 pub fn with_queue(instr: Instr, queue: u8) -> Instr
@@ -78,16 +76,5 @@ impl<'a> Draft<'a> {
     {
         let used = self.queue_uses.get(place?)?;
         number_of(&self.queue_names, &used.name)
-    }
-}
-
-/// The line of this use of a name, if it isn't among these.
-fn missed_use(names: &IndexSet<Piece<'_>>, used: &Use<'_>) -> Option<u64>
-    ensures { result ≡ missed names.now.keys (Some used.now) }
-{
-    if is_among(names, &used.name) {
-        None
-    } else {
-        Some(used.line)
     }
 }

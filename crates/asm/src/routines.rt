@@ -2,77 +2,19 @@
 
 ghost use Rattle.std.specs.Prelude.{◌≡◌, ◌≤◌, ◌++◌, length, map, IfOk, None};
 ghost use Rattle.model.specs.declared.limits.TheConstants.{MAX_QUEUES, MAX_ROUTINES};
-ghost use Rattle.asm.specs.Outline.{called, entry_in, finished, missed_calls, missed_cancels, missed_entry, missed_handler, missed_in_driver, missed_routine, missed_server, missed_startio, missed_use, number_for, finished_driver, routine_called, routine_named, serves, startio_named, waiting_named, with_routine};
+ghost use Rattle.asm.specs.Outline.{called, entry_in, finished, missed_calls, missed_cancels, missed_entry, missed_handler, missed_in_driver, missed_routine, missed_server, missed_startio, missed_use, finished_driver, routine_called, routine_named, startio_named, waiting_named, with_routine};
 
 use crate::code::{ClosedCode, is_nameless};
-use crate::draft::{ClosedRoutine, Draft, Linked, Use};
-use crate::names::{earliest, number_of};
+use crate::draft::{ClosedRoutine, Draft, Linked};
 use crate::queues::with_queue;
+use asm_names::names::{Use, earliest};
+use asm_names::roles::{Role, routine_named};
 use indexmap::IndexSet;
 use model::instr::Instr;
 use model::items::Items;
 use model::set::{Driver, Routine, Sort};
 use std::alloc::{AllocError, Global};
 use text::piece::Piece;
-
-/// What a routine is named for.
-#[derive(Clone, Copy)]
-pub enum Role {
-    /// To serve a major function.
-    Handler,
-    /// To be set by a `call`.
-    Completion,
-    /// To begin the packets of a device one after another.
-    StartIo,
-    /// To be queued by an interrupt.
-    Dpc,
-    /// To be called for a packet of a queue or of the device queue, which is cancelled.
-    Cancel,
-}
-
-/// Whether routines of this sort are for this role.
-fn serves(role: Role, sort: Sort) -> bool
-    ensures { result ≡ serves role sort }
-{
-    match (role, sort) {
-        (Role::Handler, Sort::Dispatch) => true,
-        (Role::Completion, Sort::Propagate | Sort::Hold) => true,
-        (Role::StartIo, Sort::StartIo) => true,
-        (Role::Dpc, Sort::Dpc) => true,
-        (Role::Cancel, Sort::Cancel) => true,
-        _ => false,
-    }
-}
-
-/// The number of the routine with this name, if its sort is for the role.
-fn routine_named(
-    names: &IndexSet<Piece<'_>>,
-    sorts: &[Sort],
-    role: Role,
-    name: &Piece<'_>,
-) -> Option<u8>
-    requires { length names.now.keys ≤ MAX_ROUTINES }
-    ensures { result ≡ routine_named names.now.keys sorts.now role name.now }
-{
-    let number = number_of(names, name)?;
-    number_for(role, number, sorts.get(number as usize).copied())
-}
-
-/// The number, if there is a sort and it is for the role.
-fn number_for(role: Role, number: u8, sort: Option<Sort>) -> Option<u8>
-    ensures { result ≡ number_for role number sort }
-{
-    match sort {
-        Some(sort) => {
-            if serves(role, sort) {
-                Some(number)
-            } else {
-                None
-            }
-        }
-        None => None,
-    }
-}
 
 /// The instruction with this routine in place of its own, if it is a `call`.
 fn with_routine(instr: Instr, routine: Option<u8>) -> Instr

@@ -34,3 +34,19 @@ sort_of t =
     (if bytes_eq t (codes "propagate") then Some Propagate else
     (if bytes_eq t (codes "hold") then Some Hold else
     (if bytes_eq t (codes "cancel") then Some Cancel else None)))))
+
+-- the word of a status
+abbrev pub status_text : Status → List ℕ
+status_text Success = codes "SUCCESS"
+status_text Pending = codes "PENDING"
+status_text Busy = codes "BUSY"
+status_text Unsuccessful = codes "UNSUCCESSFUL"
+status_text InvalidParameter = codes "INVALID_PARAMETER"
+status_text InvalidDeviceRequest = codes "INVALID_DEVICE_REQUEST"
+status_text Cancelled = codes "CANCELLED"
+
+-- the word of a field of a packet
+abbrev pub field_text : Field → List ℕ
+field_text MajorField = codes "MAJOR"
+field_text Argument = codes "ARG"
+field_text Info = codes "INFO"

@@ -10,3 +10,4 @@ mod words;
 
 pub use form::{comment_line, read_exactly};
 pub use line::{Body, Line, LineFault, UsedNames};
+pub use words::{field_text, status_text};

@@ -1,7 +1,7 @@
 //! The words of a driver text.
 
 ghost use Rattle.std.specs.Prelude.{◌≡◌};
-ghost use Rattle.asm_line.specs.Words.{field_of, sort_of, status_of};
+ghost use Rattle.asm_line.specs.Words.{field_of, field_text, sort_of, status_of, status_text};
 
 use model::instr::Field;
 use model::set::Sort;
@@ -64,5 +64,31 @@ pub fn sort_of(token: &[u8]) -> Option<Sort>
         Some(Sort::Cancel)
     } else {
         None
+    }
+}
+
+/// The word of a status.
+pub fn status_text(status: Status) -> &'static str
+    ensures { result.now ≡ status_text status }
+{
+    match status {
+        Status::Success => "SUCCESS",
+        Status::Pending => "PENDING",
+        Status::Busy => "BUSY",
+        Status::Unsuccessful => "UNSUCCESSFUL",
+        Status::InvalidParameter => "INVALID_PARAMETER",
+        Status::InvalidDeviceRequest => "INVALID_DEVICE_REQUEST",
+        Status::Cancelled => "CANCELLED",
+    }
+}
+
+/// The word of a field of a packet.
+pub fn field_text(field: Field) -> &'static str
+    ensures { result.now ≡ field_text field }
+{
+    match field {
+        Field::Major => "MAJOR",
+        Field::Argument => "ARG",
+        Field::Info => "INFO",
     }
 }

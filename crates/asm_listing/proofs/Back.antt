@@ -6,7 +6,7 @@ use Rattle.text.specs.Cut.{lines_of}
 use Rattle.model.specs.declared.instr.Instr.{Instr}
 use Rattle.model.specs.declared.instr.Instr.TheVariants.{End}
 use Rattle.asm_line.specs.Cursor as reads
-use Rattle.asm_line.specs.Cursor.{Reading, beginning, one, so_far, then_read, three, two}
+use Rattle.asm_line.specs.Cursor.{Reading, beginning, one, then_read, three}
 use Rattle.asm_line.specs.Line.{body_of, ended, if_in_range, labelled, line_of, line_with, read_line}
 use Rattle.asm_line.specs.declared.cursor.Cursor.{Cursor}
 use Rattle.asm_line.specs.declared.line.Body.{Body}
@@ -22,7 +22,8 @@ use Rattle.asm_listing.proofs.Instructions.{instruction_back}
 use Rattle.asm_listing.proofs.Meaning.{meant, EntryFits}
 use Rattle.asm_listing.proofs.Operands.{at, decimal_back, major_back, name_back, one_read, optional_back, sort_back, spin_lock_back, three_read, two_read}
 use Rattle.asm_listing.proofs.Plain.{append_plain, decimal_plain, instruction_plain, label_plain, major_plain, numbered_plain, optional_plain, plain_word, sort_plain}
-use Rattle.asm_listing.proofs.Tokens.{is_lexical_line, joined_clear, line_back, tokens_back, ArePlain}
+use Rattle.text.specs.Spaced.{ArePlain}
+use Rattle.asm_listing.proofs.Tokens.{is_lexical_line, joined_clean, line_back, tokens_back}
 
 -- before the first operand, where nothing is noted
 abbrev start : Cursor
@@ -157,5 +158,5 @@ pub lines_back : (es : List Entry) → AllFit es
     → lines_of (text_of es) ≡ map (λ e. joined (words_of e)) es
 lines_back [] fits = refl
 lines_back (e ∷ es) fits =
-    line_back (joined (words_of e)) (text_of es) (joined_clear (words_of e) (words_plain e fits.0))
+    line_back (joined (words_of e)) (text_of es) (joined_clean (words_of e) (words_plain e fits.0))
     ∙ ap (λ (ls : List (List ℕ)). joined (words_of e) ∷ ls) (lines_back es fits.1)

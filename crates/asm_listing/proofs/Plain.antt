@@ -1,5 +1,5 @@
 -- The words of a listing's lines are tokens of their lines.
-use Rattle.std.proofs.Common.{◌≡◌, ℕ, ◌<◌, ◌≤◌, ◌^◌, true, ◌||◌, List, [], ◌∷◌, ◌++◌, length, Option, Some, None, IfSome, refl, ap, ◌∙◌, arith}
+use Rattle.std.proofs.Common.{◌≡◌, ℕ, ◌<◌, ◌≤◌, ◌^◌, true, ◌||◌, List, [], ◌∷◌, ◌++◌, Option, Some, None, IfSome, refl, ap, ◌∙◌, arith}
 use Rattle.std.proofs.Math.Bool.{or-true}
 use Rattle.std.specs.Prelude.{is_some}
 use Rattle.std.specs.Fmt.{decimal}
@@ -7,6 +7,8 @@ use Rattle.std.specs.List.{list_all}
 use Rattle.std.proofs.lemmas.Bool.Decides.{nat_tests}
 use Rattle.std.proofs.lemmas.Fmt.{decimal_nonempty}
 use Rattle.std.proofs.lemmas.List.Folds.{list_all-append}
+use Rattle.text.specs.Spaced.{is_inner, ArePlain, IsPlain}
+use Rattle.text.proofs.Digits.{some_bytes}
 use Rattle.text.specs.Class.{is_name, is_name_start, is_number, is_token, is_word, label_name}
 use Rattle.model.specs.declared.instr.Field.{Field}
 use Rattle.model.specs.declared.instr.Field.TheVariants.{Major as MajorField, Argument, Info}
@@ -26,31 +28,29 @@ use Rattle.model.specs.Sound.{FormFits, IsCell, IsRegister, IsSpinLock}
 use Rattle.asm_listing.specs.Words.{cell, field_text, form_words, instruction_words, label, label_words, major_text, numbered, operand_words, operands_words, optional, paged_cell, queue, register, returned_words, routine, sort_text, spin_lock, status_text}
 use Rattle.asm_listing.proofs.Digits.{decimal_passes, label_back, named, number_token, IsSmall}
 use Rattle.asm_listing.proofs.Meaning.{InstrFits}
-use Rattle.asm_listing.proofs.Tokens.{is_solid, ArePlain, IsPlain}
 
-pub plain_word : (b : ℕ) (bs : List ℕ) → list_all is_solid (b ∷ bs) ≡ true
+pub plain_word : (b : ℕ) (bs : List ℕ) → list_all is_inner (b ∷ bs) ≡ true
     → is_token (b ∷ bs) ≡ true → IsPlain (b ∷ bs)
-plain_word b bs solid token = record { some = λ is. cc; solid = solid; token = token }
+plain_word b bs inner token =
+    record { some = some_bytes (b ∷ bs) (omega arith); inner = inner; token = token }
 
-digit_is_solid : (b : ℕ) → 48 ≤ b → b ≤ 57 → is_solid b ≡ true
-digit_is_solid b low high = grind (arith, nat_tests)
+digit_is_inner : (b : ℕ) → 48 ≤ b → b ≤ 57 → is_inner b ≡ true
+digit_is_inner b low high = grind (arith, nat_tests)
 
-decimal_solid : (n : ℕ) → IsSmall n → list_all is_solid (decimal n) ≡ true
-decimal_solid n small = decimal_passes is_solid digit_is_solid n small
+decimal_inner : (n : ℕ) → IsSmall n → list_all is_inner (decimal n) ≡ true
+decimal_inner n small = decimal_passes is_inner digit_is_inner n small
 
 -- a small letter and a number
-pub numbered_plain : (letter n : ℕ) → is_name_start letter ≡ true → is_solid letter ≡ true
+pub numbered_plain : (letter n : ℕ) → is_name_start letter ≡ true → is_inner letter ≡ true
     → IsSmall n → IsPlain (numbered letter n)
-numbered_plain letter n start solid small =
-    plain_word letter (decimal n) (rw solid (decimal_solid n small))
+numbered_plain letter n start inner small =
+    plain_word letter (decimal n) (rw inner (decimal_inner n small))
     (rw (named letter n start small) refl)
 
 pub decimal_plain : (n : ℕ) → IsSmall n → IsPlain (decimal n)
 decimal_plain n small = record {
-  some = λ is. let some = decimal_nonempty n small in
-      let long : length (decimal n) ≡ 0 = ap (λ (t : List ℕ). length t) is in
-      absurd (omega (arith, some, long));
-  solid = decimal_solid n small;
+  some = some_bytes (decimal n) (decimal_nonempty n small);
+  inner = decimal_inner n small;
   token = number_token n small;
 }
 
@@ -62,16 +62,16 @@ label_plain (Some n) small =
     let t = label n ++ 58 ∷ [] in
     let name : label_name t ≡ Some (label n) = label_back (label n) (named 97 n refl small) in (
       plain_word 97 (decimal n ++ 58 ∷ [])
-          (list_all-append is_solid (label n) (58 ∷ []) ∙ rw (decimal_solid n small) refl)
+          (list_all-append is_inner (label n) (58 ∷ []) ∙ rw (decimal_inner n small) refl)
           (ap (λ o. is_name t || is_word t || is_number t || is_some o) name
           ∙ or-true (is_name t || is_word t || is_number t)),
       tt,
     )
 
 pub optional_plain : (letter : ℕ) (n : Option ℕ) → is_name_start letter ≡ true
-    → is_solid letter ≡ true → IfSome n IsSmall → ArePlain (optional (numbered letter) n)
-optional_plain letter None start solid small = tt
-optional_plain letter (Some n) start solid small = (numbered_plain letter n start solid small, tt)
+    → is_inner letter ≡ true → IfSome n IsSmall → ArePlain (optional (numbered letter) n)
+optional_plain letter None start inner small = tt
+optional_plain letter (Some n) start inner small = (numbered_plain letter n start inner small, tt)
 
 pub major_plain : (m : Major) → IsPlain (major_text m)
 major_plain Read = plain_word _ _ refl refl

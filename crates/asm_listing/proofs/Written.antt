@@ -7,7 +7,7 @@ use Rattle.model.specs.declared.instr.Instr.{Instr}
 use Rattle.model.specs.declared.instr.Instr.TheVariants.{Const}
 use Rattle.asm_listing.specs.declared.entry.Entry.{Entry}
 use Rattle.asm_listing.specs.declared.entry.Entry.TheVariants as line
-use Rattle.asm_listing.specs.Words.{instruction_text, instruction_words, joined, line_text, rest_joined}
+use Rattle.asm_listing.specs.Words.{instruction_text, instruction_words, joined, line_text, spaced}
 use Rattle.asm_listing.specs.Listing.{listed, text_of}
 
 pub text_append : (ls ms : List Entry) → text_of (ls ++ ms) ≡ text_of ls ++ text_of ms
@@ -64,7 +64,7 @@ one_written l old new h = h ∙ ap (λ (t : List ℕ). old ++ t) (sym (append-ni
 
 -- the words of an instruction after a space
 pub words_spaced : (i : Instr)
-    → rest_joined (instruction_words i) ≡ 32 ∷ joined (instruction_words i)
+    → spaced (instruction_words i) ≡ 32 ∷ joined (instruction_words i)
 words_spaced (Const r n) = refl
 words_spaced _ = refl
 

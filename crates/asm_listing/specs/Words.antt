@@ -1,51 +1,16 @@
 -- The words of the lines of a listing.
 use Rattle.std.specs.Prelude.{ℕ, List, [], ◌∷◌, ◌++◌, Option, Some, None, codes}
 use Rattle.std.specs.Fmt.{decimal}
-use Rattle.model.specs.declared.instr.Field.{Field}
-use Rattle.model.specs.declared.instr.Field.TheVariants.{Major as MajorField, Argument, Info}
 use Rattle.model.specs.declared.instr.Instr.{Instr}
 use Rattle.model.specs.declared.instr.Return.{Return}
 use Rattle.model.specs.declared.instr.Return.TheVariants.{WithStatus, Lower, Continue, Stop, Void}
-use Rattle.model.specs.declared.set.Sort.{Sort}
-use Rattle.model.specs.declared.set.Sort.TheVariants.{Dispatch, StartIo, Dpc, Propagate, Hold, Cancel}
-use Rattle.model.specs.declared.status.Major.{Major}
-use Rattle.model.specs.declared.status.Major.TheVariants.{Read, Write, Control}
-use Rattle.model.specs.declared.status.Status.{Status}
-use Rattle.model.specs.declared.status.Status.TheVariants.{Success, Pending, Busy, Unsuccessful, InvalidParameter, InvalidDeviceRequest, Cancelled}
 use Rattle.model.specs.InstructionForm.{Operand, ARegister, ACell, APagedCell, ASpinLock, AConstant, ATurns, AField, AStatus, AQueue, ALabel, ARoutine, AReturn, Form, ValueOf, Values, by_form}
+pub use Rattle.asm_line.specs.Words.{field_text, status_text}
+pub use Rattle.model.specs.Words.{sort_text}
+pub use Rattle.text.specs.Major.{major_text}
+pub use Rattle.text.specs.Spaced.{spaced}
 use Rattle.asm_listing.specs.declared.entry.Entry.{Entry}
 use Rattle.asm_listing.specs.declared.entry.Entry.TheVariants as line
-
--- the word of a major function
-abbrev pub major_text : Major → List ℕ
-major_text Read = codes "READ"
-major_text Write = codes "WRITE"
-major_text Control = codes "CONTROL"
-
--- the word of a field of a packet
-abbrev pub field_text : Field → List ℕ
-field_text MajorField = codes "MAJOR"
-field_text Argument = codes "ARG"
-field_text Info = codes "INFO"
-
--- the word of a sort of routine
-abbrev pub sort_text : Sort → List ℕ
-sort_text Dispatch = codes "dispatch"
-sort_text StartIo = codes "startio"
-sort_text Dpc = codes "dpc"
-sort_text Propagate = codes "propagate"
-sort_text Hold = codes "hold"
-sort_text Cancel = codes "cancel"
-
--- the word of a status
-abbrev pub status_text : Status → List ℕ
-status_text Success = codes "SUCCESS"
-status_text Pending = codes "PENDING"
-status_text Busy = codes "BUSY"
-status_text Unsuccessful = codes "UNSUCCESSFUL"
-status_text InvalidParameter = codes "INVALID_PARAMETER"
-status_text InvalidDeviceRequest = codes "INVALID_DEVICE_REQUEST"
-status_text Cancelled = codes "CANCELLED"
 
 -- a letter and a number: an operand, or a name
 abbrev pub numbered : ℕ → ℕ → List ℕ
@@ -143,15 +108,10 @@ words_of line.EndDriver = codes "endd" ∷ []
 words_of (line.Device number d) =
     codes "device" ∷ device number ∷ driver d.driver ∷ decimal d.stack ∷ optional device d.lower
 
--- words behind the first, each after a space
-abbrev pub rest_joined : List (List ℕ) → List ℕ
-rest_joined [] = []
-rest_joined (word ∷ words) = 32 ∷ word ++ rest_joined words
-
 -- words with one space between them
 abbrev pub joined : List (List ℕ) → List ℕ
 joined [] = []
-joined (word ∷ words) = word ++ rest_joined words
+joined (word ∷ words) = word ++ spaced words
 
 -- an instruction and the end of its line
 abbrev pub instruction_text : Instr → List ℕ

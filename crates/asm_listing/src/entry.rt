@@ -5,11 +5,11 @@ ghost use Rattle.asm_listing.specs.Words.{line_text};
 ghost use Rattle.asm_listing.specs.declared.entry.Entry.TheVariants as Line;
 
 use crate::instruction::write_instruction;
-use crate::words::{major_text, sort_text};
 use model::instr::Instr;
 use model::set::{Device, Queue, Sort};
 use model::status::Major;
 use std::alloc::AllocError;
+use text::major::major_text;
 
 /// A line of a listing, by the numbers of what it names.
 #[derive(Clone, Copy)]
@@ -54,7 +54,7 @@ impl Entry {
             Entry::StartIo(routine, cancel) => write_startio(text, routine, cancel),
             Entry::Dpc(routine) => write!(text, "dpc f{routine}\n"),
             Entry::Routine(number, sort) => {
-                write!(text, "routine f{number} {}\n", sort_text(sort))
+                write!(text, "routine f{number} {}\n", sort.as_str())
             }
             Entry::Step(label, instr) => write_step(text, label, instr),
             Entry::EndRoutine => text.push_str("endr\n"),

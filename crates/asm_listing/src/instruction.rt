@@ -4,7 +4,7 @@ ghost use Rattle.std.specs.Prelude.{◌≡◌, ◌++◌, OnOk, string_bytes};
 ghost use Rattle.asm_listing.specs.Words.{instruction_text};
 ghost use Rattle.model.specs.declared.instr.Instr.TheVariants as Is;
 
-use crate::words::{field_text, status_text};
+use asm_line::{field_text, status_text};
 use model::instr::{Field, Instr, Register, Return};
 use model::status::Status;
 use std::alloc::AllocError;

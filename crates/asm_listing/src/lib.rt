@@ -8,7 +8,6 @@ mod entry;
 mod instruction;
 mod lines;
 mod routine;
-mod words;
 
 pub use entry::Entry;
 pub use lines::listing;

@@ -19,13 +19,13 @@ use Rattle.text.specs.Number.{numbered_in}
 use Rattle.text.specs.Digits.{BeginsWith, Digits}
 use Rattle.text.specs.Spaced.{is_inner, spaced, ArePlain, IsPlain}
 use Rattle.text.proofs.Digits.{all_digits, all_inner, digits_number, digits_plain, some_bytes}
-use Rattle.text.proofs.Spaced.{plain_word, spaced_lexical, spaced_tokens}
+use Rattle.text.proofs.Spaced.{plain_word, plain_lexical, plain_tokens}
 use Rattle.text.specs.declared.class.TheConstants.{MAX_NAME}
 use Rattle.asm_line.specs.Cursor.{Reading, called, capped, cell, cell_of, constant, constant_of, field, label, lock_of, number, numbered, one, paged_cell, queue, ranged, register, register_of, returned, returned_by, so_far, spin_lock, status, then_read, three, turns, turns_of, two}
 use Rattle.asm_line.specs.Line.{body, if_in_range, line_of, read_line}
 use Rattle.asm_line.specs.Plain.{unnamed}
-use Rattle.asm_usual.specs.Usual.{at, same, with_label, with_queue, with_routine, word_of, Reads, ReadsStep, Takes, TakesName, TakesStatus}
-use Rattle.asm_line.specs.Words.{field_of, status_of}
+use Rattle.asm_usual.specs.Usual.{at, same, with_label, with_queue, with_routine, Reads, ReadsStep, Takes, TakesName, TakesStatus}
+use Rattle.asm_line.specs.Words.{field_of, field_text, status_of, status_text}
 use Rattle.asm_line.specs.declared.cursor.Cursor.{Cursor}
 use Rattle.asm_line.specs.declared.line.Body.{Body}
 use Rattle.asm_line.specs.declared.line.Body.TheVariants.{Step}
@@ -37,7 +37,7 @@ use Rattle.asm_line.proofs.Usual.{digits_are_name_bytes}
 read_plain : (word : List ℕ) (words : List (List ℕ)) → IsPlain word → ArePlain words
     → read_line (word ++ spaced words) ≡ ok_or (line_of (word ∷ words)) UnknownWord
 read_plain word words is are =
-    rw (spaced_lexical word words is are, spaced_tokens word words is are) refl
+    rw (plain_lexical word words is are, plain_tokens word words is are) refl
 
 -- a step without a label
 step_of : (line : List ℕ) (step : Body) (is : ReadsStep line step)
@@ -292,7 +292,7 @@ none_called {a} {e} {x} p done = record {
 }
 
 -- words
-status_plain : (s : Status) → IsPlain (word_of s) × (status_of (word_of s) ≡ Some s)
+status_plain : (s : Status) → IsPlain (status_text s) × (status_of (status_text s) ≡ Some s)
 status_plain Success = (plain_word _ refl refl refl, refl)
 status_plain Pending = (plain_word _ refl refl refl, refl)
 status_plain Busy = (plain_word _ refl refl refl, refl)
@@ -304,27 +304,21 @@ status_plain Cancelled = (plain_word _ refl refl refl, refl)
 pub status_taken : {line rest : List ℕ} {s : Status} → TakesStatus line s rest
     → Takes status same line s rest
 status_taken {line} {rest} {s} parts = record {
-  word = word_of s;
+  word = status_text s;
   parts = parts;
   plain = (status_plain s).0;
   reads = λ tokens used. rw ((status_plain s).1) refl;
 }
 
--- the word of a field
-abbrev pub field_word : Field → List ℕ
-field_word MajorField = codes "MAJOR"
-field_word Argument = codes "ARG"
-field_word Info = codes "INFO"
-
-field_plain : (f : Field) → IsPlain (field_word f) × (field_of (field_word f) ≡ Some f)
+field_plain : (f : Field) → IsPlain (field_text f) × (field_of (field_text f) ≡ Some f)
 field_plain MajorField = (plain_word _ refl refl refl, refl)
 field_plain Argument = (plain_word _ refl refl refl, refl)
 field_plain Info = (plain_word _ refl refl refl, refl)
 
-pub field_taken : {line rest : List ℕ} {f : Field} → line ≡ 32 ∷ field_word f ++ rest
+pub field_taken : {line rest : List ℕ} {f : Field} → line ≡ 32 ∷ field_text f ++ rest
     → Takes field same line f rest
 field_taken {line} {rest} {f} parts = record {
-  word = field_word f;
+  word = field_text f;
   parts = parts;
   plain = (field_plain f).0;
   reads = λ tokens used. rw ((field_plain f).1) refl;
@@ -332,7 +326,7 @@ field_taken {line} {rest} {f} parts = record {
 
 -- what `ret` returns
 returns_status : (s : Status) (c : Cursor)
-    → returned_by (word_of s) c ≡ so_far (WithStatus s) c
+    → returned_by (status_text s) c ≡ so_far (WithStatus s) c
 returns_status Success c = refl
 returns_status Pending c = refl
 returns_status Busy c = refl
@@ -344,7 +338,7 @@ returns_status Cancelled c = refl
 pub returned_status : {line rest : List ℕ} {s : Status} → TakesStatus line s rest
     → Takes returned same line (WithStatus s) rest
 returned_status {line} {rest} {s} parts = record {
-  word = word_of s;
+  word = status_text s;
   parts = parts;
   plain = (status_plain s).0;
   reads = λ tokens used. returns_status s (at tokens used);

@@ -1,13 +1,13 @@
 -- The usual form of an instruction's line: words that each stand after one space.
-use Rattle.std.specs.Prelude.{◌≡◌, ℕ, true, List, [], ◌∷◌, ◌++◌, codes, Some, None}
+use Rattle.std.specs.Prelude.{◌≡◌, ℕ, true, List, [], ◌∷◌, ◌++◌, Some, None}
 use Rattle.model.specs.declared.instr.Instr.{Instr}
 use Rattle.model.specs.declared.status.Status.{Status}
-use Rattle.model.specs.declared.status.Status.TheVariants.{Success, Pending, Busy, Unsuccessful, InvalidParameter, InvalidDeviceRequest, Cancelled}
 use Rattle.text.specs.Class.{is_name, label_name}
 use Rattle.text.specs.Spaced.{spaced, ArePlain, IsPlain}
 use Rattle.asm_line.specs.Cursor.{Reading, so_far}
 use Rattle.asm_line.specs.Line.{body_of, labelled}
 use Rattle.asm_line.specs.Plain.{unnamed}
+use Rattle.asm_line.specs.Words.{status_text}
 use Rattle.asm_line.specs.declared.cursor.Cursor.{Cursor}
 use Rattle.asm_line.specs.declared.line.Body.{Body}
 use Rattle.asm_line.specs.declared.line.UsedNames.{UsedNames}
@@ -43,19 +43,9 @@ pub record TakesName (bytes : List ℕ) (name : List ℕ) (rest : List ℕ) : Ty
   pub parts : bytes ≡ 32 ∷ name ++ rest
   pub named : is_name name ≡ true
 
--- the word of a status
-abbrev pub word_of : Status → List ℕ
-word_of Success = codes "SUCCESS"
-word_of Pending = codes "PENDING"
-word_of Busy = codes "BUSY"
-word_of Unsuccessful = codes "UNSUCCESSFUL"
-word_of InvalidParameter = codes "INVALID_PARAMETER"
-word_of InvalidDeviceRequest = codes "INVALID_DEVICE_REQUEST"
-word_of Cancelled = codes "CANCELLED"
-
 -- a space and the word of the status stand before the rest
 abbrev pub TakesStatus : List ℕ → Status → List ℕ → Type 0
-TakesStatus bytes status rest = bytes ≡ 32 ∷ word_of status ++ rest
+TakesStatus bytes status rest = bytes ≡ 32 ∷ status_text status ++ rest
 
 -- the bytes are operands of which the exact reading makes this instruction
 pub record Reads (reading : Cursor → Reading Instr) (bytes : List ℕ) (instr : Instr)

@@ -1,6 +1,5 @@
 pub mod Lists
 pub mod Stacks
-pub mod Devices
 pub mod Known
 pub mod Effects
 pub mod GoingOn

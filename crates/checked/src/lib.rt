@@ -5,6 +5,7 @@
 mod frame;
 mod local;
 pub mod machine;
+mod reply;
 mod routine;
 mod running;
 mod state;
@@ -12,5 +13,6 @@ mod system;
 mod thread;
 
 pub use machine::Checked;
+pub use reply::says_unchanged;
 pub use state::State;
 pub use thread::Thread;

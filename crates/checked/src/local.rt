@@ -9,7 +9,7 @@ ghost use Rattle.model.specs.Effect.{difference_of, end_effect, is_less_at, is_z
 ghost use Rattle.model.specs.Set.{Set};
 ghost use Rattle.model.specs.World.{at_label, innermost, next, with_register};
 
-use checked_parts::number_in;
+use checked_frames::number_in;
 use driver_set::{Instr, Register, Turns};
 use model::limits::MAX_LOOPS;
 use model::world::{Activation, OpenLoop, Value};

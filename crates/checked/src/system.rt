@@ -1,7 +1,6 @@
 //! The I/O system of a run, and what an event does to it.
 
-ghost use Rattle.std.specs.Prelude.{◌≡◌, ◌<◌, ◌≤◌, IfOk, IfSome, slice_get};
-ghost use Rattle.model.specs.declared.limits.TheConstants.{MAX_STACK};
+ghost use Rattle.std.specs.Prelude.{◌≡◌, ◌<◌, ◌≤◌, IfOk, slice_get};
 ghost use Rattle.checked.specs.GoingOn.{WorldGoes, WorldGoesNoFurther};
 ghost use Rattle.checked.specs.Step.{ended, event_now, step_now};
 ghost use Rattle.model.specs.Events.{cancel_on, irql_of};
@@ -9,9 +8,12 @@ ghost use Rattle.model.specs.View.{due_at, packet_at, thread_at};
 ghost use Rattle.model.specs.World.{opening};
 
 use crate::thread::Thread;
-use checked_parts::activation::{driver_of, entered};
-use checked_parts::{Frame, Shared, cancelling};
-use driver_set::{Device, DriverSet};
+use checked_frames::activation::entered;
+use checked_frames::{Frame, cancelling};
+use checked_parts::Shared;
+use driver_devices::{device_of, driver_of};
+use driver_set::DriverSet;
+use irql_locks::irql_of;
 use model::event::{Event, Reply};
 use model::status::Major;
 use model::view::{PacketView, ThreadView};
@@ -32,26 +34,6 @@ impl Model for System {
     ghost Value = { World };
 
     ghost view = { λ w. record { threads = w.thread_list.items; shared = w.shared } };
-}
-
-/// The device of a number, if there is one.
-fn device_of(set: &DriverSet, number: u8) -> Option<Device>
-    ensures device { result ≡ slice_get set.now.devices number }
-    ensures stack { IfSome (slice_get set.now.devices number) (λ d. d.stack ≤ MAX_STACK) }
-{
-    set.devices().get(number as usize).copied()
-}
-
-/// The level of a number.
-fn irql_of(level: u8) -> Option<Irql>
-    ensures { result ≡ irql_of level }
-{
-    match level {
-        0 => Some(Irql::Passive),
-        1 => Some(Irql::Apc),
-        2 => Some(Irql::Dispatch),
-        _ => None,
-    }
 }
 
 impl System {

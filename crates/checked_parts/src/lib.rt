@@ -1,13 +1,6 @@
 //! What the threads of the reference machine share, and what an instruction does to it.
 #![tactic(auto)]
 
-pub mod activation;
-pub mod frame;
-pub mod ran;
 pub mod shared;
-mod value;
 
-pub use frame::{Frame, Managing};
-pub use ran::{Over, Ran, Runner, cancelling, wrong_at};
 pub use shared::Shared;
-pub use value::{number_in, status_in};

@@ -26,7 +26,7 @@ pub enum End {
 
 impl End {
     /// The exit status.
-    fn status(self) -> u8
+    pub fn status(self) -> u8
         ensures { result ≡ end_status self }
     {
         match self {

@@ -40,6 +40,18 @@ pub fn begins_image(bytes: &[u8]) -> bool
     bytes.starts_with(&[0x44, 0x56, 0x42])
 }
 
+/// A text that names a set: the one that these bytes are, or the listing of the set of an image.
+pub fn source_of(alloc: Global, bytes: &[u8], set: &DriverSet) -> Result<Vec<u8>, Fault>
+    ensures { IfErr result (λ fault. fault ≡ Fault.Memory) }
+{
+    if begins_image(bytes) {
+        return Ok(asm::disassemble(alloc, set)?.into_bytes());
+    }
+    let mut source = Vec::new(alloc);
+    source.extend_from_slice(bytes)?;
+    Ok(source)
+}
+
 /// The set that an image spells.
 fn set_of_image(alloc: Global, bytes: &[u8]) -> Result<DriverSet, Fault>
     ensures { SaysImage bytes.now result }

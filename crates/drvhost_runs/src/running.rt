@@ -5,11 +5,10 @@ ghost use Rattle.model.specs.declared.event.Event.{Event};
 ghost use Rattle.model.specs.declared.event.Event.TheVariants.{Step};
 ghost use Rattle.model.specs.Machine.{Shows, ShowsWhole};
 ghost use Rattle.model.specs.Set.{Set};
-ghost use Rattle.laws_runs.specs.Waits.{says_unchanged};
 ghost use Rattle.drvhost_devices.specs.Answer.{is_last};
 ghost use Rattle.drvhost_runs.specs.Repeats.{RepeatsBy, settled, told_by};
 
-use checked::Checked;
+use checked::{Checked, says_unchanged};
 use laws_runs::waiting_changes_nothing;
 use machine::World;
 use model::event::{Event, Reply};
@@ -132,11 +131,4 @@ fn settled(reply: Reply, count: usize) -> Replies
         last: reply,
         times,
     }
-}
-
-/// Whether a reply says that nothing has changed.
-fn says_unchanged(reply: &Reply) -> bool
-    ensures { result ≡ says_unchanged reply.now }
-{
-    matches!(reply, Reply::Waited | Reply::Idle | Reply::Refused)
 }

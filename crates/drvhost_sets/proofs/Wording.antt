@@ -3,6 +3,7 @@ use Rattle.std.proofs.Common.{◌≡◌, ◌≢◌, ◌∙◌, ◌⊎◌, ◌+�
 use Rattle.std.proofs.lemmas.List.{append-nil, map_push, take_all, take_more}
 use Rattle.std.specs.Io.KnownBytes.{Appends}
 use Rattle.verifier_words.specs.Faults.{refusals}
+use Rattle.verifier_words.specs.Orders.{TellsOrders}
 use Rattle.verifier_words.specs.declared.telling.Told.{Told}
 use Rattle.model.specs.declared.abs.Refusal.{Refusal}
 use Rattle.model.specs.declared.abs.Rule.TheVariants.{Memory}
@@ -15,7 +16,7 @@ use Rattle.drvhost_devices.specs.declared.fault.Fault.TheVariants.{Write}
 use Rattle.drvhost_devices.specs.Answer.{Answer, acceptance, ended}
 use Rattle.drvhost_devices.specs.Device.{Adds, TakesBeginning}
 use Rattle.drvhost_devices.specs.Fault.{Goes}
-use Rattle.drvhost_devices.proofs.Writing.{adds_all, adds_breaks, adds_line}
+use Rattle.drvhost_devices.proofs.Writing.{adds_all, adds_breaks, adds_line, begins_before}
 use Rattle.drvhost_sets.specs.declared.explaining.Extent.{Extent}
 use Rattle.drvhost_sets.specs.Explained.{AreFurther, AreWordsOf, AreWordsOn, IsAcceptanceExplained, IsBlock, IsRefusalExplained}
 
@@ -43,14 +44,14 @@ broken_behind R b m n l verdict words end right adds begins =
     )
 
 -- a beginning of the lines of an accepted set alone goes out
-pub accepted_broken : (set : Set) (b n : Option (List ℕ)) → IsTypable set
-    → TakesBeginning b n (acceptance set) → Goes (IsAcceptanceExplained set) b n [] [] (Err Write)
-accepted_broken set b n typable begins =
-    let P : List ℕ → Type 0 = TakesBeginning b n in (
-      ended Complete (acceptance set ++ []),
-      (typable, ([], refl)),
-      subst P (sym (append-nil (acceptance set))) begins,
-    )
+pub accepted_broken : (set : Set) (words : List ℕ) (b n : Option (List ℕ)) → IsTypable set
+    → TellsOrders set words → TakesBeginning b n (acceptance set)
+    → Goes (IsAcceptanceExplained set) b n [] [] (Err Write)
+accepted_broken set words b n typable told begins = (
+  ended Complete (acceptance set ++ words),
+  (typable, (words, told, refl)),
+  begins_before b n (acceptance set) words begins,
+)
 
 -- the line of a refusal and words behind it, unless there was no memory for a verdict
 pub refusal_right : (extent : Extent) (set : Set) (refusal : Refusal) (l words : List ℕ)

@@ -1,6 +1,7 @@
 -- What `explain` answers: the verdict, with words behind it.
 use Rattle.std.specs.Prelude.{ℕ, ◌≡◌, ◌≢◌, ◌++◌, ◌⊎◌, List, [], ◌∷◌, Result, Ok, Err}
 use Rattle.verifier_words.specs.Faults.{AreFaults}
+use Rattle.verifier_words.specs.Orders.{TellsOrders}
 use Rattle.drvhost_devices.specs.Answer.{Answer, FileSays, acceptance, ended, faulty}
 use Rattle.drvhost_devices.specs.Device.{Holds, Supply}
 use Rattle.drvhost_devices.specs.declared.fault.End.TheVariants.{Complete, Stopped}
@@ -42,10 +43,13 @@ IsRefusalExplained extent set answer =
     (refusal : Refusal) × (words : List ℕ) × IsFirstFault set refusal × AreWordsOf extent set words
     × (answer ≡ ended Stopped (refusal_line refusal ++ words))
 
--- an accepted set: what `check` says, with some words behind it
+-- an accepted set: what `check` says, with words behind it that tell whether its drivers take their
+-- locks in order
 abbrev pub IsAcceptanceExplained : Set → Answer → Type 0
 IsAcceptanceExplained set answer =
-    IsTypable set × ((words : List ℕ) × (answer ≡ ended Complete (acceptance set ++ words)))
+    IsTypable set
+    × ((words : List ℕ) × TellsOrders set words
+    × (answer ≡ ended Complete (acceptance set ++ words)))
 
 -- the verdict on a set, with words behind it
 abbrev pub IsExplained : Extent → Set → Answer → Type 0

@@ -23,7 +23,7 @@ use model::abs::{Refusal, Rule};
 use report::lines::Lines;
 use std::alloc::{AllocError, Global};
 use verifier::{Accepted, verify};
-use verifier_words::{Origin, Told, explanation, explanations, roll};
+use verifier_words::{Origin, Told, acceptance, explanation, explanations};
 
 /// Of which faults of a refused set words are written.
 #[derive(Clone, Copy, Debug, PartialEq, Eq)]
@@ -42,7 +42,8 @@ struct Asked<'a> {
 }
 
 /// Writes whether a driver set is accepted, as [`check`](crate::check::check) does, and then words
-/// on it: the names of its routines, or what leads to the place of its refusal and why the rule is
+/// on it: the names of its routines, and in which order or cycle each driver takes its locks, with
+/// what follows for threads that run them; or what leads to the place of its refusal and why the rule is
 /// broken there; and, if asked for, the same of the first fault of each other routine. The answer
 /// is the exit status, as that of `check`: 0 accepted, 1 refused, 2 where its text or its image is
 /// faulty or a read or a write failed, 3 where memory ran out. Faults are told on the error writer,
@@ -218,8 +219,8 @@ fn explain_named<O: Sink>(
     }
 }
 
-/// Writes the lines of an accepted set, and the names of its routines behind them. The words are
-/// there before anything goes out.
+/// Writes the lines of an accepted set, and behind them the names of its routines and the orders in
+/// which its drivers take their locks. The words are there before anything goes out.
 fn explain_acceptance<O: Sink>(
     alloc: Global,
     origin: Origin<'_>,
@@ -234,7 +235,7 @@ fn explain_acceptance<O: Sink>(
     ensures reads { reads_failed result ≡ 0 }
     ensures writes { O.failures out.new ≡ O.failures out.old + writes_failed result }
 {
-    let words = roll(alloc, origin, accepted.set())?;
+    let words = acceptance(alloc, origin, accepted)?;
     accept(accepted, lines, out)?;
     write_words(lines, words.as_bytes(), out)?;
     Ok(End::Complete)

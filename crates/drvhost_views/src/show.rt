@@ -1,6 +1,6 @@
 //! A run shown to people, in words or as a picture.
 
-ghost use Rattle.std.specs.Prelude.{◌≡◌, ◌+◌, [], IfErr, IfOk};
+ghost use Rattle.std.specs.Prelude.{◌≡◌, ◌+◌, [], IfOk};
 ghost use Rattle.interleave.specs.Listing.{IsWithinLimits};
 ghost use Rattle.model.specs.Machine.{ShowsWhole};
 ghost use Rattle.drvhost_devices.specs.Answer.{ended};
@@ -12,11 +12,10 @@ ghost use Rattle.drvhost_views.specs.Told.{IsRunShown, IsShownRunOf, Tells};
 use crate::drawing::draw_run;
 use crate::tell::Manner;
 use crate::telling::{Told, tell_run};
-use asm::disassemble;
 use checked::Checked;
 use drvhost_devices::device::{Sink, Source};
 use drvhost_devices::fault::{End, Fault, of_schedule};
-use drvhost_devices::reading::begins_image;
+use drvhost_devices::reading::source_of;
 use drvhost_devices::transfer::read_whole;
 use drvhost_sets::job::Notes;
 use drvhost_sets::judged::Running;
@@ -186,16 +185,4 @@ fn run_shown(
         Showing::InWords(manner) => tell_run(alloc, source, machine, schedule, manner, lines),
         Showing::AsPicture => draw_run(alloc, source, machine, schedule),
     }
-}
-
-/// A text that names a set: the one that these bytes are, or the listing of the set of an image.
-fn source_of(alloc: Global, bytes: &[u8], set: &DriverSet) -> Result<Vec<u8>, Fault>
-    ensures { IfErr result (λ fault. fault ≡ Fault.Memory) }
-{
-    if begins_image(bytes) {
-        return Ok(disassemble(alloc, set)?.into_bytes());
-    }
-    let mut source = Vec::new(alloc);
-    source.extend_from_slice(bytes)?;
-    Ok(source)
 }

@@ -11,10 +11,10 @@ use Rattle.drvhost_runs.specs.Served.{IsHostOf}
 use Rattle.drvhost_views.specs.Told.{IsDrawOf, IsTellOf}
 use Rattle.drvhost_views.specs.declared.tell.Manner.{Manner}
 use Rattle.drvhost_devices.specs.declared.verification.Verification.{Verification}
-use Rattle.drvhost_words.specs.declared.job.Job.{Job}
-use Rattle.drvhost_words.specs.declared.job.JobFault.{JobFault}
-use Rattle.drvhost_words.specs.declared.job.JobFault.TheVariants.{Memory, Usage}
-use Rattle.drvhost_words.specs.CommandLine.{Names, NamesJob, job_fault_status, job_fault_told, program, text_told}
+use Rattle.drvhost_commands.specs.declared.job.Job.{Job}
+use Rattle.drvhost_commands.specs.declared.job.JobFault.{JobFault}
+use Rattle.drvhost_commands.specs.declared.job.JobFault.TheVariants.{Memory, Usage}
+use Rattle.drvhost_commands.specs.CommandLine.{Names, NamesJob, job_fault_status, job_fault_told, program, text_told}
 use Rattle.drvhost_words.specs.Files.{supply_of}
 use Rattle.drvhost_words.specs.declared.answer.Way.{Way}
 use Rattle.drvhost_words.specs.declared.answer.Way.TheVariants.{BySchedule, InWords, AsPicture}

@@ -1,4 +1,3 @@
-pub mod CommandLine
 pub mod Files
 pub mod Program
 pub mod Outside

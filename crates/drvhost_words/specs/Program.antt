@@ -15,10 +15,10 @@ use Rattle.drvhost_runs.specs.Served.{IsHostOf}
 use Rattle.drvhost_views.specs.Told.{IsDrawOf, IsTellOf}
 use Rattle.drvhost_words.specs.declared.answer.Way.{Way}
 use Rattle.drvhost_words.specs.declared.answer.Way.TheVariants.{BySchedule, InWords, AsPicture}
-use Rattle.drvhost_words.specs.declared.job.Job.{Job}
-use Rattle.drvhost_words.specs.declared.job.Job.TheVariants.{Alone, Host}
-use Rattle.drvhost_words.specs.declared.job.AloneJob.TheVariants.{Check, Explain, ExplainRule, List as ListJob, Rewrite, Version, Trace, Tell, Draw}
-use Rattle.drvhost_words.specs.CommandLine.{Names, NamesJob, program, usage}
+use Rattle.drvhost_commands.specs.declared.job.Job.{Job}
+use Rattle.drvhost_commands.specs.declared.job.Job.TheVariants.{Alone, Host}
+use Rattle.drvhost_commands.specs.declared.job.AloneJob.TheVariants.{Check, Explain, ExplainRule, List as ListJob, Rewrite, Version, Trace, Tell, Draw}
+use Rattle.drvhost_commands.specs.CommandLine.{Names, NamesJob, program, usage}
 use Rattle.drvhost_words.specs.Files.{Has}
 use Rattle.drvhost_words.specs.Unread.{IsNamedUnread, IsOneOf}
 

@@ -9,8 +9,8 @@ ghost use Rattle.drvhost_sets.specs.Explained.{IsExplainedOf};
 ghost use Rattle.drvhost_runs.specs.Served.{IsHostOf};
 
 use crate::files::{Files, Later, Pending};
-use crate::job::{AloneJob, Job, JobFault, Workers, refuse_unknown_words, refuse_words};
 use crate::unread::{Names, tell_if_unread, tell_which_unread};
+use drvhost_commands::job::{AloneJob, Job, JobFault, Workers, refuse_unknown_words, refuse_words};
 use drvhost_devices::device::{Sink, Source};
 use drvhost_devices::unopened::tell_unopened;
 use drvhost_devices::verification::Verification;

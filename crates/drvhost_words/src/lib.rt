@@ -1,8 +1,7 @@
-//! The program's command line, and what the program answers: which job the words name, the files
-//! that they name, each opened when its turn comes, and the job done with them.
+//! What the program answers for the words of its command line: the files that they name, each opened
+//! when its turn comes, and the job done with them.
 #![tactic(auto)]
 
 pub mod answer;
 pub mod files;
-pub mod job;
 mod unread;

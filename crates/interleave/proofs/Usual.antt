@@ -1,18 +1,16 @@
 -- Lines in their usual form are read as the exact reading says.
-use Rattle.std.proofs.Common.{◌≡◌, ℕ, ◌+◌, ◌-◌, ◌<◌, ◌≤◌, ◌^◌, nat_eq, true, false, List, [], ◌∷◌, ◌++◌, Option, Some, None, Result, IfSome, refl, ◌∙◌, arith, append_assoc, codes}
+use Rattle.std.proofs.Common.{◌≡◌, ℕ, ◌+◌, ◌-◌, ◌<◌, ◌≤◌, ◌^◌, List, [], ◌∷◌, ◌++◌, Option, Some, None, Result, IfSome, refl, ◌∙◌, arith, append_assoc}
 use Rattle.std.proofs.lemmas.List.{append-nil}
 use Rattle.std.proofs.lemmas.Bool.{le-leb}
-use Rattle.std.proofs.lemmas.Bool.Decides.{nat_tests}
-use Rattle.std.specs.List.{list_all}
 use Rattle.model.specs.declared.event.Event.TheVariants.{Issue, Cancel, Interrupt, Dpc, StartIo, Step}
 use Rattle.model.specs.declared.status.Major.{Major}
 use Rattle.model.specs.declared.status.Major.TheVariants.{Read, Write, Control}
-use Rattle.text.specs.Cut.{is_written, lines_from, lines_of}
-use Rattle.text.specs.Major.{major_of}
+use Rattle.text.specs.Cut.{lines_from, lines_of}
+use Rattle.text.specs.Major.{major_of, major_text}
 use Rattle.text.specs.Digits.{BeginsWith}
-use Rattle.text.specs.Spaced.{is_inner, spaced, ArePlain, IsPlain}
+use Rattle.text.specs.Spaced.{spaced, ArePlain, IsPlain}
 use Rattle.text.proofs.Digits.{digits_form, digits_number, digits_plain}
-use Rattle.text.proofs.Spaced.{first_inner, spaced_lexical, spaced_tokens}
+use Rattle.text.proofs.Spaced.{lines_on, plain_lexical, plain_tokens, token_clean}
 use Rattle.interleave.specs.Line.{cancel_line, dpc_line, event_line, event_of, interrupt_line, issue_line, number_within, startio_line, step_line}
 use Rattle.interleave.specs.Usual.{lined, TakesNumber, TakesMajor, TakesUsual, IsCount, Once, Times, Reads}
 use Rattle.interleave.specs.declared.schedule.ScheduleKind.{ScheduleKind}
@@ -22,22 +20,7 @@ use Rattle.interleave.specs.declared.read.Repeated.{Repeated}
 read_plain : (word : List ℕ) (words : List (List ℕ)) → IsPlain word → ArePlain words
     → event_line (word ++ spaced words) ≡ event_of (word ∷ words)
 read_plain word words is are =
-    rw (spaced_lexical word words is are, spaced_tokens word words is are) refl
-
--- a token has no LF
-no_feed : (b : ℕ) → is_written b ≡ true → nat_eq b 10 ≡ false
-no_feed b written = grind (arith, nat_tests)
-
-lines_on : (held word rest : List ℕ) → list_all is_inner word ≡ true
-    → lines_from held (word ++ rest) ≡ lines_from (held ++ word) rest
-lines_on held [] rest is = rw (append-nil held) refl
-lines_on held (b ∷ bs) rest is =
-    let first = first_inner b bs is in
-    rw (
-      no_feed b first.0.written,
-      lines_on (held ++ b ∷ []) bs rest first.1,
-      append_assoc held (b ∷ []) bs,
-    ) refl
+    rw (plain_lexical word words is are, plain_tokens word words is are) refl
 
 -- words up to an LF are in one line
 lined_line : (held later : List ℕ) (words : List (List ℕ)) → ArePlain words
@@ -45,7 +28,7 @@ lined_line : (held later : List ℕ) (words : List (List ℕ)) → ArePlain word
 lined_line held later [] are = rw (append-nil held) refl
 lined_line held later (word ∷ words) (is, are) =
     rw (
-      lines_on (held ++ 32 ∷ []) word (lined words (10 ∷ later)) is.inner,
+      lines_on (held ++ 32 ∷ []) word (lined words (10 ∷ later)) (token_clean word is.inner),
       lined_line ((held ++ 32 ∷ []) ++ word) later words are,
       append_assoc (held ++ 32 ∷ []) word (spaced words),
       append_assoc held (32 ∷ []) (word ++ spaced words),
@@ -63,7 +46,7 @@ line_taken word reading text operands later (Some r) is begins parts reads = rec
   parts = rw (
     parts,
     reads.parts,
-    lines_on [] word (lined reads.words (10 ∷ later)) is.inner,
+    lines_on [] word (lined reads.words (10 ∷ later)) (token_clean word is.inner),
     lined_line word later reads.words reads.plain,
   ) refl;
   says = read_plain word reads.words is reads.plain ∙ begins reads.words ∙ reads.says;
@@ -185,23 +168,17 @@ takes_number bytes operand rest space n parts blank is small = record {
   writes = digits_number is.digits n is.some is.all is.writes small;
 }
 
--- the word of a major function
-abbrev pub name_of : Major → List ℕ
-name_of Read = codes "READ"
-name_of Write = codes "WRITE"
-name_of Control = codes "CONTROL"
-
-name_plain : (m : Major) → IsPlain (name_of m) × (major_of (name_of m) ≡ Some m)
-name_plain Read = (record { some = refl; inner = refl; token = refl }, refl)
-name_plain Write = (record { some = refl; inner = refl; token = refl }, refl)
-name_plain Control = (record { some = refl; inner = refl; token = refl }, refl)
+word_plain : (m : Major) → IsPlain (major_text m) × (major_of (major_text m) ≡ Some m)
+word_plain Read = (record { some = refl; inner = refl; token = refl }, refl)
+word_plain Write = (record { some = refl; inner = refl; token = refl }, refl)
+word_plain Control = (record { some = refl; inner = refl; token = refl }, refl)
 
 -- a space and such a word
-pub major_taken : {bytes rest : List ℕ} {m : Major} → bytes ≡ 32 ∷ name_of m ++ rest
+pub major_taken : {bytes rest : List ℕ} {m : Major} → bytes ≡ 32 ∷ major_text m ++ rest
     → TakesMajor bytes m rest
 major_taken {bytes} {rest} {m} parts = record {
-  word = name_of m;
+  word = major_text m;
   parts = parts;
-  plain = (name_plain m).0;
-  names = (name_plain m).1;
+  plain = (word_plain m).0;
+  names = (word_plain m).1;
 }

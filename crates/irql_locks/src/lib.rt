@@ -3,8 +3,10 @@
 
 ghost use Rattle.irql_locks.specs.Owns.{OwningTells};
 
+mod level;
 pub mod lock_table;
 
+pub use level::irql_of;
 pub use lock_table::LockTable;
 
 /// A law of the tests of owners: a thread owns a lock exactly if it is its owner, and any lock

@@ -3,11 +3,12 @@
 ghost use Rattle.std.specs.Prelude.{◌≡◌, option_map, slice_get};
 ghost use Rattle.machine_frames.specs.Left.{frame_over};
 ghost use Rattle.laws_words.specs.Words.{WordRoutine, completes_with, dispatched as dispatched_of, entered as entered_of};
-ghost use Rattle.model.specs.Effect.{routine_of_device, serving_for as serving_for_of};
+ghost use Rattle.model.specs.Effect.{routine_of_device};
 ghost use Rattle.model.specs.Set.{cancel_routine_named};
 
 use crate::ran::Over;
 use arrayvec::ArrayVec;
+use driver_devices::{driver_of, serving_for};
 use driver_set::DriverSet;
 use laws_words::WordActivation;
 use model::limits::{DEFAULT_ROUTINE, REGISTERS};
@@ -27,26 +28,6 @@ pub fn entered(driver: u8, routine: u8, device: u8, first: u64) -> WordActivatio
         position: 0,
         loops: ArrayVec::new(),
         registers,
-    }
-}
-
-/// The number of the driver of a device.
-pub fn driver_of(set: &DriverSet, device: u8) -> u8
-    ensures { result ≡ routine_of_device (slice_get set.now.devices device) }
-{
-    match set.devices().get(device as usize) {
-        Some(device) => device.driver,
-        None => 0,
-    }
-}
-
-/// The number of the routine of a driver that serves what a packet asks for.
-fn serving_for(set: &DriverSet, driver: u8, major: Option<Major>) -> u8
-    ensures { result ≡ serving_for_of set.now driver major }
-{
-    match major {
-        Some(major) => set.handler(driver, major),
-        None => DEFAULT_ROUTINE,
     }
 }
 

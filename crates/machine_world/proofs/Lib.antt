@@ -1,4 +1,3 @@
-pub mod Devices
 pub mod GoingOn
 pub mod Runs
 pub mod Stacks

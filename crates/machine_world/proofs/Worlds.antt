@@ -1,14 +1,13 @@
--- A step of a thread in its place, and what is told of one.
+-- A step of a thread in its place.
 use Rattle.std.proofs.Common.{◌≡◌, ◌-◌, ℕ, List, Option, None, Some, ap, length, refl, take}
 use Rattle.std.specs.Prelude.{slice_get}
 use Rattle.model.specs.declared.event.Reply.TheVariants.{Idle}
 use Rattle.model.specs.Set.{Set}
-use Rattle.laws_words.specs.WordViews.{word_thread_at}
 use Rattle.machine_frames.proofs.Lists.{set_back}
 use Rattle.laws_words.specs.WordStep.{stays, thread_step, top_frame, top_step}
 use Rattle.laws_words.specs.Words.{WordFrame, WordThread, WordWorld}
 use Rattle.laws_slots.specs.Slots.{SlotShared}
-use Rattle.machine_world.specs.Threads.{placed, stepped_on, told_of, top_moves}
+use Rattle.machine_world.specs.Threads.{placed, stepped_on, top_moves}
 
 abbrev with_threads : SlotShared → List WordThread → WordWorld
 with_threads s threads = record { threads = threads; shared = s }
@@ -27,9 +26,3 @@ module _ (set : Set) (v : WordWorld) (t : ℕ) where
   steps_in_place None found = refl
   steps_in_place (Some x) found =
       top_placed x found (take (length x.frames - 1) x.frames) (top_frame x.frames)
-
--- what is told of a thread where it stands is told of its number
-pub thread_told : (v : WordWorld) (t : ℕ) (o : Option WordThread) → slice_get v.threads t ≡ o
-    → told_of v o ≡ word_thread_at v t
-thread_told v t None is = rw is refl
-thread_told v t (Some x) is = rw is refl

@@ -2,10 +2,7 @@
 use Rattle.std.specs.Prelude.{ℕ, ◌-◌, List, length, Option, None, Some, slice_set, take}
 use Rattle.model.specs.declared.event.Reply.{Reply}
 use Rattle.model.specs.declared.event.Reply.TheVariants.{Idle, Refused}
-use Rattle.model.specs.declared.view.ThreadView.{ThreadView}
 use Rattle.model.specs.Set.{Set}
-use Rattle.laws_slots.specs.Rep.{named}
-use Rattle.laws_words.specs.WordViews.{word_thread_view}
 use Rattle.laws_words.specs.WordStep.{WordAnswer, WordOutcome, ends_or, frame_step, frames_after, level_over, stays, top_frame}
 use Rattle.laws_words.specs.Words.{WordFrame, WordThread, WordWorld}
 use Rattle.laws_slots.specs.Slots.{SlotShared}
@@ -50,8 +47,3 @@ placed v t m =
 abbrev pub stepped_on : Set → WordWorld → ℕ → Option WordThread → WordAnswer
 stepped_on set v t None = stays v Refused
 stepped_on set v t (Some x) = placed v t (thread_moves set v.shared t x)
-
--- what there is to tell of a thread, if it is there
-abbrev pub told_of : WordWorld → Option WordThread → Option ThreadView
-told_of v None = None
-told_of v (Some x) = Some (word_thread_view (named v.shared) x)

@@ -8,6 +8,7 @@ ghost use Rattle.laws_words.specs.WordStep.{frame_step, instruction_step, is_wal
 ghost use Rattle.laws_words.specs.Words.{WordRoutine};
 ghost use Rattle.laws_slots.specs.Slots.{SlotShared};
 
+use crate::locks::spin_lock;
 use crate::{cells, forwarding, locks, packets, queues, starting};
 use driver_set::{DriverSet, Instr, Return};
 use laws_words::WordActivation;
@@ -72,10 +73,8 @@ fn execute(
         Instr::Get(r, s, field) => packets::get(shared, r, s, field, a),
         Instr::Put(s, r) => packets::put(shared, s, r, a),
         Instr::Mark(r) => packets::mark(shared, r, a),
-        Instr::Acquire(lock) => {
-            return locks::acquire(shared, thread, locks::spin_lock(a, lock), a);
-        }
-        Instr::Release(lock) => locks::release(shared, locks::spin_lock(a, lock), a),
+        Instr::Acquire(lock) => return locks::acquire(shared, thread, spin_lock(a, lock), a),
+        Instr::Release(lock) => locks::release(shared, spin_lock(a, lock), a),
         Instr::AcquireCancel => return locks::acquire(shared, thread, Lock::SystemCancel, a),
         Instr::ReleaseCancel => locks::release(shared, Lock::SystemCancel, a),
         Instr::Insert(r, q) => queues::insert(shared, r, q, a),

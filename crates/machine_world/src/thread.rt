@@ -200,6 +200,17 @@ impl Thread {
         }
     }
 
+    /// After a step that ends the top frame: it goes, and the thread may have finished.
+    fn end(&mut self, reply: Reply) -> Reply
+        ensures thread { let below = take (length self.old.frames - 1) self.old.frames in
+            self.new ≡ standing_on self.old below }
+        ensures reply { let below = take (length self.old.frames - 1) self.old.frames in
+            result ≡ ends_or below reply }
+    {
+        self.pop();
+        self.finish(reply)
+    }
+
     /// Lets the routine on top, if one stands there, go on by itself for at most so many steps, and
     /// answers how many.
     pub fn go_on(&mut self, set: &DriverSet, shared: &Shared, number: u8, count: usize) -> usize
@@ -233,26 +244,19 @@ impl Thread {
                 top.replace(over);
                 Reply::Stepped
             }
-            Ran::Ends => {
-                self.pop();
-                self.finish(Reply::Stepped)
-            }
+            Ran::Ends => self.end(Reply::Stepped),
             Ran::TopsOut {
                 number: packet,
                 status,
                 info,
-            } => {
-                self.pop();
-                self.finish(Reply::Topped {
-                    packet,
-                    status,
-                    info,
-                })
-            }
+            } => self.end(Reply::Topped {
+                packet,
+                status,
+                info,
+            }),
             Ran::Stopped => {
                 self.pop();
-                self.pop();
-                self.finish(Reply::Stepped)
+                self.end(Reply::Stepped)
             }
             Ran::Returned(status) => {
                 self.pop();

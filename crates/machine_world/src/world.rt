@@ -1,7 +1,7 @@
 //! The world of a run, and what an event does to it.
 
-ghost use Rattle.std.specs.Prelude.{◌≡◌, ◌≤◌, ◌<◌, ℕ, IfOk, IfSome, Some, option_map, slice_get};
-ghost use Rattle.model.specs.declared.limits.TheConstants.{MAX_DEVICES, MAX_STACK};
+ghost use Rattle.std.specs.Prelude.{◌≡◌, ◌≤◌, ◌<◌, ℕ, IfOk, Some, option_map, slice_get};
+ghost use Rattle.model.specs.declared.limits.TheConstants.{MAX_DEVICES};
 ghost use Rattle.model.specs.Events.{irql_of as irql_of_level};
 ghost use Rattle.model.specs.Set.{dpc_of, startio_of};
 ghost use Rattle.model.specs.View.{due_view, packet_view};
@@ -9,7 +9,7 @@ ghost use Rattle.laws_words.specs.WordsDone.{WordEventDone, IssueDone};
 ghost use Rattle.laws_words.specs.WordsFit.{WordEventFits};
 ghost use Rattle.laws_slots.specs.ShownSlots.{meant_shared};
 ghost use Rattle.laws_slots.specs.Slots.{packet_at};
-ghost use Rattle.laws_words.specs.ShownWords.{words_at, words_of_thread};
+ghost use Rattle.laws_words.specs.ShownWords.{words_at};
 ghost use Rattle.laws_words.specs.WordViews.{word_thread_at};
 ghost use Rattle.laws_words.specs.WordEvents.{cancel_word, dpc_word, interrupt_word, opening_words, startio_word};
 ghost use Rattle.laws_words.specs.WordStep.{word_step};
@@ -17,11 +17,12 @@ ghost use Rattle.model.specs.declared.event.Reply.TheVariants.{Stepped};
 ghost use Rattle.machine_frames.specs.Left.{frame_over};
 ghost use Rattle.laws_words.specs.Words.{WordRoutine, entered};
 ghost use Rattle.machine_world.specs.GoingOn.{after, reply_after};
-ghost use Rattle.machine_world.specs.Threads.{stepped_on, told_of};
+ghost use Rattle.machine_world.specs.Threads.{stepped_on};
 
 use crate::thread::Thread;
-use driver_set::{Device, DriverSet};
-use machine_frames::activation::driver_of;
+use driver_devices::{device_of, driver_of};
+use driver_set::DriverSet;
+use irql_locks::irql_of;
 use machine_frames::{Managing, Over};
 use machine_parts::Shared;
 use model::event::{Event, Reply};
@@ -47,14 +48,6 @@ impl Model for Slots {
     ghost view = { λ w. record { threads = w.thread_list.items; shared = w.shared } };
 }
 
-/// The device of a number, if there is one.
-fn device_of(set: &DriverSet, number: u8) -> Option<Device>
-    ensures device { result ≡ slice_get set.now.devices number }
-    ensures stack { IfSome (slice_get set.now.devices number) (λ d. d.stack ≤ MAX_STACK) }
-{
-    set.devices().get(number as usize).copied()
-}
-
 /// A routine that begins, with the key that it is handed.
 #[inline]
 fn routine_of(driver: u8, routine: u8, device: u8, key: u64) -> Over
@@ -65,18 +58,6 @@ fn routine_of(driver: u8, routine: u8, device: u8, key: u64) -> Over
         routine,
         device,
         key,
-    }
-}
-
-/// The level of a number.
-fn irql_of(level: u8) -> Option<Irql>
-    ensures { result ≡ irql_of_level level }
-{
-    match level {
-        0 => Some(Irql::Passive),
-        1 => Some(Irql::Apc),
-        2 => Some(Irql::Dispatch),
-        _ => None,
     }
 }
 
@@ -165,13 +146,6 @@ impl Slots {
     pub fn thread(&self, number: u8) -> Option<ThreadView>
         ensures { result ≡ word_thread_at self.now number }
     {
-        self.view_of(number)
-    }
-
-    /// The same of the thread where it stands.
-    fn view_of(&self, number: u8) -> Option<ThreadView>
-        ensures { result ≡ told_of self.now (slice_get self.now.threads number) }
-    {
         match self.thread_list.get(number as usize) {
             Some(thread) => Some(thread.view(&self.shared)),
             None => None,
@@ -195,14 +169,6 @@ impl Slots {
     /// The words in the registers of the routine on the top of a thread, if one stands there.
     pub fn words(&self, thread: u8) -> Option<&[u64; REGISTERS]>
         ensures { option_map (λ words. words.now) result ≡ words_at self.now thread }
-    {
-        self.words_of(thread)
-    }
-
-    /// The same of the thread where it stands.
-    fn words_of(&self, thread: u8) -> Option<&[u64; REGISTERS]>
-        ensures { option_map (λ words. words.now) result
-            ≡ words_of_thread (slice_get self.now.threads thread) }
     {
         match self.thread_list.get(thread as usize) {
             Some(runner) => runner.words(),

@@ -82,7 +82,11 @@ fn add_ringed(ringed: &mut Vec<u8>, machine: &Checked, thread: u8) -> Result<(),
 }
 
 /// The threads that wait in a ring, the lowest number first.
-fn ringed_threads(alloc: Global, machine: &Checked) -> Result<Vec<u8>, AllocError>
+///
+/// # Errors
+///
+/// When memory runs out.
+pub fn ringed_threads(alloc: Global, machine: &Checked) -> Result<Vec<u8>, AllocError>
     ensures { IfOk result (λ ringed. ringed.items
         ≡ ringed_threads machine.now.set machine.now.world) }
 {

@@ -6,7 +6,7 @@ ghost use Rattle.tell_audit.specs.Missed.{frame_cancels, is_being_cancelled, is_
 ghost use Rattle.model.specs.World.{packet_of};
 
 use checked::{Checked, Thread};
-use checked_parts::{Frame, Managing};
+use checked_frames::{Frame, Managing};
 use irp::Packet;
 use std::alloc::{AllocError, Global};
 

@@ -6,7 +6,7 @@ ghost use Rattle.tell_audit.specs.Naming.{frame_names, has_word, is_named, lost_
 ghost use Rattle.model.specs.World.{packet_of};
 
 use checked::{Checked, Thread};
-use checked_parts::Frame;
+use checked_frames::Frame;
 use devqueue::{DeviceQueue, Guarded};
 use model::limits::{MAX_QUEUES, REGISTERS};
 use model::world::Value;

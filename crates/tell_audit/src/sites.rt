@@ -7,7 +7,7 @@ ghost use Rattle.tell_audit.specs.Sites.{devices_below, frame_sites, frames_belo
 
 use crate::naming::value_names;
 use checked::Checked;
-use checked_parts::Frame;
+use checked_frames::Frame;
 use devqueue::DeviceQueue;
 use model::limits::{MAX_QUEUES, REGISTERS};
 use model::world::{Activation, Armer};

@@ -2,7 +2,6 @@
 
 ghost use Rattle.std.specs.Prelude.{◌≡◌, IfOk, Some, option_map, slice_get, suc};
 ghost use Rattle.model.specs.Kinds.{is_right};
-ghost use Rattle.model.specs.Effect.{routine_of_device};
 ghost use Rattle.model.specs.Run.{frames_on};
 ghost use Rattle.model.specs.Typable.{IsTypable};
 ghost use Rattle.tell_holders.specs.Right.{Decides, DecidesRegister, has_right, is_plain, lends_to, waits_plain};
@@ -10,7 +9,8 @@ ghost use Rattle.tell_holders.specs.Right.{Decides, DecidesRegister, has_right, 
 use crate::arriving::state_at;
 use absstate::{Abs, Kind, Stage};
 use checked::Checked;
-use checked_parts::Frame;
+use checked_frames::Frame;
+use driver_devices::driver_of;
 use driver_set::{DriverSet, QueueName, Sort};
 use model::world::Activation;
 use std::alloc::{AllocError, Global};
@@ -122,16 +122,6 @@ fn lends_to(set: &DriverSet, over: &Frame) -> bool
     match over.activation() {
         Some(a) => set.sort(a.driver, a.routine) == Sort::Hold,
         None => false,
-    }
-}
-
-/// The driver of a device: the first one where there is no such device.
-fn driver_of(set: &DriverSet, device: u8) -> u8
-    ensures { result ≡ routine_of_device (slice_get set.now.devices device) }
-{
-    match set.devices().get(device as usize) {
-        Some(its) => its.driver,
-        None => 0,
     }
 }
 

@@ -6,7 +6,7 @@ ghost use Rattle.tell_uses.specs.Acting.{acting_by, acting_in, instruction_of, p
 
 use crate::standing::{instruction_at, packet_in, top_frame};
 use checked::Checked;
-use checked_parts::{Frame, Managing};
+use checked_frames::{Frame, Managing};
 use driver_set::{DriverSet, Instr, Register};
 use model::event::Event;
 use model::view::FrameView;

@@ -8,7 +8,7 @@ ghost use Rattle.tell_uses.specs.Acts.{may_use, frame_uses, instruction_uses, le
 use crate::acting::Acting;
 use crate::standing::{instruction_at, packet_in, top_frame};
 use checked::Checked;
-use checked_parts::{Frame, status_in};
+use checked_frames::{Frame, status_in};
 use driver_set::{Instr, Register, Return, Sort};
 use irp::Packet;
 use model::event::Event;

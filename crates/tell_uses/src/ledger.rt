@@ -8,8 +8,8 @@ ghost use Rattle.laws_runs.specs.Waits.{says_unchanged};
 use crate::acts::{Onward, UseStep};
 use crate::standing::{frames_on, thread_of};
 use crate::uses::{LocationUse, Note, Uses};
-use checked::Checked;
-use checked_parts::Frame;
+use checked::{Checked, says_unchanged};
+use checked_frames::Frame;
 use driver_set::{DriverSet, Sort};
 use laws_runs::pending_returns_agree;
 use model::event::{Event, Reply};
@@ -165,13 +165,6 @@ impl Model for Ledger {
       uses = l.known;
       rows = l.row_list.items;
     } };
-}
-
-/// Whether a reply says that nothing has changed.
-fn says_unchanged(reply: &Reply) -> bool
-    ensures { result ≡ says_unchanged reply.now }
-{
-    matches!(reply, Reply::Waited | Reply::Idle | Reply::Refused)
 }
 
 /// The rows of so many idle threads.

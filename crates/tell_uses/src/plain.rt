@@ -8,7 +8,7 @@ ghost use Rattle.tell_uses.specs.Plain.{PlainStepsKeepLedgers, PlainStepsStepOrS
 
 use crate::standing::{instruction_at, top_frame};
 use checked::Checked;
-use checked_parts::Frame;
+use checked_frames::Frame;
 use driver_set::{DriverSet, Instr};
 use model::event::Event;
 

@@ -3,11 +3,11 @@
 ghost use Rattle.std.specs.Prelude.{◌≡◌, [], OnOk};
 ghost use Rattle.tell_words.specs.Noted.{noted};
 
-use crate::change::add_awaited;
 use crate::disagreement::{Place, add_note, add_place, opened_place};
 use crate::line::Happened;
 use crate::places::{add_armer, add_holders, add_sites};
 use crate::refusal::refusal_words;
+use crate::ringed::add_ringed;
 use checked::Checked;
 use irp::Packet;
 use model::event::Reply;
@@ -19,7 +19,6 @@ use tell_holders::Rights;
 use tell_names::{Book, add_lock, add_top_out};
 use tell_uses::acts::UseStep;
 use tell_uses::ledger::Ledger;
-use tell_uses::standing::top_frame;
 
 /// An event that was refused.
 #[derive(Clone, Copy)]
@@ -190,16 +189,7 @@ fn add_findings(
             lock.thread
         )?;
     }
-    for thread in found.ringed.iter() {
-        write!(words, "thread {thread} waits in a ring")?;
-        if let Some(top) = top_frame(machine, *thread) {
-            words.push_str(" at ")?;
-            book.add_spot(words, top.view())?;
-        }
-        add_awaited(words, book, machine, *thread)?;
-        words.push_str("\n")?;
-    }
-    Ok(())
+    add_ringed(words, book, machine, found.ringed.as_slice())
 }
 
 /// Adds the uses of stack locations that were returned from otherwise than they were marked.

@@ -11,9 +11,11 @@ mod front;
 mod line;
 mod places;
 mod refusal;
+mod ringed;
 mod standing;
 mod teller;
 
 pub use change::add_change;
 pub use line::{Happened, Moment};
+pub use ringed::ring_words;
 pub use teller::Teller;

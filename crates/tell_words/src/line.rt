@@ -5,7 +5,7 @@ ghost use Rattle.tell_uses.specs.Acting.{acting_in};
 
 use crate::columns::add_columns;
 use checked::Checked;
-use checked_parts::status_in;
+use checked_frames::status_in;
 use model::event::{Event, Reply};
 use model::instr::{Instr, Return};
 use model::status::Status;

@@ -30,11 +30,13 @@ const VERDICT: &[u8] = b"accepted\ndriver 0 routine 0 dispatch certificate 2\n";
 
 /// What is said of `ONE_READ_TEXT`, whose lines are those of a text that a person wrote.
 const ROLL_OF_TEXT: &[u8] = b"accepted\ndriver 0 routine 0 dispatch certificate 2\n\
-      driver 0 routine 0: driver d, routine f (dispatch)\n";
+      driver 0 routine 0: driver d, routine f (dispatch)\n\
+      No threads ever wait for each other in a ring, and every routine ends.\n";
 
 /// The same of `ONE_READ`, which has no names: those of its listing.
 const ROLL_OF_IMAGE: &[u8] = b"accepted\ndriver 0 routine 0 dispatch certificate 2\n\
-      driver 0 routine 0: driver d0, routine f0 (dispatch)\n";
+      driver 0 routine 0: driver d0, routine f0 (dispatch)\n\
+      No threads ever wait for each other in a ring, and every routine ends.\n";
 
 /// A set whose last instruction is no return.
 const ENDLESS: &[u8] = b"driver d\ndispatch READ f\nroutine f dispatch\ncomplete r0 SUCCESS\n\

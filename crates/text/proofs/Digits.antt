@@ -7,7 +7,7 @@ use Rattle.std.proofs.lemmas.Bool.Decides.{nat_tests}
 use Rattle.std.specs.Char.{is_digit, digit_value}
 use Rattle.std.specs.List.{list_all}
 use Rattle.std.specs.Str.Parse.{digits_value}
-use Rattle.text.specs.Class.{is_name, is_word, is_number, is_prefixed, is_token, label_name}
+use Rattle.text.specs.Class.{is_name, is_word, is_number, is_prefixed, label_name}
 use Rattle.text.specs.Digits.{BeginsWith, Digits}
 use Rattle.text.specs.Number.{number_in}
 use Rattle.text.specs.Spaced.{is_inner, IsPlain}

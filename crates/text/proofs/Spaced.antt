@@ -5,7 +5,7 @@ use Rattle.std.proofs.lemmas.Bool.{and_parts}
 use Rattle.std.proofs.lemmas.Bool.Decides.{nat_tests}
 use Rattle.std.specs.List.{list_all, prefix_len}
 use Rattle.text.specs.Class.{is_token}
-use Rattle.text.specs.Cut.{closed, parts_from, code_of, is_blank, is_clean, is_written, tokens_of}
+use Rattle.text.specs.Cut.{closed, parts_from, code_of, is_blank, is_clean, is_written, lines_from, tokens_of}
 use Rattle.text.specs.Lexical.{is_lexical}
 use Rattle.text.specs.Spaced.{is_inner, spaced, ArePlain, IsPlain}
 
@@ -105,10 +105,10 @@ all_code line none =
     let no : nat_lt (length line) (length line) ≡ false = grind (arith, nat_tests) in
     rw (none, no) refl
 
--- a word and words after it are the tokens of the line, and all of a form
-pub spaced_tokens : (word : List ℕ) (words : List (List ℕ)) → IsPlain word → ArePlain words
+-- a word and words after it are the tokens of the line
+pub plain_tokens : (word : List ℕ) (words : List (List ℕ)) → IsPlain word → ArePlain words
     → tokens_of (word ++ spaced words) ≡ word ∷ words
-spaced_tokens word words is are =
+plain_tokens word words is are =
     let line = word ++ spaced words in
     let code : code_of line ≡ line =
     all_code line (code_on word (spaced words) is.inner (spaced_code words are)) in
@@ -116,9 +116,34 @@ spaced_tokens word words is are =
     part_on [] word (spaced words) is.inner ∙ spaced_parts word words is are in
     rw code parts
 
-pub spaced_lexical : (word : List ℕ) (words : List (List ℕ)) → IsPlain word → ArePlain words
+-- its bytes and its tokens are all of a form
+pub plain_clean : (word : List ℕ) (words : List (List ℕ)) → IsPlain word → ArePlain words
+    → is_clean (word ++ spaced words) ≡ true
+plain_clean word words is are = clean_on word (spaced words) is.inner (spaced_clean words are)
+
+pub plain_lexical : (word : List ℕ) (words : List (List ℕ)) → IsPlain word → ArePlain words
     → is_lexical (word ++ spaced words) ≡ true
-spaced_lexical word words is are =
-    let clean : is_clean (word ++ spaced words) ≡ true =
-    clean_on word (spaced words) is.inner (spaced_clean words are) in
-    rw (clean, spaced_tokens word words is are, is.token) (all_tokens words are)
+plain_lexical word words is are =
+    rw (plain_clean word words is are, plain_tokens word words is are, is.token)
+    (all_tokens words are)
+
+-- a token may stand in a line
+pub token_clean : (word : List ℕ) → list_all is_inner word ≡ true → is_clean word ≡ true
+token_clean [] is = refl
+token_clean (b ∷ bs) is =
+    let first = first_inner b bs is in rw (first.0.written) (token_clean bs first.1)
+
+-- what may stand in a line has no LF, so it is held up to its end
+no_feed : (b : ℕ) → is_written b ≡ true → nat_eq b 10 ≡ false
+no_feed b written = grind (arith, nat_tests)
+
+pub lines_on : (held line rest : List ℕ) → is_clean line ≡ true
+    → lines_from held (line ++ rest) ≡ lines_from (held ++ line) rest
+lines_on held [] rest is = rw (append-nil held) refl
+lines_on held (b ∷ bs) rest is =
+    let parts = and_parts (is_written b) (is_clean bs) is in
+    rw (
+      no_feed b parts.0,
+      lines_on (held ++ b ∷ []) bs rest parts.1,
+      append_assoc held (b ∷ []) bs,
+    ) refl

@@ -9,3 +9,9 @@ major_of t =
     if bytes_eq t (codes "READ") then Some Read else
     (if bytes_eq t (codes "WRITE") then Some Write else
     (if bytes_eq t (codes "CONTROL") then Some Control else None))
+
+-- the word of a major function
+abbrev pub major_text : Major → List ℕ
+major_text Read = codes "READ"
+major_text Write = codes "WRITE"
+major_text Control = codes "CONTROL"

@@ -1,7 +1,7 @@
 //! The words of major functions.
 
 ghost use Rattle.std.specs.Prelude.{◌≡◌};
-ghost use Rattle.text.specs.Major.{major_of};
+ghost use Rattle.text.specs.Major.{major_of, major_text};
 
 use crate::class::is;
 use model::status::Major;
@@ -18,5 +18,16 @@ pub fn major_of(token: &[u8]) -> Option<Major>
         Some(Major::Control)
     } else {
         None
+    }
+}
+
+/// The word of a major function.
+pub fn major_text(major: Major) -> &'static str
+    ensures { result.now ≡ major_text major }
+{
+    match major {
+        Major::Read => "READ",
+        Major::Write => "WRITE",
+        Major::Control => "CONTROL",
     }
 }

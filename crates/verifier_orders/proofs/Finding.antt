@@ -1,6 +1,6 @@
 -- Which edges the passes over the routines of a driver find: each that there is, and no other.
-use Rattle.laws_runs.proofs.Common.{ap, append-nil, arith, inl, inr, refl, subst, sym, zero, ◌-◌, ◌∙◌, cases_eq, eq-eqb, ne_eqb, cases_lt, slice_get-get_or, slice_get_within, get_or_from_slice_get, All, Bool, List, None, Option, Some, [], false, if◌then◌else◌, length, nat_eq, option_and_then, option_map, slice_get, slice_index_or, suc, true, ℕ, ◌++◌, ◌+◌, ◌<◌, ◌∷◌, ◌≡◌, ◌≢◌, ◌≤◌, ◌⊎◌, Member, Set, member, routine_of, default_number, default_routine, default_code, IsTypable, IsTypableRoutine, entry_of_sort, handed_at_label, Arrives, Abs, Instr, Acquire, AcquireCancel, IfPending, Remove, Disarm, Take, CancelLock, DeviceLock, Guard, Driver, RoutineOf, Sort, Cancel, Dispatch, Dpc, Hold, Propagate, StartIo, QueueName, arrives_keep}
-use Rattle.std.proofs.lemmas.List.Elements.{All-append, All-push}
+use Rattle.laws_runs.proofs.Common.{ap, arith, inl, inr, refl, subst, sym, zero, ◌-◌, ◌∙◌, cases_eq, eq-eqb, ne_eqb, cases_lt, slice_get-get_or, slice_get_within, get_or_from_slice_get, All, Bool, List, None, Option, Some, [], false, length, nat_eq, option_and_then, option_map, slice_get, slice_index_or, suc, true, ℕ, ◌++◌, ◌+◌, ◌<◌, ◌∷◌, ◌≡◌, ◌≢◌, ◌≤◌, ◌⊎◌, Member, Set, member, routine_of, default_number, default_routine, default_code, IsTypable, IsTypableRoutine, entry_of_sort, handed_at_label, Arrives, Abs, Instr, Acquire, AcquireCancel, IfPending, Remove, Disarm, Take, CancelLock, DeviceLock, Guard, Driver, RoutineOf, Sort, Cancel, Dispatch, Dpc, Hold, Propagate, StartIo, QueueName, arrives_keep}
+use Rattle.std.proofs.lemmas.List.Elements.{All-push}
 use Rattle.model.specs.LocalRule.{holds_guard, is_held}
 use Rattle.model.specs.Typable.{IsFineAt}
 use Rattle.verifier_evidence.specs.declared.arrivals.Arrival.{Arrival}
@@ -8,9 +8,10 @@ use Rattle.verifier_evidence.specs.Path.{member_of}
 use Rattle.verifier_evidence.specs.Table.{AreKnown, HasArrival}
 use Rattle.laws_locks.specs.Order.{TakesUnder, lock_named}
 use Rattle.verifier_orders.specs.declared.ranking.NumberedEdge.{NumberedEdge}
-use Rattle.verifier_orders.specs.Edges.{AreAdded, AreEdgesOf, AreEdgesTo, AreOnce, HasEdge, IsAdded, IsNew, IsNumberedEdge, edge, holds_number, number_of, number_taken}
+use Rattle.verifier_orders.specs.Edges.{AreAdded, AreEdgesOf, AreEdgesTo, AreInOrder, AreOnce, HasEdge, IsAdded, IsFirstEdge, IsNew, IsNumberedEdge, IsPast, edge, holds_number, number_of, number_taken}
 use Rattle.verifier_orders.specs.Ranking.{AreWithin, IsWithin}
 use Rattle.verifier_evidence.proofs.Known.{known_covered}
+use Rattle.verifier_orders.proofs.Sorting.{adds_first, adds_in_order, all_past_next, all_past_routine, get_last}
 use Rattle.laws_runs.proofs.States.Kinds.{handed_locks}
 
 -- the default routine takes no lock
@@ -128,6 +129,24 @@ eight_arrives m p s arrives =
     (λ x i q at rule eight. handed_locks m.set m.driver x i ∙ eight) (λ x i q at rule eight. eight_label x i ∙ eight)
     p s arrives
 
+-- before the first routine there is none
+none_early : (number position : ℕ) → (number < 0) ⊎ ((number ≡ 0) × (position < 0)) → ⊥
+none_early number position (inl low) = absurd (omega arith)
+none_early number position (inr low) =
+    (let l : position < 0 = low.1 in absurd (omega arith))
+
+pub no_edges : (set : Set) (driver : ℕ) → AreEdgesTo set driver 0 0 []
+no_edges set driver =
+    record {
+      within = λ k d l. absurd (omega arith);
+      once = λ j k e f first second held taken. cc;
+      each = λ k d l. absurd (omega arith);
+      all = λ held taken u early. absurd (none_early u.number u.position early);
+      past = λ k d l. absurd (omega arith);
+      ordered = λ j k e f low first second. cc;
+      first = λ k d l. absurd (omega arith);
+    }
+
 -- routines one after another
 module _ (set : Set) (driver n : ℕ) (edges : List NumberedEdge) where
   module _ (at : ℕ) (h : AreEdgesTo set driver n at edges) where
@@ -150,7 +169,16 @@ module _ (set : Set) (driver n : ℕ) (edges : List NumberedEdge) where
 
     pub next_routine : ((held taken : Guard) (u : TakesUnder set driver held taken)
         → u.number ≡ n → at ≤ u.position → ⊥) → AreEdgesTo set driver (n + 1) 0 edges
-    next_routine never = record { within = h.within; once = h.once; each = h.each; all = next_in never }
+    next_routine never =
+        record {
+          within = h.within;
+          once = h.once;
+          each = h.each;
+          all = next_in never;
+          past = all_past_routine n at edges h.past;
+          ordered = h.ordered;
+          first = h.first;
+        }
 
     -- positions one after another
     module _ (new : List NumberedEdge)
@@ -167,11 +195,20 @@ module _ (set : Set) (driver n : ℕ) (edges : List NumberedEdge) where
           ]
 
       pub next_position : AreWithin new → AreOnce new → All (IsNumberedEdge set driver) new
+          → AreInOrder new × All (IsPast n (at + 1)) new → All (IsFirstEdge set driver) new
           → ((held taken : Guard) (u : TakesUnder set driver held taken) → u.number ≡ n
           → u.position ≡ at → HasEdge new held taken)
           → AreEdgesTo set driver n (at + 1) new
-      next_position small once each here =
-          record { within = small; once = once; each = each; all = on_by here }
+      next_position small once each ordered first here =
+          record {
+            within = small;
+            once = once;
+            each = each;
+            all = on_by here;
+            past = ordered.1;
+            ordered = ordered.0;
+            first = first;
+          }
 
 -- an edge is added once
 first_apart : (e : NumberedEdge) (edges : List NumberedEdge) (held taken : ℕ)
@@ -229,18 +266,6 @@ module _ (is : Bool) (e : NumberedEdge) (old new : List NumberedEdge) where
   added_has held taken (inr more) one first second =
       subst (λ (xs : List NumberedEdge). HasEdge xs held taken) (sym more.2)
       (has_after old (e ∷ []) held taken (zero, e, refl, first, second))
-
-get_last : (edges : List NumberedEdge) (e f : NumberedEdge) (k : ℕ)
-    → slice_get (edges ++ e ∷ []) k ≡ Some f
-    → (slice_get edges k ≡ Some f) ⊎ ((k ≡ length edges) × (e ≡ f))
-get_last [] e f zero there = inr (refl, (let same : Some e ≡ Some f = there in cc))
-get_last [] e f (suc k) there = cc
-get_last (g ∷ edges) e f zero there = inl there
-get_last (g ∷ edges) e f (suc k) there =
-    elim (get_last edges e f k there) [
-      | inl before ↦ inl before
-      | inr last ↦ inr (ap suc last.0, last.1)
-    ]
 
 module _ (old : List NumberedEdge) (e : NumberedEdge) (fresh : IsNew old e.held e.taken)
     (once : AreOnce old) where
@@ -472,6 +497,7 @@ module _ (set : Set) (typable : IsTypable set) (driver n : ℕ) where
       pub position_none : number_taken i ≡ None → AreEdgesTo set driver n (at + 1) edges
       position_none none =
           next_position set driver n edges at h edges (λ held taken has. has) h.within h.once h.each
+          (h.ordered, all_past_next n at edges h.past) h.first
           (λ held taken u same place.
           let is : i ≡ u.instruction = its_instruction held taken u same place in
           let takes : number_taken i ≡ Some (number_of taken) =
@@ -509,6 +535,8 @@ module _ (set : Set) (typable : IsTypable set) (driver n : ℕ) where
             (adds_all s k n at edges (IsNumberedEdge set driver) 9 new added h.each
             (λ lock low. one_edge set driver n at k s parts.routine i parts.is_of code takes here
             lock))
+            (adds_in_order s k n at edges 9 new added h.ordered h.past)
+            (adds_first s k n at edges set driver (adds_stay s k n at edges) h.all 9 new added h.first)
             (λ held taken u same place.
             let is : i ≡ u.instruction = its_instruction held taken u same place in
             let its : Some k ≡ Some (number_of taken) =
@@ -540,6 +568,8 @@ all_routines set driver n edges h never =
         | inl less ↦ h.all held taken u (inl less)
         | inr more ↦ absurd (never held taken u more)
       ];
+      ordered = h.ordered;
+      first = h.first;
     }
 
 no_by : (set : Set) (driver n : ℕ) (held taken : Guard) (u : TakesUnder set driver held taken)

@@ -1,14 +1,12 @@
 -- What is told of locks and edges by name, of what is known by number.
 use Rattle.laws_runs.proofs.Common.{ap, arith, inl, inr, refl, subst, sym, zero, ◌∙◌, cases_eq, eq-eqb, ne_eqb, All, List, Some, [], length, slice_get, suc, ℕ, ◌++◌, ◌+◌, ◌<◌, ◌∷◌, ◌≡◌, ◌≢◌, ◌≤◌, ◌⊎◌, Set, IsSound, IsTypable, CancelLock, DeviceLock, Guard}
-use Rattle.std.specs.Prelude.{◌-◌, drop, get_or}
-use Rattle.std.proofs.Common.{drop-cons}
-use Rattle.std.proofs.lemmas.List.Elements.{All-push}
+use Rattle.std.specs.Prelude.{get_or, take}
 use Rattle.laws_locks.specs.Order.{TakesUnder}
 use Rattle.verifier_orders.specs.declared.names.Edge.{Edge}
 use Rattle.verifier_orders.specs.declared.ranking.NumberedEdge.{NumberedEdge}
-use Rattle.verifier_orders.specs.Cycle.{LeadBack}
+use Rattle.verifier_orders.specs.Cycle.{LeadFrom}
 use Rattle.verifier_orders.specs.Edges.{IsNumberedCycle, IsNumberedEdge, number_of, place_in}
-use Rattle.verifier_orders.specs.Names.{AreByPlace, guard_of, named, walked}
+use Rattle.verifier_orders.specs.Names.{AreByPlace, all_named, guard_of, named}
 use Rattle.verifier_orders.specs.Orders.{IsEdge, IsLockCycle, LeadOn}
 use Rattle.verifier_orders.specs.Ranking.{IsAt}
 use Rattle.verifier_orders.proofs.Ordering.{held_guard, taken_guard}
@@ -61,60 +59,53 @@ placed_more places locks count n h at =
       ];
     }
 
--- a way back is walked forward
-lead_last : (lock to next : Guard) (edges : List Edge) (e : Edge) → LeadOn lock edges to
-    → e.held ≡ to → e.taken ≡ next → LeadOn lock (edges ++ e ∷ []) next
-lead_last lock to next [] e on held taken = (held ∙ sym on, taken)
-lead_last lock to next (f ∷ edges) e on held taken =
-    (on.0, lead_last f.taken to next edges e on.1 held taken)
+-- edges by name lead from lock to lock as they do by number
+lead_on : (lock to : ℕ) (way : List NumberedEdge) → LeadFrom lock way to
+    → LeadOn (guard_of lock) (all_named way) (guard_of to)
+lead_on lock to [] lead = ap guard_of lead
+lead_on lock to (e ∷ way) lead = (ap guard_of lead.0, lead_on e.taken to way lead.1)
 
-lead_on : (lock to : ℕ) (way : List NumberedEdge) → LeadBack lock way to
-    → LeadOn (guard_of to) (walked way) (guard_of lock)
-lead_on lock to [] back = ap guard_of (sym back)
-lead_on lock to (e ∷ way) back =
-    lead_last (guard_of to) (guard_of e.held) (guard_of lock) (walked way) (named e)
-    (lead_on e.held to way back.1) refl (ap guard_of back.0)
+named_some : (way : List NumberedEdge) → way ≢ [] → all_named way ≢ []
+named_some [] some = absurd (some refl)
+named_some (e ∷ way) some = λ is. cc
 
-last_some : (edges : List Edge) (e : Edge) → edges ++ e ∷ [] ≢ []
-last_some [] e = λ is. cc
-last_some (f ∷ edges) e = λ is. cc
+named_each : (P : Edge → Type 0) (way : List NumberedEdge)
+    → All (λ (e : NumberedEdge). P (named e)) way → All P (all_named way)
+named_each P [] each k d l = absurd (omega arith)
+named_each P (e ∷ way) each zero d l = each zero e (omega arith)
+named_each P (e ∷ way) each (suc k) d l =
+    named_each P way (λ j x m. each (suc j) x (omega arith)) k d (omega arith)
 
-walked_some : (way : List NumberedEdge) → way ≢ [] → walked way ≢ []
-walked_some [] some = absurd (some refl)
-walked_some (e ∷ way) some = last_some (walked way) (named e)
+pub named_long : (way : List NumberedEdge) → length (all_named way) ≡ length way
+named_long [] = refl
+named_long (e ∷ way) = ap suc (named_long way)
 
-walked_each : (P : Edge → Type 0) (way : List NumberedEdge)
-    → All (λ (e : NumberedEdge). P (named e)) way → All P (walked way)
-walked_each P [] each = λ k d l. absurd (omega arith)
-walked_each P (e ∷ way) each =
-    All-push P (walked way) (named e)
-    (walked_each P way (λ k d l. each (suc k) d (omega arith))) (each zero e (omega arith))
+pub named_begun : (way : List NumberedEdge) → [] ≡ all_named (take 0 way)
+named_begun way = refl
 
-walked_ended : (way : List NumberedEdge) (n : ℕ) → length way ≤ n → [] ≡ walked (drop n way)
-walked_ended [] zero late = refl
-walked_ended [] (suc n) late = refl
-walked_ended (e ∷ way) zero late = absurd (omega arith)
-walked_ended (e ∷ way) (suc n) late = walked_ended way n (omega arith)
+take_more : (way : List NumberedEdge) (k : ℕ) (d : NumberedEdge) → k < length way
+    → all_named (take k way) ++ named (get_or way k d) ∷ [] ≡ all_named (take (suc k) way)
+take_more [] k d low = absurd (omega arith)
+take_more (f ∷ way) zero d low = refl
+take_more (f ∷ way) (suc k) d low =
+    ap (λ (xs : List Edge). named f ∷ xs) (take_more way k d (omega arith))
 
-pub walked_begun : (way : List NumberedEdge) → [] ≡ walked (drop (length way - 0) way)
-walked_begun way = walked_ended way (length way - 0) (omega arith)
+pub named_more : (way : List NumberedEdge) (place : ℕ) (d : NumberedEdge) (edges : List Edge)
+    → place < length way → edges ≡ all_named (take place way)
+    → edges ++ named (get_or way place d) ∷ [] ≡ all_named (take (place + 1) way)
+named_more way place d edges low so_far =
+    let next : suc place ≡ place + 1 = omega arith in
+    ap (λ (xs : List Edge). xs ++ named (get_or way place d) ∷ []) so_far
+    ∙ take_more way place d low
+    ∙ ap (λ (k : ℕ). all_named (take k way)) next
 
-pub walked_more : (way : List NumberedEdge) (back : ℕ) (e : NumberedEdge) (edges : List Edge)
-    → back < length way → edges ≡ walked (drop (length way - back) way)
-    → e ≡ get_or way (length way - 1 - back) e
-    → edges ++ named e ∷ [] ≡ walked (drop (length way - (back + 1)) way)
-walked_more way back e edges low so_far is =
-    let at : length way - (back + 1) ≡ length way - 1 - back = omega arith in
-    let next : suc (length way - 1 - back) ≡ length way - back = omega arith in
-    let cut : drop (length way - 1 - back) way
-    ≡ get_or way (length way - 1 - back) e ∷ drop (suc (length way - 1 - back)) way =
-    drop-cons way (length way - 1 - back) e (omega arith) in
-    let rest : drop (length way - (back + 1)) way ≡ e ∷ drop (length way - back) way =
-    ap (λ (k : ℕ). drop k way) at ∙ cut
-    ∙ ap (λ (x : NumberedEdge). x ∷ drop (suc (length way - 1 - back)) way) (sym is)
-    ∙ ap (λ (k : ℕ). e ∷ drop k way) next in
-    ap (λ (xs : List Edge). xs ++ named e ∷ []) so_far
-    ∙ sym (ap walked rest)
+pub named_all : (way : List NumberedEdge) (n : ℕ) → length way ≤ n
+    → all_named (take n way) ≡ all_named way
+named_all [] zero late = refl
+named_all [] (suc n) late = refl
+named_all (e ∷ way) zero late = absurd (omega arith)
+named_all (e ∷ way) (suc n) late =
+    ap (λ (xs : List Edge). named e ∷ xs) (named_all way n (omega arith))
 
 -- an edge says the same by name
 abbrev Same : (set : Set) (driver : ℕ) (held taken : Guard) (number position : ℕ) → Type 0
@@ -140,12 +131,71 @@ module _ (set : Set) (typable : IsTypable set) (sound : IsSound set) (driver : �
       record { under = same.0; routine = same.1 ∙ is.routine; position = same.2 ∙ is.position }
 
   pub cycle_named : (cycle : List NumberedEdge) → IsNumberedCycle set driver cycle
-      → IsLockCycle set driver (walked cycle)
+      → IsLockCycle set driver (all_named cycle)
   cycle_named cycle is =
       record {
         lock = guard_of is.lock;
-        on = lead_on is.lock is.lock cycle is.back;
-        some = walked_some cycle is.some;
-        each = walked_each (IsEdge set driver) cycle
+        on = lead_on is.lock is.lock cycle is.on;
+        some = named_some cycle is.some;
+        each = named_each (IsEdge set driver) cycle
             (λ k d l. named_edge (get_or cycle k d) (is.each k d l));
       }
+
+-- and by number as they do by name
+abbrev pub numbered : Edge → NumberedEdge
+numbered e =
+    record {
+      held = number_of e.held;
+      taken = number_of e.taken;
+      routine = e.routine;
+      at = e.at;
+    }
+
+abbrev pub all_numbered : List Edge → List NumberedEdge
+all_numbered [] = []
+all_numbered (e ∷ edges) = numbered e ∷ all_numbered edges
+
+pub lead_numbered : (lock to : Guard) (edges : List Edge) → LeadOn lock edges to
+    → LeadFrom (number_of lock) (all_numbered edges) (number_of to)
+lead_numbered lock to [] on = ap number_of on
+lead_numbered lock to (e ∷ edges) on =
+    (ap number_of on.0, lead_numbered e.taken to edges on.1)
+
+numbered_some : (edges : List Edge) → edges ≢ [] → all_numbered edges ≢ []
+numbered_some [] some = absurd (some refl)
+numbered_some (e ∷ edges) some = λ is. cc
+
+pub numbered_long : (edges : List Edge) → length (all_numbered edges) ≡ length edges
+numbered_long [] = refl
+numbered_long (e ∷ edges) = ap suc (numbered_long edges)
+
+numbered_edge : (set : Set) (driver : ℕ) (e : Edge) → IsEdge set driver e
+    → IsNumberedEdge set driver (numbered e)
+numbered_edge set driver e is =
+    record {
+      held = e.held;
+      taken = e.taken;
+      under = is.under;
+      held_is = refl;
+      taken_is = refl;
+      routine = is.routine;
+      position = is.position;
+    }
+
+pub numbered_each : (set : Set) (driver : ℕ) (edges : List Edge) → All (IsEdge set driver) edges
+    → All (IsNumberedEdge set driver) (all_numbered edges)
+numbered_each set driver [] each k d l = absurd (omega arith)
+numbered_each set driver (e ∷ edges) each zero d l =
+    numbered_edge set driver e (each zero e (omega arith))
+numbered_each set driver (e ∷ edges) each (suc k) d l =
+    numbered_each set driver edges (λ j x m. each (suc j) x (omega arith)) k d (omega arith)
+
+pub cycle_numbered : (set : Set) (driver : ℕ) (cycle : List Edge) → IsLockCycle set driver cycle
+    → IsNumberedCycle set driver (all_numbered cycle)
+cycle_numbered set driver cycle is =
+    record {
+      lock = number_of is.lock;
+      on = lead_numbered is.lock is.lock cycle is.on;
+      some = numbered_some cycle is.some;
+      each = numbered_each set driver cycle is.each;
+    }

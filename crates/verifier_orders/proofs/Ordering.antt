@@ -3,18 +3,13 @@ use Rattle.laws_runs.proofs.Common.{ap, arith, inl, inr, refl, subst, sym, ◌�
 use Rattle.std.specs.Prelude.{get_or}
 use Rattle.laws_locks.specs.Order.{IsOrder, TakesUnder, lock_named}
 use Rattle.verifier_orders.specs.declared.ranking.NumberedEdge.{NumberedEdge}
-use Rattle.verifier_orders.specs.Cycle.{IsAmong, IsCycle, LeadBack}
+use Rattle.verifier_orders.specs.Cycle.{AreFirst, HasWay, IsAmong, IsLeastCycle, LeadFrom, Returns}
 use Rattle.verifier_orders.specs.Edges.{AreEdgesOf, HasEdge, HasNoOrder, IsNumberedEdge, IsNumberedCycle, number_of, place_in}
 use Rattle.verifier_orders.specs.Names.{guard_of}
 use Rattle.verifier_orders.specs.Ranking.{AreRanked, AreWithin, IsWithin}
 use Rattle.verifier_orders.proofs.Finding.{beyond_false, eight_arrives}
+use Rattle.verifier_orders.proofs.Ways.{at_place}
 use Rattle.model.specs.LocalRule.{holds_guard, is_held}
-
-at_place : (P : NumberedEdge → Type 0) (edges : List NumberedEdge) (k : ℕ) (e : NumberedEdge) → All P edges
-    → slice_get edges k ≡ Some e → P e
-at_place P edges k e all there =
-    subst P (get_or_from_slice_get edges k e e there)
-    (all k e (slice_get_within edges k e there))
 
 -- places are an order
 pub ranked_order : (set : Set) (driver : ℕ) (edges : List NumberedEdge) (places : List ℕ)
@@ -32,17 +27,101 @@ ranked_order set driver edges places h ranked =
     }
 
 -- a cycle of the edges is one of the driver
-pub cycle_shown : (set : Set) (driver : ℕ) (edges cycle : List NumberedEdge) → AreEdgesOf set driver edges
-    → IsCycle edges cycle → IsNumberedCycle set driver cycle
+lead_first : (edges : List NumberedEdge) (to left lock at : ℕ) (way : List NumberedEdge)
+    → AreFirst edges to left lock way at → LeadFrom lock way at
+lead_first edges to left lock at [] h = h
+lead_first edges to left lock at (e ∷ way) h =
+    (h.0.is.0, lead_first edges to left e.taken at way h.1)
+
+among_first : (edges : List NumberedEdge) (to left lock at : ℕ) (way : List NumberedEdge)
+    → AreFirst edges to left lock way at → All (IsAmong edges) way
+among_first edges to left lock at [] h k d l = absurd (omega arith)
+among_first edges to left lock at (e ∷ way) h zero d l = (h.0.place, h.0.there)
+among_first edges to left lock at (e ∷ way) h (suc k) d l =
+    among_first edges to left e.taken at way h.1 k d (omega arith)
+
+among_cons : (edges : List NumberedEdge) (e : NumberedEdge) (way : List NumberedEdge)
+    → IsAmong edges e → All (IsAmong edges) way → All (IsAmong edges) (e ∷ way)
+among_cons edges e way one all zero d l = one
+among_cons edges e way one all (suc k) d l = all k d (omega arith)
+
+cycle_among : (edges cycle : List NumberedEdge) → IsLeastCycle edges cycle
+    → All (IsAmong edges) cycle
+cycle_among edges cycle is =
+    subst (λ (xs : List NumberedEdge). All (IsAmong edges) xs) (sym is.parts)
+    (among_cons edges is.first is.rest (is.begins.place, is.begins.there)
+    (among_first edges is.first.held 0 is.first.taken is.first.held is.rest is.on))
+
+pub cycle_shown : (set : Set) (driver : ℕ) (edges cycle : List NumberedEdge)
+    → AreEdgesOf set driver edges → IsLeastCycle edges cycle → IsNumberedCycle set driver cycle
 cycle_shown set driver edges cycle h is =
     record {
-      lock = is.lock;
-      back = is.back;
-      some = is.some;
+      lock = is.first.held;
+      on = subst (λ (xs : List NumberedEdge). LeadFrom is.first.held xs is.first.held)
+          (sym is.parts)
+          (refl, lead_first edges is.first.held 0 is.first.taken is.first.held is.rest is.on);
+      some = λ empty. (let never : is.first ∷ is.rest ≡ [] = sym is.parts ∙ empty in cc);
       each = λ k d within.
-          (let place : IsAmong edges (get_or cycle k d) = is.among k d within in
+          (let place : IsAmong edges (get_or cycle k d) = cycle_among edges cycle is k d within in
           at_place (IsNumberedEdge set driver) edges place.0 (get_or cycle k d) h.each place.1);
     }
+
+-- and no cycle of the driver is shorter
+module _ (set : Set) (driver : ℕ) (edges : List NumberedEdge) (h : AreEdgesOf set driver edges)
+  where
+    kept : (f : NumberedEdge) → IsNumberedEdge set driver f
+        → (e : NumberedEdge) × IsAmong edges e × (e.held ≡ f.held) × (e.taken ≡ f.taken)
+    kept f is =
+        let has : HasEdge edges is.held is.taken = h.all is.held is.taken is.under in
+        (has.1, (has.0, has.2), has.3 ∙ sym is.held_is, has.4 ∙ sym is.taken_is)
+
+    pub way_of : (from to : ℕ) (way : List NumberedEdge) → LeadFrom from way to
+        → All (IsNumberedEdge set driver) way → HasWay edges from to (length way)
+    way_of from to [] lead each = lead
+    way_of from to (f ∷ way) lead each =
+        let own : (e : NumberedEdge) × IsAmong edges e × (e.held ≡ f.held) × (e.taken ≡ f.taken) =
+        kept f (each zero f (omega arith)) in (
+          own.0,
+          own.1,
+          own.2 ∙ lead.0,
+          subst (λ (l : ℕ). HasWay edges l to (length way)) (sym own.3)
+              (way_of f.taken to way lead.1 (λ k d l. each (suc k) d (omega arith))),
+        )
+
+    returning : (lock : ℕ) (f : NumberedEdge) (way : List NumberedEdge)
+        → LeadFrom lock (f ∷ way) lock → All (IsNumberedEdge set driver) (f ∷ way)
+        → (e : NumberedEdge) × IsAmong edges e × Returns edges (length way) e
+    returning lock f way lead each =
+        let own : (e : NumberedEdge) × IsAmong edges e × (e.held ≡ f.held) × (e.taken ≡ f.taken) =
+        kept f (each zero f (omega arith)) in
+        let on : HasWay edges f.taken lock (length way) =
+        way_of f.taken lock way lead.1 (λ k d l. each (suc k) d (omega arith)) in (
+          own.0,
+          own.1,
+          subst (λ (l : ℕ). HasWay edges own.0.taken l (length way)) (sym (own.2 ∙ lead.0))
+              (subst (λ (l : ℕ). HasWay edges l lock (length way)) (sym own.3) on),
+        )
+
+    not_fewer : (cycle : List NumberedEdge) (lock : ℕ) (other : List NumberedEdge)
+        → IsLeastCycle edges cycle → LeadFrom lock other lock → other ≢ []
+        → All (IsNumberedEdge set driver) other → length cycle ≤ length other
+    not_fewer cycle lock [] least lead some each = absurd (some refl)
+    not_fewer cycle lock (f ∷ way) least lead some each =
+        let long : length cycle ≡ suc (length least.rest) =
+        ap (λ (xs : List NumberedEdge). length xs) least.parts in
+        elim (cases_lt (length way) (length least.rest)) [
+          | inl low ↦
+              (let back : (e : NumberedEdge) × IsAmong edges e × Returns edges (length way) e =
+              returning lock f way lead each in
+              absurd (at_place (λ (e : NumberedEdge). Returns edges (length way) e → ⊥) edges
+              back.1.0 back.0 (least.shortest (length way) low) back.1.1 back.2))
+          | inr late ↦ omega (arith, long, late)
+        ]
+
+    pub no_shorter : (cycle other : List NumberedEdge) → IsLeastCycle edges cycle
+        → IsNumberedCycle set driver other → length cycle ≤ length other
+    no_shorter cycle other least is =
+        not_fewer cycle is.lock other least is.on is.some is.each
 
 guard_by : (l : ℕ) → (l ≡ 8) ⊎ (l ≢ 8) → (l ≡ 8 → DeviceLock l ≡ CancelLock)
     → DeviceLock l ≡ guard_of l
@@ -116,34 +195,34 @@ module _ (set : Set) (typable : IsTypable set) (sound : IsSound set) (driver : �
         subst (λ (g : Guard). place g < place (guard_of e.taken)) held
         (subst (λ (g : Guard). place is.held < place g) taken up)
 
-    back_falls : (lock to : ℕ) (way : List NumberedEdge) → LeadBack lock way to
-        → All (IsNumberedEdge set driver) way → place (guard_of to) ≤ place (guard_of lock)
-    back_falls lock to [] back each = rw back (omega arith)
-    back_falls lock to (e ∷ way) back each =
+    way_rises : (lock to : ℕ) (way : List NumberedEdge) → LeadFrom lock way to
+        → All (IsNumberedEdge set driver) way → place (guard_of lock) ≤ place (guard_of to)
+    way_rises lock to [] lead each = rw lead (omega arith)
+    way_rises lock to (e ∷ way) lead each =
         let first : place (guard_of e.held) < place (guard_of e.taken) =
         edge_rises e (each zero e (omega arith)) in
-        let rest : place (guard_of to) ≤ place (guard_of e.held) =
-        back_falls e.held to way back.1 (λ k d l. each (suc k) d (omega arith)) in
-        rw (← back.0) (omega arith)
+        let rest : place (guard_of e.taken) ≤ place (guard_of to) =
+        way_rises e.taken to way lead.1 (λ k d l. each (suc k) d (omega arith)) in
+        rw (← lead.0) (omega arith)
 
-    cycle_never : (lock : ℕ) (way : List NumberedEdge) → LeadBack lock way lock → way ≢ []
+    cycle_never : (lock : ℕ) (way : List NumberedEdge) → LeadFrom lock way lock → way ≢ []
         → All (IsNumberedEdge set driver) way → ⊥
-    cycle_never lock [] back some each = some refl
-    cycle_never lock (e ∷ way) back some each =
+    cycle_never lock [] lead some each = some refl
+    cycle_never lock (e ∷ way) lead some each =
         let first : place (guard_of e.held) < place (guard_of e.taken) =
         edge_rises e (each zero e (omega arith)) in
-        let rest : place (guard_of lock) ≤ place (guard_of e.held) =
-        back_falls e.held lock way back.1 (λ k d l. each (suc k) d (omega arith)) in
-        let same : place (guard_of e.taken) ≡ place (guard_of lock) =
-        ap (λ (n : ℕ). place (guard_of n)) back.0 in
+        let rest : place (guard_of e.taken) ≤ place (guard_of lock) =
+        way_rises e.taken lock way lead.1 (λ k d l. each (suc k) d (omega arith)) in
+        let same : place (guard_of e.held) ≡ place (guard_of lock) =
+        ap (λ (n : ℕ). place (guard_of n)) lead.0 in
         absurd (omega arith)
 
   pub no_order : (cycle : List NumberedEdge) → IsNumberedCycle set driver cycle → HasNoOrder set driver
-  no_order cycle is = λ place order. cycle_never place order is.lock cycle is.back is.some is.each
+  no_order cycle is = λ place order. cycle_never place order is.lock cycle is.on is.some is.each
 
 -- the edges of a cycle are within the nine
-pub cycle_within : (edges cycle : List NumberedEdge) → AreWithin edges → IsCycle edges cycle
-    → AreWithin cycle
+pub cycle_within : (edges cycle : List NumberedEdge) → AreWithin edges
+    → IsLeastCycle edges cycle → AreWithin cycle
 cycle_within edges cycle within is = λ k d low.
-    (let place : IsAmong edges (get_or cycle k d) = is.among k d low in
+    (let place : IsAmong edges (get_or cycle k d) = cycle_among edges cycle is k d low in
     at_place IsWithin edges place.0 (get_or cycle k d) within place.1)

@@ -1,5 +1,5 @@
 -- The edges of a driver: which lock its routines take while they hold which, and where.
-use Rattle.std.specs.Prelude.{ℕ, ◌≡◌, ◌≢◌, ◌<◌, ◌⊎◌, get_or, Bool, true, List, [], ◌∷◌, ◌++◌, All, Option, None, Some, zero, suc, nat_eq, if◌then◌else◌, slice_get, length}
+use Rattle.std.specs.Prelude.{ℕ, ◌≡◌, ◌≢◌, ◌<◌, ◌≤◌, ◌⊎◌, get_or, Bool, true, List, [], ◌∷◌, ◌++◌, All, Option, None, Some, zero, suc, nat_eq, if◌then◌else◌, slice_get, length}
 use Rattle.model.specs.declared.abs.Abs.{Abs}
 use Rattle.model.specs.declared.instr.Instr.{Instr}
 use Rattle.model.specs.declared.instr.Instr.TheVariants.{Acquire, AcquireCancel}
@@ -9,7 +9,7 @@ use Rattle.model.specs.declared.set.Guard.TheVariants.{DeviceLock, CancelLock}
 use Rattle.model.specs.LocalRule.{is_held}
 use Rattle.model.specs.Set.{Set}
 use Rattle.laws_locks.specs.Order.{IsOrder, TakesUnder}
-use Rattle.verifier_orders.specs.Cycle.{LeadBack}
+use Rattle.verifier_orders.specs.Cycle.{LeadFrom}
 use Rattle.verifier_orders.specs.Ranking.{AreWithin}
 use Rattle.verifier_orders.specs.declared.ranking.NumberedEdge.{NumberedEdge}
 
@@ -71,6 +71,34 @@ AreOnce edges =
     (j k : ℕ) (e f : NumberedEdge) → slice_get edges j ≡ Some e → slice_get edges k ≡ Some f
     → e.held ≡ f.held → e.taken ≡ f.taken → j ≡ k
 
+-- an edge comes before another: in an earlier routine, or at an earlier position of the same one, or
+-- there under a lock of a lower number
+abbrev pub ComesBefore : NumberedEdge → NumberedEdge → Type 0
+ComesBefore e f =
+    (e.routine < f.routine)
+    ⊎ ((e.routine ≡ f.routine)
+    × ((e.at < f.at) ⊎ ((e.at ≡ f.at) × (e.held < f.held))))
+
+-- each edge comes before those behind it
+abbrev pub AreInOrder : List NumberedEdge → Type 0
+AreInOrder edges =
+    (j k : ℕ) (e f : NumberedEdge) → j < k → slice_get edges j ≡ Some e
+    → slice_get edges k ≡ Some f → ComesBefore e f
+
+-- an edge is before a position of a routine
+abbrev pub IsPast : ℕ → ℕ → NumberedEdge → Type 0
+IsPast routine at e = (e.routine < routine) ⊎ ((e.routine ≡ routine) × (e.at < at))
+
+-- and no later than one
+abbrev pub IsNoLater : ℕ → ℕ → NumberedEdge → Type 0
+IsNoLater routine at e = (e.routine < routine) ⊎ ((e.routine ≡ routine) × (e.at ≤ at))
+
+-- nowhere before it the one lock is taken under the other
+abbrev pub IsFirstEdge : Set → ℕ → NumberedEdge → Type 0
+IsFirstEdge set driver e =
+    (held taken : Guard) (u : TakesUnder set driver held taken) → e.held ≡ number_of held
+    → e.taken ≡ number_of taken → IsNoLater u.number u.position e
+
 -- all edges of the routines before one, and of that one before a position
 pub record AreEdgesTo (set : Set) (driver routine at : ℕ) (edges : List NumberedEdge) : Type 0 where
   pub within : AreWithin edges
@@ -79,6 +107,9 @@ pub record AreEdgesTo (set : Set) (driver routine at : ℕ) (edges : List Number
   pub all : (held taken : Guard) (u : TakesUnder set driver held taken)
       → (u.number < routine) ⊎ ((u.number ≡ routine) × (u.position < at))
       → HasEdge edges held taken
+  pub past : All (IsPast routine at) edges
+  pub ordered : AreInOrder edges
+  pub first : All (IsFirstEdge set driver) edges
 
 -- all edges of a driver
 pub record AreEdgesOf (set : Set) (driver : ℕ) (edges : List NumberedEdge) : Type 0 where
@@ -86,16 +117,18 @@ pub record AreEdgesOf (set : Set) (driver : ℕ) (edges : List NumberedEdge) : T
   pub once : AreOnce edges
   pub each : All (IsNumberedEdge set driver) edges
   pub all : (held taken : Guard) → TakesUnder set driver held taken → HasEdge edges held taken
+  pub ordered : AreInOrder edges
+  pub first : All (IsFirstEdge set driver) edges
 
 -- how many routines a driver has
 abbrev pub count_of : Option Driver → ℕ
 count_of None = 0
 count_of (Some d) = length d.routines
 
--- edges that lead back to where they begin: the routines of a driver take locks in a cycle
+-- edges that come back to where they begin: the routines of a driver take locks in a cycle
 pub record IsNumberedCycle (set : Set) (driver : ℕ) (cycle : List NumberedEdge) : Type 0 where
   pub lock : ℕ
-  pub back : LeadBack lock cycle lock
+  pub on : LeadFrom lock cycle lock
   pub some : cycle ≢ []
   pub each : All (IsNumberedEdge set driver) cycle
 

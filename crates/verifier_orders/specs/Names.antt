@@ -1,5 +1,5 @@
 -- Locks and edges by name.
-use Rattle.std.specs.Prelude.{ℕ, ◌≡◌, List, [], ◌∷◌, ◌++◌, Some, nat_eq, if◌then◌else◌, slice_get, length}
+use Rattle.std.specs.Prelude.{ℕ, ◌≡◌, List, [], ◌∷◌, Some, nat_eq, if◌then◌else◌, slice_get, length}
 use Rattle.model.specs.declared.set.Guard.{Guard}
 use Rattle.model.specs.declared.set.Guard.TheVariants.{DeviceLock, CancelLock}
 use Rattle.verifier_orders.specs.declared.names.Edge.{Edge}
@@ -18,10 +18,9 @@ named e = record {
   at = e.at;
 }
 
--- the edges of a way back by name, as they are walked
-abbrev pub walked : List NumberedEdge → List Edge
-walked [] = []
-walked (e ∷ way) = walked way ++ named e ∷ []
+abbrev pub all_named : List NumberedEdge → List Edge
+all_named [] = []
+all_named (e ∷ edges) = named e ∷ all_named edges
 
 -- so many locks, each at its place
 pub record AreByPlace (places : List ℕ) (locks : List Guard) (count : ℕ) : Type 0 where

@@ -1,12 +1,12 @@
--- The order of the locks of each driver, or a cycle (Driver Verifier, deadlock detection).
-use Rattle.std.specs.Prelude.{ℕ, ◌≡◌, ◌≢◌, List, [], ◌∷◌, All, Some, slice_get, length, ⊤}
+-- The order of the locks of each driver, or a shortest cycle (Driver Verifier, deadlock detection).
+use Rattle.std.specs.Prelude.{ℕ, ◌≡◌, ◌≢◌, ◌≤◌, ◌<◌, ◌⊎◌, List, [], ◌∷◌, All, Some, slice_get, length, ⊤}
 use Rattle.model.specs.declared.set.Guard.{Guard}
 use Rattle.model.specs.Set.{Set}
 use Rattle.laws_locks.specs.Order.{IsOrder, TakesUnder, lock_names}
 use Rattle.verifier_orders.specs.declared.names.Edge.{Edge}
 use Rattle.verifier_orders.specs.declared.order.LockOrder.{LockOrder}
 use Rattle.verifier_orders.specs.declared.order.LockOrder.TheVariants.{Ordered, Cycle}
-use Rattle.verifier_orders.specs.Edges.{HasNoOrder}
+use Rattle.verifier_orders.specs.Edges.{HasNoOrder, number_of}
 
 -- an edge tells where a routine of a driver takes a lock under another
 pub record IsEdge (set : Set) (driver : ℕ) (e : Edge) : Type 0 where
@@ -26,6 +26,27 @@ pub record IsLockCycle (set : Set) (driver : ℕ) (cycle : List Edge) : Type 0 w
   pub some : cycle ≢ []
   pub each : All (IsEdge set driver) cycle
 
+-- an edge comes before another: in an earlier routine, or at an earlier position of the same one, or
+-- there under a lock of a lower number, where the system cancel spin lock has the highest
+abbrev pub IsBefore : Edge → Edge → Type 0
+IsBefore e f =
+    (e.routine < f.routine)
+    ⊎ ((e.routine ≡ f.routine)
+    × ((e.at < f.at) ⊎ ((e.at ≡ f.at) × (number_of e.held < number_of f.held))))
+
+-- edges come no later than others: the first in which they differ comes before
+abbrev pub AreNoLater : List Edge → List Edge → Type 0
+AreNoLater [] others = ⊤
+AreNoLater (e ∷ edges) [] = ⊥
+AreNoLater (e ∷ edges) (f ∷ others) = IsBefore e f ⊎ ((e ≡ f) × AreNoLater edges others)
+
+-- in none that is shorter; of those that are as short, this is the first
+pub record IsShortestCycle (set : Set) (driver : ℕ) (cycle : List Edge) : Type 0 where
+  pub is : IsLockCycle set driver cycle
+  pub shortest : (other : List Edge) → IsLockCycle set driver other → length cycle ≤ length other
+  pub first : (other : List Edge) → IsLockCycle set driver other
+      → length other ≡ length cycle → AreNoLater cycle other
+
 -- the nine locks of a driver in an order in which its routines take them
 pub record AreOrdered (set : Set) (driver : ℕ) (locks : List Guard) : Type 0 where
   pub place : Guard → ℕ
@@ -33,10 +54,11 @@ pub record AreOrdered (set : Set) (driver : ℕ) (locks : List Guard) : Type 0 w
   pub nine : length locks ≡ lock_names
   pub placed : (k : ℕ) (lock : Guard) → slice_get locks k ≡ Some lock → place lock ≡ k
 
--- a driver's locks in an order, or a cycle where there is none
+-- a driver's locks in an order, or a shortest cycle where there is none
 abbrev pub IsLockOrder : Set → ℕ → LockOrder → Type 0
 IsLockOrder set driver (Ordered locks) = AreOrdered set driver locks.items
-IsLockOrder set driver (Cycle edges) = IsLockCycle set driver edges.items × HasNoOrder set driver
+IsLockOrder set driver (Cycle edges) =
+    IsShortestCycle set driver edges.items × HasNoOrder set driver
 
 -- those of the drivers before one
 pub record AreLockOrders (set : Set) (count : ℕ) (orders : List LockOrder) : Type 0 where

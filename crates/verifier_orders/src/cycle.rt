@@ -1,46 +1,98 @@
-//! A cycle of edges between locks, where no places can be given.
+//! The shortest cycle of edges between locks, where no places can be given.
 
-ghost use Rattle.std.specs.Prelude.{◌≡◌, ◌<◌, ◌≢◌, All, IfOk, IfSome, List, None};
-ghost use Rattle.verifier_orders.specs.Cycle.{HasTaken, IsAmong, IsCycle, IsCut, LeadBack, LeadsTo};
-ghost use Rattle.verifier_orders.specs.Ranking.{AreWithin, HasNowhere, IsOpen, IsStuck};
+ghost use Rattle.std.specs.Prelude.{◌≡◌, ◌<◌, ◌+◌, ◌↔◌, IfOk, IfSome, IsTrue, None};
+ghost use Rattle.verifier_orders.specs.Cycle.{AreBehind, AreFirst, AreOneBack, HasWay, IsFirstOf, IsLeastCycle, LeadsBack, LeadsOn, OfNone, Returns};
+ghost use Rattle.verifier_orders.specs.Ranking.{AreWithin, HasNowhere, IsStuck};
 
-use crate::ranking::{LOCKS, NOWHERE, NumberedEdge, lock_at};
+use crate::ranking::{LOCKS, NumberedEdge};
 use std::alloc::{AllocError, Global};
 
-/// An edge to a lock from one that has no place, if there is one.
-fn edge_into(edges: &[NumberedEdge], places: &[u8; LOCKS], lock: u8) -> Option<NumberedEdge>
+/// The first edge from a lock to one of some.
+fn edge_on(edges: &[NumberedEdge], ahead: &[bool; LOCKS], lock: u8) -> Option<NumberedEdge>
     requires { AreWithin edges.now }
-    ensures some { IfSome result (LeadsTo edges.now places.now lock) }
-    ensures none { result ≡ None → IsOpen edges.now places.now lock }
+    ensures some { IfSome result (IsFirstOf edges.now (LeadsOn ahead.now lock)) }
+    ensures none { result ≡ None → OfNone edges.now (LeadsOn ahead.now lock) }
 {
     for edge in edges {
-        if edge.taken == lock && places[edge.held as usize] == NOWHERE {
+        if edge.held == lock && ahead[edge.taken as usize] {
             return Some(*edge);
         }
     }
     None
 }
 
-/// The edges of a way back from the one that takes a lock on.
-fn from_lock(alloc: Global, way: &[NumberedEdge], lock: u8) -> Result<Vec<NumberedEdge>, AllocError>
-    requires { HasTaken way.now lock }
-    ensures { IfOk result (λ cut. IsCut way.now lock cut.items) }
+/// The locks from which an edge leads to one of some.
+fn one_back(edges: &[NumberedEdge], ahead: &[bool; LOCKS]) -> [bool; LOCKS]
+    requires { AreWithin edges.now }
+    ensures { AreOneBack edges.now ahead.now result }
 {
-    for start in 0..way.len() {
-        if way[start].taken == lock {
-            return Vec::from_slice(alloc, &way[start..]);
-        }
+    let mut behind = [false; LOCKS];
+    for lock in 0..LOCKS as u8 {
+        behind[lock as usize] = edge_on(edges, ahead, lock).is_some();
     }
-    unreachable!()
+    behind
 }
 
-/// Some edges that lead back to where they begin, where to each lock without a place an edge leads
-/// from another such.
+/// The locks from which so many edges lead to one.
+fn locks_behind(edges: &[NumberedEdge], to: u8, count: u8) -> [bool; LOCKS]
+    requires within { AreWithin edges.now }
+    requires low { to < 9 }
+    ensures { AreBehind edges.now to count result }
+{
+    let mut behind = [false; LOCKS];
+    behind[to as usize] = true;
+    for _turn in 0..count {
+        behind = one_back(edges, &behind);
+    }
+    behind
+}
+
+/// The first edge from which so many lead back to where it begins.
+fn first_edge(edges: &[NumberedEdge], more: u8) -> Option<NumberedEdge>
+    requires { AreWithin edges.now }
+    ensures some { IfSome result (IsFirstOf edges.now (Returns edges.now more)) }
+    ensures none { result ≡ None → OfNone edges.now (Returns edges.now more) }
+{
+    for edge in edges {
+        if locks_behind(edges, edge.held, more)[edge.taken as usize] {
+            return Some(*edge);
+        }
+    }
+    None
+}
+
+/// Adds to a cycle's first edge the so many that lead back, each the first that can be.
+fn lead_back(
+    alloc: Global,
+    edges: &[NumberedEdge],
+    first: NumberedEdge,
+    more: u8,
+) -> Result<Vec<NumberedEdge>, AllocError>
+    requires within { AreWithin edges.now }
+    requires begins { IsFirstOf edges.now (Returns edges.now more) first }
+    ensures { IfOk result (λ cycle. LeadsBack edges.now first more cycle.items) }
+{
+    let mut cycle = Vec::new(alloc);
+    cycle.push(first)?;
+    let mut at = first.taken;
+    for done in 0..more {
+        let ahead = locks_behind(edges, first.held, more - 1 - done);
+        let Some(edge) = edge_on(edges, &ahead, at) else {
+            unreachable!()
+        };
+        cycle.push(edge)?;
+        at = edge.taken;
+    }
+    Ok(cycle)
+}
+
+/// A shortest cycle of edges, of such the one whose edges come first, where to each lock without a
+/// place an edge leads from another such.
 ///
 /// # Errors
 ///
 /// When memory runs out.
-pub fn cycle_of(
+pub fn shortest_cycle(
     alloc: Global,
     edges: &[NumberedEdge],
     places: &[u8; LOCKS],
@@ -48,18 +100,12 @@ pub fn cycle_of(
     requires within { AreWithin edges.now }
     requires stuck { IsStuck edges.now places.now }
     requires some { HasNowhere places.now }
-    ensures { IfOk result (λ cycle. IsCycle edges.now cycle.items) }
+    ensures { IfOk result (λ cycle. IsLeastCycle edges.now cycle.items) }
 {
-    let mut at = lock_at(places, NOWHERE);
-    let mut seen = [false; LOCKS];
-    let mut way = Vec::new(alloc);
-    while !seen[at as usize] {
-        seen[at as usize] = true;
-        let Some(edge) = edge_into(edges, places, at) else {
-            unreachable!()
-        };
-        way.push(edge)?;
-        at = edge.held;
+    for more in 0..LOCKS as u8 {
+        if let Some(first) = first_edge(edges, more) {
+            return lead_back(alloc, edges, first, more);
+        }
     }
-    from_lock(alloc, way.as_slice(), at)
+    unreachable!()
 }

@@ -1,7 +1,7 @@
 //! Locks and edges by name, for those who read of them.
 
 ghost use Rattle.std.specs.Prelude.{◌≡◌, ◌<◌, IfOk};
-ghost use Rattle.verifier_orders.specs.Names.{AreByPlace, guard_of, walked};
+ghost use Rattle.verifier_orders.specs.Names.{AreByPlace, all_named, guard_of};
 ghost use Rattle.verifier_orders.specs.Ranking.{AreFilled, AreWithin};
 
 use crate::ranking::{LOCKS, NumberedEdge, lock_at};
@@ -33,24 +33,24 @@ fn lock_named(number: u8) -> Guard
     }
 }
 
-/// The edges of a way back by name, as they are walked.
-pub fn walked_forward(alloc: Global, way: &[NumberedEdge]) -> Result<Vec<Edge>, AllocError>
-    requires { AreWithin way.now }
-    ensures { IfOk result (λ edges. edges.items ≡ walked way.now) }
+/// Edges by name.
+pub fn edges_named(alloc: Global, edges: &[NumberedEdge]) -> Result<Vec<Edge>, AllocError>
+    requires { AreWithin edges.now }
+    ensures { IfOk result (λ named. named.items ≡ all_named edges.now) }
 {
-    let mut edges = Vec::new(alloc);
-    for back in 0..way.len() {
-        let edge = way[way.len() - 1 - back];
+    let mut named = Vec::new(alloc);
+    for place in 0..edges.len() {
+        let edge = edges[place];
         let held: Guard = lock_named(edge.held);
         let taken: Guard = lock_named(edge.taken);
-        edges.push(Edge {
+        named.push(Edge {
             held,
             taken,
             routine: edge.routine,
             at: edge.at,
         })?;
     }
-    Ok(edges)
+    Ok(named)
 }
 
 /// The nine locks in the order of their places.

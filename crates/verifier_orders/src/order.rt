@@ -4,9 +4,9 @@ ghost use Rattle.std.specs.Prelude.{IfOk, length};
 ghost use Rattle.laws_locks.specs.Order.{HasLockOrders};
 ghost use Rattle.verifier_orders.specs.Orders.{AreAllOrdered, AreLockOrders, IsLockOrder};
 
-use crate::cycle::cycle_of;
+use crate::cycle::shortest_cycle;
 use crate::edges::edges_of;
-use crate::names::{Edge, locks_by_place, walked_forward};
+use crate::names::{Edge, edges_named, locks_by_place};
 use crate::ranking::rank;
 use model::set::Guard;
 use std::alloc::{AllocError, Global};
@@ -18,12 +18,13 @@ use verifier::Accepted;
 pub enum LockOrder {
     /// The nine in an order: none is taken while a later one is held, or itself.
     Ordered(Vec<Guard>),
-    /// There is no order. Each edge takes the lock under which the next one is taken, and the last
-    /// the one under which the first is.
+    /// There is no order, and no cycle is shorter. Each edge takes the lock under which the next one
+    /// is taken, and the last the one under which the first is. Of the shortest it is the one whose
+    /// edges come first, by routine and position.
     Cycle(Vec<Edge>),
 }
 
-/// The order of a driver's locks, or a cycle.
+/// The order of a driver's locks, or a shortest cycle.
 fn order_of(alloc: Global, accepted: &Accepted, driver: u8) -> Result<LockOrder, AllocError>
     ensures { IfOk result (IsLockOrder accepted.now driver) }
 {
@@ -32,13 +33,14 @@ fn order_of(alloc: Global, accepted: &Accepted, driver: u8) -> Result<LockOrder,
     match rank(edges.as_slice()) {
         Ok(places) => Ok(LockOrder::Ordered(locks_by_place(alloc, &places)?)),
         Err(places) => {
-            let way = cycle_of(alloc, edges.as_slice(), &places)?;
-            Ok(LockOrder::Cycle(walked_forward(alloc, way.as_slice())?))
+            let cycle = shortest_cycle(alloc, edges.as_slice(), &places)?;
+            Ok(LockOrder::Cycle(edges_named(alloc, cycle.as_slice())?))
         }
     }
 }
 
-/// For each driver of an accepted set its locks in an order, or a cycle, exactly if there is none.
+/// For each driver of an accepted set its locks in an order, or a shortest cycle, exactly if there
+/// is none.
 ///
 /// # Errors
 ///

@@ -131,6 +131,18 @@ impl Names<'_, '_> {
         }
     }
 
+    /// Adds the name of a routine without saying that it is one.
+    pub fn add_routine_alone(self, prose: &mut String, number: u8) -> Result<(), AllocError> {
+        match self {
+            Names::Given(Some(names)) => match names.routines.get(number as usize) {
+                Some(name) => add_bytes(prose, name.bytes()),
+                None => write!(prose, "routine {number}"),
+            },
+            Names::Given(None) => write!(prose, "routine {number}"),
+            Names::Listed => write!(prose, "f{number}"),
+        }
+    }
+
     /// Adds the name of a routine.
     pub fn add_routine(self, prose: &mut String, number: u8) -> Result<(), AllocError> {
         match self {

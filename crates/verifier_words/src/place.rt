@@ -70,18 +70,37 @@ impl<'a> Scene<'a> {
             at,
             rule: _,
         } = self.refusal;
-        prose.push_str("\nin ")?;
-        let names = self.names();
-        names.add_driver(prose, driver)?;
-        prose.push_str(", ")?;
-        names.add_routine(prose, routine)?;
+        add_title(prose, self.names(), driver, routine)?;
         write!(prose, " ({})", self.sort.as_str())?;
-        match self.line_at(at) {
-            Some(line) => {
-                write!(prose, ", position {at}, line {}:\n", line.number)?;
-                add_excerpt(prose, self.source.bytes(), line)
-            }
-            None => write!(prose, ", position {at}\n"),
+        add_lines(prose, self.source.bytes(), at, self.line_at(at))
+    }
+}
+
+/// Adds the names of a driver and of a routine of it, behind an empty line.
+pub(crate) fn add_title(
+    prose: &mut String,
+    names: Names<'_, '_>,
+    driver: u8,
+    routine: u8,
+) -> Result<(), AllocError> {
+    prose.push_str("\nin ")?;
+    names.add_driver(prose, driver)?;
+    prose.push_str(", ")?;
+    names.add_routine(prose, routine)
+}
+
+/// Adds a position, and the lines round the one that has it.
+pub(crate) fn add_lines(
+    prose: &mut String,
+    text: &[u8],
+    at: u16,
+    line: Option<Spot>,
+) -> Result<(), AllocError> {
+    match line {
+        Some(line) => {
+            write!(prose, ", position {at}, line {}:\n", line.number)?;
+            add_excerpt(prose, text, line)
         }
+        None => write!(prose, ", position {at}\n"),
     }
 }

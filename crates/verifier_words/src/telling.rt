@@ -349,32 +349,30 @@ fn add_why(prose: &mut String, scene: &Scene<'_>, routine: &Routine) -> Result<(
     lesson_of_code(scene.refusal.rule, instr).add(prose, scene.names())
 }
 
-/// The routines of a set, a line each: where they stand, their sort and their names.
-///
-/// # Errors
-///
-/// When memory runs out.
-pub fn roll(alloc: Global, origin: Origin<'_>, set: &DriverSet) -> Result<String, AllocError> {
-    let mut prose = String::new(alloc);
-    let names = names_of(alloc, origin)?;
-    let mut number: u8 = 0;
-    for driver in set.drivers() {
-        add_roll(&mut prose, names.in_driver(number), number, driver)?;
-        number = number.saturating_add(1);
-    }
-    Ok(prose)
-}
-
 /// What the things in a set are called.
-fn names_of<'t>(alloc: Global, origin: Origin<'t>) -> Result<SetNames<'t>, AllocError> {
+pub(crate) fn names_of<'t>(alloc: Global, origin: Origin<'t>) -> Result<SetNames<'t>, AllocError> {
     match origin {
         Origin::Text(text) => SetNames::of(alloc, text, &outline(alloc, text)?),
         Origin::Image => Ok(SetNames::Listed),
     }
 }
 
+/// Adds the routines of a set, a line each: where they stand, their sort and their names.
+pub(crate) fn add_roll(
+    prose: &mut String,
+    names: &SetNames<'_>,
+    set: &DriverSet,
+) -> Result<(), AllocError> {
+    let mut number: u8 = 0;
+    for driver in set.drivers() {
+        add_routines(prose, names.in_driver(number), number, driver)?;
+        number = number.saturating_add(1);
+    }
+    Ok(())
+}
+
 /// Adds the lines of a driver's routines.
-fn add_roll(
+fn add_routines(
     prose: &mut String,
     names: Names<'_, '_>,
     number: u8,

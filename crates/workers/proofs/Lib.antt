@@ -5,3 +5,4 @@ pub mod Seats
 pub mod Opening
 pub mod Totals
 pub mod Closing
+pub mod Standstill

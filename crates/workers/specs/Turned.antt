@@ -11,7 +11,8 @@ use Rattle.intake.specs.Ends.{TakerState}
 use Rattle.workers.specs.declared.locked.Progress.{Progress}
 use Rattle.workers.specs.declared.locked.Progress.TheVariants.{Advanced, Over, Stalled}
 use Rattle.workers.specs.declared.turns.Turn.{Turn}
-use Rattle.workers.specs.declared.turns.Turn.TheVariants.{Ended, Entered, Full, Waits}
+use Rattle.workers.specs.declared.turns.Turn.TheVariants.{Ended, Entered, Full, Rests, Waits}
+use Rattle.workers.specs.Standing.{IsWaiting}
 
 -- what an idle thread starts of a device: the front of its start list before its DPC
 abbrev pub start_by : Bool × Bool → ℕ → ℕ → Option Event
@@ -59,7 +60,9 @@ pub record TakesOne (t : ℕ) (before after : CoreState) (taker taker' : TakerSt
 abbrev pub Turned : ℕ → CoreState → CoreState → TakerState → TakerState → Turn → Type 0
 Turned t before after taker taker' Entered =
     (Goes t before after × (taker' ≡ taker)) ⊎ TakesOne t before after taker taker'
-Turned t before after taker taker' Waits = (after ≡ before) × (taker' ≡ taker)
+Turned t before after taker taker' Waits =
+    IsWaiting before t × (after ≡ before) × (taker' ≡ taker)
+Turned t before after taker taker' Rests = (after ≡ before) × (taker' ≡ taker)
 Turned t before after taker taker' (Ended end) =
     IsNext (world_of before) t None × (after ≡ before) × (taker' ≡ taker) × (end ≡ t)
 Turned t before after taker taker' (Full taken) =

@@ -1,16 +1,21 @@
 //! That workers had nothing left to do.
 
-ghost use Rattle.std.specs.Prelude.{◌≡◌, ◌+◌, None, length};
+ghost use Rattle.std.specs.Prelude.{◌≡◌, ◌<◌, ◌+◌, None, false, get_or, length, replicate, slice_set, true};
+ghost use Rattle.model.specs.declared.limits.TheConstants.{MAX_THREADS};
 ghost use Rattle.hostcore.specs.Core.{world_of};
+ghost use Rattle.workers.specs.Standing.{IsWaiting, StandStill};
 ghost use Rattle.workers.specs.Turned.{IsNext};
 
+use crate::locked::Beginning;
+use crate::standing::Marks;
 use hostcore::{Core, Seat};
 use intake::{Drained, Intake};
+use model::limits::MAX_THREADS;
 use std::marker::Model;
 
 /// Shows that a worker had nothing left to do, at a moment: its thread had nothing to do of itself
-/// and the queue was empty after it was closed, or the history was full. Contracts see the number
-/// of its thread.
+/// and the queue was empty after it was closed; or its thread waited, and no worker's thread went
+/// on that was left; or the history was full. Contracts see the number of its thread.
 #[derive(Drop)]
 pub struct End {
     thread: usize,
@@ -36,12 +41,64 @@ impl End {
         }
     }
 
+    /// The thread of a worker waited, and of the threads of all workers none went on, but for those
+    /// whose workers had ended likewise.
+    pub(crate) fn stuck<B: Beginning>(_core: &Core, _gone: &Gone, number: usize) -> End
+        requires waits { IsWaiting _core.now number }
+        requires still { StandStill _core.now _gone.now (length B.takers) }
+        ensures { result ≡ number }
+    {
+        End { thread: number }
+    }
+
     /// The history was full.
     pub(crate) fn full(_core: &Core, number: usize) -> End
         requires full { length _core.now.history ≡ _core.now.log }
         ensures { result ≡ number }
     {
         End { thread: number }
+    }
+}
+
+/// The threads of workers that have ended while these waited: no one steps them any more. Contracts
+/// see a mark of each.
+#[derive(Drop)]
+pub struct Gone {
+    marks: Marks,
+}
+
+impl Model for Gone {
+    ghost use Rattle.std.specs.Prelude.{Bool, List};
+
+    ghost Value = { List Bool };
+
+    ghost view = { λ g. g.marks };
+}
+
+impl Gone {
+    /// None has ended so.
+    pub(crate) fn none() -> Gone
+        ensures { result ≡ replicate MAX_THREADS false }
+    {
+        Gone {
+            marks: [false; MAX_THREADS],
+        }
+    }
+
+    /// A worker has ended so.
+    pub(crate) fn add(&mut self, end: &End)
+        requires { end.now < MAX_THREADS }
+        ensures { self.new ≡ slice_set self.old end.now true }
+    {
+        self.marks[end.thread] = true;
+    }
+
+    /// Whether the worker of a thread has ended so.
+    pub(crate) fn has(&self, thread: usize) -> bool
+        requires { thread < MAX_THREADS }
+        ensures { result ≡ get_or self.now thread false }
+    {
+        self.marks[thread]
     }
 }
 

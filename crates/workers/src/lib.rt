@@ -7,6 +7,7 @@ mod locked;
 mod seating;
 pub mod served;
 pub mod serving;
+mod standing;
 mod starting;
 mod turns;
 mod waiting;

@@ -9,14 +9,17 @@ ghost use Rattle.intake.specs.Ends.{AreTakersOf, TakerState};
 ghost use Rattle.workers.specs.Ended.{HaveEnded};
 ghost use Rattle.workers.specs.Kept.{AreGiven, held_by, kept_of, no_core};
 ghost use Rattle.workers.specs.Serves.{Serves};
+ghost use Rattle.workers.specs.Standing.{AreWaiting, IsWaiting};
 ghost use Rattle.workers.specs.Turned.{Progressed};
 
-use crate::ending::{End, Ends};
+use crate::ending::{End, Ends, Gone};
 use crate::seating::give_back;
 use crate::served::Served;
+use crate::standing::{Marks, none_goes_on};
 use crate::turns::{Turn, take_turn};
 use hostcore::{Core, Seat, Taken};
 use intake::{Intake, Taker};
+use model::limits::MAX_THREADS;
 use std::marker::{Brand, Model, PhantomData};
 use std::sync::Wait;
 use std::sync::ledger::{Book, Ledger, Share};
@@ -50,12 +53,17 @@ pub struct Service<B: Beginning> {
     book: Book<B>,
     held: Option<Held>,
     full: bool,
+    /// The threads that are known to wait, as a step of them has shown since the last entry.
+    waiting: Marks,
+    /// The threads whose workers have ended while these waited.
+    gone: Gone,
     of: PhantomData<B>,
 }
 
 impl<B: Beginning> Model for Service<B> {
     ghost use Rattle.std.specs.Prelude.{◌≡◌};
     ghost use Rattle.workers.specs.Kept.{Keeps, Station, station};
+    ghost use Rattle.workers.specs.Standing.{AreWaiting};
 
     ghost Value = { Station };
 
@@ -63,7 +71,7 @@ impl<B: Beginning> Model for Service<B> {
 
     ghost invariant = { λ s. Keeps B.core B.takers
         (station s.core s.seats.items s.takers.items s.started s.held s.full)
-        × (s.started ≡ s.book.total) };
+        × (s.started ≡ s.book.total) × AreWaiting s.core s.waiting };
 }
 
 /// What a worker's turn came to, for the worker.
@@ -92,6 +100,8 @@ impl<B: Beginning> Service<B> {
             book,
             held: None,
             full: false,
+            waiting: [false; MAX_THREADS],
+            gone: Gone::none(),
             of: PhantomData,
         }
     }
@@ -113,6 +123,7 @@ impl<B: Beginning> Service<B> {
     /// A turn of the worker of a number. Nothing is done for one that was not started.
     pub fn turn<R: Wait>(&mut self, rt: &R, intake: &Intake, number: usize) -> Progress
         requires number { number < length B.takers }
+        requires few { length B.takers ≤ MAX_TAKERS }
         requires takers { AreTakersOf intake.now B.takers }
         ensures { Progressed number self.old.core self.new.core result }
     {
@@ -125,8 +136,15 @@ impl<B: Beginning> Service<B> {
         let seat = &mut self.seats[number];
         let taker = &mut self.takers[number];
         match take_turn(rt, &mut self.core, seat, taker, intake) {
-            Turn::Entered => Progress::Advanced(self.core.counted(&self.seats[number])),
-            Turn::Waits => Progress::Stalled,
+            Turn::Entered => {
+                self.waiting = [false; MAX_THREADS];
+                Progress::Advanced(self.core.counted(&self.seats[number]))
+            }
+            Turn::Waits => {
+                let waiting = &mut self.waiting;
+                wait::<B>(&self.core, &self.seats, waiting, &mut self.gone, number)
+            }
+            Turn::Rests => Progress::Stalled,
             Turn::Ended(end) => Progress::Over(end),
             Turn::Full(taken) => {
                 self.full = true;
@@ -155,6 +173,8 @@ impl<B: Beginning> Service<B> {
             mut book,
             held,
             full,
+            waiting: _,
+            gone: _,
             of: _,
         } = self;
         book.audit(&mut all);
@@ -170,6 +190,32 @@ impl<B: Beginning> Service<B> {
             full,
         }
     }
+}
+
+/// The thread of a worker waits: it is marked. Where of all workers' threads none goes on, no worker
+/// can ever change anything again for those that wait, and the worker has nothing left to do.
+fn wait<B: Beginning>(
+    core: &Core,
+    seats: &[Seat],
+    waiting: &mut Marks,
+    gone: &mut Gone,
+    number: usize,
+) -> Progress
+    requires seats { seats.now ≡ range_with_len 0 (length B.takers) }
+    requires few { length B.takers ≤ MAX_TAKERS }
+    requires number { number < length B.takers }
+    requires waits { IsWaiting core.now number }
+    requires marked { AreWaiting core.now waiting.old }
+    ensures marked { AreWaiting core.now waiting.new }
+    ensures progress { Progressed number core.now core.now result }
+{
+    waiting[number] = true;
+    if !none_goes_on(core, seats, waiting, gone) {
+        return Progress::Stalled;
+    }
+    let end = End::stuck::<B>(core, gone, number);
+    gone.add(&end);
+    Progress::Over(end)
 }
 
 /// Puts a command that is held into a list that has none.

@@ -10,7 +10,7 @@ use crate::ending::Ends;
 use crate::locked::{Beginning, Service};
 use crate::seating::give_out;
 use crate::served::{Served, no_counts};
-use crate::starting::{Joined, run_all};
+use crate::starting::{Joined, Shift, run_all};
 use crate::working::Gate;
 use hostcore::{Core, Seat, Taken};
 use intake::{Intake, Taker};
@@ -38,10 +38,11 @@ fn unserved(core: Core, takers: Vec<Taker>, held: Vec<Taken>) -> Served
     }
 }
 
-/// Memory for the seats of workers, and for what is held.
+/// Memory for the seats of workers and for what is held, and a blank ledger.
 struct Room {
     seats: Vec<Seat>,
     held: Vec<Taken>,
+    blank: Blank,
 }
 
 /// Serves with memory for the seats and for what is held, and a blank ledger of one part.
@@ -52,10 +53,10 @@ fn serve_from<B: Beginning + Send + Sync, G: Gate + Sync, R: Threads + Wait + Sy
     takers: Vec<Taker>,
     gate: &G,
     room: Room,
-    blank: Blank,
 ) -> Served
     requires began { (core ≡ B.core) × (takers.items ≡ B.takers) }
-    requires ledger { (blank.name ≡ B.name) × (blank.parts ≡ B.parts) × (blank.parts ≡ 1) }
+    requires ledger { (room.blank.name ≡ B.name) × (room.blank.parts ≡ B.parts)
+        × (room.blank.parts ≡ 1) }
     requires few { length B.takers ≤ MAX_TAKERS }
     requires free { (i : ℕ) → i < length B.takers → slice_get B.core.seats i ≡ Some None }
     requires takers { AreTakersOf intake.now B.takers }
@@ -63,12 +64,21 @@ fn serve_from<B: Beginning + Send + Sync, G: Gate + Sync, R: Threads + Wait + Sy
     requires held { (room.held.items ≡ []) × (0 < vec_capacity room.held) }
     ensures { Serves B.core B.takers result }
 {
-    let Room { mut seats, held } = room;
+    let Room {
+        mut seats,
+        held,
+        blank,
+    } = room;
     let count = takers.len();
     give_out(&mut core, &mut seats, count);
     let (book, all) = blank.open::<B>();
     let service = Mutex::new(Service::<B>::open(core, seats, takers, book));
-    let Joined { ends, started } = run_all(rt, &service, intake, gate, count, all);
+    let shift = Shift {
+        service: &service,
+        intake,
+        gate,
+    };
+    let Joined { ends, started } = run_all(rt, &shift, count, all);
     service.into_inner().close(started, ends, held)
 }
 
@@ -99,6 +109,10 @@ pub fn serve<G: Gate + Sync, R: Threads + Wait + Sync>(
     let Ok(seats) = Vec::with_capacity(alloc, takers.len()) else {
         return unserved(core, takers, held);
     };
-    let room = Room { seats, held };
-    serve_from::<Brand, G, R>(rt, core, intake, takers, gate, room, Blank::new(1))
+    let room = Room {
+        seats,
+        held,
+        blank: Blank::new(1),
+    };
+    serve_from::<Brand, G, R>(rt, core, intake, takers, gate, room)
 }

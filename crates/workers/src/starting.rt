@@ -14,6 +14,14 @@ use std::sync::{Mutex, Wait};
 use std::thread;
 use std::thread::{Promise, Scope, Threads};
 
+/// What all workers of a service work with.
+#[derive(Drop)]
+pub(crate) struct Shift<'s, B: Beginning, G> {
+    pub(crate) service: &'s Mutex<Service<B>>,
+    pub(crate) intake: &'s Intake,
+    pub(crate) gate: &'s G,
+}
+
 /// The promise of a worker's thread: the end of the worker of a number.
 #[derive(Clone, Copy)]
 struct EndOf(usize);
@@ -46,16 +54,14 @@ fn admit<B: Beginning, R: Wait>(rt: &R, service: &Mutex<Service<B>>, all: &mut S
 fn start_from<'s, E, B: Beginning + Send + Sync, G: Gate + Sync, R: Threads + Wait + Sync>(
     scope: &Scope<'s, E>,
     rt: &'s R,
-    service: &'s Mutex<Service<B>>,
-    intake: &'s Intake,
-    gate: &'s G,
+    shift: &'s Shift<'s, B, G>,
     number: usize,
     count: usize,
     mut all: Share<B>,
 ) -> Joined<B>
     requires count { count ≡ length B.takers }
     requires few { length B.takers ≤ MAX_TAKERS }
-    requires takers { AreTakersOf intake.now B.takers }
+    requires takers { AreTakersOf shift.now.intake.now B.takers }
     requires number { number ≤ count }
     requires all { all.parts ≡ B.parts }
     requires part { 0 < all.parts }
@@ -72,17 +78,17 @@ fn start_from<'s, E, B: Beginning + Send + Sync, G: Gate + Sync, R: Threads + Wa
     }
     let worker = move || -> End
         requires { (number < length B.takers) × (length B.takers ≤ MAX_TAKERS)
-            × AreTakersOf intake.now B.takers }
+            × AreTakersOf shift.now.intake.now B.takers }
         ensures { result ≡ number }
-    { work(rt, service, intake, gate, number) };
+    { work(rt, shift.service, shift.intake, shift.gate, number) };
     let Ok(child) = scope.spawn_with(EndOf(number), worker) else {
         return Joined {
             ends: Ends::of(number),
             started: all,
         };
     };
-    admit(rt, service, &mut all);
-    let mut joined = start_from(scope, rt, service, intake, gate, number + 1, count, all);
+    admit(rt, shift.service, &mut all);
+    let mut joined = start_from(scope, rt, shift, number + 1, count, all);
     joined.ends.add(child.join(rt));
     joined
 }
@@ -90,15 +96,13 @@ fn start_from<'s, E, B: Beginning + Send + Sync, G: Gate + Sync, R: Threads + Wa
 /// All workers' work, each in a thread of its own, up to one whose thread the system refuses.
 pub(crate) fn run_all<B: Beginning + Send + Sync, G: Gate + Sync, R: Threads + Wait + Sync>(
     rt: &R,
-    service: &Mutex<Service<B>>,
-    intake: &Intake,
-    gate: &G,
+    shift: &Shift<'_, B, G>,
     count: usize,
     all: Share<B>,
 ) -> Joined<B>
     requires count { count ≡ length B.takers }
     requires few { length B.takers ≤ MAX_TAKERS }
-    requires takers { AreTakersOf intake.now B.takers }
+    requires takers { AreTakersOf shift.now.intake.now B.takers }
     requires all { all.parts ≡ B.parts }
     requires part { 0 < all.parts }
     requires started { all.amount ≡ 0 }
@@ -111,10 +115,10 @@ pub(crate) fn run_all<B: Beginning + Send + Sync, G: Gate + Sync, R: Threads + W
         rt,
         move |scope| -> Joined<B>
             requires { (count ≡ length B.takers) × (length B.takers ≤ MAX_TAKERS)
-                × AreTakersOf intake.now B.takers × (all.parts ≡ B.parts) × (0 < all.parts)
+                × AreTakersOf shift.now.intake.now B.takers × (all.parts ≡ B.parts) × (0 < all.parts)
                 × (all.amount ≡ 0) }
             ensures { (result.started.parts ≡ B.parts) × (result.ends.missing ≡ 0)
                 × (result.ends.started ≡ result.started.amount) }
-        { start_from(scope, rt, service, intake, gate, 0, count, all) },
+        { start_from(scope, rt, shift, 0, count, all) },
     )
 }

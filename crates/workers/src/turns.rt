@@ -17,8 +17,10 @@ use std::sync::Wait;
 pub enum Turn {
     /// There is one entry more.
     Entered,
-    /// The thread waits, or there was nothing to do: nothing changed.
+    /// The thread waits: nothing changed.
     Waits,
+    /// There was nothing to do, and there may be later: nothing changed.
+    Rests,
     /// There is nothing left to do: nothing changed.
     Ended(End),
     /// The history is full: nothing was entered. A command that was taken comes with it.
@@ -56,7 +58,7 @@ fn go(core: &mut Core, seat: &mut Seat, event: Event) -> Turn
     ensures seat { seat.new ≡ seat.old }
 {
     match core.apply(seat, event) {
-        Ok(Reply::Waited | Reply::Idle) => Turn::Waits,
+        Ok(Reply::Waited | Reply::Idle) => Turn::Rests,
         Ok(_) => Turn::Entered,
         Err(_) => Turn::Full(None),
     }
@@ -114,7 +116,7 @@ fn idle_turn<R: Wait>(
     let closed = intake.closing();
     match taker.take_or_end(rt, intake, closed) {
         Found::Command(taken) => perform(core, seat, taken),
-        Found::Nothing => Turn::Waits,
+        Found::Nothing => Turn::Rests,
         Found::End(drained) => Turn::Ended(End::drained(core, seat, intake, drained)),
     }
 }

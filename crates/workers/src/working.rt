@@ -25,6 +25,7 @@ fn locked_turn<B: Beginning, R: Wait>(
     number: usize,
 ) -> Progress
     requires number { number < length B.takers }
+    requires few { length B.takers ≤ MAX_TAKERS }
     requires takers { AreTakersOf intake.now B.takers }
     ensures { EndsFor number result }
 {

@@ -1,5 +1,6 @@
 -- A machine that replays a history, entry by entry.
-use Rattle.std.proofs.Common.{◌≡◌, ◌∙◌, ℕ, List, [], ◌∷◌, ◌++◌, refl, sym, subst}
+use Rattle.std.proofs.Common.{◌≡◌, ◌∙◌, ℕ, List, [], ◌∷◌, ◌++◌, append_assoc, refl, sym, subst}
+use Rattle.std.proofs.lemmas.List.{append-nil}
 use Rattle.std.specs.List.{All}
 use Rattle.std.proofs.lemmas.List.Elements.{All-cons, All-head, All-nil, All-tail}
 use Rattle.model.specs.declared.event.Event.{Event}
@@ -60,6 +61,7 @@ with_first set r e rest h =
 pub record Follows (set : Set) (threads : ℕ) (history : List Entry) (m : Machine)
     (rest : List Entry) : Type 0 where
   pub past : List Event
+  pub parts : past ++ events_of rest ≡ events_of history
   pub same : m.set ≡ set
   pub shows : ShowsWhole m threads past
   pub whole : RestReplays set (run set threads past) rest → Replays set threads history
@@ -70,6 +72,7 @@ pub follows_first : (m : Machine) (threads : ℕ) (history : List Entry) → Sho
 follows_first m threads history begun =
     record {
       past = [];
+      parts = refl;
       same = refl;
       shows = begun;
       whole = λ rest. record { legal = rest.replies; lasting = rest.lasting };
@@ -104,12 +107,20 @@ follows_next set threads history m n e rest reply h applies same goes_on =
     } in
     record {
       past = h.past ++ e.event ∷ [];
+      parts = append_assoc h.past (e.event ∷ []) (events_of rest) ∙ h.parts;
       same = applies.set ∙ h.same;
       shows = applies.shows threads h.past h.shows;
       whole = λ rest_replays.
           h.whole (with_first set r e rest (first (subst P more rest_replays)));
       left = λ all. subst P (sym more) (first_of set r e rest (h.left all)).later;
     }
+
+-- where nothing is left, the machine shows the run of the whole history
+pub shows_all : (set : Set) (threads : ℕ) (history : List Entry) (m : Machine)
+    → Follows set threads history m [] → ShowsWhole m threads (events_of history)
+shows_all set threads history m h =
+    subst (λ (events : List Event). ShowsWhole m threads events)
+    (sym (append-nil h.past) ∙ h.parts) h.shows
 
 -- where no run of the set stops, no reply of a legal history does
 replies_go_on : (set : Set) (threads : ℕ) (past : List Event) (rest : List Entry)

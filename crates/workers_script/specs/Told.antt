@@ -9,7 +9,8 @@ use Rattle.model.specs.declared.history.Name.{Name}
 use Rattle.model.specs.declared.history.Outcome.{Outcome}
 use Rattle.model.specs.declared.history.TopOut.{TopOut}
 use Rattle.model.specs.declared.limits.TheConstants.{MAX_HISTORY}
-use Rattle.model.specs.History.{entry_named, outcome_named}
+use Rattle.model.specs.History.{entry_named, events_of, outcome_named}
+use Rattle.model.specs.Machine.{ShowsWhole}
 use Rattle.model.specs.Set.{Set}
 use Rattle.hostcore.specs.Core.{CoreState}
 use Rattle.workers_script.specs.declared.hosted.Hosted.{Hosted}
@@ -56,7 +57,8 @@ new_core set threads = record {
   seats = replicate threads None;
 }
 
--- what came of a script's commands: that of a history in which they were served
+-- what came of a script's commands: that of a history in which they were served, and whose events
+-- the reference machine has run
 pub record Hosts (set : Set) (threads : ℕ) (commands : List Command) (hosted : Hosted) : Type 0
   where
     pub history : List Entry
@@ -65,3 +67,5 @@ pub record Hosts (set : Set) (threads : ℕ) (commands : List Command) (hosted :
     pub told : hosted.told.items ≡ all_told history (length commands)
     pub entries : hosted.entries ≡ length history
     pub agrees : hosted.agrees ≡ true
+    pub same_set : hosted.machine.set ≡ set
+    pub run : ShowsWhole hosted.machine threads (events_of history)

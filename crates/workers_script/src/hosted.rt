@@ -42,6 +42,8 @@ pub struct Hosted {
     pub ends: Ends,
     /// Whether the reference machine answers the events of the history as the history tells.
     pub agrees: bool,
+    /// The reference machine, which has run these events.
+    pub machine: Checked,
 }
 
 /// A core that served commands, and what is told of each.
@@ -88,6 +90,7 @@ pub fn serve_script<G: Gate + Sync, R: Threads + Wait + Sync>(
         entries,
         ends,
         agrees,
+        machine,
     })
 }
 

@@ -2,6 +2,7 @@
 
 ghost use Rattle.std.specs.Prelude.{◌≡◌, ◌↔◌, ℕ, IsTrue, [], true};
 ghost use Rattle.model.specs.declared.event.Reply.TheVariants.{Topped};
+ghost use Rattle.model.specs.History.{events_of};
 ghost use Rattle.model.specs.Machine.{ShowsWhole};
 ghost use Rattle.workers_script.specs.Replay.{IsReplay};
 ghost use Rattle.laws_runs.specs.NeverStops.{LetsGoOn};
@@ -47,11 +48,15 @@ fn is_topped(reply: &Reply, packet: u64, status: Status, info: u64) -> bool
     }
 }
 
-/// Whether a machine that has run nothing answers each event of a history as the history tells. A
-/// bug check or a wrong operand agrees with none.
+/// Whether a machine that has run nothing answers each event of a history as the history tells: it
+/// has run these events then. A bug check or a wrong operand agrees with none.
 pub(crate) fn agrees(machine: &mut Checked, history: &[Entry]) -> bool
-    ensures { (threads : ℕ) → ShowsWhole machine.old threads []
+    ensures replay { (threads : ℕ) → ShowsWhole machine.old threads []
         → IsReplay machine.old.set threads history.now result }
+    ensures set { (threads : ℕ) → ShowsWhole machine.old threads [] → IsTrue result
+        → machine.new.set ≡ machine.old.set }
+    ensures run { (threads : ℕ) → ShowsWhole machine.old threads [] → IsTrue result
+        → ShowsWhole machine.new threads (events_of history.now) }
 {
     for entry in history {
         let reply = machine.apply(&entry.event);

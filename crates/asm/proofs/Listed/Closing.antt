@@ -12,9 +12,9 @@ use Rattle.model.specs.Sound.{DeviceFits}
 use Rattle.asm.specs.declared.draft.ClosedRoutine.{ClosedRoutine}
 use Rattle.asm.specs.declared.draft.Place.TheVariants.{Outside, InDriver}
 use Rattle.asm.specs.declared.draft.QueueLine.{QueueLine}
-use Rattle.asm.specs.declared.draft.Use.{Use}
-use Rattle.asm.specs.declared.routines.Role.{Role}
-use Rattle.asm.specs.declared.routines.Role.TheVariants.{Handler, StartIo, Dpc, Cancel}
+use Rattle.asm_names.specs.declared.names.Use.{Use}
+use Rattle.asm_names.specs.declared.roles.Role.{Role}
+use Rattle.asm_names.specs.declared.roles.Role.TheVariants.{Handler, StartIo, Dpc, Cancel}
 use Rattle.asm.specs.Outline.{Outline, device_of, entry_in, finished, finished_driver, finished_queue, is_stack_size, number_used, serves, startio_named, used_at, waiting_named}
 use Rattle.asm_listing.specs.declared.entry.Entry.TheVariants as line
 use Rattle.asm_listing.specs.Words.{device, driver, routine}

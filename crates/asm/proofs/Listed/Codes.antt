@@ -16,8 +16,8 @@ use Rattle.model.specs.Set.{label_of, Set}
 use Rattle.model.specs.Sound.{completion_named, queue_named, CallsFit, DriverFits, IsCompletion, QueuesFit, RoutineFits, IsSound}
 use Rattle.asm_line.specs.declared.line.Body.TheVariants.{Step as TakeStep}
 use Rattle.asm_line.specs.declared.line.Line.{Line}
-use Rattle.asm.specs.declared.routines.Role.{Role}
-use Rattle.asm.specs.declared.routines.Role.TheVariants.{Completion}
+use Rattle.asm_names.specs.declared.roles.Role.{Role}
+use Rattle.asm_names.specs.declared.roles.Role.TheVariants.{Completion}
 use Rattle.asm.specs.Names.{number_in, routine_named, Inventory}
 use Rattle.asm.specs.Said.{instruction_on, is_labelled, jump_place, label_place, queue_number, with_label, with_queue, with_routine}
 use Rattle.asm.proofs.Codes.{all_codes, codes_of, driver_code, driver_codes, instructions_on, inventory_ahead, routine_code, routine_codes, routine_lines as code_lines}

@@ -13,8 +13,8 @@ use Rattle.model.specs.declared.status.Major.TheVariants.{Read, Write, Control}
 use Rattle.model.specs.Set.{label_of, Set}
 use Rattle.model.specs.Sound.{completion_named, queue_named, CallsFit, CancelFits, DevicesFit, DriverFits, HasSort, IsCancel, IsDispatch, IsDpc, IsSound, IsStartIo, QueuesFit, RoutineFits, WaitingFits}
 use Rattle.asm_line.specs.declared.line.Line.{Line}
-use Rattle.asm.specs.declared.routines.Role.{Role}
-use Rattle.asm.specs.declared.routines.Role.TheVariants.{Handler, Completion, StartIo, Dpc, Cancel}
+use Rattle.asm_names.specs.declared.roles.Role.{Role}
+use Rattle.asm_names.specs.declared.roles.Role.TheVariants.{Handler, Completion, StartIo, Dpc, Cancel}
 use Rattle.asm.specs.Outline.{is_among}
 use Rattle.asm.proofs.Scopes.{all_known as names_known, is_known, is_served, labels_ahead, nothing_named, scope_after, unknown_at, unknown_from, Scope}
 use Rattle.asm_listing.specs.declared.entry.Entry.{Entry}

@@ -11,7 +11,7 @@ use Rattle.asm.specs.declared.draft.Place.{Place}
 use Rattle.asm.specs.declared.draft.Place.TheVariants.{Outside, InDriver, InRoutine}
 use Rattle.asm.specs.declared.draft.QueueLine.{QueueLine}
 use Rattle.asm.specs.declared.draft.Step.{Step as StepOf}
-use Rattle.asm.specs.declared.draft.Use.{Use}
+use Rattle.asm_names.specs.declared.names.Use.{Use}
 use Rattle.asm.specs.Outline.{Outline, draft_has_room, draft_is_again, is_among, is_out_of_range, draft_misfit, noted, stands, startio_named, waiting_named}
 use Rattle.asm.proofs.Scopes.{Reads}
 use Rattle.asm_listing.specs.declared.entry.Entry.{Entry}

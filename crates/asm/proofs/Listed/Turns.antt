@@ -12,7 +12,7 @@ use Rattle.asm.specs.declared.draft.Place.TheVariants.{Outside, InDriver, InRout
 use Rattle.asm.specs.declared.draft.ClosedRoutine.{ClosedRoutine}
 use Rattle.asm.specs.declared.draft.QueueLine.{QueueLine}
 use Rattle.asm.specs.declared.draft.StartIoLine.{StartIoLine}
-use Rattle.asm.specs.declared.draft.Use.{Use}
+use Rattle.asm_names.specs.declared.names.Use.{Use}
 use Rattle.model.specs.declared.instr.Instr.{Instr}
 use Rattle.asm.specs.Outline.{Outline, is_among, is_known_label, label_resolved, startio_named, used_at, waiting_named}
 use Rattle.asm_listing.specs.declared.entry.Entry.TheVariants as line

@@ -1,5 +1,5 @@
 -- A driver fits when it is closed, and then its routines and queues are known.
-use Rattle.std.proofs.Common.{◌≡◌, ℕ, ◌<◌, List, length, Option, Some, None, IfSome, get_or, refl, sym, ◌∙◌, ap, subst, arith}
+use Rattle.std.proofs.Common.{◌≡◌, ℕ, ◌<◌, List, [], append-nil, length, Option, Some, None, IfSome, get_or, refl, sym, ◌∙◌, ap, subst, arith}
 use Rattle.std.specs.Prelude.{map, slice_get, is_some, option_map, option_and_then, if◌then◌else◌}
 use Rattle.std.proofs.lemmas.List.Elements.{All-map}
 use Rattle.std.proofs.lemmas.List.{length-map}
@@ -12,15 +12,20 @@ use Rattle.model.specs.declared.instr.Instr.{Instr}
 use Rattle.model.specs.declared.instr.Instr.TheVariants.{Insert, Call}
 use Rattle.asm.specs.declared.draft.ClosedRoutine.{ClosedRoutine}
 use Rattle.asm.specs.declared.draft.StartIoLine.{StartIoLine}
-use Rattle.asm.specs.declared.draft.Use.{Use}
-use Rattle.asm.specs.declared.routines.Role.{Role}
-use Rattle.asm.specs.declared.routines.Role.TheVariants.{Handler, Completion, StartIo as StartIoRole, Dpc as DpcRole, Cancel as CancelRole}
-use Rattle.asm.specs.Outline.{Outline, with_queue, with_routine, number_of, number_for, routine_called, entry_in, called, finished, finished_driver, finished_queue, earliest, missed_calls, missed_cancels, missed_entry, missed_handler, missed_queue, missed_routine, missed_server, missed_startio, missed_use, queue_at, routine_named, startio_named, waiting_named, ClosedFits, IsOrderly, IsUse}
+use Rattle.asm_names.specs.declared.names.Use.{Use}
+use Rattle.asm_names.specs.declared.roles.Role.{Role}
+use Rattle.asm_names.specs.declared.roles.Role.TheVariants.{Handler, Completion, StartIo as StartIoRole, Dpc as DpcRole, Cancel as CancelRole}
+use Rattle.asm.specs.Outline.{Outline, with_queue, with_routine, number_of, number_for, routine_called, entry_in, called, finished, finished_driver, finished_queue, earliest, missed_calls, missed_cancels, missed_entry, missed_handler, missed_queue, missed_routine, missed_server, missed_startio, missed_use, queue_at, routine_named, startio_named, waiting_named, ClosedFits, IsUse, QueuesOrderly, RoutinesOrderly}
 use Rattle.asm.proofs.Orderly.Names.{neither, use_known, number_within}
 
 -- the sort of a closed routine
 abbrev pub sort_at : ClosedRoutine → Sort
 sort_at routine = routine.sort
+
+-- the sorts of all routines of a driver in which no routine is open
+pub sorts_closed : {names : List (List ℕ)} {sorts : List Sort} {routines : List ClosedRoutine}
+    {uses : ℕ} → RoutinesOrderly [] names sorts routines uses → map sort_at routines ≡ sorts
+sorts_closed {routines = routines} h = sym (append-nil (map sort_at routines)) ∙ h.sorts_known
 
 -- a label is one still when the routine of a call is known
 labelled_still : (count : ℕ) (i : Instr) (f : Option ℕ) → LabelFits count i
@@ -225,19 +230,20 @@ waiting_fits o (Some l) sorts known =
     waiting_with o l.routine.line (routine_named names o.sorts StartIoRole l.routine.name)
     (entry_in names o.sorts CancelRole l.cancel) (entry_fits o CancelRole l.cancel sorts) there.0
 
-pub finished_driver_fits : (o : Outline) → length o.routine_names ≡ length o.routines
-    → map sort_at o.routines ≡ o.sorts → missed_queue o ≡ None → missed_routine o ≡ None
-    → IsOrderly o → DriverFits (finished_driver o)
-finished_driver_fits o same sorts known named h =
+pub finished_driver_fits : (o : Outline) → missed_queue o ≡ None → missed_routine o ≡ None
+    → RoutinesOrderly [] o.routine_names o.sorts o.routines (length o.queue_uses)
+    → QueuesOrderly o.queue_names o.queues → DriverFits (finished_driver o)
+finished_driver_fits o known named h queued =
+    let sorts = sorts_closed h in
     let count = length-map o.routines (finished o) in
     let queues = length (map (finished_queue o) o.queues) in
     let all : queues ≡ length o.queue_names =
-    length-map o.queues (finished_queue o) ∙ h.queue_count in
+    length-map o.queues (finished_queue o) ∙ queued.count in
     record {
-      few = omega (arith, same, count, h.few_routines);
+      few = omega (arith, count, h.count, h.few);
       routines = All-map RoutineFits (finished o) o.routines
           (λ i d inside. finished_fits o (length o.queue_uses) (get_or o.routines i d)
-          (h.routines_fit i d inside));
+          (h.fit i d inside));
       read = entry_fits o Handler o.read sorts;
       write = entry_fits o Handler o.write sorts;
       control = entry_fits o Handler o.control sorts;
@@ -246,11 +252,11 @@ finished_driver_fits o same sorts known named h =
       dpc = entry_fits o DpcRole o.dpc sorts;
       calls = All-map (CallsFit (map (finished o) o.routines)) (finished o) o.routines
           (λ i d inside. calls_fit o (get_or o.routines i d) sorts);
-      few_queues = omega (arith, h.few_queues, all);
-      guards = All-map GuardFits (finished_queue o) o.queues h.guards_fit;
+      few_queues = omega (arith, queued.few, all);
+      guards = All-map GuardFits (finished_queue o) o.queues queued.guards;
       cancels = All-map (CancelFits (map (finished o) o.routines)) (finished_queue o) o.queues
           (λ i d inside. entry_fits o CancelRole (get_or o.queues i d).cancel sorts);
       queues = All-map (QueuesFit queues) (finished o) o.routines
           (λ i d inside. queues_fit o (get_or o.routines i d) queues all known
-          (h.routines_fit i d inside));
+          (h.fit i d inside));
     }

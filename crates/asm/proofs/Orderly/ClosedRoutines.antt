@@ -5,12 +5,13 @@ use Rattle.std.proofs.lemmas.List.Elements.{All-map}
 use Rattle.std.proofs.lemmas.List.{length-map}
 use Rattle.std.proofs.lemmas.Option.{slice_get-get_or, slice_get_within}
 use Rattle.model.specs.Sound.{LabelFits, OperandFits, queue_named}
+use Rattle.model.specs.declared.set.Sort.{Sort}
 use Rattle.model.specs.declared.instr.Instr.{Instr}
 use Rattle.model.specs.declared.instr.Instr.TheVariants.{Jump}
 use Rattle.asm.specs.declared.draft.ClosedRoutine.{ClosedRoutine}
 use Rattle.asm.specs.declared.draft.Linked.{Linked}
-use Rattle.asm.specs.declared.draft.Use.{Use}
-use Rattle.asm.specs.Outline.{Outline, with_label, label_resolved, target_position, number_of, ClosedFits, IsOrderly, IsUse, QueueUsed}
+use Rattle.asm_names.specs.declared.names.Use.{Use}
+use Rattle.asm.specs.Outline.{Outline, with_label, label_resolved, target_position, number_of, ClosedFits, IsUse, QueueUsed, StepsOrderly}
 
 -- a label's position, or 0, is below a count that is above the positions of all labels
 number_fits : (count : ℕ) (positions : List ℕ) → 0 < count → All (λ p. p < count) positions
@@ -49,14 +50,15 @@ queue_labelled label (Jump old) = refl
 queue_labelled label _ = refl
 
 -- so a routine that is closed fits
-pub closed_fits : (o : Outline) → IsOrderly o
+pub closed_fits : {opened : List Sort} (o : Outline)
+    → StepsOrderly opened o.positions o.steps (length o.queue_uses)
     → ClosedFits (length o.queue_uses)
     (record { sort = o.sort; code = map (label_resolved o.labels o.positions) o.steps })
 closed_fits o h =
     let same = length-map o.steps (label_resolved o.labels o.positions) in
     let count = length (map (label_resolved o.labels o.positions) o.steps) in
     record {
-      few = omega (arith, same, h.few_steps);
+      few = omega (arith, same, h.few);
       labels = All-map (λ (step : Linked). LabelFits count step.instr)
           (label_resolved o.labels o.positions) o.steps (λ i d inside.
           let step = get_or o.steps i d in

@@ -7,7 +7,7 @@ use Rattle.std.proofs.lemmas.Bool.Decides.{nat_tests}
 use Rattle.model.specs.declared.set.Device.{Device}
 use Rattle.model.specs.Sound.{DeviceFits, DevicesFit}
 use Rattle.model.specs.declared.limits.TheConstants.{MAX_STACK}
-use Rattle.asm.specs.declared.draft.Use.{Use}
+use Rattle.asm_names.specs.declared.names.Use.{Use}
 use Rattle.asm.specs.Outline.{Outline, is_among, is_stack_size, number_of, number_used, missed, earliest, device_added, DevicesKnown}
 use Rattle.asm.proofs.Orderly.Names.{neither, number_below, number_there, is_there}
 
@@ -62,7 +62,7 @@ device_from o stack lower number =
 -- a device more, of a driver that is there
 device_known : (o : Outline) (stack : ℕ) (lower : Option Use) (number : Option ℕ)
     → IfSome number (λ k. k < length o.driver_names) → (number ≡ None → ⊥) → (1 ≤ stack)
-    × (stack ≤ MAX_STACK) → DevicesKnown o
+    × (stack ≤ MAX_STACK) → DevicesKnown o.driver_names o.device_names o.devices
     → (length (o.devices ++ option_to_list (device_from o stack lower number))
     ≡ length o.devices + 1)
     × DevicesFit (length o.driver_names) 0
@@ -84,9 +84,11 @@ device_known o stack lower (Some k) below known size h =
     )
 
 pub added_known : (o : Outline) (name : List ℕ) (u : Use) (stack : ℕ) (lower : Option Use)
-    → is_stack_size stack ≡ true → (o.unknown ≡ None → DevicesKnown o)
+    → is_stack_size stack ≡ true
+    → (o.unknown ≡ None → DevicesKnown o.driver_names o.device_names o.devices)
     → (device_added o name u stack lower).unknown ≡ None
-    → DevicesKnown (device_added o name u stack lower)
+    → DevicesKnown o.driver_names (o.device_names ++ name ∷ [])
+    (device_added o name u stack lower).devices
 added_known o name u stack lower size h known =
     let both = neither o.unknown
     (earliest (missed o.driver_names (Some u)) (missed o.device_names lower)) known in
@@ -98,11 +100,3 @@ added_known o name u stack lower size h known =
     (size_within stack size) old in
     let more = length_push o.device_names name in
     record { count = all.0 ∙ ap (λ (n : ℕ). n + 1) old.count ∙ sym more; fit = all.1 }
-
--- devices are known still where neither they nor the names change
-pub same_devices : (o next : Outline) → next.unknown ≡ o.unknown → next.devices ≡ o.devices
-    → next.device_names ≡ o.device_names → next.driver_names ≡ o.driver_names
-    → (o.unknown ≡ None → DevicesKnown o) → next.unknown ≡ None → DevicesKnown next
-same_devices o next unknown devices names drivers h none =
-    let old = h (sym unknown ∙ none) in
-    record { count = rw (devices, names) old.count; fit = rw (devices, drivers) old.fit }

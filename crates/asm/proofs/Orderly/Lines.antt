@@ -16,107 +16,91 @@ use Rattle.asm.specs.declared.draft.ClosedRoutine.{ClosedRoutine}
 use Rattle.asm.specs.declared.draft.QueueLine.{QueueLine}
 use Rattle.asm.specs.declared.draft.StartIoLine.{StartIoLine}
 use Rattle.asm.specs.declared.draft.Step.{Step}
-use Rattle.asm.specs.declared.draft.Use.{Use}
+use Rattle.asm_names.specs.declared.names.Use.{Use}
 use Rattle.asm_line.specs.declared.line.Body.{Body}
 use Rattle.asm_line.specs.declared.line.Body.TheVariants.{Blank, OpenDriver, CloseDriver, AddQueue, Handle, HandleStartIo, HandleDpc, OpenRoutine, CloseRoutine, AddDevice, Step as TakeStep}
 use Rattle.asm_line.specs.declared.line.Line.{Line}
 use Rattle.asm_line.specs.declared.line.UsedNames.{UsedNames}
 use Rattle.asm_line.specs.Line.{BodyFits, IsNoted, QueueNoted}
-use Rattle.asm.specs.Outline.{Outline, label_added, use_place, label_resolved, used_at, stands, is_out_of_range, is_stack_size, draft_has_room, noted, finished_driver, missed, missed_in_driver, missed_queue, missed_routine, queue_added, earliest, driver_opened, driver_closed, handled, routine_opened, routine_closed, open_drivers, open_routines, open_sort, device_added, stepped, ClosedFits, IsFitting, IsOrderly, IsUse, QueueUsed}
+use Rattle.asm.specs.Outline.{Outline, label_added, nothing_read, use_place, label_resolved, used_at, stands, is_out_of_range, is_stack_size, draft_has_room, noted, finished_driver, missed, missed_in_driver, missed_queue, missed_routine, queue_added, earliest, driver_opened, driver_closed, handled, routine_opened, routine_closed, device_added, stepped, ClosedFits, IsFitting, IsOrderly, IsUse, OrderlyAt, QueueUsed}
 use Rattle.asm.proofs.Fitting.{only_outside, only_in_driver, only_in_routine}
 use Rattle.asm.proofs.Added.{with_entries, added_step}
 use Rattle.asm.proofs.Orderly.Names.{neither, none_before}
-use Rattle.asm.proofs.Orderly.Devices.{devices_stay, added_known, same_devices}
+use Rattle.asm.proofs.Orderly.Devices.{devices_stay, added_known}
 use Rattle.asm.proofs.Orderly.ClosedRoutines.{closed_fits, use_stays, closed_stays}
-use Rattle.asm.proofs.Orderly.ClosedDrivers.{sort_at, finished_driver_fits}
+use Rattle.asm.proofs.Orderly.ClosedDrivers.{sort_at, sorts_closed, finished_driver_fits}
 
 -- the guard of a queue is a spin lock
 abbrev GuardIs : QueueLine → Type 0
 GuardIs queue = IsSpinLock queue.guard
 
 -- a line's place tells what is open there
-open_at : (p q : Place) (sort : Sort) → p ≡ q → (open_drivers p ≡ open_drivers q)
-    × (open_routines p ≡ open_routines q) × (open_sort p sort ≡ open_sort q sort)
-open_at p q sort is = rw is (refl, refl, refl)
-
--- the sorts of all routines of a driver in which no routine is open
-sorts_closed : (o : Outline) → open_sort o.place o.sort ≡ [] → IsOrderly o
-    → map sort_at o.routines ≡ o.sorts
-sorts_closed o none h =
-    sym (append-nil (map sort_at o.routines))
-    ∙ ap (λ (opened : List Sort). map sort_at o.routines ++ opened) (sym none) ∙ h.sorts_known
+orderly_at : (o : Outline) (place : Place) → o.place ≡ place → IsOrderly o → OrderlyAt place o
+orderly_at o place is h = subst (λ (p : Place). OrderlyAt p o) is h
 
 driver_opened_orderly : (o : Outline) (name : List ℕ) → stands o.place (OpenDriver name) ≡ true
     → length o.driver_names < MAX_DRIVERS → IsOrderly o → IsOrderly (driver_opened o name)
 driver_opened_orderly o name place room h =
-    let p = open_at o.place Outside o.sort
-    (only_outside o.place (OpenDriver name) refl refl place) in
+    let old = orderly_at o Outside (only_outside o.place (OpenDriver name) refl refl place) h in
     let more = length_push o.driver_names name in
-    let none : open_sort o.place o.sort ≡ [] = p.2 in
     record {
-      few_drivers = omega (arith, more);
-      few_devices = h.few_devices;
-      few_routines = h.few_routines;
-      few_queues = h.few_queues;
-      few_steps = h.few_steps;
-      idle = λ none. h.idle p.1;
-      positions_fit = h.positions_fit;
-      operands_fit = h.operands_fit;
-      queues_used = h.queues_used;
-      guards_fit = h.guards_fit;
-      queue_count = h.queue_count;
-      driver_count = omega (arith, more, h.driver_count, p.0);
-      routine_count = omega (arith, h.routine_count, p.1);
-      sorts_known = ap (λ (opened : List Sort). map sort_at o.routines ++ opened) (sym none)
-          ∙ h.sorts_known;
-      drivers_fit = h.drivers_fit;
-      devices_known = λ known.
-          let devices = h.devices_known known in
-          record {
-            count = devices.count;
-            fit =
-                devices_stay (length o.driver_names) (length (o.driver_names ++ name ∷ [])) 0
-                o.devices (omega (arith, more)) devices.fit;
-          };
-      routines_fit = h.routines_fit;
+      drivers = record {
+        few = omega (arith, more);
+        count = omega (arith, more, old.drivers.count);
+        fit = old.drivers.fit;
+      };
+      devices = record {
+        few = old.devices.few;
+        known = λ known.
+            let devices = old.devices.known known in
+            record {
+              count = devices.count;
+              fit =
+                  devices_stay (length o.driver_names) (length (o.driver_names ++ name ∷ [])) 0
+                  o.devices (omega (arith, more)) devices.fit;
+            };
+      };
+      routines = old.routines;
+      queues = old.queues;
+      steps = old.steps;
     }
 
 driver_closed_orderly : (o : Outline) → stands o.place CloseDriver ≡ true → IsOrderly o
     → IsOrderly (driver_closed o)
 driver_closed_orderly o place h =
-    let p = open_at o.place InDriver o.sort
-    (only_in_driver o.place CloseDriver refl refl place) in
-    let none : open_sort o.place o.sort ≡ [] = p.2 in
+    let old = orderly_at o InDriver (only_in_driver o.place CloseDriver refl refl place) h in
     let more = length_push o.drivers (finished_driver o) in
-    let same : length o.routine_names ≡ length o.routines = omega (arith, h.routine_count, p.1) in
-    let sorts = sorts_closed o none h in
     record {
-      few_drivers = h.few_drivers;
-      few_devices = h.few_devices;
-      few_routines = omega arith;
-      few_queues = omega arith;
-      few_steps = h.few_steps;
-      idle = λ none. h.idle p.1;
-      positions_fit = h.positions_fit;
-      operands_fit = h.operands_fit;
-      queues_used =
-          subst (λ (steps : List Step). All (λ (step : Step). QueueUsed 0 step.instr step.queue)
-          steps) (sym (h.idle p.1))
-          (All-nil (λ (step : Step). QueueUsed 0 step.instr step.queue));
-      guards_fit = All-nil GuardIs;
-      queue_count = refl;
-      driver_count = omega (arith, more, h.driver_count, p.0);
-      routine_count = refl;
-      sorts_known = refl;
-      drivers_fit = λ known.
-          let both = neither o.unknown (missed_in_driver o) known in
-          let missed = neither (missed_queue o) (missed_routine o) both.1 in
-          All-push DriverFits o.drivers (finished_driver o) (h.drivers_fit both.0)
-          (finished_driver_fits o same sorts missed.0 missed.1 h);
-      devices_known = λ known.
-          let devices = h.devices_known (neither o.unknown (missed_in_driver o) known).0 in
-          record { count = devices.count; fit = devices.fit };
-      routines_fit = All-nil (ClosedFits 0);
+      drivers = record {
+        few = old.drivers.few;
+        count = omega (arith, more, old.drivers.count);
+        fit = λ known.
+            let both = neither o.unknown (missed_in_driver o) known in
+            let missed = neither (missed_queue o) (missed_routine o) both.1 in
+            All-push DriverFits o.drivers (finished_driver o) (old.drivers.fit both.0)
+            (finished_driver_fits o missed.0 missed.1 old.routines old.queues);
+      };
+      devices = record {
+        few = old.devices.few;
+        known = λ known. old.devices.known (neither o.unknown (missed_in_driver o) known).0;
+      };
+      routines = record {
+        few = omega arith;
+        count = refl;
+        sorts_known = refl;
+        fit = All-nil (ClosedFits 0);
+      };
+      queues = record { few = omega arith; count = refl; guards = All-nil GuardIs };
+      steps = record {
+        few = old.steps.few;
+        idle = old.steps.idle;
+        positions_fit = old.steps.positions_fit;
+        operands_fit = old.steps.operands_fit;
+        queues_used =
+            subst (λ (steps : List Step). All (λ (step : Step). QueueUsed 0 step.instr step.queue)
+            steps) (sym (old.steps.idle refl))
+            (All-nil (λ (step : Step). QueueUsed 0 step.instr step.queue));
+      };
     }
 
 -- a table entry changes nothing else
@@ -124,24 +108,11 @@ entries_orderly : (o : Outline) (read write control : Option Use) (startio : Opt
     (dpc : Option Use) → IsOrderly o → IsOrderly (with_entries o read write control startio dpc)
 entries_orderly o read write control startio dpc h =
     record {
-      few_drivers = h.few_drivers;
-      few_devices = h.few_devices;
-      few_routines = h.few_routines;
-      few_queues = h.few_queues;
-      few_steps = h.few_steps;
-      idle = h.idle;
-      positions_fit = h.positions_fit;
-      operands_fit = h.operands_fit;
-      queues_used = h.queues_used;
-      guards_fit = h.guards_fit;
-      queue_count = h.queue_count;
-      driver_count = h.driver_count;
-      routine_count = h.routine_count;
-      sorts_known = h.sorts_known;
-      drivers_fit = h.drivers_fit;
-      devices_known = same_devices o (with_entries o read write control startio dpc)
-          refl refl refl refl h.devices_known;
-      routines_fit = h.routines_fit;
+      drivers = h.drivers;
+      devices = h.devices;
+      routines = h.routines;
+      queues = h.queues;
+      steps = h.steps;
     }
 
 handled_orderly : (o : Outline) (u : Use) (major : Major) → IsOrderly o
@@ -159,91 +130,79 @@ queue_added_orderly o name guard cancel room fits h =
     let more = length_push o.queue_names name in
     let longer = length_push o.queues queue in
     record {
-      few_drivers = h.few_drivers;
-      few_devices = h.few_devices;
-      few_routines = h.few_routines;
-      few_queues = omega (arith, more, room);
-      few_steps = h.few_steps;
-      idle = h.idle;
-      positions_fit = h.positions_fit;
-      operands_fit = h.operands_fit;
-      queues_used = h.queues_used;
-      guards_fit = All-push GuardIs o.queues queue h.guards_fit fits;
-      queue_count = omega (arith, more, longer, h.queue_count);
-      driver_count = h.driver_count;
-      routine_count = h.routine_count;
-      sorts_known = h.sorts_known;
-      drivers_fit = h.drivers_fit;
-      devices_known =
-          same_devices o (queue_added o name guard cancel) refl refl refl refl h.devices_known;
-      routines_fit = h.routines_fit;
+      drivers = h.drivers;
+      devices = h.devices;
+      routines = h.routines;
+      queues = record {
+        few = omega (arith, more, room);
+        count = omega (arith, more, longer, h.queues.count);
+        guards = All-push GuardIs o.queues queue h.queues.guards fits;
+      };
+      steps = h.steps;
     }
 
 routine_opened_orderly : (o : Outline) (name : List ℕ) (sort : Sort)
     → stands o.place (OpenRoutine name sort) ≡ true → length o.routine_names < MAX_ROUTINES
     → IsOrderly o → IsOrderly (routine_opened o name sort)
 routine_opened_orderly o name sort place room h =
-    let p = open_at o.place InDriver o.sort
-    (only_in_driver o.place (OpenRoutine name sort) refl refl place) in
-    let none : open_sort o.place o.sort ≡ [] = p.2 in
+    let old = orderly_at o InDriver
+    (only_in_driver o.place (OpenRoutine name sort) refl refl place) h in
     let more = length_push o.routine_names name in
-    let sorts = sorts_closed o none h in
     record {
-      few_drivers = h.few_drivers;
-      few_devices = h.few_devices;
-      few_routines = omega (arith, more);
-      few_queues = h.few_queues;
-      few_steps = h.few_steps;
-      idle = λ none. cc;
-      positions_fit = h.positions_fit;
-      operands_fit = h.operands_fit;
-      queues_used = h.queues_used;
-      guards_fit = h.guards_fit;
-      queue_count = h.queue_count;
-      driver_count = omega (arith, h.driver_count, p.0);
-      routine_count = omega (arith, more, h.routine_count, p.1);
-      sorts_known = ap (λ (all : List Sort). all ++ sort ∷ []) sorts;
-      drivers_fit = h.drivers_fit;
-      devices_known =
-          same_devices o (routine_opened o name sort) refl refl refl refl h.devices_known;
-      routines_fit = h.routines_fit;
+      drivers = old.drivers;
+      devices = old.devices;
+      routines = record {
+        few = omega (arith, more);
+        count = omega (arith, more, old.routines.count);
+        sorts_known = ap (λ (all : List Sort). all ++ sort ∷ []) (sorts_closed old.routines);
+        fit = old.routines.fit;
+      };
+      queues = old.queues;
+      steps = record {
+        few = old.steps.few;
+        idle = λ none. cc;
+        positions_fit = old.steps.positions_fit;
+        operands_fit = old.steps.operands_fit;
+        queues_used = old.steps.queues_used;
+      };
     }
 
 routine_closed_orderly : (o : Outline) → stands o.place CloseRoutine ≡ true → IsOrderly o
     → IsOrderly (routine_closed o)
 routine_closed_orderly o place h =
-    let p = open_at o.place InRoutine o.sort
-    (only_in_routine o.place CloseRoutine refl refl place) in
-    let open_one : open_sort o.place o.sort ≡ o.sort ∷ [] = p.2 in
+    let old = orderly_at o InRoutine (only_in_routine o.place CloseRoutine refl refl place) h in
     let closed : ClosedRoutine =
     record { sort = o.sort; code = map (label_resolved o.labels o.positions) o.steps } in
     let more = length_push o.routines closed in
     record {
-      few_drivers = h.few_drivers;
-      few_devices = h.few_devices;
-      few_routines = h.few_routines;
-      few_queues = h.few_queues;
-      few_steps = omega arith;
-      idle = λ none. refl;
-      positions_fit = All-nil (λ p. p < 0);
-      operands_fit = All-nil (λ (step : Step). OperandFits step.instr);
-      queues_used =
-          All-nil (λ (step : Step). QueueUsed (length o.queue_uses) step.instr step.queue);
-      guards_fit = h.guards_fit;
-      queue_count = h.queue_count;
-      driver_count = omega (arith, h.driver_count, p.0);
-      routine_count = omega (arith, more, h.routine_count, p.1);
-      sorts_known =
-          append-nil (map sort_at (o.routines ++ closed ∷ []))
-          ∙ map_push sort_at o.routines closed
-          ∙ ap (λ (opened : List Sort). map sort_at o.routines ++ opened) (sym open_one)
-          ∙ h.sorts_known;
-      drivers_fit = λ known. h.drivers_fit (none_before o.labels o.unknown o.steps known);
-      devices_known = λ known.
-          let devices = h.devices_known (none_before o.labels o.unknown o.steps known) in
-          record { count = devices.count; fit = devices.fit };
-      routines_fit = All-push (ClosedFits (length o.queue_uses)) o.routines closed h.routines_fit
-          (closed_fits o h);
+      drivers = record {
+        few = old.drivers.few;
+        count = old.drivers.count;
+        fit = λ known. old.drivers.fit (none_before o.labels o.unknown o.steps known);
+      };
+      devices = record {
+        few = old.devices.few;
+        known = λ known. old.devices.known (none_before o.labels o.unknown o.steps known);
+      };
+      routines = record {
+        few = old.routines.few;
+        count = omega (arith, more, old.routines.count);
+        sorts_known =
+            append-nil (map sort_at (o.routines ++ closed ∷ []))
+            ∙ map_push sort_at o.routines closed
+            ∙ old.routines.sorts_known;
+        fit = All-push (ClosedFits (length o.queue_uses)) o.routines closed old.routines.fit
+            (closed_fits o old.steps);
+      };
+      queues = old.queues;
+      steps = record {
+        few = omega arith;
+        idle = λ none. refl;
+        positions_fit = All-nil (λ p. p < 0);
+        operands_fit = All-nil (λ (step : Step). OperandFits step.instr);
+        queues_used =
+            All-nil (λ (step : Step). QueueUsed (length o.queue_uses) step.instr step.queue);
+      };
     }
 
 device_added_orderly : (o : Outline) (name : List ℕ) (u : Use) (stack : ℕ) (lower : Option Use)
@@ -252,25 +211,20 @@ device_added_orderly : (o : Outline) (name : List ℕ) (u : Use) (stack : ℕ) (
 device_added_orderly o name u stack lower size room h =
     let more = length_push o.device_names name in
     record {
-      few_drivers = h.few_drivers;
-      few_devices = omega (arith, more);
-      few_routines = h.few_routines;
-      few_queues = h.few_queues;
-      few_steps = h.few_steps;
-      idle = h.idle;
-      positions_fit = h.positions_fit;
-      operands_fit = h.operands_fit;
-      queues_used = h.queues_used;
-      guards_fit = h.guards_fit;
-      queue_count = h.queue_count;
-      driver_count = h.driver_count;
-      routine_count = h.routine_count;
-      sorts_known = h.sorts_known;
-      drivers_fit = λ known.
-          h.drivers_fit (neither o.unknown
-          (earliest (missed o.driver_names (Some u)) (missed o.device_names lower)) known).0;
-      devices_known = added_known o name u stack lower size h.devices_known;
-      routines_fit = h.routines_fit;
+      drivers = record {
+        few = h.drivers.few;
+        count = h.drivers.count;
+        fit = λ known.
+            h.drivers.fit (neither o.unknown
+            (earliest (missed o.driver_names (Some u)) (missed o.device_names lower)) known).0;
+      };
+      devices = record {
+        few = omega (arith, more);
+        known = added_known o name u stack lower size h.devices.known;
+      };
+      routines = h.routines;
+      queues = h.queues;
+      steps = h.steps;
     }
 
 -- positions are below a greater count too
@@ -305,45 +259,52 @@ use_noted uses n (Some q) (Some name) h =
 uses_more : (uses added : List Use) → length uses ≤ length (uses ++ added)
 uses_more uses added = let more = length-append uses added in omega (arith, more)
 
-stepped_orderly : (o : Outline) (n : ℕ) (label : Option (List ℕ)) (instr : Instr) (used : UsedNames)
-    → stands o.place (TakeStep (Some instr) used) ≡ true → length o.steps < MAX_INSTRUCTIONS
-    → OperandFits instr → QueueNoted used instr → IsOrderly o
-    → IsOrderly (stepped o n label instr used)
-stepped_orderly o n label instr used place room operand noting h =
+stepped_in_routine : (o : Outline) (n : ℕ) (label : Option (List ℕ)) (instr : Instr)
+    (used : UsedNames) → length o.steps < MAX_INSTRUCTIONS → OperandFits instr
+    → QueueNoted used instr → OrderlyAt InRoutine o
+    → OrderlyAt InRoutine (stepped o n label instr used)
+stepped_in_routine o n label instr used room operand noting h =
     let step = added_step o n instr used in
-    let p = open_at o.place InRoutine o.sort
-    (only_in_routine o.place (TakeStep (Some instr) used) refl refl place) in
     let more = length_push o.steps step in
     let old = length o.queue_uses in
     let new = length (o.queue_uses ++ option_to_list (used_at n used.queue)) in
     let longer : old ≤ new = uses_more o.queue_uses (option_to_list (used_at n used.queue)) in
     record {
-      few_drivers = h.few_drivers;
-      few_devices = h.few_devices;
-      few_routines = h.few_routines;
-      few_queues = h.few_queues;
-      few_steps = omega (arith, more);
-      idle = λ none. absurd (omega (arith, p.1, none));
-      positions_fit = added_fits o label (length (o.steps ++ step ∷ [])) (omega (arith, more))
-          h.positions_fit;
-      operands_fit = All-push (λ (step : Step). OperandFits step.instr) o.steps step h.operands_fit
-          operand;
-      queues_used = All-push (λ (step : Step). QueueUsed new step.instr step.queue) o.steps step
-          (λ i d inside.
-          let one = get_or o.steps i d in
-          use_stays old new (queue_named one.instr) one.queue longer (h.queues_used i d inside))
-          (use_noted o.queue_uses n (queue_named instr) used.queue noting);
-      guards_fit = h.guards_fit;
-      queue_count = h.queue_count;
-      driver_count = h.driver_count;
-      routine_count = h.routine_count;
-      sorts_known = h.sorts_known;
-      drivers_fit = h.drivers_fit;
-      devices_known =
-          same_devices o (stepped o n label instr used) refl refl refl refl h.devices_known;
-      routines_fit = λ i d inside.
-          closed_stays old new (get_or o.routines i d) longer (h.routines_fit i d inside);
+      drivers = h.drivers;
+      devices = h.devices;
+      routines = record {
+        few = h.routines.few;
+        count = h.routines.count;
+        sorts_known = h.routines.sorts_known;
+        fit = λ i d inside.
+            closed_stays old new (get_or o.routines i d) longer (h.routines.fit i d inside);
+      };
+      queues = h.queues;
+      steps = record {
+        few = omega (arith, more);
+        idle = λ none. cc;
+        positions_fit = added_fits o label (length (o.steps ++ step ∷ [])) (omega (arith, more))
+            h.steps.positions_fit;
+        operands_fit = All-push (λ (step : Step). OperandFits step.instr) o.steps step
+            h.steps.operands_fit operand;
+        queues_used = All-push (λ (step : Step). QueueUsed new step.instr step.queue) o.steps step
+            (λ i d inside.
+            let one = get_or o.steps i d in
+            use_stays old new (queue_named one.instr) one.queue longer
+            (h.steps.queues_used i d inside))
+            (use_noted o.queue_uses n (queue_named instr) used.queue noting);
+      };
     }
+
+stepped_orderly : (o : Outline) (n : ℕ) (label : Option (List ℕ)) (instr : Instr) (used : UsedNames)
+    → stands o.place (TakeStep (Some instr) used) ≡ true → length o.steps < MAX_INSTRUCTIONS
+    → OperandFits instr → QueueNoted used instr → IsOrderly o
+    → IsOrderly (stepped o n label instr used)
+stepped_orderly o n label instr used place room operand noting h =
+    let here = only_in_routine o.place (TakeStep (Some instr) used) refl refl place in
+    let old = orderly_at o InRoutine here h in
+    subst (λ (p : Place). OrderlyAt p (stepped o n label instr used)) (sym here)
+    (stepped_in_routine o n label instr used room operand noting old)
 
 orderly_with : (o : Outline) (n : ℕ) (label : Option (List ℕ)) (body : Body)
     → stands o.place body ≡ true → is_out_of_range body ≡ false → draft_has_room o body ≡ true
@@ -386,12 +347,37 @@ orderly_on o n l fits operand h =
 pub sound : (o : Outline) → IsOrderly o → o.place ≡ Outside → o.unknown ≡ None
     → IsSound (record { drivers = o.drivers; devices = o.devices })
 sound o h closed known =
-    let none : open_drivers o.place ≡ 0 = ap open_drivers closed in
-    let same : length o.driver_names ≡ length o.drivers = omega (arith, h.driver_count, none) in
-    let devices = h.devices_known known in
+    let at = orderly_at o Outside closed h in
+    let same : length o.driver_names ≡ length o.drivers = omega (arith, at.drivers.count) in
+    let devices = h.devices.known known in
     record {
-      few_drivers = omega (arith, same, h.few_drivers);
-      few_devices = omega (arith, devices.count, h.few_devices);
-      drivers = h.drivers_fit known;
+      few_drivers = omega (arith, same, h.drivers.few);
+      few_devices = omega (arith, devices.count, h.devices.few);
+      drivers = h.drivers.fit known;
       devices = subst (λ (n : ℕ). DevicesFit n 0 o.devices) same devices.fit;
+    }
+
+-- where nothing was read
+pub nothing_orderly : IsOrderly nothing_read
+nothing_orderly =
+    record {
+      drivers = record { few = omega arith; count = refl; fit = λ known. All-nil DriverFits };
+      devices = record {
+        few = omega arith;
+        known = λ known. record { count = refl; fit = tt };
+      };
+      routines = record {
+        few = omega arith;
+        count = refl;
+        sorts_known = refl;
+        fit = All-nil (ClosedFits 0);
+      };
+      queues = record { few = omega arith; count = refl; guards = All-nil GuardIs };
+      steps = record {
+        few = omega arith;
+        idle = λ none. refl;
+        positions_fit = All-nil _;
+        operands_fit = All-nil _;
+        queues_used = All-nil _;
+      };
     }

@@ -3,13 +3,13 @@
 ghost use Rattle.std.specs.Prelude.{◌≡◌, ◌<◌, is_some, option_and_then};
 ghost use Rattle.model.specs.declared.limits.TheConstants.{MAX_INSTRUCTIONS};
 ghost use Rattle.model.specs.Effect.{top_of};
-ghost use Rattle.checked_parts.specs.declared.ran.Runner.{Runner};
+ghost use Rattle.checked_frames.specs.declared.ran.Runner.{Runner};
 ghost use Rattle.model.specs.declared.world.Frame.TheVariants.{Walk as WalkFrame};
 
 use super::Shared;
-use crate::activation::{self, driver_of};
-use crate::frame::{Frame, Managing, is_last};
-use crate::ran::{Over, Ran, packet_bug, wrong_at};
+use checked_frames::activation::completing;
+use checked_frames::{Frame, Managing, Over, Ran, is_last, packet_bug, wrong_at};
+use driver_devices::driver_of;
 use driver_set::{DriverSet, Register, Sort};
 use iomgr::WalkStep;
 use model::event::{BugCheck, Reply};
@@ -17,8 +17,8 @@ use model::status::Status;
 use model::world::{Activation, Completion};
 
 impl Shared {
-    ghost use Rattle.checked_parts.specs.Ran.{left_of, LeavesOver};
-    ghost use Rattle.checked_parts.specs.Left.{bounded, judged, frame_now};
+    ghost use Rattle.checked_frames.specs.Ran.{left_of, LeavesOver};
+    ghost use Rattle.checked_frames.specs.Left.{bounded, judged, frame_now};
     ghost use Rattle.iomgr.specs.Walk.{lent_if};
     ghost use Rattle.model.specs.Effect.{complete_effect, continued, let_on, stopped, sort_of_completion};
     ghost use Rattle.model.specs.World.{packet_in, packet_of, register, current_location, completion_of};
@@ -76,7 +76,7 @@ impl Shared {
             WalkStep::Missing => Ran::Gone(Reply::Stepped),
             WalkStep::Runs(completion) => {
                 self.lend(set, completion, n);
-                Ran::Under(activation::completing(set, completion, n))
+                Ran::Under(completing(set, completion, n))
             }
             WalkStep::Ascends { marked: _ } => Ran::Stays(Reply::Stepped),
             WalkStep::TopsOut { status, info } => Ran::Gone(Reply::Topped {

@@ -1,6 +1,5 @@
-use Rattle.std.proofs.Common.{◌≡◌, ◌+◌, List, ap, suc, sym, subst, Bool, arith}
-use Rattle.verifier_orders.specs.declared.ranking.NumberedEdge.{NumberedEdge}
-use Rattle.verifier_orders.specs.Edges.{AreAdded, IsAdded, edge, holds_number}
+use Rattle.std.proofs.Common.{◌≡◌, ◌+◌, suc, subst, Bool, arith}
+use Rattle.verifier_orders.specs.Edges.{IsAdded, edge}
 use Rattle.verifier_orders.proofs.edges.add_from.Goals as goal
 
 pub loop-held-preserved : goal.loop-held-preserved

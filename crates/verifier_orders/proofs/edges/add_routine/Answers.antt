@@ -1,11 +1,9 @@
-use Rattle.std.proofs.Common.{rules, ◌-◌, ◌≡◌, ◌∙◌, ◌≤◌, ◌+◌, List, length, Option, Some, ap, sym, arith, subst}
+use Rattle.std.proofs.Common.{rules, ◌-◌, ◌≡◌, ◌∙◌, ◌≤◌, List, length, Option, Some, ap, sym, arith}
 use Rattle.std.specs.Prelude.{slice_get}
 use Rattle.model.specs.declared.instr.Instr.{Instr}
 use Rattle.verifier_evidence.specs.declared.arrivals.Arrival.{Arrival}
 use Rattle.verifier_evidence.specs.Table.{AreKnown}
 use Rattle.verifier_evidence.proofs.Walked.{read_at}
-use Rattle.verifier_orders.specs.declared.ranking.NumberedEdge.{NumberedEdge}
-use Rattle.verifier_orders.specs.Edges.{AreEdgesTo}
 use Rattle.verifier_orders.proofs.Finding.{all_fine, done_routine, instruction_at, none_routine, position_none, position_reached, position_some}
 use Rattle.verifier_orders.proofs.edges.add_routine.Goals as goal
 

@@ -1,10 +1,15 @@
-use Rattle.std.proofs.Common.{◌≡◌, ◌∙◌, length, Option, ap, arith}
+use Rattle.std.proofs.Common.{◌≡◌, ◌∙◌, length, Option, ap, arith, subst, sym}
 use Rattle.std.specs.Prelude.{slice_get}
 use Rattle.model.specs.declared.set.Driver.{Driver}
 use Rattle.model.specs.Set.{Set}
-use Rattle.verifier_orders.specs.Edges.{count_of}
-use Rattle.verifier_orders.proofs.Finding.{all_routines, no_routine}
+use Rattle.verifier_orders.specs.Edges.{AreEdgesTo, count_of}
+use Rattle.verifier_orders.proofs.Finding.{all_routines, no_edges, no_routine}
 use Rattle.verifier_orders.proofs.edges.edges_of.Goals as goal
+
+pub loop-number-init : goal.loop-number-init
+loop-number-init c =
+    subst (AreEdgesTo c.args.accepted.now c.args.driver 0 0) (sym c.new-edges.ensures.items)
+    (no_edges c.args.accepted.now c.args.driver)
 
 pub returns : goal.returns
 returns c =

@@ -1,7 +1,8 @@
 use Rattle.std.proofs.Common.{◌≡◌, ◌∙◌, ℕ, List, ap, arith, length, subst, sym}
 use Rattle.model.specs.declared.event.Event.{Event}
 use Rattle.model.specs.declared.history.Entry.{Entry}
-use Rattle.model.specs.History.{IsLegal}
+use Rattle.model.specs.History.{IsLegal, events_of}
+use Rattle.model.specs.Machine.{ShowsWhole}
 use Rattle.model.specs.Set.{Set}
 use Rattle.hostcore.specs.Core.{CoreState}
 use Rattle.laws_runs.specs.NeverStops.{NeverStops}
@@ -23,6 +24,11 @@ returns g c =
     let M : Set → Type 0 = λ s. IsLegal s c.args.workers history in
     let N : Set → Type 0 = λ s. (events : List Event) → NeverStops s c.args.workers events in
     let R : List Entry → Type 0 = Replays c.in_ok-machine.machine.set c.args.workers in
+    let W : List Entry → Type 0 = λ xs. ShowsWhole c.agrees-agrees.new.machine c.args.workers (events_of xs) in
+    let agrees = (c.agrees-agrees.ensures.replay c.args.workers c.in_ok-machine.ensures.begun).all
+    (subst R (sym c.history-history.ensures.entries)
+    (legal_replays c.in_ok-machine.machine.set c.args.workers history (subst M machine_set legal)
+    (subst N machine_set (λ events. (c.in_ok-machine.ensures.rules events).lasting)))) in
     record {
       history = history;
       served = record {
@@ -35,10 +41,9 @@ returns g c =
       started = served.started;
       told = served.told;
       entries = ap length c.history-history.ensures.entries;
-      agrees = (c.agrees-agrees.ensures c.args.workers c.in_ok-machine.ensures.begun).all
-          (subst R (sym c.history-history.ensures.entries)
-          (legal_replays c.in_ok-machine.machine.set c.args.workers history
-          (subst M machine_set legal)
-          (subst N machine_set
-          (λ events. (c.in_ok-machine.ensures.rules events).lasting))));
+      agrees = agrees;
+      same_set = c.agrees-agrees.ensures.set c.args.workers c.in_ok-machine.ensures.begun agrees
+          ∙ c.in_ok-machine.ensures.set;
+      run = subst W c.history-history.ensures.entries
+          (c.agrees-agrees.ensures.run c.args.workers c.in_ok-machine.ensures.begun agrees);
     }

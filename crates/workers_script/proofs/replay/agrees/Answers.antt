@@ -20,3 +20,6 @@ loop-entry-preserved c =
     follows_next set threads history c.loop-entry.machine c.apply-reply.new.self _ rest
     c.apply-reply.result h c.apply-reply.ensures (c.is_same.ensures.same c.if-not-is_same.false)
     (c.is_same.ensures.goes_on c.if-not-is_same.false)
+
+pub returns-clause-set : goal.returns-clause-set
+returns-clause-set c = λ threads begun told. (c.loop-entry.invariant threads begun).same

@@ -88,16 +88,15 @@ returns-in-Stopped c =
     let back : take depth ((below ++ g ∷ []) ++ drop depth places) ≡ below ++ g ∷ [] =
     standing c.args.set.now c.args.shared.now c.args.number thread below top split depth places g
     refl in
-    let left : c.pop-in-Stopped.new.self ≡ with_items thread below =
-    c.pop-in-Stopped.ensures
+    let left : c.pop.new.self ≡ with_items thread below =
+    c.pop.ensures
     ∙ ap (λ (fs : List WordFrame). with_items thread (take (length fs - 1) fs)) back
     ∙ ap (with_items thread)
     (popped c.args.set.now c.args.shared.now c.args.number thread below top split g) in
     rw (
       ← c.self.view_is,
-      c.finish-in-Stopped.ensures.thread,
-      c.finish-in-Stopped.ensures.reply,
-      c.pop-in-Stopped-2.ensures,
+      c.end-in-Stopped.ensures.thread,
+      c.end-in-Stopped.ensures.reply,
       left,
     )
     (moved_stopped c.args.set.now c.args.shared.now c.args.number thread below top split
@@ -134,8 +133,8 @@ returns-in-Returned c =
     (record { root = level_over r fs; frames = fs }) (ends_or fs Stepped) in
     rw (
       ← c.self.view_is,
-      c.finish-in-Returned.ensures.thread,
-      c.finish-in-Returned.ensures.reply,
+      c.finish.ensures.thread,
+      c.finish.ensures.reply,
     )
     (ap (λ (r : Irql). as_left r
     (take inside.depth (c.tell.new.frames ++ drop inside.depth inside.places))) root
@@ -155,11 +154,11 @@ returns-in-Ends c =
     let back : take depth ((below ++ g ∷ []) ++ drop depth places) ≡ below ++ g ∷ [] =
     standing c.args.set.now c.args.shared.now c.args.number thread below top split depth places g
     refl in
-    let left : c.pop.new.self ≡ with_items thread below =
-    c.pop.ensures ∙ ap (λ (fs : List WordFrame). with_items thread (take (length fs - 1) fs)) back
-    ∙ ap (with_items thread)
-    (popped c.args.set.now c.args.shared.now c.args.number thread below top split g) in
-    rw (← c.self.view_is, c.finish.ensures.thread, c.finish.ensures.reply, left)
+    let shown : List WordFrame = take depth ((below ++ g ∷ []) ++ drop depth places) in
+    let less : take (length shown - 1) shown ≡ below =
+    ap (λ (fs : List WordFrame). take (length fs - 1) fs) back
+    ∙ popped c.args.set.now c.args.shared.now c.args.number thread below top split g in
+    rw (← c.self.view_is, c.end.ensures.thread, c.end.ensures.reply, less)
     (moved_gone c.args.set.now c.args.shared.now c.args.number thread below top split
     c.step.new.shared Stepped None c.in-Ends.ensures)
 
@@ -175,17 +174,11 @@ returns-in-TopsOut c =
     let back : take depth ((below ++ g ∷ []) ++ drop depth places) ≡ below ++ g ∷ [] =
     standing c.args.set.now c.args.shared.now c.args.number thread below top split depth places g
     refl in
-    let left : c.pop-in-TopsOut.new.self ≡ with_items thread below =
-    c.pop-in-TopsOut.ensures
-    ∙ ap (λ (fs : List WordFrame). with_items thread (take (length fs - 1) fs)) back
-    ∙ ap (with_items thread)
-    (popped c.args.set.now c.args.shared.now c.args.number thread below top split g) in
-    rw (
-      ← c.self.view_is,
-      c.finish-in-TopsOut.ensures.thread,
-      c.finish-in-TopsOut.ensures.reply,
-      left,
-    )
+    let shown : List WordFrame = take depth ((below ++ g ∷ []) ++ drop depth places) in
+    let less : take (length shown - 1) shown ≡ below =
+    ap (λ (fs : List WordFrame). take (length fs - 1) fs) back
+    ∙ popped c.args.set.now c.args.shared.now c.args.number thread below top split g in
+    rw (← c.self.view_is, c.end-in-TopsOut.ensures.thread, c.end-in-TopsOut.ensures.reply, less)
     (moved_gone c.args.set.now c.args.shared.now c.args.number thread below top split
     c.step.new.shared (Topped c.in-TopsOut.packet c.in-TopsOut.status c.in-TopsOut.info) None
     c.in-TopsOut.ensures)

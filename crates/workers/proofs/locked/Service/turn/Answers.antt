@@ -1,6 +1,9 @@
-use Rattle.std.proofs.Common.{◌+◌, ap, length, ◌∙◌, arith}
+use Rattle.std.proofs.Common.{◌≡◌, ◌+◌, ℕ, ap, length, subst, sym, ◌∙◌, arith}
 use Rattle.std.proofs.Math.ListN.{length-set}
+use Rattle.hostcore.specs.Core.{CoreState}
 use Rattle.workers.specs.Kept.{Station}
+use Rattle.workers.specs.Standing.{AreWaiting, IsWaiting}
+use Rattle.workers.proofs.Standstill.{no_marks}
 use Rattle.workers.proofs.Turning.{is_own_seat, its_queue, longer, seat_counts, seats_long, turn_entered, turn_met}
 use Rattle.workers.proofs.locked.Service.turn.Goals as goal
 
@@ -16,6 +19,14 @@ take_turn-requires g c =
           c.requires.number c.index_mut-taker.ensures.value _ c.requires.takers;
     }
 
+pub wait-requires-clause-waits : goal.wait-requires-clause-waits
+wait-requires-clause-waits g c =
+    let waits = c.in-Waits.ensures.turned.0 in
+    let seat : c.index_mut-seat.result.now ≡ c.args.number = is_own_seat _ _ _ c.args.number c.self.invariant.0 c.requires.number c.index_mut-seat.result.now c.index_mut-seat.ensures.value in
+    subst (λ (core : CoreState). IsWaiting core c.args.number)
+    (sym c.in-Waits.ensures.turned.1)
+    (subst (λ (t : ℕ). IsWaiting c.self.inside.core t) seat waits)
+
 pub index-requires : goal.index-requires
 index-requires g c =
     let long = seats_long g.B.Beginning.core g.B.Beginning.takers _ c.self.invariant.0 in
@@ -29,6 +40,7 @@ invariant_of-self g c = (
       c.index_mut-seat.result.now c.take_turn.new.seat c.index_mut-seat.ensures.value
       c.in-Entered.ensures.seat c.in-Entered.ensures.turned,
   c.self.invariant.1,
+  no_marks _ 64,
 )
 
 pub invariant_of-self-in-Full : goal.invariant_of-self-in-Full
@@ -39,6 +51,8 @@ invariant_of-self-in-Full g c = (
       c.index_mut-seat.ensures.value c.in-Full.ensures.seat c.in-Full.taken
       c.in-Full.ensures.turned),
   c.self.invariant.1,
+  subst (λ (core : CoreState). AreWaiting core c.self.inside.waiting)
+      (sym c.in-Full.ensures.turned.1) c.self.invariant.2,
 )
 
 pub returns-in-Entered : goal.returns-in-Entered

@@ -1,5 +1,0 @@
-use Rattle.checked.proofs.Devices.{stack_at_most}
-use Rattle.checked.proofs.system.device_of.Goals as goal
-
-pub returns-clause-stack : goal.returns-clause-stack
-returns-clause-stack c = stack_at_most c.args.set.now c.devices.ensures.sound c.args.number

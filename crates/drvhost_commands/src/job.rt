@@ -1,0 +1,236 @@
+//! The tasks of the program, and which of them a command line names.
+
+ghost use Rattle.std.specs.Prelude.{◌≡◌, ◌≤◌, map, IfErr, IfOk, true};
+ghost use Rattle.clap.specs.Words.{kind_of, subcommand_of, takes};
+ghost use Rattle.drvhost_devices.specs.Device.{CanCount, Says};
+ghost use Rattle.interleave.specs.Line.{number_within};
+ghost use Rattle.model.specs.declared.limits.TheConstants.{MAX_THREADS};
+ghost use Rattle.drvhost_commands.specs.CommandLine.{job_fault_status, job_fault_told, program, usage, Names, NamesJob};
+
+use crate::commands::program;
+use crate::naming::named;
+use crate::usage::unnamed;
+use clap::error::ErrorKind;
+use drvhost_devices::device::Sink;
+use drvhost_devices::fault::say;
+use drvhost_devices::verification::Verification;
+use drvhost_sets::explaining::Extent;
+use drvhost_views::tell::Manner;
+use interleave::read::number_within;
+use model::abs::Rule;
+use model::limits::MAX_THREADS;
+use report::fault::OUT_OF_MEMORY;
+use std::alloc::{AllocError, Global};
+use std::convert::AsStr;
+use std::fmt;
+use std::marker::Model;
+use thiserror::Error;
+
+/// How the program is used, where there is nothing better to say.
+const USAGE: &str = "Usage: drvhost <COMMAND>";
+
+/// A task for the program, with the names of its files.
+#[derive(Clone, Copy)]
+pub enum Job<'a> {
+    /// One that waits for no other thread.
+    Alone(AloneJob<'a>),
+    /// `host FILE SCRIPT --workers N`
+    Host {
+        set: &'a str,
+        script: &'a str,
+        workers: Workers,
+    },
+}
+
+/// A task that the program does on its own thread.
+#[derive(Clone, Copy)]
+pub enum AloneJob<'a> {
+    /// `check FILE`
+    Check {
+        set: &'a str,
+    },
+    /// `explain FILE [--all]`
+    Explain {
+        set: &'a str,
+        extent: Extent,
+    },
+    /// `explain --rule RULE`
+    ExplainRule {
+        rule: Rule,
+    },
+    /// `list FILE`
+    List {
+        set: &'a str,
+    },
+    /// `rewrite FILE OUT`
+    Rewrite {
+        set: &'a str,
+        output: &'a str,
+    },
+    /// `version`, or `--version`
+    Version,
+    /// `trace FILE SCHEDULE [--unchecked]`
+    Trace {
+        set: &'a str,
+        schedule: &'a str,
+        verification: Verification,
+    },
+    /// `tell FILE SCHEDULE [--unchecked] [--quiet | --every] [--strict]`
+    Tell {
+        set: &'a str,
+        schedule: &'a str,
+        verification: Verification,
+        manner: Manner,
+    },
+    /// `draw FILE SCHEDULE [--unchecked]`
+    Draw {
+        set: &'a str,
+        schedule: &'a str,
+        verification: Verification,
+    },
+}
+
+/// How many workers serve the commands of a script, 1 to `MAX_THREADS`.
+#[derive(Clone, Copy)]
+pub struct Workers {
+    count: u8,
+}
+
+impl Model for Workers {
+    ghost use Rattle.std.specs.Prelude.{◌≤◌, ℕ};
+    ghost use Rattle.model.specs.declared.limits.TheConstants.{MAX_THREADS};
+
+    ghost Value = { ℕ };
+
+    ghost view = { λ w. w.count };
+
+    ghost invariant = { λ w. (1 ≤ w.count) × (w.count ≤ MAX_THREADS) };
+
+    ghost inverse = { λ n. record { count = n } };
+}
+
+impl Workers {
+    /// As many as a text says in the numbers of a script, if that is within the limits.
+    pub(crate) fn of(text: &str) -> Option<Workers>
+        ensures { result ≡ number_within 1 MAX_THREADS text.now }
+    {
+        let count = number_within(1, MAX_THREADS as u64, text.as_bytes())?;
+        Some(Workers { count: count as u8 })
+    }
+
+    /// How many they are.
+    pub fn count(self) -> u8
+        ensures count { result ≡ self }
+        ensures some { 1 ≤ result }
+        ensures few { result ≤ MAX_THREADS }
+    {
+        self.count
+    }
+}
+
+/// Why there is no task.
+#[derive(Debug, Drop, Error)]
+pub enum JobFault {
+    /// The words name none, or ask for help: the text for the user.
+    #[error("{0}")]
+    Usage(String),
+    /// A growth was refused.
+    #[error("out of memory")]
+    Memory,
+}
+
+impl From<AllocError> for JobFault {
+    ghost use Rattle.drvhost_commands.specs.declared.job.JobFault.TheVariants.{Memory};
+
+    ghost from_gives = { λ _ fault. fault ≡ Memory };
+
+    fn from(_refused: AllocError) -> JobFault {
+        JobFault::Memory
+    }
+}
+
+impl JobFault {
+    /// The text for the user, which isn't empty.
+    fn told(&self) -> &str
+        ensures { result.now ≡ job_fault_told self.now }
+    {
+        match self {
+            JobFault::Usage(text) if text.is_empty() => USAGE,
+            JobFault::Usage(text) => text.as_str(),
+            JobFault::Memory => OUT_OF_MEMORY,
+        }
+    }
+
+    /// The exit status.
+    fn status(&self) -> u8
+        ensures { result ≡ job_fault_status self.now }
+    {
+        match self {
+            JobFault::Usage(_) => 2,
+            JobFault::Memory => 3,
+        }
+    }
+}
+
+impl<'a> Job<'a> {
+    /// The task that the words of a command line name, without the program's own name.
+    ///
+    /// # Errors
+    ///
+    /// `Usage` where they name none or ask for help, `Memory` when memory runs out.
+    pub fn of<S: AsStr>(alloc: Global, words: &'a [S]) -> Result<Job<'a>, JobFault>
+        ensures task { IfOk result (NamesJob (map S.text words.entry.now)) }
+        ensures refused { IfErr result (λ fault.
+            takes program (map S.text words.entry.now) ≡ true
+            → (job : Job) → Names (subcommand_of program (map S.text words.entry.now)) job
+            → fault ≡ JobFault.Memory) }
+    {
+        let mut program = program(alloc)?;
+        match program.try_get_matches_from_mut(words) {
+            Ok(matches) => match named(&matches) {
+                Some(job) => Ok(job),
+                None => Err(JobFault::Usage(unnamed(alloc, &mut program, &matches)?)),
+            },
+            Err(error) if error.kind() == ErrorKind::DisplayVersion => {
+                Ok(Job::Alone(AloneJob::Version))
+            }
+            Err(error) => Err(refused(alloc, &error)),
+        }
+    }
+}
+
+/// Answers words that name no task: writes the text for the user, which isn't empty, and gives the
+/// exit status, 2 for a wrong command line and 3 where memory ran out.
+pub fn refuse_words<E: Sink>(fault: &JobFault, err: &mut E) -> u8
+    requires { CanCount (E.failures err.old) }
+    ensures status { result ≡ job_fault_status fault.now }
+    ensures told { Says (E.failures err.old) (E.failures err.new) (E.contents err.old)
+        (E.contents err.new) (job_fault_told fault.now) }
+{
+    say(err, fault.told().as_bytes());
+    fault.status()
+}
+
+/// Answers words of which nothing is known, since some of them aren't text, as wrong ones.
+pub fn refuse_unknown_words<E: Sink>(err: &mut E) -> u8
+    requires { CanCount (E.failures err.old) }
+    ensures status { result ≡ 2 }
+    ensures told { Says (E.failures err.old) (E.failures err.new) (E.contents err.old)
+        (E.contents err.new) usage }
+{
+    say(err, USAGE.as_bytes());
+    2
+}
+
+/// What a refused command line is answered with.
+fn refused(alloc: Global, error: &clap::Error) -> JobFault
+    ensures { kind_of error.now ≡ ErrorKind.OutOfMemory → result ≡ JobFault.Memory }
+{
+    if error.kind() == ErrorKind::OutOfMemory {
+        return JobFault::Memory;
+    }
+    match error.to_string(alloc) {
+        Ok(text) => JobFault::Usage(text),
+        Err(_) => JobFault::Memory,
+    }
+}

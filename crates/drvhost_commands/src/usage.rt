@@ -1,0 +1,71 @@
+//! What is told of words that the command line takes, and that name no task.
+
+use crate::naming::argument;
+use clap::{ArgMatches, Command};
+use report::rule::rule_named;
+use std::alloc::{AllocError, Global};
+use std::fmt;
+
+/// How `explain` is used.
+pub(crate) const EXPLAIN_USAGE: &str =
+    "drvhost explain [--all] <FILE>\n       drvhost explain --rule <RULE>";
+
+/// How `tell` is used, and what is told where two of its levels are asked for.
+const TELL_USAGE: &str = "drvhost tell [OPTIONS] <FILE> <SCHEDULE>";
+
+const TWO_LEVELS: &str = "the argument '--quiet' cannot be used with '--every'";
+
+/// What is told of words that the command line takes, and that name no task.
+pub(crate) fn unnamed(
+    alloc: Global,
+    program: &mut Command<'_>,
+    matches: &ArgMatches<'_>,
+) -> Result<String, AllocError> {
+    match matches.subcommand() {
+        Some(("explain", inner)) => unexplained(alloc, inner),
+        Some(("tell", _)) => untold(alloc),
+        _ => program.render_usage(),
+    }
+}
+
+/// What is told where `explain` isn't told what to explain.
+fn unexplained(alloc: Global, matches: &ArgMatches<'_>) -> Result<String, AllocError> {
+    let mut text = String::from_str(alloc, "error: ")?;
+    match argument(matches, "RULE") {
+        None => text.push_str("a FILE is wanted, or a rule by '--rule'")?,
+        Some(word) if rule_named(word).is_none() => {
+            write!(text, "there is no rule '{word}': the rules are\n")?;
+            add_rules(alloc, &mut text)?;
+        }
+        Some(_) => text.push_str("'--rule' goes with no FILE and with no '--all'")?,
+    }
+    add_usage(&mut text, EXPLAIN_USAGE)?;
+    Ok(text)
+}
+
+/// Adds a line for each rule, with the words by which it is asked for.
+fn add_rules(alloc: Global, text: &mut String) -> Result<(), AllocError> {
+    for number in 1..=20u8 {
+        let word = format!(in alloc; "V{number}")?;
+        if let Some(rule) = rule_named(word.as_str()) {
+            write!(text, "\n  {}", rule.as_str())?;
+        }
+    }
+    Ok(())
+}
+
+/// What is told where `tell` is asked for two levels.
+fn untold(alloc: Global) -> Result<String, AllocError> {
+    let mut text = String::from_str(alloc, "error: ")?;
+    text.push_str(TWO_LEVELS)?;
+    add_usage(&mut text, TELL_USAGE)?;
+    Ok(text)
+}
+
+/// Adds how a subcommand is used, behind what is amiss.
+fn add_usage(text: &mut String, usage: &str) -> Result<(), AllocError> {
+    write!(
+        text,
+        "\n\nUsage: {usage}\n\nFor more information, try '--help'.\n"
+    )
+}
