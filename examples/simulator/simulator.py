@@ -144,13 +144,14 @@ def main() -> None:
     ended = simulator.requests
     served = sorted(it.ended - it.came for it in ended if it.status == Status.SUCCESS)
     cancelled = sum(it.status == Status.CANCELLED for it in ended)
-    print(f"{len(ended)} requests in {simulator.now / 1e6:.3f} s: "
+    last = max(it.ended for it in ended)
+    print(f"{len(ended)} requests in {last / 1e6:.3f} s: "
           f"{len(served)} served, {cancelled} cancelled, {len(ended) - len(served) - cancelled} left")
     if served:
         half, most = served[len(served) // 2], served[len(served) * 95 // 100]
         print(f"latency: {half / 1000:.1f} ms in the middle, {most / 1000:.1f} ms for 95 of 100")
     if given.picture:
-        write_picture(given.picture, ended, simulator.now)
+        write_picture(given.picture, ended, last)
 
 
 main()

@@ -4,15 +4,22 @@ from __future__ import annotations
 
 import ctypes
 import enum
+import struct
+from functools import partial
 from types import TracebackType
 from typing import Iterable, Iterator, NamedTuple, Optional, Type
 
 from pafteis import _library
-from pafteis.errors import NoWorld, Refused
+from pafteis.errors import NoWorld, Refused, WrongArgument
 from pafteis.replies import Irql, Major, Reply, ReplyKind, within
 from pafteis.verdicts import Source, as_bytes, verdict_of
 
 _KINDS = (ReplyKind.IDLE, *ReplyKind)
+
+# The fields of an event and of a reply, as they lie in the structs.
+_PUT = struct.Struct("=QQIBBBB").pack_into
+_GET = struct.Struct("=QQII").unpack_from
+_made = tuple.__new__
 
 
 class EventKind(enum.IntEnum):
@@ -26,9 +33,6 @@ class EventKind(enum.IntEnum):
     STEP = 6
 
 
-_STEP = int(EventKind.STEP)
-
-
 class Event(NamedTuple):
     """An event. What its kind doesn't need may be anything."""
 
@@ -39,6 +43,18 @@ class Event(NamedTuple):
     argument: int = 0
     packet: int = 0
     level: Irql = Irql.PASSIVE
+
+
+def _wrong(event: Event) -> Exception:
+    """What is wrong with an event that no struct can have."""
+    kind, thread, device, major, argument, packet, level = event
+    wide, narrow = (argument, packet), (thread, device, major, level)
+    try:
+        for number, bits in [(kind, 32), *((it, 64) for it in wide), *((it, 8) for it in narrow)]:
+            within(number, bits)
+    except (TypeError, WrongArgument) as error:
+        return error
+    return TypeError("an event has numbers")
 
 
 class FrameKind(enum.IntEnum):
@@ -135,8 +151,8 @@ class World:
         verdict = verdict_of(status, found)
         if not verdict:
             raise Refused(verdict)
-        self._apply = _library.CALLS["world_apply"]
-        self._passed = tuple(map(ctypes.byref, (self._handle, self._event, self._reply)))
+        passed = map(ctypes.byref, (self._handle, self._event, self._reply))
+        self._apply = partial(_library.CALLS["world_apply"], *passed)
 
     def close(self) -> None:
         """Frees the world; nothing where it was closed before."""
@@ -176,20 +192,16 @@ class World:
 
     def apply(self, event: Event) -> Reply:
         """One event, which is one atomic step. Raises `WrongArgument`, `NoWorld`."""
-        into = self._event
-        into.kind, into.thread = within(event.kind, 32), within(event.thread, 8)
-        into.device, into.major = within(event.device, 8), within(event.major, 8)
-        into.level, into.packet = within(event.level, 8), within(event.packet, 64)
-        into.argument = within(event.argument, 64)
-        return self._applied()
-
-    def _applied(self) -> Reply:
-        """The reply to the event that was put down."""
-        status = self._apply(*self._passed)
+        kind, thread, device, major, argument, packet, level = event
+        try:
+            _PUT(self._event, 0, packet, argument, kind, thread, device, major, level)
+        except struct.error:
+            raise _wrong(event) from None
+        status = self._apply()
         if status:
             _library.raise_for(status)
-        reply = self._reply
-        return Reply(_KINDS[reply.kind], reply.packet, reply.status, reply.info)
+        packet, info, answer, ended = _GET(self._reply)
+        return _made(Reply, (_KINDS[answer], packet, ended, info))
 
     def issue(self, thread: int, device: int, major: Major, argument: int = 0) -> Reply:
         """A request for a device arrives on a thread that is idle."""
@@ -213,9 +225,7 @@ class World:
 
     def step(self, thread: int) -> Reply:
         """One step of a thread's top frame."""
-        event = self._event
-        event.kind, event.thread = _STEP, within(thread, 8)
-        return self._applied()
+        return self.apply(Event(EventKind.STEP, thread))
 
     def steps(self, thread: int, count: int) -> tuple[int, Reply]:
         """At most so many steps of a thread, up to the first that replies otherwise than that it

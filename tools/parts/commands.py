@@ -5,7 +5,7 @@ import os, re
 from versions import TOP
 
 TABLE = os.path.join(TOP, "docs/COMMANDS.md")
-FLAG = re.compile(r"--[a-z]+(?: [A-Z]+)?")
+FLAG = re.compile(r"--[a-z-]+(?: [A-Z]+)?")
 
 class Command:
     """A command: its word, its arguments by their capital names, its flags, and what it answers."""
@@ -17,8 +17,7 @@ class Command:
         for flag in FLAG.findall(usage):
             if flag not in self.flags:
                 self.flags.append(flag)
-        own = [it for it in re.findall(r"\b[A-Z]{3,}\b", FLAG.sub("", usage)) if it != "RULE"]
-        self.arguments = self.arguments or own
+        self.arguments = self.arguments or re.findall(r"\b[A-Z]{3,}\b", FLAG.sub("", usage))
         self.told = self.told or told
 
 def lines():

@@ -13,9 +13,9 @@ def rules():
     return [word for pair in re.findall(r"^### (V\d+) (\w+)$", text, re.M) for word in pair]
 
 def values(flag):
-    """What may stand behind a flag; nothing where it takes no value."""
-    return {"RULE": rules(), "N": [str(2 ** power) for power in range(7)]}.get(
-        flag.partition(" ")[2], [])
+    """What may stand behind a flag; nothing where it takes no value, or any."""
+    known = {"--rule RULE": rules(), "--workers N": [str(2 ** power) for power in range(7)]}
+    return known.get(flag, [])
 
 BASH = """\
 # Completion of drvhost for bash.

@@ -76,10 +76,26 @@ def cases():
     yield ["version"], ["version"]
 
 
+def wrong_worlds(folder):
+    """What is told of the programs that drive a world, each of which is tried once."""
+    steps = b"started 0\nstepped\ntopped 0 0x00000000 0\nfinished\nidle\nfreed 0, again 5\n"
+    if answered([f"{folder}/step", "examples/echo.drv"])[:2] != (0, steps):
+        yield "a world from C answers otherwise"
+    steps = b"started 0\nstepped\ntopped 0\nfinished\nidle\n"
+    if answered([f"{folder}/step_cpp", "examples/echo.drv"])[:2] != (0, steps):
+        yield "a world from C++ answers otherwise"
+    own = {"PYTHONPATH": str(TOP / "python"), "PAFTEIS_LIBRARY": os.environ["PAFTEIS"]}
+    os.environ.update(own)
+    first = (0, b"reply 1\nreply 2\nreply 4\npacket 0: 0x00000000\nreply 3\n")
+    for words in ([f"{folder}/first"], [sys.executable, EXAMPLES / "first.py"]):
+        if answered(words)[:2] != first:
+            yield f"{words[-1]} answers otherwise"
+
+
 def main():
     program = sys.argv[1] if len(sys.argv) > 1 else str(TOP / "crates/drvhost/out/drvhost")
     only = sys.argv[2:]
-    wrong = tried = 0
+    wrong, tried = 0, 4
     with tempfile.TemporaryDirectory() as folder:
         commands = built(folder)
         for words, own in cases():
@@ -91,25 +107,9 @@ def main():
                 if answered([*command, *own]) != right:
                     wrong += 1
                     print(f"{language} answers otherwise: {' '.join(words)}")
-        status, output, _told = answered([f"{folder}/step", "examples/echo.drv"])
-        tried += 1
-        steps = b"started 0\nstepped\ntopped 0 0x00000000 0\nfinished\nidle\nfreed 0, again 5\n"
-        if (status, output) != (0, steps):
+        for told in wrong_worlds(folder):
             wrong += 1
-            print("a world from C answers otherwise")
-        own = {"PYTHONPATH": str(TOP / "python"), "PAFTEIS_LIBRARY": os.environ["PAFTEIS"]}
-        os.environ.update(own)
-        first = [answered(words)[:2] for words in ([f"{folder}/first"],
-                                                   [sys.executable, EXAMPLES / "first.py"])]
-        tried += 1
-        if first[0] != first[1] or first[0][0] != 0 or b"packet 0: 0x00000000" not in first[0][1]:
-            wrong += 1
-            print("the first programs in C and Python answer otherwise")
-        plus = answered([f"{folder}/step_cpp", "examples/echo.drv"])
-        tried += 1
-        if plus[:2] != (0, b"started 0\nstepped\ntopped 0\nfinished\nidle\n"):
-            wrong += 1
-            print("a world from C++ answers otherwise")
+            print(told)
     print(f"{tried} tried, {wrong} wrong")
     return int(wrong > 0)
 
