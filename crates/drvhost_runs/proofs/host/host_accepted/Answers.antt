@@ -13,5 +13,5 @@ returns-in-Ok-clause-goes g c =
     (served_right c.args.accepted c.args.hosting.now.workers held c.in_ok-commands.commands c.in-Ok.hosted
     ringed words c.in_ok-commands.ensures.script
     (rw c.as_slice-commands.ensures.value at c.in-Ok.ensures)
-    c.in_ok-note_rings.ensures.ringed c.in_ok-note_rings.ensures.words)
+    c.in_ok-note_rings-in-Ok.ensures.ringed c.in_ok-note_rings-in-Ok.ensures.words)
     c.tell_hosted.ensures.goes

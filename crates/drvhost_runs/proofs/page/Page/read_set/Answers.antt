@@ -8,5 +8,5 @@ returns-clause-set g c =
     let held = g.S.Source.supply c.args.source.now in
     set_read held c.as_slice.result.now c.set_of.result
     (subst (λ (bytes : List ℕ). Holds held bytes) (sym c.as_slice.ensures.value)
-    c.in_ok-read_whole.ensures.bytes)
+    c.in_ok-self.ensures.bytes)
     c.set_of.ensures.set
