@@ -23,6 +23,7 @@ ROOMS = [
     ('tell', 'runs in words', ('tell_',)),
     ('draw', 'pictures', ('draw_',)),
     ('hunt', 'runs that end amiss', ('hunt_',)),
+    ('mend', 'edits of a refused text', ('mend_',)),
     ('drvhost', 'the program', ('report', 'drvhost')),
     ('pafteis', 'the library for C', ('pafteis',)),
     ('tests', 'tests, an example', ('tests_', 'example_')),

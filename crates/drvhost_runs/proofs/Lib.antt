@@ -3,3 +3,4 @@ pub mod Repeating
 pub mod Following
 pub mod Observing
 pub mod Lining
+pub mod RingsTold

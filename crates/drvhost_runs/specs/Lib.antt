@@ -2,3 +2,4 @@ pub mod Lined
 pub mod Repeats
 pub mod Served
 pub mod Watching
+pub mod Hosting

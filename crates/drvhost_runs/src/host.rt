@@ -8,12 +8,13 @@ ghost use Rattle.interleave_script.specs.declared.parse.TheConstants.{MAX_COMMAN
 ghost use Rattle.drvhost_devices.specs.Answer.{IsIfAccepted};
 ghost use Rattle.drvhost_devices.specs.Device.{Adds, CanCount, Says, TakesBeginning};
 ghost use Rattle.drvhost_devices.specs.Ends.{Answers, HoldsRun};
-ghost use Rattle.drvhost_devices.specs.Fault.{Goes, ReadsScript, reads_failed, writes_failed};
-ghost use Rattle.drvhost_runs.specs.Served.{IsHostOf, IsServedOf, command_line, command_lines, replay_end, replay_line, served_as};
+ghost use Rattle.drvhost_devices.specs.Fault.{ReadsScript, reads_failed, status_of, writes_failed};
+ghost use Rattle.drvhost_runs.specs.Hosting.{GoesTold, IsBlank, told_behind};
+ghost use Rattle.drvhost_runs.specs.Served.{IsHostOf, IsServedOf, command_line, command_lines, replay_line, served_as, served_end};
 
+use crate::page::Page;
 use drvhost_devices::device::{Sink, Source};
-use drvhost_devices::fault::{End, Fault, finish, no_memory, of_script};
-use drvhost_devices::reading::read_set;
+use drvhost_devices::fault::{End, Fault, finish, no_memory, of_script, say};
 use drvhost_devices::transfer::{make_room, read_whole, write_lines};
 use drvhost_devices::verification::Verification;
 use drvhost_sets::check::refuse;
@@ -46,10 +47,12 @@ pub struct Hosting<'a, R, G> {
 /// accepted driver set, and writes a line for each command: how its request's packet topped out, or
 /// else the reply to it, or that it was left. The last line says of how many entries the history
 /// is, and whether the reference machine, which replays it, agrees. Before each turn a worker asks
-/// the gate. The answer is the exit status: 0 where the history agrees, 1 where it differs or the
-/// set is refused, 2 where an input is faulty or a read or a write failed, 3 where memory ran out.
-/// Faults are told on the error writer: those of the set before a refusal, and a refusal before
-/// those of the script, which is read for an accepted set alone.
+/// the gate. Where threads wait for each other in a ring, their workers end; a line for each of
+/// these threads then stands on the error writer. The answer is the exit status: 0 where the history
+/// agrees, 1 where it differs, where threads wait in a ring or where the set is refused, 2 where an
+/// input is faulty or a read or a write failed, 3 where memory ran out. Faults are told on the
+/// error writer: those of the set before a refusal, and a refusal before those of the script, which
+/// is read for an accepted set alone.
 pub fn host<S: Source, P: Source, G: Gate + Sync, O: Sink, E: Sink, R: Threads + Wait + Sync>(
     alloc: Global,
     set: &mut S,
@@ -73,21 +76,38 @@ pub fn host<S: Source, P: Source, G: Gate + Sync, O: Sink, E: Sink, R: Threads +
         (Says (E.failures err.old) (E.failures err.new) (E.contents err.old) (E.contents err.new))
         result }
 {
-    match Lines::new(alloc) {
-        Ok(mut lines) => {
-            let end = host_set(alloc, set, script, hosting, &mut lines, out);
-            finish(end, &mut lines, err)
+    match Page::new(alloc) {
+        Ok(mut page) => {
+            let end = host_set(alloc, set, script, hosting, &mut page, out);
+            finish_page(end, &mut page, err)
         }
         Err(AllocError) => no_memory(err),
     }
 }
 
+/// Ends the job, as [`finish`] does. Where it met no fault, the words on a ring are told.
+fn finish_page<E: Sink>(end: Result<End, Fault>, page: &mut Page, err: &mut E) -> u8
+    requires { CanCount (E.failures err.old) }
+    ensures status { result ≡ status_of end }
+    ensures told { Says (E.failures err.old) (E.failures err.new) (E.contents err.old)
+        (E.contents err.new) (told_behind page.old.words.items end) }
+{
+    match end {
+        Ok(end) => {
+            say(err, page.words.as_slice());
+            end.status()
+        }
+        Err(fault) => finish(Err(fault), &mut page.lines, err),
+    }
+}
+
+/// Has a script served over the set that a source has, and writes the lines that gather.
 fn host_set<S: Source, P: Source, G: Gate + Sync, O: Sink, R: Threads + Wait + Sync>(
     alloc: Global,
     set: &mut S,
     script: &mut P,
     hosting: &Hosting<'_, R, G>,
-    lines: &mut Lines,
+    page: &mut Page,
     out: &mut O,
 ) -> Result<End, Fault>
     requires some { 1 ≤ hosting.now.workers }
@@ -95,18 +115,18 @@ fn host_set<S: Source, P: Source, G: Gate + Sync, O: Sink, R: Threads + Wait + S
     requires set { CanCount (S.failures set.old) }
     requires script { CanCount (P.failures script.old) }
     requires out { CanCount (O.failures out.old) }
-    requires empty { lines.old ≡ [] }
+    requires empty { IsBlank page.old }
     ensures unread { (script.new ≡ script.old)
         ⊎ HoldsRun Verification.Required (S.supply set.old) }
-    ensures goes { Goes (IsHostOf hosting.now.workers (S.supply set.old) (P.supply script.old))
-        (O.contents out.old) (O.contents out.new) [] [] result }
+    ensures goes { GoesTold (IsHostOf hosting.now.workers (S.supply set.old) (P.supply script.old))
+        page.new.words.items (O.contents out.old) (O.contents out.new) [] [] result }
     ensures reads { S.failures set.new + P.failures script.new
         ≡ S.failures set.old + P.failures script.old + reads_failed result }
     ensures writes { O.failures out.new ≡ O.failures out.old + writes_failed result }
 {
-    let set = read_set(alloc, set)?;
-    let end = host_verified(alloc, set, script, hosting, lines, out)?;
-    write_lines(lines, out)?;
+    let set = page.read_set(alloc, set)?;
+    let end = host_verified(alloc, set, script, hosting, page, out)?;
+    write_lines(&mut page.lines, out)?;
     Ok(end)
 }
 
@@ -116,23 +136,24 @@ fn host_verified<P: Source, G: Gate + Sync, O: Sink, R: Threads + Wait + Sync>(
     set: DriverSet,
     script: &mut P,
     hosting: &Hosting<'_, R, G>,
-    lines: &mut Lines,
+    page: &mut Page,
     out: &mut O,
 ) -> Result<End, Fault>
     requires some { 1 ≤ hosting.now.workers }
     requires few { hosting.now.workers ≤ MAX_THREADS }
     requires script { CanCount (P.failures script.old) }
     requires out { CanCount (O.failures out.old) }
-    requires empty { lines.old ≡ [] }
+    requires empty { IsBlank page.old }
     ensures unread { (script.new ≡ script.old) ⊎ IsTypable set }
-    ensures goes { Goes (IsIfAccepted (IsServedOf hosting.now.workers (P.supply script.old)) set)
-        (O.contents out.old) (O.contents out.new) [] lines.new result }
+    ensures goes { GoesTold
+        (IsIfAccepted (IsServedOf hosting.now.workers (P.supply script.old)) set)
+        page.new.words.items (O.contents out.old) (O.contents out.new) [] page.new.lines result }
     ensures reads { P.failures script.new ≡ P.failures script.old + reads_failed result }
     ensures writes { O.failures out.new ≡ O.failures out.old + writes_failed result }
 {
     match verify(alloc, set) {
-        Ok(accepted) => host_accepted(alloc, accepted, script, hosting, lines, out),
-        Err((_set, refusal)) => refuse(&refusal, lines),
+        Ok(accepted) => host_accepted(alloc, accepted, script, hosting, page, out),
+        Err((_set, refusal)) => refuse(&refusal, &mut page.lines),
     }
 }
 
@@ -142,16 +163,16 @@ fn host_accepted<P: Source, G: Gate + Sync, O: Sink, R: Threads + Wait + Sync>(
     accepted: Accepted,
     script: &mut P,
     hosting: &Hosting<'_, R, G>,
-    lines: &mut Lines,
+    page: &mut Page,
     out: &mut O,
 ) -> Result<End, Fault>
     requires some { 1 ≤ hosting.now.workers }
     requires few { hosting.now.workers ≤ MAX_THREADS }
     requires script { CanCount (P.failures script.old) }
     requires out { CanCount (O.failures out.old) }
-    requires empty { lines.old ≡ [] }
-    ensures goes { Goes (IsServedOf hosting.now.workers (P.supply script.old) accepted)
-        (O.contents out.old) (O.contents out.new) [] lines.new result }
+    requires empty { IsBlank page.old }
+    ensures goes { GoesTold (IsServedOf hosting.now.workers (P.supply script.old) accepted)
+        page.new.words.items (O.contents out.old) (O.contents out.new) [] page.new.lines result }
     ensures reads { P.failures script.new ≡ P.failures script.old + reads_failed result }
     ensures writes { O.failures out.new ≡ O.failures out.old + writes_failed result }
 {
@@ -163,7 +184,10 @@ fn host_accepted<P: Source, G: Gate + Sync, O: Sink, R: Threads + Wait + Sync>(
         gate,
     } = *hosting;
     match serve_script(runtime, alloc, accepted, workers, commands, gate) {
-        Ok(hosted) => tell_hosted(&hosted, lines, out),
+        Ok(hosted) => {
+            page.note_rings(alloc, &hosted.machine)?;
+            tell_hosted(&hosted, page, out)
+        }
         Err(OutOfMemory) => Err(Fault::Memory),
     }
 }
@@ -182,19 +206,21 @@ fn read_script<P: Source>(alloc: Global, source: &mut P) -> Result<Vec<Command>,
     }
 }
 
-/// Adds the lines of commands that were served, and of their history.
-fn tell_hosted<O: Sink>(hosted: &Hosted, lines: &mut Lines, out: &mut O) -> Result<End, Fault>
+/// Adds the lines of commands that were served, and of their history. The words on a ring are there
+/// before.
+fn tell_hosted<O: Sink>(hosted: &Hosted, page: &mut Page, out: &mut O) -> Result<End, Fault>
     requires out { CanCount (O.failures out.old) }
-    requires empty { lines.old ≡ [] }
-    ensures goes { Goes
-        (λ answer. answer ≡ served_as hosted.now.agrees hosted.now.told.items hosted.now.entries)
-        (O.contents out.old) (O.contents out.new) [] lines.new result }
+    requires empty { page.old.lines ≡ [] }
+    ensures goes { GoesTold
+        (λ answer. answer ≡ served_as hosted.now.agrees hosted.now.told.items hosted.now.entries
+        page.old.ringed.items page.old.words.items)
+        page.new.words.items (O.contents out.old) (O.contents out.new) [] page.new.lines result }
     ensures reads { reads_failed result ≡ 0 }
     ensures writes { O.failures out.new ≡ O.failures out.old + writes_failed result }
 {
-    tell_commands(hosted.told.as_slice(), lines, out)?;
-    make_room(lines, out)?;
-    Ok(tell_replay(hosted, lines))
+    tell_commands(hosted.told.as_slice(), &mut page.lines, out)?;
+    make_room(&mut page.lines, out)?;
+    Ok(tell_replay(hosted, page))
 }
 
 /// Adds a line for each command.
@@ -233,17 +259,21 @@ fn tell_command(number: &mut EventNumber, told: &Option<Reply>, lines: &mut Line
 }
 
 /// Adds the line that says whether a history agrees with its replay, and answers how the job ends.
-fn tell_replay(hosted: &Hosted, lines: &mut Lines) -> End
-    requires { HasRoom lines.old }
-    ensures end { result ≡ replay_end hosted.now.agrees }
-    ensures line { lines.new
-        ≡ lines.old ++ replay_line hosted.now.agrees hosted.now.entries }
+fn tell_replay(hosted: &Hosted, page: &mut Page) -> End
+    requires { HasRoom page.old.lines }
+    ensures end { result ≡ served_end hosted.now.agrees page.old.ringed.items }
+    ensures line { page.new.lines
+        ≡ page.old.lines ++ replay_line hosted.now.agrees hosted.now.entries }
+    ensures words { page.new.words.items ≡ page.old.words.items }
 {
     if hosted.agrees {
-        lines.agrees(hosted.entries);
+        page.lines.agrees(hosted.entries);
+    } else {
+        page.lines.differs(hosted.entries);
+    }
+    if hosted.agrees && page.ringed.is_empty() {
         End::Complete
     } else {
-        lines.differs(hosted.entries);
         End::Stopped
     }
 }

@@ -6,6 +6,7 @@
 pub mod follow;
 pub mod host;
 mod lined;
+mod page;
 pub mod running;
 pub mod trace;
 pub mod watching;

@@ -1,9 +1,10 @@
-//! The tests of cores, of queues of commands and of workers, and a gate for tests of these. Their
+//! The tests of cores, of queues of commands and of workers, and gates for tests of these. Their
 //! vectors come from outside, and no clause of a contract says them.
 #![tactic(auto)]
 
 #[cfg(test)]
 mod cores;
+pub mod crossing;
 #[cfg(test)]
 mod crowd;
 #[cfg(test)]
@@ -13,6 +14,8 @@ mod market;
 pub mod pace;
 #[cfg(test)]
 mod queues;
+#[cfg(test)]
+mod rings;
 #[cfg(test)]
 mod served;
 #[cfg(test)]

@@ -22,6 +22,14 @@ pub(crate) const LOCKS: &[u8] =
     b"driver d\ndispatch READ f\nroutine f dispatch\nacquire l0\nrelease l0\n\
       complete r0 SUCCESS\nret SUCCESS\nendr\nendd\ndevice v d 1\n";
 
+/// A driver that completes each read and each write at once, after it had two locks: a read takes
+/// them in one order, and a write in the other.
+pub(crate) const CROSSES: &[u8] = b"driver pair\ndispatch READ on_read\ndispatch WRITE on_write\n\
+      routine on_read dispatch\nacquire l0\nacquire l1\nrelease l1\nrelease l0\n\
+      complete r0 SUCCESS\nret SUCCESS\nendr\n\
+      routine on_write dispatch\nacquire l1\nacquire l0\nrelease l0\nrelease l1\n\
+      complete r0 SUCCESS\nret SUCCESS\nendr\nendd\ndevice disk pair 1\n";
+
 /// A driver with a queue whose packets may be cancelled. Its DPC routine completes them.
 pub(crate) const QUEUES: &[u8] =
     b"driver d\nqueue q l0 gone\ndispatch READ f\ndpc g\nroutine f dispatch\nmark r0\nacquire l0\n\

@@ -2,8 +2,9 @@ use Rattle.std.proofs.Common.{arith, refl}
 use Rattle.drvhost_devices.specs.declared.fault.Fault.TheVariants.{Memory}
 use Rattle.drvhost_devices.specs.Ends.{OutOfMemory}
 use Rattle.drvhost_runs.specs.Served.{IsHostOf}
-use Rattle.drvhost_devices.specs.Fault.{fault_told, reads_failed, told_of, writes_failed}
-use Rattle.drvhost_devices.proofs.Jobs.{ends_of}
+use Rattle.drvhost_devices.specs.Fault.{fault_told, reads_failed, writes_failed}
+use Rattle.drvhost_runs.specs.Hosting.{told_behind}
+use Rattle.drvhost_runs.proofs.RingsTold.{told_ends}
 use Rattle.drvhost_devices.proofs.Writing.{keeps_same}
 use Rattle.drvhost_runs.proofs.host.host.Goals as goal
 
@@ -13,13 +14,13 @@ returns-in-Ok-clause-answers g c =
     record {
       reads = reads_failed end;
       writes = writes_failed end;
-      told = told_of end;
+      told = told_behind c.host_set-end.new.page.words.items end;
       reads_are = c.host_set-end.ensures.reads;
       writes_are = c.host_set-end.ensures.writes;
-      tells = c.finish.ensures.told;
-      ends = rw c.finish.ensures.status
-          (ends_of (IsHostOf c.args.hosting.now.workers (g.S.Source.supply c.args.set.now)
-          (g.P.Source.supply c.args.script.now)) _ _ end c.host_set-end.ensures.goes);
+      tells = c.finish_page.ensures.told;
+      ends = rw c.finish_page.ensures.status
+          (told_ends (IsHostOf c.args.hosting.now.workers (g.S.Source.supply c.args.set.now)
+          (g.P.Source.supply c.args.script.now)) _ _ _ end c.host_set-end.ensures.goes);
     }
 
 pub returns-in-Err-clause-answers : goal.returns-in-Err-clause-answers

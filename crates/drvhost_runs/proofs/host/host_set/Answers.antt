@@ -2,7 +2,8 @@ use Rattle.std.proofs.Common.{[], Err, Ok}
 use Rattle.std.proofs.lemmas.Result.{err_from_is_err_and}
 use Rattle.drvhost_devices.specs.Answer.{IsIfAccepted}
 use Rattle.drvhost_runs.specs.Served.{IsHostOf, IsServedOf}
-use Rattle.drvhost_devices.proofs.Jobs.{goes_broken, goes_left, goes_rightly, goes_written, right_on, set_unread}
+use Rattle.drvhost_devices.proofs.Jobs.{goes_left, goes_rightly, right_on, set_unread}
+use Rattle.drvhost_runs.proofs.RingsTold.{told_broken, told_rightly, told_written}
 use Rattle.drvhost_runs.proofs.host.host_set.Goals as goal
 
 pub returns-in_err-set-clause-goes : goal.returns-in_err-set-clause-goes
@@ -28,7 +29,7 @@ returns-in_err-end-clause-goes g c =
     rw (p.1, p.2)
     (goes_rightly (IsIfAccepted (IsServedOf n scheduled) set) (IsHostOf n held scheduled) before after [] []
     (Err c.in_err-end.field-0.0) (right_on (IsIfAccepted (IsServedOf n scheduled)) held set c.in_ok-set.ensures.set)
-    (goes_left (IsIfAccepted (IsServedOf n scheduled) set) before after c.host_verified.new.lines []
+    (goes_left (IsIfAccepted (IsServedOf n scheduled) set) before after c.host_verified.new.page.lines []
     c.in_err-end.field-0.0 c.in_err-end.ensures.goes))
 
 pub returns-in_err-write_lines-clause-goes : goal.returns-in_err-write_lines-clause-goes
@@ -43,10 +44,11 @@ returns-in_err-write_lines-clause-goes g c =
     let between = g.O.Sink.contents c.host_verified.new.out in
     let end = c.in_ok-end.end in
     rw (p.1, p.2, c.in_err-write_lines.ensures.fault)
-    (goes_broken (IsHostOf n held scheduled) before between
-    (g.O.Sink.contents c.write_lines.new.sink) c.host_verified.new.lines end
-    (goes_rightly (IsIfAccepted (IsServedOf n scheduled) set) (IsHostOf n held scheduled) before between []
-    c.host_verified.new.lines (Ok end) (right_on (IsIfAccepted (IsServedOf n scheduled)) held set c.in_ok-set.ensures.set)
+    (told_broken (IsHostOf n held scheduled) c.host_verified.new.page.words.items before between
+    (g.O.Sink.contents c.write_lines.new.sink) c.host_verified.new.page.lines end
+    (told_rightly (IsIfAccepted (IsServedOf n scheduled) set) (IsHostOf n held scheduled)
+    c.host_verified.new.page.words.items before between []
+    c.host_verified.new.page.lines (Ok end) (right_on (IsIfAccepted (IsServedOf n scheduled)) held set c.in_ok-set.ensures.set)
     c.in_ok-end.ensures.goes)
     c.in_err-write_lines.ensures.written)
 
@@ -59,9 +61,10 @@ returns-clause-goes g c =
     let before = g.O.Sink.contents c.args.out.now in
     let between = g.O.Sink.contents c.host_verified.new.out in
     let end = c.in_ok-end.end in
-    goes_written (IsHostOf n held scheduled) before between
-    (g.O.Sink.contents c.write_lines.new.sink) c.host_verified.new.lines end
-    (goes_rightly (IsIfAccepted (IsServedOf n scheduled) set) (IsHostOf n held scheduled) before between []
-    c.host_verified.new.lines (Ok end) (right_on (IsIfAccepted (IsServedOf n scheduled)) held set c.in_ok-set.ensures.set)
+    told_written (IsHostOf n held scheduled) c.host_verified.new.page.words.items before between
+    (g.O.Sink.contents c.write_lines.new.sink) c.host_verified.new.page.lines end
+    (told_rightly (IsIfAccepted (IsServedOf n scheduled) set) (IsHostOf n held scheduled)
+    c.host_verified.new.page.words.items before between []
+    c.host_verified.new.page.lines (Ok end) (right_on (IsIfAccepted (IsServedOf n scheduled)) held set c.in_ok-set.ensures.set)
     c.in_ok-end.ensures.goes)
     c.in_ok-write_lines.ensures.written

@@ -1,0 +1,31 @@
+-- How a job goes whose answer tells of a ring.
+use Rattle.std.specs.Prelude.{ℕ, ◌≡◌, List, [], Option, Result, Ok, Err}
+use Rattle.drvhost_devices.specs.declared.fault.End.{End}
+use Rattle.drvhost_devices.specs.declared.fault.Fault.{Fault}
+use Rattle.drvhost_devices.specs.Answer.{Answer, end_status}
+use Rattle.drvhost_devices.specs.Device.{Adds}
+use Rattle.drvhost_devices.specs.Fault.{Goes, fault_told}
+use Rattle.drvhost_runs.specs.declared.page.Page.{Page}
+
+-- nothing has gathered on a page
+pub record IsBlank (page : Page) : Type 0 where
+  pub lines : page.lines ≡ []
+  pub ringed : page.ringed.items ≡ []
+  pub words : page.words.items ≡ []
+
+-- a job that met no fault ended so, with this text, and these words are told
+abbrev pub ended_with : End → List ℕ → List ℕ → Answer
+ended_with end text words = record { status = end_status end; output = text; told = words }
+
+-- as a job goes otherwise, but where it has met no fault, these words are told
+abbrev pub GoesTold : (Answer → Type 0) → List ℕ → Option (List ℕ) → Option (List ℕ) → List ℕ
+    → List ℕ → Result End Fault → Type 0
+GoesTold Right words before after gathered left (Ok end) =
+    (text : List ℕ) × Right (ended_with end text words) × Adds before after gathered left text
+GoesTold Right words before after gathered left (Err fault) =
+    Goes Right before after gathered left (Err fault)
+
+-- what is told of a job: these words where it met no fault, and else the fault
+abbrev pub told_behind : List ℕ → Result End Fault → List ℕ
+told_behind words (Ok end) = words
+told_behind words (Err fault) = fault_told fault
