@@ -1,0 +1,10 @@
+//! The search for a shortest run of a driver set that ends amiss: breadth first over its worlds.
+#![tactic(auto)]
+
+mod cells;
+mod facts;
+mod keys;
+mod moves;
+pub mod search;
+mod sorting;
+mod worlds;
