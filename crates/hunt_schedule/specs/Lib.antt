@@ -1,0 +1,2 @@
+pub mod Headline
+pub mod Telling

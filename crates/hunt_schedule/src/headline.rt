@@ -1,0 +1,110 @@
+//! What is amiss at the end of a run, in one line.
+
+ghost use Rattle.std.specs.Prelude.{◌≡◌, ◌++◌, IfOk, OnOk};
+ghost use Rattle.hunt_schedule.specs.Headline.{amiss_words, bug_words, headline, lock_words, of_device, place_words, reply_words, subject_words};
+
+use crate::appending::{add, add_number, add_numbered};
+use hunt_ends::amiss::Amiss;
+use model::event::{Bug, Lock, OfDevice, Place, Reply, Subject};
+use std::alloc::{AllocError, Global};
+
+/// The line of a text that tells what is amiss.
+pub(crate) fn headline(alloc: Global, amiss: &Amiss) -> Result<Vec<u8>, AllocError>
+    ensures { IfOk result (λ line. line.items ≡ headline amiss.now) }
+{
+    let mut line = Vec::new(alloc);
+    add(&mut line, b"; ")?;
+    add_amiss(&mut line, amiss)?;
+    add(&mut line, b"\n")?;
+    Ok(line)
+}
+
+fn add_amiss(line: &mut Vec<u8>, amiss: &Amiss) -> Result<(), AllocError>
+    ensures { OnOk result (line.new.items ≡ line.old.items ++ amiss_words amiss.now) }
+{
+    match *amiss {
+        Amiss::Stopped(reply) => add_reply(line, &reply),
+        Amiss::Lost(packet) => {
+            add_numbered(line, b"packet ", packet, b" is lost: no place names it")
+        }
+        Amiss::Left(left) => {
+            add_lock(line, left.lock)?;
+            let thread = u64::from(left.thread);
+            add_numbered(
+                line,
+                b" is left behind: thread ",
+                thread,
+                b" owns it and is idle",
+            )
+        }
+        Amiss::Ringed(thread) => {
+            add_numbered(line, b"thread ", u64::from(thread), b" waits in a ring")
+        }
+        Amiss::Disagrees(location_use) => add_numbered(
+            line,
+            b"packet ",
+            location_use.packet(),
+            b": a status was returned that disagrees with the mark",
+        ),
+    }
+}
+
+fn add_reply(line: &mut Vec<u8>, reply: &Reply) -> Result<(), AllocError>
+    ensures { OnOk result (line.new.items ≡ line.old.items ++ reply_words reply.now) }
+{
+    match *reply {
+        Reply::Bug(bug) => add_bug(line, bug),
+        Reply::Wrong(place) => add_place(line, place),
+        _ => Ok(()),
+    }
+}
+
+fn add_bug(line: &mut Vec<u8>, bug: Bug) -> Result<(), AllocError>
+    ensures { OnOk result (line.new.items ≡ line.old.items ++ bug_words bug) }
+{
+    add(line, b"bug ")?;
+    add(line, bug.check.as_str().as_bytes())?;
+    add(line, b" ")?;
+    match bug.subject {
+        Subject::Packet(packet) => {
+            add(line, b"packet ")?;
+            add_number(line, packet)
+        }
+        Subject::Lock(lock) => add_lock(line, lock),
+        Subject::Cell(cell) => {
+            add(line, b"cell ")?;
+            add_of_device(line, cell)
+        }
+    }
+}
+
+fn add_place(line: &mut Vec<u8>, place: Place) -> Result<(), AllocError>
+    ensures { OnOk result (line.new.items ≡ line.old.items ++ place_words place) }
+{
+    add(line, b"wrong ")?;
+    add_number(line, u64::from(place.driver))?;
+    add(line, b".")?;
+    add_number(line, u64::from(place.routine))?;
+    add(line, b".")?;
+    add_number(line, u64::from(place.position))
+}
+
+fn add_lock(line: &mut Vec<u8>, lock: Lock) -> Result<(), AllocError>
+    ensures { OnOk result (line.new.items ≡ line.old.items ++ lock_words lock) }
+{
+    match lock {
+        Lock::SystemCancel => add(line, b"lock cancel"),
+        Lock::Spin(spin) => {
+            add(line, b"lock ")?;
+            add_of_device(line, spin)
+        }
+    }
+}
+
+fn add_of_device(line: &mut Vec<u8>, thing: OfDevice) -> Result<(), AllocError>
+    ensures { OnOk result (line.new.items ≡ line.old.items ++ of_device thing) }
+{
+    add_number(line, u64::from(thing.device))?;
+    add(line, b".")?;
+    add_number(line, u64::from(thing.number))
+}

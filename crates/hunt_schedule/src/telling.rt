@@ -1,0 +1,103 @@
+//! What comes of a hunt, as it is told.
+
+ghost use Rattle.std.specs.Prelude.{◌≡◌, ◌≤◌, IfOk, IfSome};
+ghost use Rattle.hunt_schedule.specs.Telling.{IsToldOf, all_line, more_line};
+ghost use Rattle.model.specs.declared.limits.TheConstants.{MAX_THREADS};
+
+use crate::appending::{add, add_number};
+use crate::writing::schedule_text;
+use driver_set::DriverSet;
+use hunt_search::search::{Bounds, Find, Hunted, hunt};
+use std::alloc::{AllocError, Global};
+
+/// What is told of a hunt.
+#[derive(Drop)]
+pub enum Told {
+    /// A schedule whose run ends amiss, as a text.
+    Found(Vec<u8>),
+    /// A line that there is none among all worlds within the bounds, which are so many.
+    All {
+        line: Vec<u8>,
+        worlds: usize,
+    },
+    /// A line that there is none in runs of up to so many events: so many worlds were seen, and there
+    /// are more.
+    More {
+        line: Vec<u8>,
+        worlds: usize,
+        events: usize,
+    },
+}
+
+/// Hunts in the worlds of a set within bounds, and tells what comes of it. Nothing is told where a
+/// find, read back, doesn't end as it is told to.
+///
+/// # Errors
+///
+/// When memory runs out.
+pub fn tell_hunt(alloc: Global, set: &DriverSet, bounds: Bounds) -> Result<Option<Told>, AllocError>
+    requires some { 1 ≤ bounds.threads }
+    requires few { bounds.threads ≤ MAX_THREADS }
+    ensures { IfOk result (λ told. IfSome told (IsToldOf set.now bounds)) }
+{
+    match hunt(alloc, set, bounds)? {
+        Hunted::Found(find) => tell_find(alloc, set, bounds, find),
+        Hunted::All { worlds } => {
+            let line = all_line(alloc, bounds, worlds as u64)?;
+            Ok(Some(Told::All { line, worlds }))
+        }
+        Hunted::More { worlds, events } => {
+            let line = more_line(alloc, worlds as u64, events as u64)?;
+            Ok(Some(Told::More {
+                line,
+                worlds,
+                events,
+            }))
+        }
+    }
+}
+
+/// Tells a find.
+fn tell_find(
+    alloc: Global,
+    set: &DriverSet,
+    bounds: Bounds,
+    find: Find,
+) -> Result<Option<Told>, AllocError>
+    ensures { IfOk result (λ told. IfSome told (IsToldOf set.now bounds)) }
+{
+    let mut events = find.before;
+    events.push(find.last)?;
+    match schedule_text(alloc, set, bounds.threads, events.as_slice(), &find.amiss)? {
+        Some(text) => Ok(Some(Told::Found(text))),
+        None => Ok(None),
+    }
+}
+
+/// That all worlds were seen.
+fn all_line(alloc: Global, bounds: Bounds, worlds: u64) -> Result<Vec<u8>, AllocError>
+    ensures { IfOk result (λ line. line.items ≡ all_line bounds worlds) }
+{
+    let mut line = Vec::new(alloc);
+    add(&mut line, b"none: all ")?;
+    add_number(&mut line, worlds)?;
+    add(&mut line, b" worlds of ")?;
+    add_number(&mut line, u64::from(bounds.threads))?;
+    add(&mut line, b" threads and ")?;
+    add_number(&mut line, bounds.packets as u64)?;
+    add(&mut line, b" packets seen\n")?;
+    Ok(line)
+}
+
+/// That more worlds are left.
+fn more_line(alloc: Global, worlds: u64, events: u64) -> Result<Vec<u8>, AllocError>
+    ensures { IfOk result (λ line. line.items ≡ more_line worlds events) }
+{
+    let mut line = Vec::new(alloc);
+    add(&mut line, b"none in runs of up to ")?;
+    add_number(&mut line, events)?;
+    add(&mut line, b" events: ")?;
+    add_number(&mut line, worlds)?;
+    add(&mut line, b" worlds seen, more left\n")?;
+    Ok(line)
+}
