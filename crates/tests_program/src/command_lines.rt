@@ -1,10 +1,10 @@
 //! What the words of a command line name.
 
+use drvhost_commands::job::{AloneJob, Job, JobFault, refuse_words};
 use drvhost_devices::device::Writer;
 use drvhost_devices::verification::Verification;
 use drvhost_sets::explaining::Extent;
 use drvhost_views::tell::{Detail, Manner, Strictness};
-use drvhost_commands::job::{AloneJob, Job, JobFault, refuse_words};
 use model::abs::Rule;
 use std::alloc::Global;
 use std::test::Fail;
