@@ -5,7 +5,7 @@ the runs of the wrong drivers and of the examples as it is stored, byte for byte
 Of each folder of the gallery, answers.txt has what `tell --unchecked --every` writes of driver.drv with events.sched (gallery.py), and
 picture.svg what `draw --unchecked` does; of a mended driver nothing may be amiss. Of each example with a schedule, examples/told has both texts
 under its name, but for a picture that stands in docs/pictures; one that is refused is run with --unchecked, and of one that is
-accepted nothing may be amiss. A told run ends with the exit status.
+accepted nothing may be amiss but a ring of threads where its driver takes its locks in a cycle. A told run ends with the exit status.
 
 docs/GALLERY.md lists the wrong drivers of whose runs nothing shows that they are wrong (exit status 0), each with the reason
 why: it has to list these and no others. With --table it prints what the end of each wrong driver's told run says, with --write
@@ -19,6 +19,8 @@ EXAMPLES, PICTURES = (os.path.join(TOP, folder) for folder in ('examples', 'docs
 LISTED = os.path.join(TOP, 'docs/GALLERY.md')
 # The examples that are run by the schedule of another one.
 BY_ONE_READ = 'echo', 'forgets', 'locked', 'pending', 'stuck', 'twice'
+# Those that are accepted, and whose threads wait for each other in a ring.
+RINGED = 'abba', 'cancelring'
 AMISS = re.compile(r'lost|left behind|in a ring|returned STATUS_PENDING|stopped by')
 
 def answer(program, *words):
@@ -139,7 +141,7 @@ def main():
     for run, accepted in examples(program):
         told, status = compare(run)
         tried += 1
-        if accepted and status:
+        if accepted and status != (run.name in RINGED):
             wrong.append('%s: something is amiss: %s' % (run.name, shown_by(told)))
     for run in mended_drivers():
         told, status = answer(program, 'tell', *run.words)
