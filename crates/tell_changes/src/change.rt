@@ -1,6 +1,6 @@
 //! What an event changed, in words.
 
-use crate::line::Moment;
+use crate::moment::Moment;
 use crate::refusal::refusal_words;
 use checked::Checked;
 use model::event::{Event, Lock, OfDevice, Reply};

@@ -25,7 +25,11 @@ pub fn ring_words(
 }
 
 /// Adds a line for each thread that waits in a ring.
-pub(crate) fn add_ringed(
+///
+/// # Errors
+///
+/// When memory runs out.
+pub fn add_ringed(
     words: &mut String,
     book: &Book<'_>,
     machine: &Checked,

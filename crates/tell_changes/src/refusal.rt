@@ -1,13 +1,13 @@
 //! Why events are refused, in words.
 
-use crate::line::Moment;
+use crate::moment::Moment;
 use model::instr::Instr;
 use tell_audit::refusal::Reason;
 use tell_uses::acting::Acting;
 
 /// Why an event of a run that goes on was refused, by the moment before it: where nothing else
 /// stands against it, what is full.
-pub(crate) fn refusal_words(moment: &Moment) -> &'static str {
+pub fn refusal_words(moment: &Moment) -> &'static str {
     if let Some(reason) = moment.reason {
         return reason_words(reason);
     }
