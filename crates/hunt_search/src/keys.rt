@@ -10,7 +10,7 @@ use checked_frames::{Frame, Managing};
 use checked_parts::Shared;
 use devqueue::{DeviceQueue, Guarded};
 use driver_devices::driver_of;
-use irp::{Location, Packet};
+use irp::Packet;
 use model::cell::Cell;
 use model::event::{Lock, OfDevice};
 use model::instr::Field;
@@ -219,9 +219,7 @@ fn add_packet(writer: &mut Writer, packet: &Packet) {
     ]);
     add_armer(writer, packet.armer());
     for place in 0..packet.depth() as usize {
-        if let Some(location) = packet.location(place) {
-            add_location(writer, location);
-        }
+        add_location(writer, packet, place);
     }
 }
 
@@ -243,8 +241,11 @@ fn queue_number(queue: QueueName) -> u64 {
     }
 }
 
-/// Adds a stack location.
-fn add_location(writer: &mut Writer, location: &Location) {
+/// Adds the stack location at a place.
+fn add_location(writer: &mut Writer, packet: &Packet, place: usize) {
+    let Some(location) = packet.location(place) else {
+        return;
+    };
     let major = match location.major() {
         Some(major) => u64::from(major.code()),
         None => 255,
