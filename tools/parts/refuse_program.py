@@ -133,7 +133,7 @@ CASES = [
     ('rewrite set out', 0, '', ''),
     ('rewrite image out', 0, '', ''),
     ('rewrite open out', 2, '', 'text fault 6 Unclosed line 2\n'),
-    ('version', 0, 'drvhost 0.1.0\n', ''),
+    ('version', 0, 'drvhost 1.0.0\n', ''),
     ('trace set schedule', 0, TRACED, ''),
     ('trace set schedule --unchecked', 0, TRACED, ''),
     ('host set script --workers 1', 0, '0 topped 0 0x00000000 0\n1 stepped\nhistory 17 agrees\n', ''),

@@ -1,15 +1,16 @@
 #!/usr/bin/env python3
 """tools/keep runs [--check | --cases | --show GROUP | run [PROGRAM]]: what the program of crates/tests_stored runs, and what it has to write.
 
-A file of crates/tests_stored/runs is a group of cases. A case is a line `# NAME` and the runs behind it: a line `$ WORDS`,
+A file of crates/tests_stored/runs is a group of cases. A case is a line `# NAME`, and behind it texts and runs. A text is a
+line `-- NAME` and its lines, each behind `|`, the last one behind `!` where no line feed ends it. A run is a line `$ WORDS`,
 what drvhost answers to these words, what the error writer is told behind a line `told:`, and a line with the exit status,
-the number of files that are opened, and of reads of them that fail. The files that the words name lie in
-crates/tests_stored/data. The group of the wrong drivers is made of the answers that stand beside them (answers.txt, by gallery.py);
-texts of the folder examples that are named are copied to data/examples. The group of the rules' pages is made of
-crates/verifier_pages/src/pages.rt and, with what `check` says of a page's example, of docs/RULES.md; the examples are data/pages.
+the number of files that are opened, and of reads of them that fail. What is no such text (an image, say, or a text with
+control bytes) is a file below crates/tests_stored/data. The group of the wrong drivers is made of the answers that stand
+beside them (answers.txt, by gallery.py); texts of the folder examples that are named are taken from there. The group of the
+rules' pages is made of crates/verifier_pages/src/pages.rt and, with what `check` says of a page's example, of docs/RULES.md.
 
-Without a flag it writes from these the list of the runs (data/runs.txt), the copies, and what the program has to write
-(stdout). With --check it writes nothing, and tells what it would write otherwise; it also tells of a text in data that no
+Without a flag it writes from these the list of the runs (data/runs.txt), all texts (data/texts.txt), and what the program has
+to write (stdout). With --check it writes nothing, and tells what it would write otherwise; it also tells of a text that no
 run names, and of a run that names a text which isn't there, where its answer doesn't say so. With --cases it prints the
 names of all cases, with --show the cases of a group, each with its texts. The last line counts.
 
@@ -25,7 +26,7 @@ TOP = os.path.dirname(os.path.dirname(os.path.dirname(os.path.abspath(__file__))
 EXAMPLES = os.path.join(TOP, 'examples')
 CRATE = os.path.join(TOP, 'crates/tests_stored')
 RUNS, DATA = os.path.join(CRATE, 'runs'), os.path.join(CRATE, 'data')
-LIST, STDOUT = 'data/runs.txt', 'stdout'
+LIST, TEXTS, STDOUT = 'data/runs.txt', 'data/texts.txt', 'stdout'
 # What a folder of the gallery has beside answers.
 ASKED = 'driver.drv', 'events.sched', 'mended.drv'
 END = re.compile(r'^status [0-9]+, opened [0-9]+(, failed reads [1-9][0-9]*)?$')
@@ -45,21 +46,47 @@ class Run:
     def lines(self):
         return ['$ ' + ' '.join(self.words), *self.answer]
 
+class Text:
+    """A text that runs name."""
+
+    def __init__(self, name, content=''):
+        self.name, self.content = name, content
+
+    def add(self, line):
+        """Adds a line of it, as it is stored."""
+        self.content += line[1:] + ('\n' if line[0] == '|' else '')
+
+    def lines(self):
+        *whole, open_line = self.content.split('\n')
+        return ['-- ' + self.name, *['|' + line for line in whole], *(['!' + open_line] if open_line else [])]
+
+def is_storable(content):
+    """Whether the bytes of a file can stand in a group of runs: printable text, a line feed the only control byte."""
+    try:
+        return all(it == '\n' or it.isprintable() or it == ' ' for it in content.decode())
+    except UnicodeDecodeError:
+        return False
+
 class Group:
-    """Lines of its title, of the cases' names and of blanks, and runs."""
+    """Lines of its title, of the cases' names and of blanks, texts, and runs."""
 
     def __init__(self, name, parts):
         self.name, self.parts = name, ['; %s: %s' % (name, parts[0][2:]), *parts[1:]]
         self.runs = [part for part in parts if isinstance(part, Run)]
+        self.texts = [part for part in parts if isinstance(part, Text)]
         self.cases = [part[2:] for part in parts if isinstance(part, str) and part.startswith('# ')]
 
     def asked(self):
         """The lines without the answers."""
-        return [part if isinstance(part, str) else part.lines()[0] for part in self.parts]
+        return [part if isinstance(part, str) else part.lines()[0] for part in self.shown()]
 
     def lines(self):
         """The lines with the answers."""
-        return [line for part in self.parts for line in ([part] if isinstance(part, str) else part.lines())]
+        return [line for part in self.shown() for line in ([part] if isinstance(part, str) else part.lines())]
+
+    def shown(self):
+        """All but the texts."""
+        return [part for part in self.parts if not isinstance(part, Text)]
 
 def read(path):
     return open(path, 'rb').read()
@@ -74,6 +101,10 @@ def stored_group(file):
         elif line.startswith('$ '):
             run = Run(line[2:].split(' '))
             parts.append(run)
+        elif line.startswith('-- '):
+            parts.append(Text(line[3:]))
+        elif line[:1] in ('|', '!'):
+            parts[-1].add(line)
         else:
             assert not line or line[:2] in ('# ', '; '), (file, line)
             parts.append(line)
@@ -137,10 +168,29 @@ def pages_group():
     return Group('pages', parts)
 
 def page_texts():
-    """The texts of the pages' examples, by their paths in the crate."""
+    """The texts of the pages' examples."""
     named = titles()
-    return {'data/pages/%s-%s.drv' % (named[rule].split()[0].lower(), kind): page[kind].encode()
-            for rule, page in pages().items() for kind in ('refused', 'mended') if kind in page}
+    return [Text('pages/%s-%s.drv' % (named[rule].split()[0].lower(), kind), page[kind])
+            for rule, page in pages().items() for kind in ('refused', 'mended') if kind in page]
+
+def examples(all_groups):
+    """The bytes of the examples that runs name, by their names."""
+    return {name: read(os.path.join(TOP, name)) for name in sorted(named(all_groups)) if name.startswith('examples/')}
+
+def texts(all_groups):
+    """All texts but those that are files below data."""
+    stored = [text for group in all_groups for text in group.texts]
+    copied = [Text(name, content.decode()) for name, content in examples(all_groups).items() if is_storable(content)]
+    return [*stored, *page_texts(), *copied]
+
+def unpacked(folder):
+    """A folder below this one with all texts, each in a file of its own."""
+    data = shutil.copytree(DATA, os.path.join(folder, 'data'), dirs_exist_ok=True)
+    for text in texts(groups()):
+        path = os.path.join(data, text.name)
+        os.makedirs(os.path.dirname(path), exist_ok=True)
+        open(path, 'w', newline='').write(text.content)
+    return data
 
 def groups():
     stored = [stored_group(file) for file in sorted(os.listdir(RUNS))]
@@ -149,28 +199,29 @@ def groups():
 def made(all_groups):
     """The files that are made, by their paths in the crate."""
     text = lambda lines: ('\n'.join(lines) + '\n').encode()
-    files = {
+    images = {'data/' + name: content for name, content in examples(all_groups).items() if not is_storable(content)}
+    return {
+        **images,
         LIST: text([line for group in all_groups for line in group.asked() + ['']]),
+        TEXTS: text([line for it in texts(all_groups) for line in it.lines()]),
         STDOUT: text([line for group in all_groups for line in group.lines() + ['']]),
     }
-    files.update(page_texts())
-    for name in sorted(named(all_groups)):
-        folder, _, text = name.partition('/')
-        if folder == 'examples':
-            files['data/' + name] = read(os.path.join(EXAMPLES, text))
-    return files
 
 def named(all_groups):
     """The texts that runs name."""
     return {name for group in all_groups for run in group.runs for name in run.files()}
 
-def stray(all_groups, files):
-    """What is wrong with the texts: those that no run names, and those that are named and missing."""
-    there = {os.path.relpath(os.path.join(at, name), DATA) for at, _, names in os.walk(DATA) for name in names}
-    there |= {path[len('data/'):] for path in files if path.startswith('data/')}
-    there = {name for name in there if not name.startswith('gallery/') or os.path.basename(name) in ASKED}
-    there.discard('runs.txt')
-    told = ['%s: no run names it' % name for name in sorted(there - named(all_groups))]
+def stray(all_groups):
+    """What is wrong with the texts: those that no run names, those that are named and missing, and files that could be
+    texts."""
+    files = {os.path.relpath(os.path.join(at, name), DATA) for at, _, names in os.walk(DATA) for name in names}
+    files -= {os.path.basename(LIST), os.path.basename(TEXTS)}
+    beside = {name for name in files if name.startswith('gallery/')}
+    loose = [name for name in sorted(files - beside) if is_storable(read(os.path.join(DATA, name)))]
+    there = files - {name for name in beside if os.path.basename(name) not in ASKED}
+    there |= {text.name for text in texts(all_groups)}
+    told = ['%s: it can stand in its group of runs' % name for name in loose]
+    told += ['%s: no run names it' % name for name in sorted(there - named(all_groups))]
     for group in all_groups:
         for run in group.runs:
             missing = [name for name in run.files() if name not in there]
@@ -180,16 +231,16 @@ def stray(all_groups, files):
 
 def show(group):
     """Prints a group, with the texts before the answers that first need them."""
-    seen = set()
-    for part in group.parts:
+    seen, elsewhere = set(), {text.name: text for text in texts(groups())}
+    for part in group.shown():
         if isinstance(part, str):
             print(part)
             continue
         for name in part.files():
-            if name not in seen and os.path.exists(os.path.join(DATA, name)):
-                seen.add(name)
-                print('-- %s' % name)
-                print(read(os.path.join(DATA, name)).decode(errors='backslashreplace'))
+            if name in seen or name not in elsewhere:
+                continue
+            seen.add(name)
+            print('\n'.join(elsewhere[name].lines()))
         print('\n'.join(part.lines()))
 
 def tried(crate, seconds='600', endless=False):
@@ -225,7 +276,7 @@ def differences(all_groups, program):
         return [['nothing is written']] if written is None else [d for d in [diff(wanted.splitlines(), written.splitlines())] if d]
     found = []
     with tempfile.TemporaryDirectory() as folder:  # a copy, since a rewrite writes
-        data = shutil.copytree(DATA, os.path.join(folder, 'data'))
+        data = unpacked(folder)
         for run in [run for group in all_groups for run in group.runs]:
             stored = [*run.answer[:-1], run.answer[-1].partition(',')[0]]
             told = diff(stored, answered(program, run, data))
@@ -271,7 +322,7 @@ def main():
     files = made(all_groups)
     is_check = '--check' in sys.argv
     told = settle(files, is_check)
-    wrong = stray(all_groups, files)
+    wrong = stray(all_groups)
     for line in told + wrong:
         print(line)
     count = lambda of: sum(len(of(group)) for group in all_groups)

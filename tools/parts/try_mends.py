@@ -8,17 +8,19 @@ further on, or of a later rule at the same place: of two faults of an instructio
 A mend after which it is refused there by the same rule, or earlier, is printed with its break, and the exit status is 1 then.
 Otherwise each mend is printed with how often it was told, whether it is known, and one of its breaks;
 with --each every break is. The last line counts. With --store a break of each reason and of each mend is stored, with what
-is told of it, and, where the mend is followed, the mended text with its verdict: crates/tests_stored/data/mends and
-runs/mends.txt are written anew.
+is told of it, and, where the mend is followed, the mended text with its verdict: crates/tests_stored/runs/mends.txt is
+written anew.
 
 Where a mend speaks of a label L, the place that it names is made: the guard of the queue is released there, and the routine
 returns. Where it leaves open which status, SUCCESS is taken. Mends that ask for a decision of the author (states that differ,
 another register) aren't followed."""
 import concurrent.futures, os, re, subprocess, sys
 
+from stored_runs import Text
+
 TOP = os.path.dirname(os.path.dirname(os.path.dirname(os.path.abspath(__file__))))
 EXAMPLES, GALLERY = os.path.join(TOP, 'examples'), os.path.join(TOP, 'crates/tests_stored/data/gallery')
-MENDS, RUNS = (os.path.join(TOP, 'crates/tests_stored', path) for path in ('data/mends', 'runs/mends.txt'))
+RUNS = os.path.join(TOP, 'crates/tests_stored/runs/mends.txt')
 # Texts in which instructions are added, at the start of a routine and before each return.
 SMALL = 'cancel', 'filter', 'queue', 'startio'
 # How many mends are stored at least with the text that they mend.
@@ -270,16 +272,12 @@ def tried(program, what, lines):
     return Tried(program, what, lines, words) if words.startswith('refused') else None
 
 def run_of(program, command, name, lines):
-    """A stored run, and its text."""
-    with open(os.path.join(MENDS, name), 'w') as file:
-        file.write(text_of(lines))
+    """A stored run, behind its text."""
     told, status = answer(program, command, lines)
-    return ['$ %s mends/%s' % (command, name), *told.splitlines(), 'status %d, opened 1' % status]
+    return [*Text('mends/' + name, text_of(lines)).lines(), '$ %s mends/%s' % (command, name), *told.splitlines(), 'status %d, opened 1' % status]
 
 def store(program, firsts):
     """Stores the first break of each mend that is followed."""
-    for name in os.listdir(MENDS):
-        os.remove(os.path.join(MENDS, name))
     lines = ['; Drivers broken in one place: how the fault came about and how to mend it, and the verdict on the text that is '
              'mended so.']
     for number, it in enumerate(firsts, 1):

@@ -149,7 +149,7 @@ CASES = [
     ('rewrite good.drv no/such/good.image', 2, b'', b'write failed\n'),
     ('rewrite good.drv /dev/full', 2, b'', b'write failed\n'),
     ('rewrite good.drv', 2, b'', SOME),
-    ('version', 0, b'drvhost 0.1.0\n', b''),
+    ('version', 0, b'drvhost 1.0.0\n', b''),
     ('trace good.drv good.sched', 0, TRACED, b''),
     ('trace good.drv good.sched --unchecked', 0, TRACED, b''),
     ('trace twice.drv good.sched', 1, REFUSED, b''),

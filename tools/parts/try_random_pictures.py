@@ -1,6 +1,6 @@
 #!/usr/bin/env python3
 """tools/try random-pictures [--seed N] [--runs N] [--rows N] [PROGRAM]: random runs (500, if no number is given) of the sets in
-examples, gallery and crates/tests_stored/data, the refused ones among them, drawn by the program (crates/drvhost/out/drvhost, if
+examples, gallery and stored runs, the refused ones among them, drawn by the program (crates/drvhost/out/drvhost, if
 none is named).
 
 A picture is read as it is seen: the lanes by their names and sides, the rows by their numbers, each packet's line from the number

@@ -1,6 +1,6 @@
 #!/usr/bin/env python3
 """tools/try random-told [--seed N] [--runs N] [PROGRAM]: random schedules (5,000, if no number is given) on all accepted texts of
-examples, gallery and crates/tests_stored/data, told and traced by the program (crates/drvhost/out/drvhost, if none is named). Of
+examples, gallery and stored runs (crates/tests_stored), told and traced by the program (crates/drvhost/out/drvhost, if none is named). Of
 each run every told line has to begin with the trace's line, both have to end alike, and the audit may find no packet that is
 lost, no lock left behind and no stack location returned from otherwise than it was marked; each live packet has one holder by
 right. That is asked with --every; with --quiet the same is told but for the lines of events that only step or find nothing to
@@ -9,8 +9,11 @@ with --strict it ends with exit status 1 also where the trace has an event that 
 rule forbids that, and the told run ends with exit status 1 then. The last line counts."""
 import argparse, glob, os, random, re, subprocess, sys, tempfile
 
+from stored_runs import unpacked
+
 TOP = os.path.dirname(os.path.dirname(os.path.dirname(os.path.abspath(__file__))))
-PLACES = 'examples/*.drv', 'crates/tests_stored/data/**/*.drv'
+# The folder with the texts of stored runs, while the tool runs.
+STORED = tempfile.TemporaryDirectory()
 AMISS = re.compile(r'lost|left behind|completion left it|stopped by')
 COMPUTES = 'const|mov|clear|add|sub|jz|jlt|jmp|loop|end|load|store|loadp|storep|get|put|ifpending'
 # The lines that the levels leave out.
@@ -27,8 +30,8 @@ def answer(program, *words):
 def sets_for(program, job):
     """The texts of sets that a job takes, as `check` those that are accepted: each content once, with the number of their devices."""
     found = {}
-    for place in PLACES:
-        for path in sorted(glob.glob(os.path.join(TOP, place), recursive=True)):
+    for folder in os.path.join(TOP, 'examples'), unpacked(STORED.name):
+        for path in sorted(glob.glob(os.path.join(folder, '**/*.drv'), recursive=True)):
             text = open(path, errors='replace').read()
             if text not in found and answer(program, job, path)[1] == 0:
                 found[text] = path, len(re.findall(r'^\s*device\s', text, re.M))

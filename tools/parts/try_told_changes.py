@@ -1,6 +1,6 @@
 #!/usr/bin/env python3
 """tools/try told-changes [--seed N] [--runs N] [--forms] [PROGRAM]: random runs (2,000, if no number is given) of all sets in examples,
-gallery and crates/tests_stored/data, the refused ones among them, told by the program (crates/drvhost/out/drvhost, if none is
+gallery and stored runs, the refused ones among them, told by the program (crates/drvhost/out/drvhost, if none is
 named). Half of the schedules stand beside the sets, with lines moved. The machine of tools/parts/second_machine.py makes the same
 steps. The words on each event are read, and have to say what the worlds before and after it differ in: each change of a list, a
 slot, a cancel word, a cancel flag, a mark, a location, a lock, a busy device, a queued DPC, a cell or a register of the frame

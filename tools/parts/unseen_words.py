@@ -1,5 +1,5 @@
 #!/usr/bin/env python3
-"""tools/keep words [--all]: the texts of verifier_words, tell_words, tell_names, draw_lanes and of faults that no stored answer has.
+"""tools/keep words [--all]: the texts of verifier_words, tell_changes, tell_words, tell_names, draw_lanes and of faults that no stored answer has.
 
 It reads the string literals of these crates' sources, but for comments and clauses, and looks for each in the answers of
 the stored runs (crates/tests_stored/runs, and the groups that tools/keep runs makes) to the commands that tell it: the
@@ -17,7 +17,7 @@ import stored_runs
 TOP = stored_runs.TOP
 CRATES = {
     'verifier_words verifier_reasons verifier_pages': ('explain',),
-    'tell_words tell_names': ('tell', 'draw'),
+    'tell_changes tell_words tell_names': ('tell', 'draw'),
     'asm_faults text_faults': ('check', 'explain', 'trace', 'tell', 'draw', 'host', 'list'),
     'interleave_faults': ('tell', 'draw'),
     'draw_lanes': ('draw',),

@@ -17,7 +17,6 @@ use tell_holders::Rights;
 use tell_names::Book;
 use tell_uses::acting::Acting;
 use tell_uses::standing::thread_of;
-use tell_words::Moment;
 
 /// Rows that are drawn, at most. The last of them is kept for what stops the run.
 pub const MOST_ROWS: usize = 500;
@@ -97,8 +96,7 @@ impl Drawing {
         })
     }
 
-    /// Adds the event of a number: the moment before it, what the machine replied, and the machine
-    /// after it.
+    /// Adds the event of a number.
     ///
     /// # Errors
     ///
@@ -107,25 +105,15 @@ impl Drawing {
         &mut self,
         book: &Book<'_>,
         number: u64,
-        event: &Event,
-        moment: &Moment,
-        reply: &Reply,
-        machine: &Checked,
+        seen: Seen<'_>,
     ) -> Result<(), AllocError> {
-        let seen = Seen {
-            event,
-            moment,
-            reply,
-            machine,
-            top: top_after(machine, event),
-        };
         self.events = self.events.saturating_add(1);
-        let waited = self.note_wait(event, reply);
-        if !is_of_interest(moment, reply, waited, seen.top) {
+        let waited = self.note_wait(seen.event, seen.reply);
+        if !is_of_interest(seen.moment, seen.reply, waited, seen.top) {
             self.folded = self.folded.saturating_add(1);
             return Ok(());
         }
-        if !self.has_room(reply) {
+        if !self.has_room(seen.reply) {
             self.leave_out();
             return Ok(());
         }
@@ -546,11 +534,6 @@ fn is_lost(to: Option<Stand>) -> bool {
             ..
         })
     )
-}
-
-/// The top frame of an event's thread.
-fn top_after(machine: &Checked, event: &Event) -> Option<FrameView> {
-    machine.thread(thread_of(event)?)?.top
 }
 
 /// The lane in which an event happens.

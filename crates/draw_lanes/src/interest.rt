@@ -3,9 +3,9 @@
 use model::event::Reply;
 use model::instr::Instr;
 use model::view::{FrameView, LiveView, PacketView};
+use tell_changes::Moment;
 use tell_uses::acting::Acting;
 use tell_uses::computing::is_computing_at;
-use tell_words::Moment;
 
 /// Whether an event is drawn: what begins, ends, moves a packet, marks it, completes it or cancels
 /// it, what takes or frees a lock, the first turn of a wait, and what stops the run. Told by the

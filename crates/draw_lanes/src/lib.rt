@@ -11,6 +11,6 @@ mod interest;
 pub mod lane;
 pub mod lock;
 pub mod row;
-mod seen;
+pub mod seen;
 pub mod sign;
 mod words;

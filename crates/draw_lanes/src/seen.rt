@@ -4,18 +4,37 @@ use checked::Checked;
 use model::event::{Event, Reply};
 use model::instr::Instr;
 use model::view::FrameView;
+use tell_changes::Moment;
 use tell_uses::acting::Acting;
-use tell_words::Moment;
+use tell_uses::standing::thread_of;
 
 /// An event that happened: the moment before it, and the machine after it.
 #[derive(Clone, Copy)]
-pub(crate) struct Seen<'a> {
+pub struct Seen<'a> {
     pub(crate) event: &'a Event,
     pub(crate) moment: &'a Moment,
     pub(crate) reply: &'a Reply,
     pub(crate) machine: &'a Checked,
     /// The top frame of its thread after it.
     pub(crate) top: Option<FrameView>,
+}
+
+impl<'a> Seen<'a> {
+    /// An event, the moment before it, what the machine replied, and the machine after it.
+    pub fn of(
+        event: &'a Event,
+        moment: &'a Moment,
+        reply: &'a Reply,
+        machine: &'a Checked,
+    ) -> Seen<'a> {
+        Seen {
+            event,
+            moment,
+            reply,
+            machine,
+            top: top_after(machine, event),
+        }
+    }
 }
 
 /// The packet that an event is about, if it is one of a frame.
@@ -38,4 +57,9 @@ pub(crate) fn is_return(seen: Seen<'_>) -> bool {
             ..
         })
     )
+}
+
+/// The top frame of an event's thread.
+fn top_after(machine: &Checked, event: &Event) -> Option<FrameView> {
+    machine.thread(thread_of(event)?)?.top
 }

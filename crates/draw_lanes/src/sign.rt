@@ -4,8 +4,8 @@ use model::event::{Event, Reply};
 use model::instr::Instr;
 use model::view::{FrameView, LiveView, PacketView};
 use model::world::CancelStep;
+use tell_changes::Moment;
 use tell_uses::acting::Acting;
-use tell_words::Moment;
 
 /// The sign of an event in its row.
 #[derive(Clone, Copy, PartialEq, Eq)]

@@ -5,9 +5,9 @@ use model::event::{Event, Reply};
 use model::instr::{Instr, Return};
 use model::view::FrameView;
 use std::alloc::AllocError;
+use tell_changes::add_change;
 use tell_names::Book;
 use tell_uses::acting::Acting;
-use tell_words::add_change;
 
 /// Adds where the frame stands that acts: its routine and the line of its instruction, or what the
 /// I/O manager does. Where a routine begins in the event, its name.

@@ -16,4 +16,5 @@ mod style;
 mod svg;
 
 pub use draw_lanes::drawing::Drawing;
+pub use draw_lanes::seen::Seen;
 pub use picture::add_picture;

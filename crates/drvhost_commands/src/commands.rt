@@ -16,7 +16,7 @@ use std::alloc::{AllocError, Global};
 const NAME: &str = "drvhost";
 
 /// The program's version, in the texts of usage and help.
-const VERSION: &str = "0.1.0";
+const VERSION: &str = "1.0.0";
 
 /// What the file of a driver set is, in the texts of help.
 const SET: &str = "The text or the image of the driver set";

@@ -177,7 +177,7 @@ IsRewritten set answer = IsSound set × (answer ≡ ended Complete (spelling Cur
 
 -- the program's name and its version
 abbrev pub IsVersion : Answer → Type 0
-IsVersion answer = answer ≡ ended Complete (codes "drvhost 0.1.0\n")
+IsVersion answer = answer ≡ ended Complete (codes "drvhost 1.0.0\n")
 
 -- a rule explained: its number and its name, with some words behind them
 pub record IsRuleExplained (rule : Rule) (answer : Answer) : Type 0 where

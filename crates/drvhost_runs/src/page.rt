@@ -16,7 +16,7 @@ use image::DriverSet;
 use report::lines::Lines;
 use std::alloc::{AllocError, Global};
 use tell_audit::findings::ringed_threads;
-use tell_words::ring_words;
+use tell_changes::ring_words;
 
 /// What gathers while a script is served.
 #[derive(Drop)]

@@ -11,7 +11,7 @@ use drvhost_devices::transfer::write_whole;
 use report::fault::WRITE_FAILED;
 
 /// The program's name and its version.
-const VERSION: &[u8] = b"drvhost 0.1.0\n";
+const VERSION: &[u8] = b"drvhost 1.0.0\n";
 
 /// Writes the program's name and its version. The answer is the exit status: 0, or 2 where the
 /// write failed, which is told on the error writer.

@@ -9,7 +9,7 @@ ghost use Rattle.drvhost_views.specs.Told.{IsRunDrawn};
 
 use crate::telling::Told;
 use checked::Checked;
-use draw_picture::{Drawing, add_picture};
+use draw_picture::{Drawing, Seen, add_picture};
 use drvhost_devices::fault::Fault;
 use drvhost_runs::follow::is_last;
 use drvhost_runs::running::Machine;
@@ -17,9 +17,9 @@ use drvhost_runs::watching::{Observer, Taken, observe};
 use interleave::schedule::Schedule;
 use model::event::Event;
 use std::alloc::{AllocError, Global};
+use tell_changes::Moment;
 use tell_lines::kept::ToldLines;
 use tell_names::Book;
-use tell_words::Moment;
 
 /// Draws the run of a machine by a schedule, up to an event that stops it: with the names and the
 /// lines of a text that names its set.
@@ -73,8 +73,8 @@ impl<'a> Observer<Checked> for Painter<'a> {
     ) -> Result<Taken, Fault> {
         let moment = Moment::before(machine, event);
         let reply = machine.answer(event);
-        self.drawing
-            .add_event(&self.book, self.number, event, &moment, &reply, machine)?;
+        let seen = Seen::of(event, &moment, &reply, machine);
+        self.drawing.add_event(&self.book, self.number, seen)?;
         self.number = self.number.saturating_add(1);
         Ok(Taken {
             count: 1,

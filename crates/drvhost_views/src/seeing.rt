@@ -13,11 +13,12 @@ use crate::tell::Detail;
 use checked::Checked;
 use model::event::{Event, Reply};
 use std::alloc::{AllocError, Global};
+use tell_changes::Moment;
 use tell_uses::acts::{UseStep, use_step_of};
 use tell_uses::computing::computes;
 use tell_uses::ledger::Ledger;
 use tell_uses::plain::{is_plain, plain_steps_keep_ledgers, plain_steps_step_or_stay};
-use tell_words::{Happened, Moment};
+use tell_words::Happened;
 
 /// What is seen of a run that is told: its last event, and a ledger of uses.
 #[derive(Drop)]

@@ -1,10 +1,11 @@
 //! What the audit says of uses of stack locations, in words.
 
-use crate::line::{Happened, Moment};
+use crate::line::Happened;
 use checked::Checked;
 use model::event::Event;
 use model::view::{FrameView, PacketView};
 use std::alloc::AllocError;
+use tell_changes::Moment;
 use tell_names::{Book, status_name};
 use tell_uses::acts::UseStep;
 use tell_uses::uses::Note;

@@ -1,89 +1,14 @@
 //! The words of an event.
 
-ghost use Rattle.std.specs.Prelude.{◌≡◌};
-ghost use Rattle.tell_uses.specs.Acting.{acting_in};
-
 use crate::columns::add_columns;
 use checked::Checked;
-use checked_frames::status_in;
 use model::event::{Event, Reply};
-use model::instr::{Instr, Return};
-use model::status::Status;
-use model::view::{FrameView, PacketView};
+use model::view::FrameView;
 use model::world::CancelStep;
 use std::alloc::AllocError;
-use tell_audit::refusal::{Reason, why_refused};
-use tell_names::{Book, blank, blanks_before_change, top_activation, value_at};
-use tell_uses::acting::{Acting, acting_in};
+use tell_changes::Moment;
+use tell_names::{Book, blank, blanks_before_change};
 use tell_uses::acts::UseStep;
-use tell_uses::standing::thread_of;
-
-/// What is told of an event, as it is before the event.
-#[derive(Clone, Copy)]
-pub struct Moment {
-    /// The frame that acts, if one does.
-    pub acting: Option<Acting>,
-    /// The packet that it is about, where words on it say how it was.
-    pub packet: Option<PacketView>,
-    /// Whether its step finds what it looks for, where it looks for something.
-    pub found: Option<bool>,
-    /// Why the event can't happen, if it can't.
-    pub reason: Option<Reason>,
-    /// The status that a lower driver returned, where its step returns that.
-    pub returned: Option<Status>,
-}
-
-impl Moment {
-    /// One before which nothing was looked at.
-    pub fn nothing() -> Moment {
-        Moment {
-            acting: None,
-            packet: None,
-            found: None,
-            reason: None,
-            returned: None,
-        }
-    }
-
-    /// The one before an event.
-    pub fn before(machine: &Checked, event: &Event) -> Moment
-        ensures { result.acting ≡ acting_in machine.now.set machine.now.world event.now }
-    {
-        let mut moment = Moment::nothing();
-        moment.look(machine, event);
-        moment.look_at_packet(machine);
-        moment
-    }
-
-    /// Becomes the one before an event, but for the packet and what its step looks for.
-    pub fn look(&mut self, machine: &Checked, event: &Event)
-        ensures { self.new.acting ≡ acting_in machine.now.set machine.now.world event.now }
-    {
-        self.acting = acting_in(machine, event);
-        self.packet = None;
-        self.found = None;
-        // Where a frame acts there is its thread, and a step needs nothing else.
-        self.reason = match self.acting {
-            Some(_) => None,
-            None => why_refused(machine, event),
-        };
-        self.returned = match self.acting {
-            Some(acting) => lower_status(machine, event, &acting),
-            None => None,
-        };
-    }
-
-    /// Looks at these too, which words tell of on steps that leave a frame where it stands.
-    pub fn look_at_packet(&mut self, machine: &Checked)
-        ensures { self.new.acting ≡ self.old.acting }
-    {
-        let Some(acting) = &self.acting else {
-            return;
-        };
-        self.packet = packet_before(machine, acting);
-        self.found = found_before(machine, acting);
-    }
-}
 
 /// An event that has happened: what it was before, what it did to uses of stack locations, and the
 /// reply to it.
@@ -93,63 +18,6 @@ pub struct Happened {
     pub moment: Moment,
     pub step: UseStep,
     pub reply: Reply,
-}
-
-/// The status that a step returns which a lower driver returned, if it returns one.
-fn lower_status(machine: &Checked, event: &Event, acting: &Acting) -> Option<Status> {
-    let Some(Instr::Ret(Return::Lower(r))) = acting.instruction else {
-        return None;
-    };
-    status_in(value_at(r, top_activation(machine, thread_of(event)?)?))
-}
-
-/// The packet that a step is about, if words on it say how the packet was before it.
-fn packet_before(machine: &Checked, acting: &Acting) -> Option<PacketView> {
-    let is_told = match acting.frame {
-        FrameView::Routine { .. } => matches!(
-            acting.instruction,
-            Some(
-                Instr::Mark(_)
-                    | Instr::Arm(_, _)
-                    | Instr::Disarm(_, _)
-                    | Instr::IfCancel(_, _)
-                    | Instr::Start(_)
-                    | Instr::Next
-            )
-        ),
-        FrameView::Walk(_) | FrameView::Cancel(_) => true,
-    };
-    match acting.packet {
-        Some(n) if is_told => Some(machine.packet(n)),
-        _ => None,
-    }
-}
-
-/// Whether a step finds what it looks for: the packet in the list that it is taken off or in the
-/// slot that it is put into, or a busy device where a packet is started.
-fn found_before(machine: &Checked, acting: &Acting) -> Option<bool> {
-    let FrameView::Routine { device, .. } = acting.frame else {
-        return None;
-    };
-    let instruction = acting.instruction;
-    let Some(instr) = instruction else {
-        return None;
-    };
-    let shared = machine.shared();
-    match instr {
-        Instr::Remove(_, _, _) => Some(acting.packet.is_some()),
-        Instr::Unlink(_, queue) => {
-            let n = acting.packet?;
-            Some(shared.queue(device, queue)?.has(n))
-        }
-        Instr::Dequeue(_) => {
-            let n = acting.packet?;
-            Some(shared.start_of(device)?.waiting().has(n))
-        }
-        Instr::Begin(_) => Some(shared.start_of(device)?.current() == acting.packet),
-        Instr::Start(_) | Instr::Next => Some(shared.start_of(device)?.is_busy()),
-        _ => None,
-    }
 }
 
 /// Adds the columns of an event behind so many blanks.

@@ -4,7 +4,6 @@ ghost use Rattle.std.specs.Prelude.{◌≡◌, [], IfOk, OnOk};
 ghost use Rattle.tell_words.specs.Noted.{noted};
 
 use crate::audited::{Audited, Left, add_audit};
-use crate::change::add_change;
 use crate::front::Fronts;
 use crate::line::{Happened, add_place, add_rest};
 use crate::standing::{KeptWords, Standing};
@@ -14,6 +13,7 @@ use model::view::FrameView;
 use std::alloc::{AllocError, Global};
 use std::marker::Model;
 use tell_audit::findings::Findings;
+use tell_changes::add_change;
 use tell_holders::Rights;
 use tell_names::{Book, Place, add_alone};
 use tell_uses::ledger::Ledger;

@@ -119,7 +119,7 @@ fn listings_in_memory(rt: HostRuntime) {
     assert!(rt; is_told(list(alloc, ECHO), 0, listed, b""));
     let image = rewrite(alloc, ECHO).ok().expect(&rt, "an image");
     assert!(rt; is_told(list(alloc, image.output()), 0, listed, b""));
-    assert!(rt; is_told(version(alloc), 0, b"drvhost 0.1.0\n", b""));
+    assert!(rt; is_told(version(alloc), 0, b"drvhost 1.0.0\n", b""));
 }
 
 #[test]
@@ -150,5 +150,5 @@ fn answers_in_buffers(rt: HostRuntime) {
     assert!(rt; buffer == [7u8; 16]);
     let whole = deliver(version(alloc), &mut buffer);
     assert_eq!(rt; whole.status, 0);
-    assert!(rt; buffer.as_slice() == b"drvhost 0.1.0\n\x07\x07".as_slice());
+    assert!(rt; buffer.as_slice() == b"drvhost 1.0.0\n\x07\x07".as_slice());
 }

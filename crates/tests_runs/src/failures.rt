@@ -69,7 +69,7 @@ const TOLD: &[u8] = b"\
 
 const SCRIPT: &[u8] = b"request 0 READ 0\ninterrupt 0\n";
 
-const VERSION: &[u8] = b"drvhost 0.1.0\n";
+const VERSION: &[u8] = b"drvhost 1.0.0\n";
 
 const SERVED: &[u8] = b"0 topped 0 0x00000000 0\n1 stepped\nhistory 17 agrees\n";
 

@@ -1,8 +1,10 @@
-//! What `drvhost` answers to the command lines of a list, over the files beside it. Each line of
+//! What `drvhost` answers to the command lines of a list, over the texts beside it. Each line of
 //! the list `runs.txt` is written again, and behind each that begins with `$ ` stands the answer to
 //! its words: what goes out, what the error writer is told, the exit status, and how many files
 //! were opened, and how many reads of them failed.
 #![tactic(auto)]
+
+mod texts;
 
 use drvhost_devices::device::Writer;
 use drvhost_words::answer::answer;
@@ -12,6 +14,10 @@ use std::fs::{self, Files};
 use std::io::{self, Write};
 use std::sync::Wait;
 use std::thread::Threads;
+use texts::unpack;
+
+/// The texts that the command lines name.
+const TEXTS: &str = "texts.txt";
 
 /// The list of the command lines.
 const LIST: &str = "runs.txt";
@@ -20,6 +26,8 @@ const LIST: &str = "runs.txt";
 const PROMPT: &str = "$ ";
 
 fn main(rt: HostRuntime) -> io::Result<()> {
+    let texts = fs::read_to_string(&rt, TEXTS)?;
+    unpack(&rt, rt.alloc(), texts.as_str())?;
     let list = fs::read_to_string(&rt, LIST)?;
     let mut out = rt.stdout();
     for line in list.as_str().lines() {

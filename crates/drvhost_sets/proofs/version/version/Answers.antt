@@ -13,7 +13,7 @@ returns-in-Ok g c = λ reads. record {
   reads_are = omega arith;
   writes_are = omega (arith, c.in-Ok.ensures.counted);
   tells = inl (refl, appends_none _ _ (keeps_same _));
-  ends = Rightly (ended Complete (codes "drvhost 0.1.0\n")) refl refl refl refl refl
+  ends = Rightly (ended Complete (codes "drvhost 1.0.0\n")) refl refl refl refl refl
       c.in-Ok.ensures.written;
 }
 
@@ -25,6 +25,6 @@ returns-in-Err g c = λ reads. record {
   reads_are = omega arith;
   writes_are = omega (arith, c.in-Err.ensures.counted);
   tells = rw c.as_bytes.ensures.value at c.say.ensures;
-  ends = WriteFailed (ended Complete (codes "drvhost 0.1.0\n")) refl refl refl refl refl
+  ends = WriteFailed (ended Complete (codes "drvhost 1.0.0\n")) refl refl refl refl refl
       c.in-Err.ensures.written;
 }

@@ -1,0 +1,48 @@
+//! Threads that wait in a ring, in words.
+
+use crate::change::add_awaited;
+use checked::Checked;
+use std::alloc::{AllocError, Global};
+use tell_names::Book;
+use tell_uses::standing::top_frame;
+
+/// What is told of threads that wait in a ring, with the names and the lines of the text of their
+/// set: a line for each.
+///
+/// # Errors
+///
+/// When memory runs out.
+pub fn ring_words(
+    alloc: Global,
+    text: &[u8],
+    machine: &Checked,
+    ringed: &[u8],
+) -> Result<String, AllocError> {
+    let book = Book::of(alloc, text)?;
+    let mut words = String::new(alloc);
+    add_ringed(&mut words, &book, machine, ringed)?;
+    Ok(words)
+}
+
+/// Adds a line for each thread that waits in a ring.
+///
+/// # Errors
+///
+/// When memory runs out.
+pub fn add_ringed(
+    words: &mut String,
+    book: &Book<'_>,
+    machine: &Checked,
+    ringed: &[u8],
+) -> Result<(), AllocError> {
+    for thread in ringed {
+        write!(words, "thread {thread} waits in a ring")?;
+        if let Some(top) = top_frame(machine, *thread) {
+            words.push_str(" at ")?;
+            book.add_spot(words, top.view())?;
+        }
+        add_awaited(words, book, machine, *thread)?;
+        words.push_str("\n")?;
+    }
+    Ok(())
+}
