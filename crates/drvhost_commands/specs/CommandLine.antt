@@ -1,9 +1,10 @@
 -- The program's command line in the terms of `clap`, and which task its matches name.
-use Rattle.std.specs.Prelude.{◌≡◌, ◌≢◌, ◌⊎◌, ℕ, List, [], ◌∷◌, Option, None, Some, true, false, codes, option_and_then, pos, string_bytes}
+use Rattle.std.specs.Prelude.{◌≡◌, ◌≢◌, ◌⊎◌, ℕ, ℤ, List, [], ◌∷◌, Option, None, Some, true, false, codes, option_and_then, pos, string_bytes}
 use Rattle.clap.specs.Words.{App, IsAmong, Row, Rule, Text, fault_of, first_of, new_app, new_rule, subcommand_of, with_rule, with_subcommand}
 use Rattle.clap.specs.declared.error.ErrorKind.TheVariants.{DisplayVersion}
 use Rattle.clap.specs.declared.builder.ArgAction.TheVariants.{Set, SetTrue}
 use Rattle.clap.specs.declared.builder.value_parser.ValueParser.TheVariants.{Signed}
+use Rattle.hunt_search.specs.declared.search.Bounds.{Bounds}
 use Rattle.interleave.specs.Line.{number_within}
 use Rattle.model.specs.declared.abs.Rule.{Rule as VerdictRule}
 use Rattle.model.specs.declared.limits.TheConstants.{MAX_THREADS}
@@ -11,9 +12,10 @@ use Rattle.report.specs.Rule.{IsRuleWord}
 use Rattle.drvhost_commands.specs.declared.job.Job.{Job}
 use Rattle.drvhost_commands.specs.declared.job.Job.TheVariants.{Alone, Host}
 use Rattle.drvhost_commands.specs.declared.job.AloneJob.{AloneJob}
-use Rattle.drvhost_commands.specs.declared.job.AloneJob.TheVariants.{Check, Explain, ExplainRule, List as ListJob, Rewrite, Version, Trace, Tell, Draw}
+use Rattle.drvhost_commands.specs.declared.job.AloneJob.TheVariants.{Check, Explain, ExplainRule, List as ListJob, Rewrite, Version, Trace, Tell, Draw, Hunt}
 use Rattle.drvhost_commands.specs.declared.job.JobFault.{JobFault}
 use Rattle.drvhost_commands.specs.declared.job.JobFault.TheVariants.{Usage, Memory}
+use Rattle.drvhost_hunts.specs.declared.reach.TheConstants.{MAX_PACKETS, MAX_WORLDS, USUAL_PACKETS, USUAL_THREADS, USUAL_WORLDS}
 use Rattle.drvhost_sets.specs.declared.explaining.Extent.{Extent}
 use Rattle.drvhost_sets.specs.declared.explaining.Extent.TheVariants.{First, Each}
 use Rattle.drvhost_views.specs.declared.tell.Detail.{Detail}
@@ -74,11 +76,23 @@ tell_command =
     (flag (codes "every")))
     (flag (codes "strict"))
 
+-- `--NAME N`, a number from 1 up to the most
+abbrev pub number_option : Text → ℤ → Rule
+number_option name most =
+    record (value_option name name) { parser = Some (Signed (pos 1) most) }
+
 -- `--workers N`, which has to be there
 abbrev pub workers_option : Rule
-workers_option =
-    record (value_option (codes "workers") (codes "workers"))
-    { parser = Some (Signed (pos 1) (pos MAX_THREADS)); required = true }
+workers_option = record (number_option (codes "workers") (pos MAX_THREADS)) { required = true }
+
+-- `hunt FILE [--threads N] [--packets N] [--states N]`
+abbrev pub hunt_command : App
+hunt_command =
+    with_rule
+    (with_rule
+    (with_rule (set_command (codes "hunt")) (number_option (codes "threads") (pos MAX_THREADS)))
+    (number_option (codes "packets") (pos MAX_PACKETS)))
+    (number_option (codes "states") (pos MAX_WORLDS))
 
 -- `host FILE SCRIPT --workers N`
 abbrev pub host_command : App
@@ -97,19 +111,23 @@ bare_program =
           { has_version = true; no_binary_name = true; subcommand_required = true };
     }
 
--- with the subcommands that run nothing, with those that start no thread, with all that judge a set
--- or run it, with all that read files alone, with all that name files, and with all
+-- with the subcommands that run nothing, with those that run a set by a schedule, with all that
+-- start no thread, with all that judge a set or run it, with all that read files alone, with all that
+-- name files, and with all
 abbrev pub unrun_program : App
 unrun_program =
     with_subcommand (with_subcommand bare_program (set_command (codes "check")).top)
     explain_command.top
 
-abbrev pub unthreaded_program : App
-unthreaded_program =
+abbrev pub running_program : App
+running_program =
     with_subcommand
     (with_subcommand (with_subcommand unrun_program (schedule_command (codes "trace")).top)
     tell_command.top)
     (schedule_command (codes "draw")).top
+
+abbrev pub unthreaded_program : App
+unthreaded_program = with_subcommand running_program hunt_command.top
 
 abbrev pub judging_program : App
 judging_program = with_subcommand unthreaded_program host_command.top
@@ -158,6 +176,21 @@ abbrev pub IsRuleAsked : Option Text → VerdictRule → Type 0
 IsRuleAsked None rule = ⊥
 IsRuleAsked (Some word) rule = IsRuleWord word rule
 
+-- the number that is asked for by the value of an option, from 1 up to the most: the usual one where
+-- none is given
+abbrev pub number_asked : ℕ → ℕ → Option Text → Option ℕ
+number_asked usual most None = Some usual
+number_asked usual most (Some text) = number_within 1 most text
+
+-- how far a hunt goes, by the values of `--threads`, `--packets` and `--states`
+pub record IsReach (rows : List Row) (reach : Bounds) : Type 0 where
+  pub threads : number_asked USUAL_THREADS MAX_THREADS (first_of (codes "threads") rows)
+      ≡ Some reach.threads
+  pub packets : number_asked USUAL_PACKETS MAX_PACKETS (first_of (codes "packets") rows)
+      ≡ Some reach.packets
+  pub worlds : number_asked USUAL_WORLDS MAX_WORLDS (first_of (codes "states") rows)
+      ≡ Some reach.worlds
+
 -- a subcommand with its matches names a task that waits for no other thread; a file is explained,
 -- or a rule, and that without `--all`
 abbrev pub NamesAlone : Text × List Row → AloneJob → Type 0
@@ -189,6 +222,9 @@ NamesAlone found (Draw set schedule verification) =
     (found.0 ≡ codes "draw") × (first_of (codes "FILE") found.1 ≡ Some set.now)
     × (first_of (codes "SCHEDULE") found.1 ≡ Some schedule.now)
     × IsFlag (first_of (codes "unchecked") found.1) verification
+NamesAlone found (Hunt set reach) =
+    (found.0 ≡ codes "hunt") × (first_of (codes "FILE") found.1 ≡ Some set.now)
+    × IsReach found.1 reach
 
 -- or any task
 abbrev pub NamesTask : Text × List Row → Job → Type 0

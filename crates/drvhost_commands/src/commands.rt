@@ -3,11 +3,13 @@
 ghost use Rattle.std.specs.Prelude.{◌≡◌, false, IfOk};
 ghost use Rattle.clap.specs.Words.{app_of, rule_of};
 ghost use Rattle.clap.specs.declared.builder.command.Command.TheViews.{out-Command as fields_of};
-ghost use Rattle.drvhost_commands.specs.CommandLine.{explain_command, file_argument, flag, host_command, judging_program, program, program_of_files, reading_program, rewrite_command, schedule_command, set_command, tell_command, unrun_program, unthreaded_program, value_option, version_command, workers_option};
+ghost use Rattle.drvhost_commands.specs.CommandLine.{explain_command, file_argument, flag, host_command, hunt_command, judging_program, number_option, program, program_of_files, reading_program, rewrite_command, running_program, schedule_command, set_command, tell_command, unrun_program, unthreaded_program, value_option, version_command, workers_option};
 
 use crate::usage::EXPLAIN_USAGE;
 use clap::builder::ValueParser;
 use clap::{Arg, ArgAction, Command};
+use drvhost_hunts::reach::{MAX_PACKETS, MAX_WORLDS};
+use model::limits::MAX_THREADS;
 use std::alloc::{AllocError, Global};
 
 /// The program's name, in the texts of usage and help.
@@ -18,6 +20,13 @@ const VERSION: &str = "1.0.0";
 
 /// What the file of a driver set is, in the texts of help.
 const SET: &str = "The text or the image of the driver set";
+
+/// What the numbers of a hunt are.
+const THREADS: &str = "Threads of the runs, 1 to 64; 2 where none is given";
+
+const PACKETS: &str = "Packets that live at once, 1 to 4096; 2 where none is given";
+
+const STATES: &str = "Worlds that are kept; 1000000 where none is given";
 
 /// The program's command line.
 pub(crate) fn program<'a>(alloc: Global) -> Result<Command<'a>, AllocError>
@@ -58,6 +67,15 @@ fn judging_program<'a>(alloc: Global) -> Result<Command<'a>, AllocError>
 /// The part of that which starts no thread.
 fn unthreaded_program<'a>(alloc: Global) -> Result<Command<'a>, AllocError>
     ensures { IfOk result (λ command. app_of command ≡ unthreaded_program) }
+{
+    let hunt = hunt_command(alloc)?;
+    let program = running_program(alloc)?;
+    program.subcommand(hunt)
+}
+
+/// The part of that which runs a set by a schedule, or not at all.
+fn running_program<'a>(alloc: Global) -> Result<Command<'a>, AllocError>
+    ensures { IfOk result (λ command. app_of command ≡ running_program) }
 {
     let trace = schedule_command(
         alloc,
@@ -173,6 +191,21 @@ fn tell_command<'a>(alloc: Global) -> Result<Command<'a>, AllocError>
     command.arg(quiet)?.arg(every)?.arg(strict)
 }
 
+fn hunt_command<'a>(alloc: Global) -> Result<Command<'a>, AllocError>
+    ensures app { IfOk result (λ command. app_of command ≡ hunt_command) }
+    ensures local { IfOk result (λ command. (fields_of command).has_globals ≡ false) }
+{
+    let threads = number_option(alloc, "threads", THREADS, MAX_THREADS as i64);
+    let packets = number_option(alloc, "packets", PACKETS, MAX_PACKETS as i64);
+    let states = number_option(alloc, "states", STATES, MAX_WORLDS as i64);
+    let command = set_command(
+        alloc,
+        "hunt",
+        "Looks for a shortest run of a driver set that ends amiss, and writes it as a schedule",
+    )?;
+    command.arg(threads)?.arg(packets)?.arg(states)
+}
+
 fn host_command<'a>(alloc: Global) -> Result<Command<'a>, AllocError>
     ensures app { IfOk result (λ command. app_of command ≡ host_command) }
     ensures local { IfOk result (λ command. (fields_of command).has_globals ≡ false) }
@@ -225,12 +258,19 @@ fn workers_option<'a>(alloc: Global) -> Arg<'a>
     ensures rule { rule_of result ≡ workers_option }
     ensures local { result.global ≡ false }
 {
-    value_option(
+    number_option(
         alloc,
         "workers",
-        "workers",
         "How many workers serve it, 1 to 64",
+        MAX_THREADS as i64,
     )
     .required(true)
-    .value_parser(ValueParser::Signed(1, 64))
+}
+
+/// `--NAME N`, a number from 1 up to the most.
+fn number_option<'a>(alloc: Global, name: &'a str, help: &'a str, most: i64) -> Arg<'a>
+    ensures rule { rule_of result ≡ number_option name.entry.now most }
+    ensures local { result.global ≡ false }
+{
+    value_option(alloc, name, name, help).value_parser(ValueParser::Signed(1, most))
 }

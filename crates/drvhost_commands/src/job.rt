@@ -14,6 +14,7 @@ use clap::error::ErrorKind;
 use drvhost_devices::device::Sink;
 use drvhost_devices::fault::say;
 use drvhost_devices::verification::Verification;
+use drvhost_hunts::reach::Reach;
 use drvhost_sets::explaining::Extent;
 use drvhost_views::tell::Manner;
 use interleave::read::number_within;
@@ -87,6 +88,11 @@ pub enum AloneJob<'a> {
         set: &'a str,
         schedule: &'a str,
         verification: Verification,
+    },
+    /// `hunt FILE [--threads N] [--packets N] [--states N]`
+    Hunt {
+        set: &'a str,
+        reach: Reach,
     },
 }
 

@@ -1,14 +1,20 @@
 //! Which task the matches of a command line name.
 
-ghost use Rattle.std.specs.Prelude.{◌≡◌, codes, false, option_map, IfNone, IfSome, IsTrue, None, Some};
+ghost use Rattle.std.specs.Prelude.{◌≡◌, ◌≤◌, codes, false, option_map, IfNone, IfSome, IsTrue, None, Some};
 ghost use Rattle.clap.specs.Words.{first_of, found_of, rows_of, subcommand_rows_of};
-ghost use Rattle.drvhost_commands.specs.CommandLine.{IsDetail, IsExtent, IsFlag, IsGiven, IsManner, IsStrictness, Names, NamesAlone, NamesTask};
+ghost use Rattle.drvhost_commands.specs.CommandLine.{IsDetail, IsExtent, IsFlag, IsGiven, IsManner, IsReach, IsStrictness, Names, NamesAlone, NamesTask, number_asked};
 
 use crate::job::{AloneJob, Job, Workers};
 use clap::ArgMatches;
 use drvhost_devices::verification::Verification;
+use drvhost_hunts::reach::{
+    MAX_PACKETS, MAX_WORLDS, Reach, USUAL_PACKETS, USUAL_THREADS, USUAL_WORLDS,
+};
 use drvhost_sets::explaining::Extent;
 use drvhost_views::tell::{Detail, Manner, Strictness};
+use hunt_search::search::Bounds;
+use interleave::read::number_within;
+use model::limits::MAX_THREADS;
 use report::rule::rule_named;
 
 /// The task that a parsed command line names.
@@ -35,6 +41,7 @@ fn alone_named<'a>(command: &str, matches: &ArgMatches<'a>) -> Option<AloneJob<'
         "trace" => trace_named(matches),
         "tell" => tell_named(matches),
         "draw" => draw_named(matches),
+        "hunt" => hunt_named(matches),
         "list" => list_named(matches),
         "rewrite" => rewrite_named(matches),
         "version" => Some(AloneJob::Version),
@@ -156,6 +163,16 @@ fn draw_named<'a>(matches: &ArgMatches<'a>) -> Option<AloneJob<'a>>
     })
 }
 
+fn hunt_named<'a>(matches: &ArgMatches<'a>) -> Option<AloneJob<'a>>
+    ensures some { IfSome result (NamesAlone (codes "hunt", rows_of (found_of matches.now))) }
+    ensures none { IfNone result
+        ((job : AloneJob) → NamesAlone (codes "hunt", rows_of (found_of matches.now)) job → ⊥) }
+{
+    let set = argument(matches, "FILE")?;
+    let reach = reach_asked(matches)?;
+    Some(AloneJob::Hunt { set, reach })
+}
+
 fn host_named<'a>(matches: &ArgMatches<'a>) -> Option<Job<'a>>
     ensures some { IfSome result (NamesTask (codes "host", rows_of (found_of matches.now))) }
     ensures none { IfNone result
@@ -169,6 +186,36 @@ fn host_named<'a>(matches: &ArgMatches<'a>) -> Option<Job<'a>>
         script,
         workers,
     })
+}
+
+/// How far a hunt is to go, if each of its numbers is one within its limits.
+fn reach_asked(matches: &ArgMatches<'_>) -> Option<Reach>
+    ensures some { IfSome result (IsReach (rows_of (found_of matches.now))) }
+    ensures none { IfNone result
+        ((bounds : Bounds) → IsReach (rows_of (found_of matches.now)) bounds → ⊥) }
+{
+    let threads = number_asked(matches, "threads", USUAL_THREADS, MAX_THREADS as u64)?;
+    let packets = number_asked(matches, "packets", USUAL_PACKETS, MAX_PACKETS)?;
+    let worlds = number_asked(matches, "states", USUAL_WORLDS, MAX_WORLDS)?;
+    Some(Reach::of(Bounds {
+        threads: threads as u8,
+        packets: packets as usize,
+        worlds: worlds as usize,
+    }))
+}
+
+/// The number of an option, from 1 up to the most, or the usual one where none is given.
+fn number_asked(matches: &ArgMatches<'_>, id: &str, usual: u64, most: u64) -> Option<u64>
+    requires least { 1 ≤ usual }
+    requires most { usual ≤ most }
+    ensures number { result ≡ number_asked usual most
+        (first_of id.now (rows_of (found_of matches.now))) }
+    ensures within { IfSome result (λ n. (1 ≤ n) × (n ≤ most)) }
+{
+    match argument(matches, id) {
+        Some(text) => number_within(1, most, text.as_bytes()),
+        None => Some(usual),
+    }
 }
 
 /// The value of an argument.

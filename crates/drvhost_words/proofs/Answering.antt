@@ -5,6 +5,8 @@ use Rattle.clap.specs.Words.{Text, subcommand_of, takes}
 use Rattle.drvhost_devices.specs.Answer.{Answer}
 use Rattle.drvhost_devices.specs.Device.{Bytes, Closed, Holds, IsSuppliedAs, MayBeClosed, Says, Supply, Unknown}
 use Rattle.drvhost_devices.specs.Ends.{Answers, Ends, HoldsRun, IsCheckOf, IsListOf, IsRewriteOf, IsTraceOf, OutOfMemory, ReadFailed, Rightly, WriteFailed}
+use Rattle.hunt_search.specs.declared.search.Bounds.{Bounds}
+use Rattle.drvhost_hunts.specs.Hunt.{IsHuntOf}
 use Rattle.drvhost_sets.specs.declared.explaining.Extent.{Extent}
 use Rattle.drvhost_sets.specs.Explained.{IsExplainedOf}
 use Rattle.drvhost_runs.specs.Served.{IsHostOf}
@@ -16,9 +18,11 @@ use Rattle.drvhost_commands.specs.declared.job.JobFault.{JobFault}
 use Rattle.drvhost_commands.specs.declared.job.JobFault.TheVariants.{Memory, Usage}
 use Rattle.drvhost_commands.specs.CommandLine.{Names, NamesJob, job_fault_status, job_fault_told, program, text_told}
 use Rattle.drvhost_words.specs.Files.{supply_of}
+use Rattle.drvhost_words.specs.declared.answer.Task.{Task}
+use Rattle.drvhost_words.specs.declared.answer.Task.TheVariants.{Explained, Listed, Hunted}
 use Rattle.drvhost_words.specs.declared.answer.Way.{Way}
 use Rattle.drvhost_words.specs.declared.answer.Way.TheVariants.{BySchedule, InWords, AsPicture}
-use Rattle.drvhost_words.specs.Program.{IsAnswerTo, IsQuietly, IsRunBy, JobTells, WordsTell}
+use Rattle.drvhost_words.specs.Program.{IsAnswerTo, IsDoneOf, IsQuietly, IsRunBy, JobTells, WordsTell}
 use Rattle.drvhost_words.specs.Unread.{IsNamedUnread, SaysMore, SaysUnread}
 
 -- where more answers are right
@@ -165,15 +169,28 @@ pub check_known : (known supply : Supply) → IsSuppliedAs known supply → (ans
 check_known known supply h answer (bytes, holds, right) =
     (bytes, holds_known known supply bytes h holds, right)
 
-pub explain_known : (extent : Extent) (known supply : Supply) → IsSuppliedAs known supply
+explain_known : (extent : Extent) (known supply : Supply) → IsSuppliedAs known supply
     → (answer : Answer) → IsExplainedOf extent supply answer → IsExplainedOf extent known answer
 explain_known extent known supply h answer (bytes, holds, right) =
     (bytes, holds_known known supply bytes h holds, right)
 
-pub list_known : (known supply : Supply) → IsSuppliedAs known supply → (answer : Answer)
+list_known : (known supply : Supply) → IsSuppliedAs known supply → (answer : Answer)
     → IsListOf supply answer → IsListOf known answer
 list_known known supply h answer (bytes, holds, right) =
     (bytes, holds_known known supply bytes h holds, right)
+
+hunt_known : (reach : Bounds) (known supply : Supply) → IsSuppliedAs known supply
+    → (answer : Answer) → IsHuntOf reach supply answer → IsHuntOf reach known answer
+hunt_known reach known supply h answer (bytes, holds, right) =
+    (bytes, holds_known known supply bytes h holds, right)
+
+pub task_known : (task : Task) (known supply : Supply) → IsSuppliedAs known supply
+    → (answer : Answer) → IsDoneOf task supply answer → IsDoneOf task known answer
+task_known (Explained extent) known supply h answer right =
+    explain_known extent known supply h answer right
+task_known Listed known supply h answer right = list_known known supply h answer right
+task_known (Hunted reach) known supply h answer right =
+    hunt_known reach known supply h answer right
 
 pub rewrite_known : (known supply : Supply) → IsSuppliedAs known supply → (answer : Answer)
     → IsRewriteOf supply answer → IsRewriteOf known answer

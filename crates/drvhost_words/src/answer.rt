@@ -1,11 +1,10 @@
 //! What the program answers.
 
 ghost use Rattle.std.specs.Prelude.{◌≡◌, ◌+◌, ◌<◌, ◌^◌, ◌⊎◌, ℕ, List, Option, drop, map, string_bytes, true};
-ghost use Rattle.drvhost_words.specs.Program.{IsAnswerTo, IsAnswerToLost, IsJobOf, IsOfNamed, IsProgram, IsRunBy, Opens, OpensFor, OpensToTrace, IsQuietly, JobStores, JobTells, ProgramOpens, ProgramStores, ProgramTells, RewritesFile, WordsStore, WordsTell, verification_of};
+ghost use Rattle.drvhost_words.specs.Program.{IsAnswerTo, IsAnswerToLost, IsDoneOf, IsJobOf, IsOfNamed, IsProgram, IsRunBy, Opens, OpensFor, OpensToTrace, IsQuietly, JobStores, JobTells, ProgramOpens, ProgramStores, ProgramTells, RewritesFile, WordsStore, WordsTell, verification_of};
 ghost use Rattle.drvhost_words.specs.Unread.{IsNamedUnread, IsOneOf, SaysMore};
 ghost use Rattle.drvhost_devices.specs.Device.{CanCount, Says};
-ghost use Rattle.drvhost_devices.specs.Ends.{Answers, HoldsRun, IsCheckOf, IsListOf, IsRewriteOf};
-ghost use Rattle.drvhost_sets.specs.Explained.{IsExplainedOf};
+ghost use Rattle.drvhost_devices.specs.Ends.{Answers, HoldsRun, IsCheckOf, IsRewriteOf};
 ghost use Rattle.drvhost_runs.specs.Served.{IsHostOf};
 
 use crate::files::{Files, Later, Pending};
@@ -14,6 +13,8 @@ use drvhost_commands::job::{AloneJob, Job, JobFault, Workers, refuse_unknown_wor
 use drvhost_devices::device::{Sink, Source};
 use drvhost_devices::unopened::tell_unopened;
 use drvhost_devices::verification::Verification;
+use drvhost_hunts::hunt::hunt;
+use drvhost_hunts::reach::Reach;
 use drvhost_runs::host::{Hosting, host};
 use drvhost_runs::trace::trace;
 use drvhost_sets::check::check;
@@ -195,9 +196,14 @@ fn perform_alone<F: Files, O: Sink, E: Sink>(
 {
     match job {
         AloneJob::Check { set } => check_file(alloc, set, files, out, err),
-        AloneJob::Explain { set, extent } => explain_file(alloc, extent, set, files, out, err),
+        AloneJob::Explain { set, extent } => {
+            task_file(alloc, Task::Explained(extent), set, files, out, err)
+        }
         AloneJob::ExplainRule { rule } => explain_rule(alloc, rule, out, err),
-        AloneJob::List { set } => list_file(alloc, set, files, out, err),
+        AloneJob::List { set } => task_file(alloc, Task::Listed, set, files, out, err),
+        AloneJob::Hunt { set, reach } => {
+            task_file(alloc, Task::Hunted(reach), set, files, out, err)
+        }
         AloneJob::Rewrite { set, output } => rewrite_file(alloc, set, output, files, err),
         AloneJob::Version => version(out, err),
         AloneJob::Trace {
@@ -268,10 +274,21 @@ fn check_file<F: Files, O: Sink, E: Sink>(
     status
 }
 
-/// Judges the set of a file, and explains the verdict. A file that can't be opened or read is named.
-fn explain_file<F: Files, O: Sink, E: Sink>(
+/// What is done with the set of a file that is named where it can't be read.
+#[derive(Clone, Copy)]
+pub(crate) enum Task {
+    /// The verdict on it is explained.
+    Explained(Extent),
+    /// Its listing is written.
+    Listed,
+    /// A run of it that ends amiss is looked for.
+    Hunted(Reach),
+}
+
+/// Does a task with the set of a file. One that can't be opened or read is named.
+fn task_file<F: Files, O: Sink, E: Sink>(
     alloc: Global,
-    extent: Extent,
+    task: Task,
     set: &str,
     files: &mut F,
     out: &mut O,
@@ -281,7 +298,7 @@ fn explain_file<F: Files, O: Sink, E: Sink>(
     requires files { CanCount (F.failures files.old) }
     requires out { CanCount (O.failures out.old) }
     requires err { CanCount (E.failures err.old) }
-    ensures answers { Answers (IsOfNamed (IsExplainedOf extent) (F.supply files.old) set.now)
+    ensures answers { Answers (IsOfNamed (IsDoneOf task) (F.supply files.old) set.now)
         (F.failures files.old) (F.failures files.new) (O.failures out.old) (O.failures out.new)
         (O.contents out.old) (O.contents out.new)
         (SaysMore (IsNamedUnread (λ name. name ≡ set.now)
@@ -299,46 +316,34 @@ fn explain_file<F: Files, O: Sink, E: Sink>(
         files.close(file);
         return tell_unopened(set, err);
     }
-    let status = explain(alloc, extent, &mut file, out, err);
+    let status = fulfil(alloc, task, &mut file, out, err);
     tell_if_unread(set, &file, failures, err);
     files.close(file);
     status
 }
 
-/// Writes the listing of the set of a file. One that can't be opened or read is named.
-fn list_file<F: Files, O: Sink, E: Sink>(
+/// Does a task with the set of a source.
+fn fulfil<S: Source, O: Sink, E: Sink>(
     alloc: Global,
-    set: &str,
-    files: &mut F,
+    task: Task,
+    set: &mut S,
     out: &mut O,
     err: &mut E,
 ) -> u8
-    requires opened { F.opened files.old + 1 < 2 ^ 64 }
-    requires files { CanCount (F.failures files.old) }
+    requires set { CanCount (S.failures set.old) }
     requires out { CanCount (O.failures out.old) }
     requires err { CanCount (E.failures err.old) }
-    ensures answers { Answers (IsOfNamed IsListOf (F.supply files.old) set.now)
-        (F.failures files.old) (F.failures files.new) (O.failures out.old) (O.failures out.new)
+    ensures { Answers (IsDoneOf task (S.supply set.old))
+        (S.failures set.old) (S.failures set.new) (O.failures out.old) (O.failures out.new)
         (O.contents out.old) (O.contents out.new)
-        (SaysMore (IsNamedUnread (λ name. name ≡ set.now)
-        (F.failures files.old) (F.failures files.new))
-        (E.failures err.old) (E.failures err.new) (E.contents err.old) (E.contents err.new))
+        (Says (E.failures err.old) (E.failures err.new) (E.contents err.old) (E.contents err.new))
         result }
-    ensures opened { F.opened files.new ≡ F.opened files.old + 1 }
-    ensures supply { F.supply files.new ≡ F.supply files.old }
-    ensures created { F.created files.new ≡ F.created files.old }
-    ensures unwritten { F.unwritten files.new ≡ F.unwritten files.old }
 {
-    let failures = err.failures();
-    let mut file = files.open(set);
-    if files.is_closed(&file) {
-        files.close(file);
-        return tell_unopened(set, err);
+    match task {
+        Task::Explained(extent) => explain(alloc, extent, set, out, err),
+        Task::Listed => list(alloc, set, out, err),
+        Task::Hunted(reach) => hunt(alloc, reach, set, out, err),
     }
-    let status = list(alloc, &mut file, out, err);
-    tell_if_unread(set, &file, failures, err);
-    files.close(file);
-    status
 }
 
 /// Writes the image of the set of a file to another one, which is opened only once the image stands

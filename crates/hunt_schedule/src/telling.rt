@@ -1,12 +1,15 @@
 //! What comes of a hunt, as it is told.
 
-ghost use Rattle.std.specs.Prelude.{◌≡◌, ◌≤◌, IfOk, IfSome};
-ghost use Rattle.hunt_schedule.specs.Telling.{IsToldOf, all_line, more_line};
+ghost use Rattle.std.specs.Prelude.{◌≡◌, ◌≤◌, IfOk};
+ghost use Rattle.hunt_schedule.specs.Telling.{IsToldOf, all_line, more_line, unlisted_line};
+ghost use Rattle.hunt_search.specs.Hunts.{IsFind};
 ghost use Rattle.model.specs.declared.limits.TheConstants.{MAX_THREADS};
 
 use crate::appending::{add, add_number};
+use crate::headline::headline;
 use crate::writing::schedule_text;
 use driver_set::DriverSet;
+use hunt_ends::amiss::Amiss;
 use hunt_search::search::{Bounds, Find, Hunted, hunt};
 use std::alloc::{AllocError, Global};
 
@@ -15,6 +18,9 @@ use std::alloc::{AllocError, Global};
 pub enum Told {
     /// A schedule whose run ends amiss, as a text.
     Found(Vec<u8>),
+    /// A line on a run that ends amiss, of which no schedule is told: what was written, read back,
+    /// doesn't end so.
+    Unlisted(Vec<u8>),
     /// A line that there is none among all worlds within the bounds, which are so many.
     All {
         line: Vec<u8>,
@@ -29,49 +35,54 @@ pub enum Told {
     },
 }
 
-/// Hunts in the worlds of a set within bounds, and tells what comes of it. Nothing is told where a
-/// find, read back, doesn't end as it is told to.
+/// Hunts in the worlds of a set within bounds, and tells what comes of it.
 ///
 /// # Errors
 ///
 /// When memory runs out.
-pub fn tell_hunt(alloc: Global, set: &DriverSet, bounds: Bounds) -> Result<Option<Told>, AllocError>
+pub fn tell_hunt(alloc: Global, set: &DriverSet, bounds: Bounds) -> Result<Told, AllocError>
     requires some { 1 ≤ bounds.threads }
     requires few { bounds.threads ≤ MAX_THREADS }
-    ensures { IfOk result (λ told. IfSome told (IsToldOf set.now bounds)) }
+    ensures { IfOk result (IsToldOf set.now bounds) }
 {
     match hunt(alloc, set, bounds)? {
         Hunted::Found(find) => tell_find(alloc, set, bounds, find),
         Hunted::All { worlds } => {
             let line = all_line(alloc, bounds, worlds as u64)?;
-            Ok(Some(Told::All { line, worlds }))
+            Ok(Told::All { line, worlds })
         }
         Hunted::More { worlds, events } => {
             let line = more_line(alloc, worlds as u64, events as u64)?;
-            Ok(Some(Told::More {
+            Ok(Told::More {
                 line,
                 worlds,
                 events,
-            }))
+            })
         }
     }
 }
 
 /// Tells a find.
-fn tell_find(
-    alloc: Global,
-    set: &DriverSet,
-    bounds: Bounds,
-    find: Find,
-) -> Result<Option<Told>, AllocError>
-    ensures { IfOk result (λ told. IfSome told (IsToldOf set.now bounds)) }
+fn tell_find(alloc: Global, set: &DriverSet, bounds: Bounds, find: Find) -> Result<Told, AllocError>
+    requires { IsFind set.now bounds.threads find }
+    ensures { IfOk result (IsToldOf set.now bounds) }
 {
+    let amiss = find.amiss;
     let mut events = find.before;
     events.push(find.last)?;
-    match schedule_text(alloc, set, bounds.threads, events.as_slice(), &find.amiss)? {
-        Some(text) => Ok(Some(Told::Found(text))),
-        None => Ok(None),
+    match schedule_text(alloc, set, bounds.threads, events.as_slice(), &amiss)? {
+        Some(text) => Ok(Told::Found(text)),
+        None => Ok(Told::Unlisted(unlisted_line(alloc, &amiss)?)),
     }
+}
+
+/// That a run ends amiss, and isn't told.
+fn unlisted_line(alloc: Global, amiss: &Amiss) -> Result<Vec<u8>, AllocError>
+    ensures { IfOk result (λ line. line.items ≡ unlisted_line amiss.now) }
+{
+    let mut line = headline(alloc, amiss)?;
+    add(&mut line, b"; its schedule, read back, doesn't end so\n")?;
+    Ok(line)
 }
 
 /// That all worlds were seen.

@@ -8,3 +8,4 @@ mod moves;
 pub mod search;
 mod sorting;
 mod worlds;
+mod writer;

@@ -84,6 +84,48 @@ fn runs_that_are_shown(rt: HostRuntime) -> Result<(), Fail> {
     Ok(())
 }
 
+/// How far hunts go, by the numbers that are given, and numbers that are none.
+#[test]
+fn hunts(rt: HostRuntime) -> Result<(), Fail> {
+    let alloc = rt.alloc();
+    let job = Job::of(alloc, &["hunt", "a"])?;
+    assert!(rt; is_to_hunt(&job, 2, 2, 1_000_000));
+    let job = Job::of(alloc, &["hunt", "a", "--threads", "64", "--states=50"])?;
+    assert!(rt; is_to_hunt(&job, 64, 2, 50));
+    let job = Job::of(alloc, &["hunt", "--packets", "4096", "--threads", "1", "a"])?;
+    assert!(rt; is_to_hunt(&job, 1, 4_096, 1_000_000));
+    for (option, number) in [
+        ("--threads", "0"),
+        ("--threads", "65"),
+        ("--packets", "0"),
+        ("--packets", "4097"),
+        ("--states", "0"),
+        ("--states", "1000000001"),
+        ("--states", "many"),
+        ("--states", "+5"),
+    ] {
+        assert!(rt;
+            is_refused(alloc, &["hunt", "a", option, number]),
+            "{option} {number}"
+        );
+    }
+    Ok(())
+}
+
+/// Whether a job is to hunt in the set of a file so far.
+fn is_to_hunt(job: &Job<'_>, threads: u8, packets: usize, worlds: usize) -> bool {
+    match *job {
+        Job::Alone(AloneJob::Hunt { set, reach }) => {
+            let bounds = reach.bounds();
+            set == "a"
+                && bounds.threads == threads
+                && bounds.packets == packets
+                && bounds.worlds == worlds
+        }
+        _ => false,
+    }
+}
+
 /// A run that is told so, and not strictly.
 fn leniently(detail: Detail) -> Manner {
     Manner {

@@ -16,12 +16,12 @@ returns-in-Check-clause-stores g c =
 pub returns-in-Explain-clause-answers : goal.returns-in-Explain-clause-answers
 returns-in-Explain-clause-answers g c =
     rw c.in-Explain.is
-    (answers_beside _ _ _ _ _ _ _ _ _ _ _ c.explain_file.ensures.answers c.explain_file.ensures.unwritten)
+    (answers_beside _ _ _ _ _ _ _ _ _ _ _ c.task_file.ensures.answers c.task_file.ensures.unwritten)
 
 pub returns-in-Explain-clause-stores : goal.returns-in-Explain-clause-stores
 returns-in-Explain-clause-stores g c =
     rw c.in-Explain.is
-    (record { supply = c.explain_file.ensures.supply; none = c.explain_file.ensures.created })
+    (record { supply = c.task_file.ensures.supply; none = c.task_file.ensures.created })
 
 pub returns-in-ExplainRule-clause-answers : goal.returns-in-ExplainRule-clause-answers
 returns-in-ExplainRule-clause-answers g c =
@@ -37,12 +37,12 @@ returns-in-ExplainRule-clause-stores g c =
 pub returns-in-List-clause-answers : goal.returns-in-List-clause-answers
 returns-in-List-clause-answers g c =
     rw c.in-List.is
-    (answers_beside _ _ _ _ _ _ _ _ _ _ _ c.list_file.ensures.answers c.list_file.ensures.unwritten)
+    (answers_beside _ _ _ _ _ _ _ _ _ _ _ c.task_file-in-List.ensures.answers c.task_file-in-List.ensures.unwritten)
 
 pub returns-in-List-clause-stores : goal.returns-in-List-clause-stores
 returns-in-List-clause-stores g c =
     rw c.in-List.is
-    (record { supply = c.list_file.ensures.supply; none = c.list_file.ensures.created })
+    (record { supply = c.task_file-in-List.ensures.supply; none = c.task_file-in-List.ensures.created })
 
 pub returns-in-Rewrite-clause-answers : goal.returns-in-Rewrite-clause-answers
 returns-in-Rewrite-clause-answers g c =
@@ -103,3 +103,13 @@ returns-in-Draw-clause-stores g c =
 
 pub returns-in-Draw-clause-opened : goal.returns-in-Draw-clause-opened
 returns-in-Draw-clause-opened g c = rw c.in-Draw.is c.run_files-in-Draw.ensures.opened
+
+pub returns-in-Hunt-clause-answers : goal.returns-in-Hunt-clause-answers
+returns-in-Hunt-clause-answers g c =
+    rw c.in-Hunt.is
+    (answers_beside _ _ _ _ _ _ _ _ _ _ _ c.task_file-in-Hunt.ensures.answers c.task_file-in-Hunt.ensures.unwritten)
+
+pub returns-in-Hunt-clause-stores : goal.returns-in-Hunt-clause-stores
+returns-in-Hunt-clause-stores g c =
+    rw c.in-Hunt.is
+    (record { supply = c.task_file-in-Hunt.ensures.supply; none = c.task_file-in-Hunt.ensures.created })

@@ -1,0 +1,35 @@
+-- What `hunt` answers: a schedule whose run ends as its first line tells, or that none was found.
+use Rattle.std.specs.Prelude.{ℕ, ◌≡◌, List}
+use Rattle.drvhost_devices.specs.Answer.{Answer, ended}
+use Rattle.drvhost_devices.specs.declared.fault.End.{End}
+use Rattle.drvhost_devices.specs.declared.fault.End.TheVariants.{Complete, Stopped}
+use Rattle.drvhost_devices.specs.Device.{Supply}
+use Rattle.drvhost_devices.specs.Ends.{IsOfSupply}
+use Rattle.hunt_schedule.specs.declared.telling.Told.{Told}
+use Rattle.hunt_schedule.specs.declared.telling.Told.TheVariants.{Found, Unlisted, All, More}
+use Rattle.hunt_schedule.specs.Telling.{IsToldOf}
+use Rattle.hunt_search.specs.declared.search.Bounds.{Bounds}
+use Rattle.model.specs.Set.{Set}
+
+-- what is written of what is told
+abbrev pub text_told : Told → List ℕ
+text_told (Found text) = text.items
+text_told (Unlisted line) = line.items
+text_told (All line worlds) = line.items
+text_told (More line worlds events) = line.items
+
+-- the exit status is 1 where a run was found that ends amiss
+abbrev pub end_told : Told → End
+end_told (Found text) = Stopped
+end_told (Unlisted line) = Stopped
+end_told (All line worlds) = Complete
+end_told (More line worlds events) = Complete
+
+-- what is right for a set: what may be told of a hunt within these bounds
+abbrev pub IsHunt : Bounds → Set → Answer → Type 0
+IsHunt bounds set answer =
+    (told : Told) × IsToldOf set bounds told × (answer ≡ ended (end_told told) (text_told told))
+
+-- what `hunt` answers for what its source has
+abbrev pub IsHuntOf : Bounds → Supply → Answer → Type 0
+IsHuntOf bounds supply answer = IsOfSupply (IsHunt bounds) supply answer

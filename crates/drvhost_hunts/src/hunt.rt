@@ -1,0 +1,102 @@
+//! A hunt through the runs of a driver set.
+
+ghost use Rattle.std.specs.Prelude.{◌≡◌, ◌+◌, []};
+ghost use Rattle.drvhost_devices.specs.Device.{CanCount, Says};
+ghost use Rattle.drvhost_devices.specs.Ends.{Answers};
+ghost use Rattle.drvhost_devices.specs.Fault.{Goes, reads_failed, writes_failed};
+ghost use Rattle.drvhost_hunts.specs.Hunt.{IsHunt, IsHuntOf, end_told, text_told};
+
+use crate::reach::Reach;
+use drvhost_devices::device::{Sink, Source};
+use drvhost_devices::fault::{End, Fault};
+use drvhost_devices::transfer::write_bytes;
+use drvhost_sets::job::{Job, Notes, answer};
+use hunt_schedule::telling::{Told, tell_hunt};
+use image::DriverSet;
+use std::alloc::Global;
+
+/// Writes a shortest run of a driver set, accepted or refused, that ends amiss, as a schedule whose
+/// first line tells how; or that there is none within reach. The answer is the exit status: 0 none,
+/// 1 found, 2 where the set's text or its image is faulty or a read or a write failed, 3 where
+/// memory ran out. Faults are told on the error writer.
+pub fn hunt<S: Source, O: Sink, E: Sink>(
+    alloc: Global,
+    reach: Reach,
+    set: &mut S,
+    out: &mut O,
+    err: &mut E,
+) -> u8
+    requires set { CanCount (S.failures set.old) }
+    requires out { CanCount (O.failures out.old) }
+    requires err { CanCount (E.failures err.old) }
+    ensures { Answers (IsHuntOf reach (S.supply set.old))
+        (S.failures set.old) (S.failures set.new) (O.failures out.old) (O.failures out.new)
+        (O.contents out.old) (O.contents out.new)
+        (Says (E.failures err.old) (E.failures err.new) (E.contents err.old) (E.contents err.new))
+        result }
+{
+    answer(&mut Hunting { reach }, alloc, set, out, err)
+}
+
+/// The job of hunting through the runs of a set.
+#[derive(Drop)]
+struct Hunting {
+    reach: Reach,
+}
+
+impl Job for Hunting {
+    ghost use Rattle.drvhost_hunts.specs.Hunt.{IsHunt};
+
+    ghost right = { λ job. IsHunt job.reach };
+
+    fn perform<O: Sink>(
+        &mut self,
+        alloc: Global,
+        _bytes: &[u8],
+        set: DriverSet,
+        _notes: &mut Notes,
+        out: &mut O,
+    ) -> Result<End, Fault> {
+        write_hunt(alloc, self.reach, &set, out)
+    }
+
+    ghost stays_kept = { λ _. (tt, tt) };
+}
+
+/// Hunts through the runs of a set, and writes what comes of it.
+fn write_hunt<O: Sink>(
+    alloc: Global,
+    reach: Reach,
+    set: &DriverSet,
+    out: &mut O,
+) -> Result<End, Fault>
+    requires { CanCount (O.failures out.old) }
+    ensures goes { Goes (IsHunt reach set.now) (O.contents out.old) (O.contents out.new) [] []
+        result }
+    ensures reads { reads_failed result ≡ 0 }
+    ensures writes { O.failures out.new ≡ O.failures out.old + writes_failed result }
+{
+    let told = tell_hunt(alloc, set, reach.bounds())?;
+    write_bytes(text_told(&told), out)?;
+    Ok(end_told(&told))
+}
+
+/// What is written of a hunt.
+fn text_told(told: &Told) -> &[u8]
+    ensures { result.now ≡ text_told told.now }
+{
+    match told {
+        Told::Found(text) | Told::Unlisted(text) => text.as_slice(),
+        Told::All { line, .. } | Told::More { line, .. } => line.as_slice(),
+    }
+}
+
+/// How a hunt has ended.
+fn end_told(told: &Told) -> End
+    ensures { result ≡ end_told told.now }
+{
+    match told {
+        Told::Found(_) | Told::Unlisted(_) => End::Stopped,
+        Told::All { .. } | Told::More { .. } => End::Complete,
+    }
+}
