@@ -113,6 +113,10 @@ uint32_t pafteis_rewrite(const uint8_t *set, size_t length, uint8_t *buffer, siz
     return answer("rewrite", "/dev/stdout", set, length, NULL, 0, buffer, capacity, needed);
 }
 
+uint32_t pafteis_version_number(void) {
+    return PAFTEIS_VERSION_NUMBER;
+}
+
 uint32_t pafteis_version(uint8_t *buffer, size_t capacity, size_t *needed) {
     static const char told[] = "drvhost 0.0.0 (a stand-in)\n";
     *needed = sizeof told - 1;
@@ -126,6 +130,8 @@ uint32_t pafteis_world_new(const uint8_t *set, size_t length, uint8_t threads, p
     memset(verdict, 0, sizeof *verdict);
     if (threads < 1 || threads > 64)
         return PAFTEIS_WRONG_ARGUMENT;
+    if (world->live)
+        return PAFTEIS_HAS_WORLD;
     uint32_t status = pafteis_check(set, length, verdict);
     if (status != PAFTEIS_DONE)
         return status;
