@@ -34,8 +34,7 @@ enum {
     PAFTEIS_FAULTY = 2,         /* the bytes are no text and no image of a set, or no schedule */
     PAFTEIS_NO_MEMORY = 3,      /* memory was refused; buffers and worlds are as they were */
     PAFTEIS_WRONG_ARGUMENT = 4, /* a number that names nothing; buffers and worlds likewise */
-    PAFTEIS_NO_WORLD = 5,       /* no world was made, or it was freed; nothing is written */
-    PAFTEIS_HAS_WORLD = 6       /* of pafteis_world_new: there is a world, which stays as it is */
+    PAFTEIS_NO_WORLD = 5        /* no world was made, or it was freed; nothing is written */
 };
 
 /* Verdicts ---------------------------------------------------------------------------------- */
@@ -146,7 +145,7 @@ uint32_t pafteis_version(uint8_t *buffer, size_t capacity, size_t *needed);
  *
  * A world of an accepted set. Set the struct to PAFTEIS_EMPTY_WORLD before it is passed for the
  * first time, and let nothing but the calls below change it; it may be moved, and not copied. A
- * world that was made is to be freed before another is made there. */
+ * world that was made is to be freed: pafteis_world_new over one that stands loses its memory. */
 
 typedef struct {
     bool live;
@@ -157,8 +156,8 @@ typedef struct {
 
 /* Makes the world of the set that a text or an image names, before its first event, with 1 to 64
  * threads. With PAFTEIS_DONE there is one; else `world` is as it was, and `verdict` tells why, as
- * that of pafteis_check does; with _WRONG_ARGUMENT, of another number of threads, and with
- * _HAS_WORLD it is all 0. Takes memory, all that the world ever needs. */
+ * that of pafteis_check does; with _WRONG_ARGUMENT, of another number of threads, it is all 0.
+ * Takes memory, all that the world ever needs. */
 uint32_t pafteis_world_new(const uint8_t *set, size_t set_length, uint8_t threads,
                            pafteis_world *world, pafteis_verdict *verdict);
 

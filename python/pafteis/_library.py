@@ -15,7 +15,7 @@ from typing import Any, Callable
 
 from pafteis.errors import LibraryMissing, NoMemory, NoWorld, WrongArgument
 
-DONE, REFUSED, FAULTY, NO_MEMORY, WRONG_ARGUMENT, NO_WORLD, HAS_WORLD = range(7)
+DONE, REFUSED, FAULTY, NO_MEMORY, WRONG_ARGUMENT, NO_WORLD = range(6)
 SONAME = "libpafteis.so.1"
 
 

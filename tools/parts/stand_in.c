@@ -130,8 +130,6 @@ uint32_t pafteis_world_new(const uint8_t *set, size_t length, uint8_t threads, p
     memset(verdict, 0, sizeof *verdict);
     if (threads < 1 || threads > 64)
         return PAFTEIS_WRONG_ARGUMENT;
-    if (world->live)
-        return PAFTEIS_HAS_WORLD;
     uint32_t status = pafteis_check(set, length, verdict);
     if (status != PAFTEIS_DONE)
         return status;

@@ -37,21 +37,10 @@ pub record HasNoThreads (threads : ℕ) (before after : Handle) (value : Verdict
   pub nothing : value ≡ no_value
   pub is : status ≡ 4
 
--- the handle has a world, which stays
-pub record HasWorld (before after : Handle) (value : VerdictValue) (status : ℕ) : Type 0 where
-  pub live : before.live ≡ true
-  pub same : after ≡ before
-  pub nothing : value ≡ no_value
-  pub is : status ≡ 6
-
--- an empty handle and so many threads may be
-abbrev pub MayOpen : ℕ → Handle → Type 0
-MayOpen threads handle = MayHave threads × (handle.live ≡ false)
-
 abbrev pub Opens : List ℕ → ℕ → Handle → Handle → VerdictValue → ℕ → Type 0
 Opens bytes threads before after value status =
-    (MayOpen threads before × IsOpened bytes threads before after value status)
-    ⊎ HasNoThreads threads before after value status ⊎ HasWorld before after value status
+    (MayHave threads × IsOpened bytes threads before after value status)
+    ⊎ HasNoThreads threads before after value status
 
 -- an answer of a world is told as a value, with the status 0; 5 where there is no world, and the
 -- value is as it was

@@ -21,12 +21,9 @@ use std::alloc::Global;
 pub const DONE: u32 = 0;
 /// The status where a handle has no world.
 pub const NO_WORLD: u32 = 5;
-/// The status where a handle that is to get a world has one.
-pub const HAS_WORLD: u32 = 6;
 
 /// Makes the world of the set that a text or an image names, with 1 to 64 threads: 0 it stands, 1
-/// the set is refused, 2 faulty, 3 no memory, 4 no such number of threads, 6 the handle has a world,
-/// which stays.
+/// the set is refused, 2 faulty, 3 no memory, 4 no such number of threads.
 #[unsafe(no_mangle)]
 pub extern "C" fn pafteis_world_new(
     alloc: Global,
@@ -40,10 +37,6 @@ pub extern "C" fn pafteis_world_new(
     if threads == 0 || threads as usize > MAX_THREADS {
         *verdict = NOTHING;
         return WRONG_ARGUMENT;
-    }
-    if world.live {
-        *verdict = NOTHING;
-        return HAS_WORLD;
     }
     let judged = driving::open(alloc, set, threads, world);
     *verdict = judged.value();

@@ -9,7 +9,6 @@ pub const PAFTEIS_FAULTY: u32 = 2;
 pub const PAFTEIS_NO_MEMORY: u32 = 3;
 pub const PAFTEIS_WRONG_ARGUMENT: u32 = 4;
 pub const PAFTEIS_NO_WORLD: u32 = 5;
-pub const PAFTEIS_HAS_WORLD: u32 = 6;
 pub const PAFTEIS_VERSION_NUMBER: u32 = 1_000_000;
 
 #[repr(C)]
