@@ -132,6 +132,12 @@ uint32_t pafteis_list(const uint8_t *set, size_t set_length,
 uint32_t pafteis_rewrite(const uint8_t *set, size_t set_length,
                          uint8_t *buffer, size_t capacity, size_t *needed);
 
+/* The version of this header: a million for the major number, a thousand for the minor one, and
+ * the patch. pafteis_version_number answers that of the library. */
+#define PAFTEIS_VERSION_NUMBER 1000000
+
+uint32_t pafteis_version_number(void);
+
 /* `version`. */
 uint32_t pafteis_version(uint8_t *buffer, size_t capacity, size_t *needed);
 

@@ -113,6 +113,10 @@ uint32_t pafteis_rewrite(const uint8_t *set, size_t length, uint8_t *buffer, siz
     return answer("rewrite", "/dev/stdout", set, length, NULL, 0, buffer, capacity, needed);
 }
 
+uint32_t pafteis_version_number(void) {
+    return PAFTEIS_VERSION_NUMBER;
+}
+
 uint32_t pafteis_version(uint8_t *buffer, size_t capacity, size_t *needed) {
     static const char told[] = "drvhost 0.0.0 (a stand-in)\n";
     *needed = sizeof told - 1;

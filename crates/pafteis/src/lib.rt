@@ -3,4 +3,5 @@
 #![tactic(auto)]
 
 pub mod texts;
+pub mod version;
 pub mod worlds;

@@ -9,6 +9,7 @@ pub const PAFTEIS_FAULTY: u32 = 2;
 pub const PAFTEIS_NO_MEMORY: u32 = 3;
 pub const PAFTEIS_WRONG_ARGUMENT: u32 = 4;
 pub const PAFTEIS_NO_WORLD: u32 = 5;
+pub const PAFTEIS_VERSION_NUMBER: u32 = 1_000_000;
 
 #[repr(C)]
 #[derive(Clone, Copy, Debug, Default, PartialEq, Eq)]
@@ -104,6 +105,7 @@ unsafe extern "C" {
     pub fn pafteis_trace(set: *const u8, length: usize, schedule: *const u8, schedule_length: usize, flags: u32, buffer: *mut u8, capacity: usize, needed: *mut usize) -> u32;
     pub fn pafteis_list(set: *const u8, length: usize, buffer: *mut u8, capacity: usize, needed: *mut usize) -> u32;
     pub fn pafteis_rewrite(set: *const u8, length: usize, buffer: *mut u8, capacity: usize, needed: *mut usize) -> u32;
+    pub fn pafteis_version_number() -> u32;
     pub fn pafteis_version(buffer: *mut u8, capacity: usize, needed: *mut usize) -> u32;
     pub fn pafteis_world_new(set: *const u8, length: usize, threads: u8, world: *mut pafteis_world, verdict: *mut pafteis_verdict) -> u32;
     pub fn pafteis_world_apply(world: *mut pafteis_world, event: *const pafteis_event, reply: *mut pafteis_reply) -> u32;
