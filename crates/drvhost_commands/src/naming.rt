@@ -26,7 +26,10 @@ pub(crate) fn named<'a>(matches: &ArgMatches<'a>) -> Option<Job<'a>>
     if command == "host" {
         return host_named(inner);
     }
-    Some(Job::Alone(alone_named(command, inner)?))
+    match alone_named(command, inner) {
+        Some(job) => Some(Job::Alone(job)),
+        None => None,
+    }
 }
 
 /// The one of the others that a command and its matches name.

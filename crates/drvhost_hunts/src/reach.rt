@@ -36,7 +36,8 @@ impl Model for Reach {
 
     ghost view = { λ reach. reach.within };
 
-    ghost invariant = { λ within. (1 ≤ within.threads) × (within.threads ≤ MAX_THREADS) };
+    ghost invariant = { λ reach.
+        (1 ≤ reach.within.threads) × (reach.within.threads ≤ MAX_THREADS) };
 
     ghost inverse = { λ within. record { within = within } };
 }

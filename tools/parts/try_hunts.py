@@ -1,0 +1,75 @@
+#!/usr/bin/env python3
+"""tools/try hunts [--states N] [PROGRAM]: has the program hunt in each wrong driver of the gallery, in each mended one and in each
+example (at most N worlds, 20,000 if no number is given). What is found has to end as its first line tells, by `tell --unchecked`,
+with exit status 1; where the run by hand shows that the driver is wrong, one has to be found, and with no more events. Where none
+is found, and all worlds were seen, that run mustn't show it. The last line counts finds and events."""
+import argparse, glob, os, re, subprocess, sys, tempfile
+
+import gallery
+
+FINDING = re.compile(r'^; (.*)$', re.M)
+
+def answer(program, *words):
+    """What the program writes, and the exit status."""
+    done = subprocess.run([program, *words], capture_output=True, text=True, timeout=600)
+    return done.stdout, done.returncode
+
+def events(told):
+    """How many events a told run has."""
+    numbers = re.findall(r'^(\d+) ', told.partition('\naudit\n')[0], re.M)
+    return int(numbers[-1]) + 1 if numbers else 0
+
+class Hunt:
+    """What comes of a hunt in the set of a file."""
+
+    def __init__(self, program, path, states):
+        self.path, (self.text, self.status) = path, answer(program, 'hunt', '--states', str(states), path)
+        self.is_all = self.text.startswith('none: all ')
+        self.told, self.told_status = None, None
+        if self.status == 1:
+            with tempfile.NamedTemporaryFile('w', suffix='.sched') as file:
+                file.write(self.text)
+                file.flush()
+                self.told, self.told_status = answer(program, 'tell', '--unchecked', '--every', path, file.name)
+
+    def wrong(self):
+        """What is wrong with a find."""
+        if self.status not in (0, 1) or (self.status == 0) != self.text.startswith('none'):
+            return ['exit status %d' % self.status]
+        if self.status == 0:
+            return []
+        finding = FINDING.match(self.text).group(1)
+        # A lost packet is told in the audit with its places, a lock and a ring with where threads stand.
+        head = re.match(r'(bug .*|wrong .*|packet \d+|lock \S+|thread \d+)', finding).group(1)
+        return [] if self.told_status == 1 and head in self.told else ['its run does not end as told: ' + finding]
+
+def by_hand(program, folder):
+    """How many events the run by hand has, if it shows that the driver is wrong."""
+    told, status = answer(program, *gallery.words(folder, gallery.TELL))
+    return events(told) if status == 1 else None
+
+def main():
+    parser = argparse.ArgumentParser()
+    parser.add_argument('--states', type=int, default=20000)
+    parser.add_argument('program', nargs='?', default=os.path.join(gallery.TOP, 'crates/drvhost/out/drvhost'))
+    asked = parser.parse_args()
+    program, told, shown, found, hunted, hand = os.path.abspath(asked.program), [], 0, 0, 0, 0
+    for folder in gallery.folders():
+        hunt, wanted = Hunt(program, gallery.path(folder, 'driver.drv'), asked.states), by_hand(program, folder)
+        told += ['%s: %s' % (folder, it) for it in hunt.wrong()]
+        if wanted is None:
+            continue
+        shown += 1
+        if hunt.status == 1:
+            found, hunted, hand = found + 1, hunted + events(hunt.told), hand + wanted
+        if hunt.is_all or hunt.status == 1 and events(hunt.told) > wanted:
+            told.append('%s: by hand there is a run of %d events' % (folder, wanted))
+    others = [gallery.path(it, 'mended.drv') for it in gallery.folders() if gallery.is_mended(it)]
+    others += sorted(glob.glob(os.path.join(gallery.TOP, 'examples/*.drv')))
+    for path in others:
+        told += ['%s: %s' % (path, it) for it in Hunt(program, path, asked.states).wrong()]
+    print('\n'.join(told + ['%d of %d wrong drivers that a run shows were found, in %d events (%d by hand); %d wrong'
+                            % (found, shown, hunted, hand, len(told))]))
+    return 1 if told else 0
+
+sys.exit(main())
