@@ -11,7 +11,7 @@ use Rattle.report.specs.Rule.{IsRuleWord}
 use Rattle.drvhost_commands.specs.declared.job.Job.{Job}
 use Rattle.drvhost_commands.specs.declared.job.Job.TheVariants.{Alone, Host}
 use Rattle.drvhost_commands.specs.declared.job.AloneJob.{AloneJob}
-use Rattle.drvhost_commands.specs.declared.job.AloneJob.TheVariants.{Check, Explain, ExplainRule, List as ListJob, Rewrite, Version, Trace, Tell, Draw}
+use Rattle.drvhost_commands.specs.declared.job.AloneJob.TheVariants.{Check, Explain, ExplainRule, ExplainLockOrder, List as ListJob, Rewrite, Version, Trace, Tell, Draw}
 use Rattle.drvhost_commands.specs.declared.job.JobFault.{JobFault}
 use Rattle.drvhost_commands.specs.declared.job.JobFault.TheVariants.{Usage, Memory}
 use Rattle.drvhost_sets.specs.declared.explaining.Extent.{Extent}
@@ -159,7 +159,7 @@ IsRuleAsked None rule = ⊥
 IsRuleAsked (Some word) rule = IsRuleWord word rule
 
 -- a subcommand with its matches names a task that waits for no other thread; a file is explained,
--- or a rule, and that without `--all`
+-- or a rule or the warning on the order of locks, and that without `--all`
 abbrev pub NamesAlone : Text × List Row → AloneJob → Type 0
 NamesAlone found (Check set) = (found.0 ≡ codes "check")
     × (first_of (codes "FILE") found.1 ≡ Some set.now)
@@ -169,6 +169,10 @@ NamesAlone found (Explain set extent) = (found.0 ≡ codes "explain")
 NamesAlone found (ExplainRule rule) = (found.0 ≡ codes "explain")
     × (first_of (codes "FILE") found.1 ≡ None)
     × IsRuleAsked (first_of (codes "RULE") found.1) rule
+    × IsExtent (first_of (codes "all") found.1) First
+NamesAlone found ExplainLockOrder = (found.0 ≡ codes "explain")
+    × (first_of (codes "FILE") found.1 ≡ None)
+    × (first_of (codes "RULE") found.1 ≡ Some (codes "LockOrder"))
     × IsExtent (first_of (codes "all") found.1) First
 NamesAlone found (ListJob set) = (found.0 ≡ codes "list")
     × (first_of (codes "FILE") found.1 ≡ Some set.now)

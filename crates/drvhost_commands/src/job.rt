@@ -58,6 +58,8 @@ pub enum AloneJob<'a> {
     ExplainRule {
         rule: Rule,
     },
+    /// `explain --rule LockOrder`
+    ExplainLockOrder,
     /// `list FILE`
     List {
         set: &'a str,

@@ -62,7 +62,7 @@ fn explain_named<'a>(matches: &ArgMatches<'a>) -> Option<AloneJob<'a>>
     }
 }
 
-/// The rule of a word, if no set is to be explained beside it.
+/// The rule of a word, or the warning on the order of locks, if no set is to be explained beside it.
 fn rule_to_explain<'a>(matches: &ArgMatches<'a>, word: &str) -> Option<AloneJob<'a>>
     requires { first_of (codes "RULE") (rows_of (found_of matches.now)) ≡ Some word.now }
     ensures some { IfSome result (NamesAlone (codes "explain", rows_of (found_of matches.now))) }
@@ -70,6 +70,7 @@ fn rule_to_explain<'a>(matches: &ArgMatches<'a>, word: &str) -> Option<AloneJob<
         ((job : AloneJob) → NamesAlone (codes "explain", rows_of (found_of matches.now)) job → ⊥) }
 {
     match (argument(matches, "FILE"), extent_asked(matches)) {
+        (None, Extent::First) if word == "LockOrder" => Some(AloneJob::ExplainLockOrder),
         (None, Extent::First) => {
             let rule = rule_named(word)?;
             Some(AloneJob::ExplainRule { rule })

@@ -10,7 +10,7 @@ use Rattle.drvhost_devices.specs.Device.{MayBeClosed, Supply}
 use Rattle.drvhost_devices.specs.declared.verification.Verification.{Verification}
 use Rattle.drvhost_devices.specs.declared.verification.Verification.TheVariants.{Required}
 use Rattle.drvhost_devices.specs.Ends.{HoldsRun, IsCheckOf, IsListOf, IsRewriteOf, IsTraceOf}
-use Rattle.drvhost_sets.specs.Explained.{IsExplainedOf}
+use Rattle.drvhost_sets.specs.Explained.{IsExplainedOf, IsLockOrderExplained}
 use Rattle.drvhost_runs.specs.Hosting.{WarnsBefore}
 use Rattle.drvhost_runs.specs.Served.{IsHostOf}
 use Rattle.drvhost_views.specs.Told.{IsDrawOf, IsTellOf}
@@ -18,7 +18,7 @@ use Rattle.drvhost_words.specs.declared.answer.Way.{Way}
 use Rattle.drvhost_words.specs.declared.answer.Way.TheVariants.{BySchedule, InWords, AsPicture}
 use Rattle.drvhost_commands.specs.declared.job.Job.{Job}
 use Rattle.drvhost_commands.specs.declared.job.Job.TheVariants.{Alone, Host}
-use Rattle.drvhost_commands.specs.declared.job.AloneJob.TheVariants.{Check, Explain, ExplainRule, List as ListJob, Rewrite, Version, Trace, Tell, Draw}
+use Rattle.drvhost_commands.specs.declared.job.AloneJob.TheVariants.{Check, Explain, ExplainRule, ExplainLockOrder, List as ListJob, Rewrite, Version, Trace, Tell, Draw}
 use Rattle.drvhost_commands.specs.CommandLine.{Names, NamesJob, program, usage}
 use Rattle.drvhost_words.specs.Files.{Has}
 use Rattle.drvhost_words.specs.Unread.{IsNamedUnread, IsOneOf}
@@ -51,6 +51,7 @@ abbrev pub IsJobOf : (List ℕ → Supply) → Job → Answer → Type 0
 IsJobOf supply (Alone (Check set)) answer = IsCheckOf (supply set.now) answer
 IsJobOf supply (Alone (Explain set extent)) answer = IsOfNamed (IsExplainedOf extent) supply set.now answer
 IsJobOf supply (Alone (ExplainRule rule)) answer = IsRuleExplained rule answer
+IsJobOf supply (Alone ExplainLockOrder) answer = IsLockOrderExplained answer
 IsJobOf supply (Alone (ListJob set)) answer = IsOfNamed IsListOf supply set.now answer
 IsJobOf supply (Alone (Rewrite set output)) answer = IsQuietly (IsRewriteOf (supply set.now)) answer
 IsJobOf supply (Alone Version) answer = IsVersion answer
@@ -74,6 +75,7 @@ JobTells (Alone (Check set)) before after text = text ≡ []
 JobTells (Alone (Explain set extent)) before after text =
     IsNamedUnread (λ name. name ≡ set.now) before after text
 JobTells (Alone (ExplainRule rule)) before after text = text ≡ []
+JobTells (Alone ExplainLockOrder) before after text = text ≡ []
 JobTells (Alone (ListJob set)) before after text =
     IsNamedUnread (λ name. name ≡ set.now) before after text
 JobTells (Alone (Rewrite set output)) before after text = text ≡ []
@@ -123,6 +125,7 @@ abbrev pub Opens : (List ℕ → Supply) → Job → ℕ → Type 0
 Opens supply (Alone (Check set)) count = count ≡ 1
 Opens supply (Alone (Explain set extent)) count = count ≡ 1
 Opens supply (Alone (ExplainRule rule)) count = count ≡ 0
+Opens supply (Alone ExplainLockOrder) count = count ≡ 0
 Opens supply (Alone (ListJob set)) count = count ≡ 1
 Opens supply (Alone (Rewrite set output)) count = count ≡ 1
 Opens supply (Alone Version) count = count ≡ 0
@@ -201,6 +204,7 @@ JobStores (Alone (Rewrite set output)) before after old new status =
 JobStores (Alone (Check set)) before after old new status = LeavesFiles before after old new
 JobStores (Alone (Explain set extent)) before after old new status = LeavesFiles before after old new
 JobStores (Alone (ExplainRule rule)) before after old new status = LeavesFiles before after old new
+JobStores (Alone ExplainLockOrder) before after old new status = LeavesFiles before after old new
 JobStores (Alone (ListJob set)) before after old new status = LeavesFiles before after old new
 JobStores (Alone Version) before after old new status = LeavesFiles before after old new
 JobStores (Alone (Trace set schedule verification)) before after old new status =

@@ -21,7 +21,7 @@ use drvhost_sets::check::check;
 use drvhost_sets::explaining::{Extent, explain};
 use drvhost_sets::list::list;
 use drvhost_sets::rewriting::rewrite;
-use drvhost_sets::rule::explain_rule;
+use drvhost_sets::rule::{explain_lock_order, explain_rule};
 use drvhost_sets::version::version;
 use drvhost_views::draw::draw;
 use drvhost_views::tell::{Manner, Telling, tell};
@@ -201,6 +201,7 @@ fn perform_alone<F: Files, O: Sink, E: Sink>(
         AloneJob::Check { set } => check_file(alloc, set, files, out, err),
         AloneJob::Explain { set, extent } => explain_file(alloc, extent, set, files, out, err),
         AloneJob::ExplainRule { rule } => explain_rule(alloc, rule, out, err),
+        AloneJob::ExplainLockOrder => explain_lock_order(alloc, out, err),
         AloneJob::List { set } => list_file(alloc, set, files, out, err),
         AloneJob::Rewrite { set, output } => rewrite_file(alloc, set, output, files, err),
         AloneJob::Version => version(out, err),

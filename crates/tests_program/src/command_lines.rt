@@ -157,7 +157,20 @@ fn rules_by_their_words(rt: HostRuntime) -> Result<(), Fail> {
             })
         )
     );
-    for word in ["V0", "V21", "v1", "V01", "V1 ", "V", "1", "malformed", ""] {
+    let job = Job::of(alloc, &["explain", "--rule", "LockOrder"])?;
+    assert!(rt; matches!(job, Job::Alone(AloneJob::ExplainLockOrder)));
+    for word in [
+        "V0",
+        "V21",
+        "v1",
+        "V01",
+        "V1 ",
+        "V",
+        "1",
+        "malformed",
+        "lockorder",
+        "",
+    ] {
         assert!(rt; is_refused(alloc, &["explain", "--rule", word]), "{word}");
     }
     Ok(())
