@@ -19,8 +19,8 @@ use Rattle.drvhost_words.specs.declared.answer.Task.TheVariants.{Explained, List
 use Rattle.drvhost_words.specs.declared.answer.Way.{Way}
 use Rattle.drvhost_words.specs.declared.answer.Way.TheVariants.{BySchedule, InWords, AsPicture}
 use Rattle.drvhost_commands.specs.declared.job.Job.{Job}
-use Rattle.drvhost_commands.specs.declared.job.Job.TheVariants.{Alone, Host}
-use Rattle.drvhost_commands.specs.declared.job.AloneJob.TheVariants.{Check, Explain, ExplainRule, List as ListJob, Rewrite, Version, Trace, Tell, Draw, Hunt}
+use Rattle.drvhost_commands.specs.declared.job.Job.TheVariants.{Alone, Hunt, Host}
+use Rattle.drvhost_commands.specs.declared.job.AloneJob.TheVariants.{Check, Explain, ExplainRule, List as ListJob, Rewrite, Version, Trace, Tell, Draw}
 use Rattle.drvhost_commands.specs.CommandLine.{Names, NamesJob, program, usage}
 use Rattle.drvhost_words.specs.Files.{Has}
 use Rattle.drvhost_words.specs.Unread.{IsNamedUnread, IsOneOf}
@@ -68,7 +68,7 @@ IsJobOf supply (Alone (Tell set schedule verification manner)) answer =
     IsTellOf verification manner (supply set.now) (supply schedule.now) answer
 IsJobOf supply (Alone (Draw set schedule verification)) answer =
     IsDrawOf verification (supply set.now) (supply schedule.now) answer
-IsJobOf supply (Alone (Hunt set reach)) answer = IsOfNamed (IsHuntOf reach) supply set.now answer
+IsJobOf supply (Hunt set reach) answer = IsOfNamed (IsHuntOf reach) supply set.now answer
 IsJobOf supply (Host set script workers) answer =
     IsHostOf workers (supply set.now) (supply script.now) answer
 
@@ -93,7 +93,7 @@ JobTells (Alone (Tell set schedule verification manner)) before after text =
     IsNamedUnread (IsOneOf set.now schedule.now) before after text
 JobTells (Alone (Draw set schedule verification)) before after text =
     IsNamedUnread (IsOneOf set.now schedule.now) before after text
-JobTells (Alone (Hunt set reach)) before after text =
+JobTells (Hunt set reach) before after text =
     IsNamedUnread (λ name. name ≡ set.now) before after text
 JobTells (Host set script workers) before after text =
     IsNamedUnread (IsOneOf set.now script.now) before after text
@@ -128,7 +128,7 @@ Opens supply (Alone (Tell set schedule verification manner)) count =
     OpensToTrace verification (supply set.now) count
 Opens supply (Alone (Draw set schedule verification)) count =
     OpensToTrace verification (supply set.now) count
-Opens supply (Alone (Hunt set reach)) count = count ≡ 1
+Opens supply (Hunt set reach) count = count ≡ 1
 Opens supply (Host set script workers) count = OpensToTrace Required (supply set.now) count
 
 -- words that name no job are answered with a text on how the program is used
@@ -206,7 +206,7 @@ JobStores (Alone (Tell set schedule verification manner)) before after old new s
     LeavesFiles before after old new
 JobStores (Alone (Draw set schedule verification)) before after old new status =
     LeavesFiles before after old new
-JobStores (Alone (Hunt set reach)) before after old new status = LeavesFiles before after old new
+JobStores (Hunt set reach) before after old new status = LeavesFiles before after old new
 JobStores (Host set script workers) before after old new status = LeavesFiles before after old new
 
 -- what the program does to the files for these words: nothing where it names no job, and then it

@@ -157,6 +157,7 @@ fn perform<F: Files, O: Sink, E: Sink, R: Threads + Wait + Sync>(
 {
     match *job {
         Job::Alone(job) => perform_alone(alloc, job, files, out, err),
+        Job::Hunt { set, reach } => task_file(alloc, Task::Hunted(reach), set, files, out, err),
         Job::Host {
             set,
             script,
@@ -201,9 +202,6 @@ fn perform_alone<F: Files, O: Sink, E: Sink>(
         }
         AloneJob::ExplainRule { rule } => explain_rule(alloc, rule, out, err),
         AloneJob::List { set } => task_file(alloc, Task::Listed, set, files, out, err),
-        AloneJob::Hunt { set, reach } => {
-            task_file(alloc, Task::Hunted(reach), set, files, out, err)
-        }
         AloneJob::Rewrite { set, output } => rewrite_file(alloc, set, output, files, err),
         AloneJob::Version => version(out, err),
         AloneJob::Trace {

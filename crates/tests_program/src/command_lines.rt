@@ -115,7 +115,7 @@ fn hunts(rt: HostRuntime) -> Result<(), Fail> {
 /// Whether a job is to hunt in the set of a file so far.
 fn is_to_hunt(job: &Job<'_>, threads: u8, packets: usize, worlds: usize) -> bool {
     match *job {
-        Job::Alone(AloneJob::Hunt { set, reach }) => {
+        Job::Hunt { set, reach } => {
             let bounds = reach.bounds();
             set == "a"
                 && bounds.threads == threads

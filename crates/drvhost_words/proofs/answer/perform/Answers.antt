@@ -1,3 +1,4 @@
+use Rattle.std.proofs.Common.{refl}
 use Rattle.drvhost_words.proofs.Answering.{answers_beside}
 use Rattle.drvhost_words.proofs.answer.perform.Goals as goal
 
@@ -16,3 +17,16 @@ returns-in-Host-clause-stores g c =
 
 pub returns-in-Host-clause-opened : goal.returns-in-Host-clause-opened
 returns-in-Host-clause-opened g c = rw c.in-Host.is c.host_files.ensures.opened
+
+pub returns-in-Hunt-clause-answers : goal.returns-in-Hunt-clause-answers
+returns-in-Hunt-clause-answers g c =
+    rw c.in-Hunt.is
+    (answers_beside _ _ _ _ _ _ _ _ _ _ _ c.task_file.ensures.answers c.task_file.ensures.unwritten)
+
+pub returns-in-Hunt-clause-stores : goal.returns-in-Hunt-clause-stores
+returns-in-Hunt-clause-stores g c =
+    rw c.in-Hunt.is
+    (record { supply = c.task_file.ensures.supply; none = c.task_file.ensures.created })
+
+pub returns-in-Hunt-clause-opened : goal.returns-in-Hunt-clause-opened
+returns-in-Hunt-clause-opened g c = rw c.in-Hunt.is (1, refl, c.task_file.ensures.opened)

@@ -103,13 +103,3 @@ returns-in-Draw-clause-stores g c =
 
 pub returns-in-Draw-clause-opened : goal.returns-in-Draw-clause-opened
 returns-in-Draw-clause-opened g c = rw c.in-Draw.is c.run_files-in-Draw.ensures.opened
-
-pub returns-in-Hunt-clause-answers : goal.returns-in-Hunt-clause-answers
-returns-in-Hunt-clause-answers g c =
-    rw c.in-Hunt.is
-    (answers_beside _ _ _ _ _ _ _ _ _ _ _ c.task_file-in-Hunt.ensures.answers c.task_file-in-Hunt.ensures.unwritten)
-
-pub returns-in-Hunt-clause-stores : goal.returns-in-Hunt-clause-stores
-returns-in-Hunt-clause-stores g c =
-    rw c.in-Hunt.is
-    (record { supply = c.task_file-in-Hunt.ensures.supply; none = c.task_file-in-Hunt.ensures.created })
