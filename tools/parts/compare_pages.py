@@ -1,6 +1,7 @@
 #!/usr/bin/env python3
 """tools/try pages: whether docs/RULES.md says of each rule what its page in crates/verifier_pages/src/pages.rt says, which `drvhost
-explain --rule` prints: what the rule says, what it goes with, and the example, refused and mended. It tells each difference.
+explain --rule` prints: what the rule says, what it goes with, and the example, refused and mended; and likewise of the warning on the order of
+locks. It tells each difference.
 The last line counts."""
 import os, re, sys
 
@@ -8,6 +9,7 @@ TOP = os.path.dirname(os.path.dirname(os.path.dirname(os.path.abspath(__file__))
 PAGES = 'crates/verifier_pages/src/pages.rt'
 NAMES = 'crates/model/src/words.rt'
 DOCUMENT = 'docs/RULES.md'
+WARNING = 'LockOrder'
 PAGE = re.compile(r'^const (\w+): Page = Page \{\n(.*?)^\};', re.M | re.S)
 TEXT = re.compile(r'\b(says|source|refused|mend|mended): "((?:[^"\\]|\\.)*)"', re.S)
 
@@ -20,14 +22,15 @@ def meant(literal):
     return re.sub(r'\\\n\s*', '', literal).replace('\\"', '"').replace('\\n', '\n')
 
 def pages():
-    """The texts of each rule's page, by the name of the rule."""
+    """The texts of each rule's page, by the name of the rule, and of the warning's."""
     source = read(PAGES)
     constants = {name: {field: meant(text) for field, text in TEXT.findall(body)} for name, body in PAGE.findall(source)}
-    return {rule: constants[name] for rule, name in re.findall(r'Rule::(\w+) => (\w+),', source)}
+    rules = {rule: constants[name] for rule, name in re.findall(r'Rule::(\w+) => (\w+),', source)}
+    return {**rules, WARNING: constants['LOCK_ORDER']}
 
 def titles():
-    """The number and the name of each rule, as `V1 Malformed`."""
-    return dict(re.findall(r'Rule::(\w+) => "(V\d+ \w+)"', read(NAMES)))
+    """The number and the name of each rule, as `V1 Malformed`, and the warning's name."""
+    return {**dict(re.findall(r'Rule::(\w+) => "(V\d+ \w+)"', read(NAMES))), WARNING: WARNING}
 
 def sections():
     """The section of each rule in the document, by its title, as `V1 Malformed`."""

@@ -8,9 +8,10 @@ from versions import TOP
 ENDINGS = {"FILE": "*.(drv|image)", "SCHEDULE": "*.sched", "SCRIPT": "*.script"}
 
 def rules():
-    """Numbers and names of the rules, by the headings of docs/RULES.md."""
+    """Numbers and names of the rules, and the warning's, by the headings of docs/RULES.md."""
     text = open(os.path.join(TOP, "docs/RULES.md"), encoding="utf-8").read()
-    return [word for pair in re.findall(r"^### (V\d+) (\w+)$", text, re.M) for word in pair]
+    words = [word for pair in re.findall(r"^### (V\d+) (\w+)$", text, re.M) for word in pair]
+    return words + re.findall(r"^### (LockOrder)$", text, re.M)
 
 def values(flag):
     """What may stand behind a flag; nothing where it takes no value, or any."""

@@ -20,7 +20,7 @@ exit status."""
 import difflib, os, re, shutil, subprocess, sys, tempfile
 
 import gallery
-from compare_pages import pages, sections, titles
+from compare_pages import WARNING, pages, sections, titles
 
 TOP = os.path.dirname(os.path.dirname(os.path.dirname(os.path.abspath(__file__))))
 EXAMPLES = os.path.join(TOP, 'examples')
@@ -136,11 +136,15 @@ def gallery_group():
 
 EXAMPLE = re.compile(r'^```drv\n(.*?)^```\n\n```output\n(.*?)^```$', re.M | re.S)
 
+# What stands above the texts of an example: of a rule, and of the warning.
+ABOVE = ('this is refused', 'this is accepted'), ('this is accepted, with a warning', 'this is accepted, without one')
+
 def page_of(title, page):
     """What is told of a rule."""
     told = '%s\n%s\nsee: %s\n' % (title, page['says'], page['source'])
     if 'refused' in page:
-        told += '\nthis is refused:\n\n%s\nmend it: %s\nthis is accepted:\n\n%s' % (page['refused'], page['mend'], page['mended'])
+        wrong, right = ABOVE[title == WARNING]
+        told += '\n%s:\n\n%s\nmend it: %s\n%s:\n\n%s' % (wrong, page['refused'], page['mend'], right, page['mended'])
     return told.splitlines()
 
 def answer_of_document(told, part):
@@ -156,7 +160,8 @@ def page_runs(number, title, page, told):
     for kind in [it for it in ('refused', 'mended') if it in page]:
         run = Run(['check', 'pages/%s-%s.drv' % (number.lower(), kind)])
         run.answer = answer_of_document(told, page[kind])
-        assert run.answer[0].startswith('refused %s ' % title if kind == 'refused' else 'accepted'), title
+        refused = kind == 'refused' and title != WARNING
+        assert run.answer[0].startswith('refused %s ' % title if refused else 'accepted'), title
         yield run
 
 def pages_group():

@@ -10,9 +10,9 @@ use Rattle.model.specs.declared.abs.Rule.{Rule as VerdictRule}
 use Rattle.model.specs.declared.limits.TheConstants.{MAX_THREADS}
 use Rattle.report.specs.Rule.{IsRuleWord}
 use Rattle.drvhost_commands.specs.declared.job.Job.{Job}
-use Rattle.drvhost_commands.specs.declared.job.Job.TheVariants.{Alone, Host}
+use Rattle.drvhost_commands.specs.declared.job.Job.TheVariants.{Alone, Hunt, Host}
 use Rattle.drvhost_commands.specs.declared.job.AloneJob.{AloneJob}
-use Rattle.drvhost_commands.specs.declared.job.AloneJob.TheVariants.{Check, Explain, ExplainRule, List as ListJob, Rewrite, Version, Trace, Tell, Draw, Hunt}
+use Rattle.drvhost_commands.specs.declared.job.AloneJob.TheVariants.{Check, Explain, ExplainRule, ExplainLockOrder, List as ListJob, Rewrite, Version, Trace, Tell, Draw}
 use Rattle.drvhost_commands.specs.declared.job.JobFault.{JobFault}
 use Rattle.drvhost_commands.specs.declared.job.JobFault.TheVariants.{Usage, Memory}
 use Rattle.drvhost_hunts.specs.declared.reach.TheConstants.{MAX_PACKETS, MAX_WORLDS, USUAL_PACKETS, USUAL_THREADS, USUAL_WORLDS}
@@ -192,7 +192,7 @@ pub record IsReach (rows : List Row) (reach : Bounds) : Type 0 where
       ≡ Some reach.worlds
 
 -- a subcommand with its matches names a task that waits for no other thread; a file is explained,
--- or a rule, and that without `--all`
+-- or a rule or the warning on the order of locks, and that without `--all`
 abbrev pub NamesAlone : Text × List Row → AloneJob → Type 0
 NamesAlone found (Check set) = (found.0 ≡ codes "check")
     × (first_of (codes "FILE") found.1 ≡ Some set.now)
@@ -202,6 +202,10 @@ NamesAlone found (Explain set extent) = (found.0 ≡ codes "explain")
 NamesAlone found (ExplainRule rule) = (found.0 ≡ codes "explain")
     × (first_of (codes "FILE") found.1 ≡ None)
     × IsRuleAsked (first_of (codes "RULE") found.1) rule
+    × IsExtent (first_of (codes "all") found.1) First
+NamesAlone found ExplainLockOrder = (found.0 ≡ codes "explain")
+    × (first_of (codes "FILE") found.1 ≡ None)
+    × (first_of (codes "RULE") found.1 ≡ Some (codes "LockOrder"))
     × IsExtent (first_of (codes "all") found.1) First
 NamesAlone found (ListJob set) = (found.0 ≡ codes "list")
     × (first_of (codes "FILE") found.1 ≡ Some set.now)
@@ -222,13 +226,13 @@ NamesAlone found (Draw set schedule verification) =
     (found.0 ≡ codes "draw") × (first_of (codes "FILE") found.1 ≡ Some set.now)
     × (first_of (codes "SCHEDULE") found.1 ≡ Some schedule.now)
     × IsFlag (first_of (codes "unchecked") found.1) verification
-NamesAlone found (Hunt set reach) =
-    (found.0 ≡ codes "hunt") × (first_of (codes "FILE") found.1 ≡ Some set.now)
-    × IsReach found.1 reach
 
 -- or any task
 abbrev pub NamesTask : Text × List Row → Job → Type 0
 NamesTask found (Alone job) = NamesAlone found job
+NamesTask found (Hunt set reach) =
+    (found.0 ≡ codes "hunt") × (first_of (codes "FILE") found.1 ≡ Some set.now)
+    × IsReach found.1 reach
 NamesTask found (Host set script workers) =
     (found.0 ≡ codes "host") × (first_of (codes "FILE") found.1 ≡ Some set.now)
     × (first_of (codes "SCRIPT") found.1 ≡ Some script.now)

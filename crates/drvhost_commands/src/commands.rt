@@ -148,7 +148,7 @@ fn explain_command<'a>(alloc: Global) -> Result<Command<'a>, AllocError>
         alloc,
         "RULE",
         "rule",
-        "Says this rule in words, V1 to V20 or by its name, with an example",
+        "Says this rule in words, V1 to V20 or by its name, or LockOrder, with an example",
     );
     let command = Command::new(alloc, "explain")
         .about("Accepts or refuses a driver set, and says in words why; or says a rule in words")

@@ -35,6 +35,11 @@ const USAGE: &str = "Usage: drvhost <COMMAND>";
 pub enum Job<'a> {
     /// One that waits for no other thread.
     Alone(AloneJob<'a>),
+    /// `hunt FILE [--threads N] [--packets N] [--states N]`
+    Hunt {
+        set: &'a str,
+        reach: Reach,
+    },
     /// `host FILE SCRIPT --workers N`
     Host {
         set: &'a str,
@@ -59,6 +64,8 @@ pub enum AloneJob<'a> {
     ExplainRule {
         rule: Rule,
     },
+    /// `explain --rule LockOrder`
+    ExplainLockOrder,
     /// `list FILE`
     List {
         set: &'a str,
@@ -88,11 +95,6 @@ pub enum AloneJob<'a> {
         set: &'a str,
         schedule: &'a str,
         verification: Verification,
-    },
-    /// `hunt FILE [--threads N] [--packets N] [--states N]`
-    Hunt {
-        set: &'a str,
-        reach: Reach,
     },
 }
 

@@ -26,10 +26,10 @@ pub(crate) fn named<'a>(matches: &ArgMatches<'a>) -> Option<Job<'a>>
     if command == "host" {
         return host_named(inner);
     }
-    match alone_named(command, inner) {
-        Some(job) => Some(Job::Alone(job)),
-        None => None,
+    if command == "hunt" {
+        return hunt_named(inner);
     }
+    Some(Job::Alone(alone_named(command, inner)?))
 }
 
 /// The one of the others that a command and its matches name.
@@ -44,7 +44,6 @@ fn alone_named<'a>(command: &str, matches: &ArgMatches<'a>) -> Option<AloneJob<'
         "trace" => trace_named(matches),
         "tell" => tell_named(matches),
         "draw" => draw_named(matches),
-        "hunt" => hunt_named(matches),
         "list" => list_named(matches),
         "rewrite" => rewrite_named(matches),
         "version" => Some(AloneJob::Version),
@@ -72,7 +71,7 @@ fn explain_named<'a>(matches: &ArgMatches<'a>) -> Option<AloneJob<'a>>
     }
 }
 
-/// The rule of a word, if no set is to be explained beside it.
+/// The rule of a word, or the warning on the order of locks, if no set is to be explained beside it.
 fn rule_to_explain<'a>(matches: &ArgMatches<'a>, word: &str) -> Option<AloneJob<'a>>
     requires { first_of (codes "RULE") (rows_of (found_of matches.now)) ≡ Some word.now }
     ensures some { IfSome result (NamesAlone (codes "explain", rows_of (found_of matches.now))) }
@@ -80,6 +79,7 @@ fn rule_to_explain<'a>(matches: &ArgMatches<'a>, word: &str) -> Option<AloneJob<
         ((job : AloneJob) → NamesAlone (codes "explain", rows_of (found_of matches.now)) job → ⊥) }
 {
     match (argument(matches, "FILE"), extent_asked(matches)) {
+        (None, Extent::First) if word == "LockOrder" => Some(AloneJob::ExplainLockOrder),
         (None, Extent::First) => {
             let rule = rule_named(word)?;
             Some(AloneJob::ExplainRule { rule })
@@ -166,14 +166,14 @@ fn draw_named<'a>(matches: &ArgMatches<'a>) -> Option<AloneJob<'a>>
     })
 }
 
-fn hunt_named<'a>(matches: &ArgMatches<'a>) -> Option<AloneJob<'a>>
-    ensures some { IfSome result (NamesAlone (codes "hunt", rows_of (found_of matches.now))) }
+fn hunt_named<'a>(matches: &ArgMatches<'a>) -> Option<Job<'a>>
+    ensures some { IfSome result (NamesTask (codes "hunt", rows_of (found_of matches.now))) }
     ensures none { IfNone result
-        ((job : AloneJob) → NamesAlone (codes "hunt", rows_of (found_of matches.now)) job → ⊥) }
+        ((job : Job) → NamesTask (codes "hunt", rows_of (found_of matches.now)) job → ⊥) }
 {
     let set = argument(matches, "FILE")?;
     let reach = reach_asked(matches)?;
-    Some(AloneJob::Hunt { set, reach })
+    Some(Job::Hunt { set, reach })
 }
 
 fn host_named<'a>(matches: &ArgMatches<'a>) -> Option<Job<'a>>

@@ -5,3 +5,4 @@ pub mod Wording
 pub mod Images
 pub mod Breaks
 pub mod Answering
+pub mod Pages

@@ -1,5 +1,5 @@
 -- What `explain` answers: the verdict, with words behind it.
-use Rattle.std.specs.Prelude.{ℕ, ◌≡◌, ◌≢◌, ◌++◌, ◌⊎◌, List, [], ◌∷◌, Result, Ok, Err}
+use Rattle.std.specs.Prelude.{ℕ, ◌≡◌, ◌≢◌, ◌++◌, ◌⊎◌, List, [], ◌∷◌, Result, Ok, Err, codes}
 use Rattle.verifier_words.specs.Faults.{AreFaults}
 use Rattle.verifier_words.specs.Orders.{TellsOrders}
 use Rattle.drvhost_devices.specs.Answer.{Answer, FileSays, acceptance, ended, faulty}
@@ -67,3 +67,8 @@ abbrev pub IsExplainedOf : Extent → Supply → Answer → Type 0
 IsExplainedOf extent supply answer =
     (bytes : List ℕ) × Holds supply bytes
     × ((said : Result Set (List ℕ)) × FileSays bytes said × IsExplainedSaid extent said answer)
+
+-- what is answered of the warning on the order of locks: its name, with some words behind it
+abbrev pub IsLockOrderExplained : Answer → Type 0
+IsLockOrderExplained answer =
+    (words : List ℕ) × (answer ≡ ended Complete (codes "LockOrder" ++ words))

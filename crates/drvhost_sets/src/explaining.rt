@@ -190,7 +190,7 @@ fn explain_set<O: Sink>(
 }
 
 /// What the set was read from that these bytes spell or name.
-fn origin_of(bytes: &[u8]) -> Origin<'_> {
+pub(crate) fn origin_of(bytes: &[u8]) -> Origin<'_> {
     if begins_image(bytes) {
         Origin::Image
     } else {

@@ -1,5 +1,6 @@
 //! What the program answers of the driver set of one file, over any devices: the verdict on it,
-//! explained or not, its listing and its image; and a rule in words, and which program this is.
+//! explained or not, the warnings of an accepted one, its listing and its image; and a rule in
+//! words, and which program this is.
 #![tactic(auto)]
 
 pub mod check;
@@ -12,3 +13,4 @@ pub mod list;
 pub mod rewriting;
 pub mod rule;
 pub mod version;
+pub mod warning;

@@ -1,18 +1,19 @@
-//! A rule in words.
+//! A rule in words, and the warning on the order of locks.
 
-ghost use Rattle.std.specs.Prelude.{◌≡◌, ◌++◌, ℕ, IfOk, List, string_bytes};
+ghost use Rattle.std.specs.Prelude.{◌≡◌, ◌++◌, ℕ, IfOk, List, codes, string_bytes};
 ghost use Rattle.model.specs.Words.{rule_text};
-ghost use Rattle.drvhost_devices.specs.Answer.{IsRuleExplained};
+ghost use Rattle.drvhost_devices.specs.Answer.{IsRuleExplained, ended};
 ghost use Rattle.drvhost_devices.specs.Device.{CanCount, Says};
 ghost use Rattle.drvhost_devices.specs.Ends.{Answers};
+ghost use Rattle.drvhost_sets.specs.Explained.{IsLockOrderExplained};
 
 use drvhost_devices::device::{Failed, Sink};
-use drvhost_devices::fault::{no_memory, say};
+use drvhost_devices::fault::{End, no_memory, say};
 use drvhost_devices::transfer::write_whole;
 use model::abs::Rule;
 use report::fault::WRITE_FAILED;
 use std::alloc::{AllocError, Global};
-use verifier_pages::rule_words;
+use verifier_pages::{lock_order_words, rule_words};
 
 /// Writes a rule by its number and name, and then what it says, with an example. The answer is the
 /// exit status: 0, or 2 where the write failed, 3 where memory ran out. Faults are told on the
@@ -26,10 +27,39 @@ pub fn explain_rule<O: Sink, E: Sink>(alloc: Global, rule: Rule, out: &mut O, er
         (Says (E.failures err.old) (E.failures err.new) (E.contents err.old) (E.contents err.new))
         result }
 {
-    let page = match page_of(alloc, rule) {
-        Ok(page) => page,
-        Err(AllocError) => return no_memory(err),
-    };
+    match page_of(alloc, rule) {
+        Ok(page) => write_page(page.as_str(), out, err),
+        Err(AllocError) => no_memory(err),
+    }
+}
+
+/// Writes the warning on the order of locks by its name, and then what it says, with an example. The
+/// answer is the exit status, likewise.
+pub fn explain_lock_order<O: Sink, E: Sink>(alloc: Global, out: &mut O, err: &mut E) -> u8
+    requires out { CanCount (O.failures out.old) }
+    requires err { CanCount (E.failures err.old) }
+    ensures { (reads : ℕ) → Answers IsLockOrderExplained
+        reads reads (O.failures out.old) (O.failures out.new)
+        (O.contents out.old) (O.contents out.new)
+        (Says (E.failures err.old) (E.failures err.new) (E.contents err.old) (E.contents err.new))
+        result }
+{
+    match lock_order_page(alloc) {
+        Ok(page) => write_page(page.as_str(), out, err),
+        Err(AllocError) => no_memory(err),
+    }
+}
+
+/// Writes a page.
+fn write_page<O: Sink, E: Sink>(page: &str, out: &mut O, err: &mut E) -> u8
+    requires out { CanCount (O.failures out.old) }
+    requires err { CanCount (E.failures err.old) }
+    ensures { (reads : ℕ) → Answers (λ answer. answer ≡ ended End.Complete page.now)
+        reads reads (O.failures out.old) (O.failures out.new)
+        (O.contents out.old) (O.contents out.new)
+        (Says (E.failures err.old) (E.failures err.new) (E.contents err.old) (E.contents err.new))
+        result }
+{
     match write_whole(out, page.as_bytes()) {
         Ok(()) => 0,
         Err(Failed) => {
@@ -37,6 +67,16 @@ pub fn explain_rule<O: Sink, E: Sink>(alloc: Global, rule: Rule, out: &mut O, er
             2
         }
     }
+}
+
+/// The warning on the order of locks by its name, and then in words.
+fn lock_order_page(alloc: Global) -> Result<String, AllocError>
+    ensures { IfOk result
+        (λ page. (words : List ℕ) × (string_bytes page ≡ codes "LockOrder" ++ words)) }
+{
+    let mut page = String::from_str(alloc, "LockOrder")?;
+    page.push_str(lock_order_words(alloc)?.as_str())?;
+    Ok(page)
 }
 
 /// A rule by its number and name, and then in words.

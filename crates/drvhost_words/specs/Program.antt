@@ -11,7 +11,8 @@ use Rattle.drvhost_devices.specs.declared.verification.Verification.{Verificatio
 use Rattle.drvhost_devices.specs.declared.verification.Verification.TheVariants.{Required}
 use Rattle.drvhost_devices.specs.Ends.{HoldsRun, IsCheckOf, IsListOf, IsRewriteOf, IsTraceOf}
 use Rattle.drvhost_hunts.specs.Hunt.{IsHuntOf}
-use Rattle.drvhost_sets.specs.Explained.{IsExplainedOf}
+use Rattle.drvhost_sets.specs.Explained.{IsExplainedOf, IsLockOrderExplained}
+use Rattle.drvhost_runs.specs.Hosting.{WarnsBefore}
 use Rattle.drvhost_runs.specs.Served.{IsHostOf}
 use Rattle.drvhost_views.specs.Told.{IsDrawOf, IsTellOf}
 use Rattle.drvhost_words.specs.declared.answer.Task.{Task}
@@ -19,8 +20,8 @@ use Rattle.drvhost_words.specs.declared.answer.Task.TheVariants.{Explained, List
 use Rattle.drvhost_words.specs.declared.answer.Way.{Way}
 use Rattle.drvhost_words.specs.declared.answer.Way.TheVariants.{BySchedule, InWords, AsPicture}
 use Rattle.drvhost_commands.specs.declared.job.Job.{Job}
-use Rattle.drvhost_commands.specs.declared.job.Job.TheVariants.{Alone, Host}
-use Rattle.drvhost_commands.specs.declared.job.AloneJob.TheVariants.{Check, Explain, ExplainRule, List as ListJob, Rewrite, Version, Trace, Tell, Draw, Hunt}
+use Rattle.drvhost_commands.specs.declared.job.Job.TheVariants.{Alone, Hunt, Host}
+use Rattle.drvhost_commands.specs.declared.job.AloneJob.TheVariants.{Check, Explain, ExplainRule, ExplainLockOrder, List as ListJob, Rewrite, Version, Trace, Tell, Draw}
 use Rattle.drvhost_commands.specs.CommandLine.{Names, NamesJob, program, usage}
 use Rattle.drvhost_words.specs.Files.{Has}
 use Rattle.drvhost_words.specs.Unread.{IsNamedUnread, IsOneOf}
@@ -59,6 +60,7 @@ abbrev pub IsJobOf : (List ℕ → Supply) → Job → Answer → Type 0
 IsJobOf supply (Alone (Check set)) answer = IsCheckOf (supply set.now) answer
 IsJobOf supply (Alone (Explain set extent)) answer = IsOfNamed (IsExplainedOf extent) supply set.now answer
 IsJobOf supply (Alone (ExplainRule rule)) answer = IsRuleExplained rule answer
+IsJobOf supply (Alone ExplainLockOrder) answer = IsLockOrderExplained answer
 IsJobOf supply (Alone (ListJob set)) answer = IsOfNamed IsListOf supply set.now answer
 IsJobOf supply (Alone (Rewrite set output)) answer = IsQuietly (IsRewriteOf (supply set.now)) answer
 IsJobOf supply (Alone Version) answer = IsVersion answer
@@ -68,7 +70,7 @@ IsJobOf supply (Alone (Tell set schedule verification manner)) answer =
     IsTellOf verification manner (supply set.now) (supply schedule.now) answer
 IsJobOf supply (Alone (Draw set schedule verification)) answer =
     IsDrawOf verification (supply set.now) (supply schedule.now) answer
-IsJobOf supply (Alone (Hunt set reach)) answer = IsOfNamed (IsHuntOf reach) supply set.now answer
+IsJobOf supply (Hunt set reach) answer = IsOfNamed (IsHuntOf reach) supply set.now answer
 IsJobOf supply (Host set script workers) answer =
     IsHostOf workers (supply set.now) (supply script.now) answer
 
@@ -83,6 +85,7 @@ JobTells (Alone (Check set)) before after text = text ≡ []
 JobTells (Alone (Explain set extent)) before after text =
     IsNamedUnread (λ name. name ≡ set.now) before after text
 JobTells (Alone (ExplainRule rule)) before after text = text ≡ []
+JobTells (Alone ExplainLockOrder) before after text = text ≡ []
 JobTells (Alone (ListJob set)) before after text =
     IsNamedUnread (λ name. name ≡ set.now) before after text
 JobTells (Alone (Rewrite set output)) before after text = text ≡ []
@@ -93,7 +96,7 @@ JobTells (Alone (Tell set schedule verification manner)) before after text =
     IsNamedUnread (IsOneOf set.now schedule.now) before after text
 JobTells (Alone (Draw set schedule verification)) before after text =
     IsNamedUnread (IsOneOf set.now schedule.now) before after text
-JobTells (Alone (Hunt set reach)) before after text =
+JobTells (Hunt set reach) before after text =
     IsNamedUnread (λ name. name ≡ set.now) before after text
 JobTells (Host set script workers) before after text =
     IsNamedUnread (IsOneOf set.now script.now) before after text
@@ -109,6 +112,21 @@ abbrev pub ProgramTells : Result (Vec (String Global)) ErrorKind → ℕ → ℕ
 ProgramTells (Ok words) before after text = WordsTell (arguments words) before after text
 ProgramTells (Err kind) before after text = text ≡ []
 
+-- what may stand before what is told of a job: the warnings of `host` on the set that it serves
+abbrev pub JobWarns : (List ℕ → Supply) → Job → List ℕ → List ℕ → Type 0
+JobWarns supply (Alone job) told warned = warned ≡ []
+JobWarns supply (Host set script workers) told warned =
+    WarnsBefore (supply set.now) told warned
+
+abbrev pub WordsWarn : (List ℕ → Supply) → List Text → List ℕ → List ℕ → Type 0
+WordsWarn supply words told warned =
+    (warned ≡ []) ⊎ ((job : Job) × NamesJob words job × JobWarns supply job told warned)
+
+abbrev pub ProgramWarns : (List ℕ → Supply) → Result (Vec (String Global)) ErrorKind → List ℕ
+    → List ℕ → Type 0
+ProgramWarns supply (Ok words) told warned = WordsWarn supply (arguments words) told warned
+ProgramWarns supply (Err kind) told warned = warned ≡ []
+
 -- how many files are opened for a run: that of its input for a set that is run alone
 abbrev pub OpensToTrace : Verification → Supply → ℕ → Type 0
 OpensToTrace verification set count =
@@ -119,6 +137,7 @@ abbrev pub Opens : (List ℕ → Supply) → Job → ℕ → Type 0
 Opens supply (Alone (Check set)) count = count ≡ 1
 Opens supply (Alone (Explain set extent)) count = count ≡ 1
 Opens supply (Alone (ExplainRule rule)) count = count ≡ 0
+Opens supply (Alone ExplainLockOrder) count = count ≡ 0
 Opens supply (Alone (ListJob set)) count = count ≡ 1
 Opens supply (Alone (Rewrite set output)) count = count ≡ 1
 Opens supply (Alone Version) count = count ≡ 0
@@ -128,7 +147,7 @@ Opens supply (Alone (Tell set schedule verification manner)) count =
     OpensToTrace verification (supply set.now) count
 Opens supply (Alone (Draw set schedule verification)) count =
     OpensToTrace verification (supply set.now) count
-Opens supply (Alone (Hunt set reach)) count = count ≡ 1
+Opens supply (Hunt set reach) count = count ≡ 1
 Opens supply (Host set script workers) count = OpensToTrace Required (supply set.now) count
 
 -- words that name no job are answered with a text on how the program is used
@@ -198,6 +217,7 @@ JobStores (Alone (Rewrite set output)) before after old new status =
 JobStores (Alone (Check set)) before after old new status = LeavesFiles before after old new
 JobStores (Alone (Explain set extent)) before after old new status = LeavesFiles before after old new
 JobStores (Alone (ExplainRule rule)) before after old new status = LeavesFiles before after old new
+JobStores (Alone ExplainLockOrder) before after old new status = LeavesFiles before after old new
 JobStores (Alone (ListJob set)) before after old new status = LeavesFiles before after old new
 JobStores (Alone Version) before after old new status = LeavesFiles before after old new
 JobStores (Alone (Trace set schedule verification)) before after old new status =
@@ -206,7 +226,7 @@ JobStores (Alone (Tell set schedule verification manner)) before after old new s
     LeavesFiles before after old new
 JobStores (Alone (Draw set schedule verification)) before after old new status =
     LeavesFiles before after old new
-JobStores (Alone (Hunt set reach)) before after old new status = LeavesFiles before after old new
+JobStores (Hunt set reach) before after old new status = LeavesFiles before after old new
 JobStores (Host set script workers) before after old new status = LeavesFiles before after old new
 
 -- what the program does to the files for these words: nothing where it names no job, and then it

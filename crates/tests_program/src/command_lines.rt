@@ -115,7 +115,7 @@ fn hunts(rt: HostRuntime) -> Result<(), Fail> {
 /// Whether a job is to hunt in the set of a file so far.
 fn is_to_hunt(job: &Job<'_>, threads: u8, packets: usize, worlds: usize) -> bool {
     match *job {
-        Job::Alone(AloneJob::Hunt { set, reach }) => {
+        Job::Hunt { set, reach } => {
             let bounds = reach.bounds();
             set == "a"
                 && bounds.threads == threads
@@ -199,7 +199,20 @@ fn rules_by_their_words(rt: HostRuntime) -> Result<(), Fail> {
             })
         )
     );
-    for word in ["V0", "V21", "v1", "V01", "V1 ", "V", "1", "malformed", ""] {
+    let job = Job::of(alloc, &["explain", "--rule", "LockOrder"])?;
+    assert!(rt; matches!(job, Job::Alone(AloneJob::ExplainLockOrder)));
+    for word in [
+        "V0",
+        "V21",
+        "v1",
+        "V01",
+        "V1 ",
+        "V",
+        "1",
+        "malformed",
+        "lockorder",
+        "",
+    ] {
         assert!(rt; is_refused(alloc, &["explain", "--rule", word]), "{word}");
     }
     Ok(())

@@ -10,3 +10,5 @@ mod overlap;
 mod rings;
 #[cfg(test)]
 mod scripts;
+#[cfg(test)]
+mod warned;

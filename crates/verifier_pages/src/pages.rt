@@ -20,6 +20,23 @@ struct Page {
     example: Option<Example>,
 }
 
+/// What is said above the text of an example, and above the same one mended.
+#[derive(Clone, Copy)]
+struct Titles {
+    refused: &'static str,
+    mended: &'static str,
+}
+
+const REFUSAL: Titles = Titles {
+    refused: "this is refused",
+    mended: "this is accepted",
+};
+
+const WARNING: Titles = Titles {
+    refused: "this is accepted, with a warning",
+    mended: "this is accepted, without one",
+};
+
 /// The page of a rule.
 fn page_of(rule: Rule) -> Page {
     match rule {
@@ -52,11 +69,25 @@ fn page_of(rule: Rule) -> Page {
 ///
 /// When memory runs out.
 pub fn rule_words(alloc: Global, rule: Rule) -> Result<String, AllocError> {
+    page_words(alloc, page_of(rule), REFUSAL)
+}
+
+/// What is told of the warning `LockOrder` behind its name, likewise.
+///
+/// # Errors
+///
+/// When memory runs out.
+pub fn lock_order_words(alloc: Global) -> Result<String, AllocError> {
+    page_words(alloc, LOCK_ORDER, WARNING)
+}
+
+/// A page in words, with these above the texts of its example.
+fn page_words(alloc: Global, page: Page, titles: Titles) -> Result<String, AllocError> {
     let Page {
         says,
         source,
         example,
-    } = page_of(rule);
+    } = page;
     let mut prose = String::new(alloc);
     write!(prose, "\n{says}\nsee: {source}\n")?;
     if let Some(
@@ -67,8 +98,12 @@ pub fn rule_words(alloc: Global, rule: Rule) -> Result<String, AllocError> {
         },
     ) = example
     {
-        write!(prose, "\nthis is refused:\n\n{refused}")?;
-        write!(prose, "\nmend it: {mend}\nthis is accepted:\n\n{mended}")?;
+        let Titles {
+            refused: wrong,
+            mended: right,
+        } = titles;
+        write!(prose, "\n{wrong}:\n\n{refused}")?;
+        write!(prose, "\nmend it: {mend}\n{right}:\n\n{mended}")?;
     }
     Ok(prose)
 }
@@ -621,4 +656,61 @@ const MEMORY: Page = Page {
 error, with status 3, and says nothing of the set. No text mends it.",
     source: "nothing of the Kit: it is no fault of the set",
     example: None,
+};
+
+const LOCK_ORDER: Page = Page {
+    says: "Each driver takes its locks in one order: its spin locks and the system cancel spin
+lock stand in an order, and none of them is acquired while a later one is held. Else
+threads that run its routines for one device may wait for each other for ever. This
+is a warning and no rule of the verdict: a set whose driver takes them in a cycle is
+accepted all the same, since a cycle needn't ever be a ring of threads.",
+    source: "the Driver Kit on preventing deadlocks while using spin locks; Driver Verifier, Deadlock \
+        Detection; bug check 0xC4",
+    example: Some(Example {
+        refused: "driver d
+dispatch READ f
+dispatch WRITE g
+routine f dispatch
+acquire l0
+acquire l1
+release l1
+release l0
+complete r0 SUCCESS
+ret SUCCESS
+endr
+routine g dispatch
+acquire l1
+acquire l0
+release l0
+release l1
+complete r0 SUCCESS
+ret SUCCESS
+endr
+endd
+device v d 1
+",
+        mend: "acquire them in one order in both routines",
+        mended: "driver d
+dispatch READ f
+dispatch WRITE g
+routine f dispatch
+acquire l0
+acquire l1
+release l1
+release l0
+complete r0 SUCCESS
+ret SUCCESS
+endr
+routine g dispatch
+acquire l0
+acquire l1
+release l1
+release l0
+complete r0 SUCCESS
+ret SUCCESS
+endr
+endd
+device v d 1
+",
+    }),
 };

@@ -25,17 +25,37 @@ const ADVICE: &str = "Acquire these locks in one order everywhere.\n";
 
 /// A set of which is told, and what it was read from.
 #[derive(Drop)]
-struct Telling<'s, 't> {
+pub(crate) struct Telling<'s, 't> {
     set: &'s DriverSet,
     origin: Origin<'t>,
     names: SetNames<'t>,
 }
 
+impl<'s, 't> Telling<'s, 't> {
+    /// That of a set which was read from this.
+    pub(crate) fn of(
+        alloc: Global,
+        origin: Origin<'t>,
+        set: &'s DriverSet,
+    ) -> Result<Telling<'s, 't>, AllocError> {
+        Ok(Telling {
+            set,
+            origin,
+            names: names_of(alloc, origin)?,
+        })
+    }
+
+    /// What the driver of a number and the things in it are called.
+    pub(crate) fn names(&self, number: u8) -> Names<'_, 't> {
+        self.names.in_driver(number)
+    }
+}
+
 /// An instruction's line in what is quoted.
 #[derive(Drop)]
-struct Quoted<'t> {
+pub(crate) struct Quoted<'t> {
     source: Source<'t>,
-    line: Option<Spot>,
+    pub(crate) line: Option<Spot>,
 }
 
 /// What is told of an accepted set: its routines, a line each; the orders in which its drivers take
@@ -54,11 +74,7 @@ pub fn acceptance(
 {
     let set = accepted.set();
     let orders = orders_of(alloc, accepted)?;
-    let telling = Telling {
-        set,
-        origin,
-        names: names_of(alloc, origin)?,
-    };
+    let telling = Telling::of(alloc, origin, set)?;
     let mut prose = String::new(alloc);
     add_roll(&mut prose, &telling.names, telling.set)?;
     add_orders(&mut prose, &telling, orders.as_slice())?;
@@ -74,7 +90,7 @@ fn add_orders(
 ) -> Result<(), AllocError> {
     for (number, driver) in telling.set.drivers().iter().enumerate() {
         if let Some(LockOrder::Ordered(locks)) = orders.get(number) {
-            let names = telling.names.in_driver(number as u8);
+            let names = telling.names(number as u8);
             add_order(prose, names, number as u8, driver, locks.as_slice())?;
         }
     }
@@ -196,12 +212,22 @@ fn add_cycle(
     for edge in cycle {
         lines.push(add_quoted(alloc, prose, telling, number, edge)?)?;
     }
-    let names = telling.names.in_driver(number);
-    names.add_driver(prose, number)?;
-    prose.push_str(" takes its locks in a cycle: ")?;
+    let names = telling.names(number);
+    begin_cycle(prose, names, number)?;
+    prose.push_str(": ")?;
     add_edges(prose, names, cycle, lines.as_slice())?;
     prose.push_str(". Threads that run them for one device may wait for each other for ever. ")?;
     prose.push_str(ADVICE)
+}
+
+/// Adds that the driver of a number takes its locks in a cycle.
+pub(crate) fn begin_cycle(
+    prose: &mut String,
+    names: Names<'_, '_>,
+    number: u8,
+) -> Result<(), AllocError> {
+    names.add_driver(prose, number)?;
+    prose.push_str(" takes its locks in a cycle")
 }
 
 /// Adds where a routine of the driver of a number takes a lock, with the lines round that, and
@@ -213,7 +239,7 @@ fn add_quoted(
     number: u8,
     edge: &Edge,
 ) -> Result<Option<u64>, AllocError> {
-    let names = telling.names.in_driver(number);
+    let names = telling.names(number);
     let quoted = line_of(alloc, telling, number, edge)?;
     add_title(prose, names, number, edge.routine)?;
     if let Some(driver) = telling.set.drivers().get(number as usize) {
@@ -226,7 +252,7 @@ fn add_quoted(
 }
 
 /// The line of the instruction of an edge.
-fn line_of<'t>(
+pub(crate) fn line_of<'t>(
     alloc: Global,
     telling: &Telling<'_, 't>,
     number: u8,

@@ -1,8 +1,17 @@
+use Rattle.std.proofs.Common.{refl}
 use Rattle.drvhost_words.proofs.Answering.{answers_beside}
+use Rattle.drvhost_words.proofs.Warned.{answers_unwarned}
 use Rattle.drvhost_words.proofs.answer.perform.Goals as goal
 
 pub returns-in-Alone : goal.returns-in-Alone
-returns-in-Alone g c = rw c.in-Alone.is c.perform_alone.ensures
+returns-in-Alone g c =
+    rw c.in-Alone.is
+    (record {
+      answers =
+          answers_unwarned _ _ _ _ _ _ _ _ _ _ (λ told. refl) c.perform_alone.ensures.answers;
+      opened = c.perform_alone.ensures.opened;
+      stores = c.perform_alone.ensures.stores;
+    })
 
 pub returns-in-Host-clause-answers : goal.returns-in-Host-clause-answers
 returns-in-Host-clause-answers g c =
@@ -16,3 +25,16 @@ returns-in-Host-clause-stores g c =
 
 pub returns-in-Host-clause-opened : goal.returns-in-Host-clause-opened
 returns-in-Host-clause-opened g c = rw c.in-Host.is c.host_files.ensures.opened
+
+pub returns-in-Hunt-clause-answers : goal.returns-in-Hunt-clause-answers
+returns-in-Hunt-clause-answers g c =
+    rw c.in-Hunt.is
+    (answers_beside _ _ _ _ _ _ _ _ _ _ _ c.task_file.ensures.answers c.task_file.ensures.unwritten)
+
+pub returns-in-Hunt-clause-stores : goal.returns-in-Hunt-clause-stores
+returns-in-Hunt-clause-stores g c =
+    rw c.in-Hunt.is
+    (record { supply = c.task_file.ensures.supply; none = c.task_file.ensures.created })
+
+pub returns-in-Hunt-clause-opened : goal.returns-in-Hunt-clause-opened
+returns-in-Hunt-clause-opened g c = rw c.in-Hunt.is (1, refl, c.task_file.ensures.opened)

@@ -34,6 +34,17 @@ pub returns-in-ExplainRule-clause-stores : goal.returns-in-ExplainRule-clause-st
 returns-in-ExplainRule-clause-stores g c =
     rw c.in-ExplainRule.is (record { supply = refl; none = refl })
 
+pub returns-in-ExplainLockOrder-clause-answers : goal.returns-in-ExplainLockOrder-clause-answers
+returns-in-ExplainLockOrder-clause-answers g c =
+    rw c.in-ExplainLockOrder.is
+    (answers_alone _ _ _ _ _ _ _ (λ text. text ≡ []) _ _ _ _ _ refl
+    (answers_beside _ _ _ _ _ _ _ _ _ _ _
+    (c.explain_lock_order.ensures (g.F.Files.failures c.args.files.now)) refl))
+
+pub returns-in-ExplainLockOrder-clause-stores : goal.returns-in-ExplainLockOrder-clause-stores
+returns-in-ExplainLockOrder-clause-stores g c =
+    rw c.in-ExplainLockOrder.is (record { supply = refl; none = refl })
+
 pub returns-in-List-clause-answers : goal.returns-in-List-clause-answers
 returns-in-List-clause-answers g c =
     rw c.in-List.is
@@ -103,13 +114,3 @@ returns-in-Draw-clause-stores g c =
 
 pub returns-in-Draw-clause-opened : goal.returns-in-Draw-clause-opened
 returns-in-Draw-clause-opened g c = rw c.in-Draw.is c.run_files-in-Draw.ensures.opened
-
-pub returns-in-Hunt-clause-answers : goal.returns-in-Hunt-clause-answers
-returns-in-Hunt-clause-answers g c =
-    rw c.in-Hunt.is
-    (answers_beside _ _ _ _ _ _ _ _ _ _ _ c.task_file-in-Hunt.ensures.answers c.task_file-in-Hunt.ensures.unwritten)
-
-pub returns-in-Hunt-clause-stores : goal.returns-in-Hunt-clause-stores
-returns-in-Hunt-clause-stores g c =
-    rw c.in-Hunt.is
-    (record { supply = c.task_file-in-Hunt.ensures.supply; none = c.task_file-in-Hunt.ensures.created })

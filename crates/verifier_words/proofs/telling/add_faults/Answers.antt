@@ -1,4 +1,4 @@
-use Rattle.std.proofs.Common.{◌≡◌, ◌∙◌, ◌+◌, ◌++◌, List, [], ℕ, suc, ap, append_assoc, arith, option_map, option_to_list, refl, subst, sym}
+use Rattle.std.proofs.Common.{◌≡◌, ◌∙◌, ◌+◌, ◌++◌, [], ℕ, suc, ap, append_assoc, arith, option_map, option_to_list, refl, subst, sym}
 use Rattle.std.proofs.lemmas.List.{append-nil}
 use Rattle.verifier_words.specs.Faults.{AreOfRoutines}
 use Rattle.verifier_words.proofs.telling.add_faults.Goals as goal
