@@ -4,4 +4,3 @@ pub mod Following
 pub mod Observing
 pub mod Lining
 pub mod RingsTold
-pub mod Warning

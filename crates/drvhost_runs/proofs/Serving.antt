@@ -8,7 +8,6 @@ use Rattle.model.specs.Set.{Set}
 use Rattle.workers_script.specs.declared.hosted.Hosted.{Hosted}
 use Rattle.workers_script.specs.Told.{Hosts, all_told}
 use Rattle.tell_audit.specs.Findings.{ringed_threads}
-use Rattle.verifier_words.specs.Warnings.{AreWarnings}
 use Rattle.model.specs.History.{events_of}
 use Rattle.model.specs.Run.{run}
 use Rattle.drvhost_devices.specs.declared.fault.End.{End}
@@ -77,37 +76,28 @@ module _ (hosted : Hosted) (ringed words : List ℕ) where
         subst Q (sym adds) (adds_line b n [] l text line gathered),
       )
 
--- what was hosted is right for the commands of a script
-pub served_right : (set : Set) (workers : ℕ) (commands : List Command) (hosted : Hosted)
-    (ringed warned words : List ℕ) → Hosts set workers commands hosted
-    → ringed ≡ ringed_threads hosted.machine.set hosted.machine.world → AreWarnings set warned
-    → TellsOfRing ringed words → (answer : Answer) → IsServedAs hosted ringed (warned ++ words) answer
-    → IsServed workers set (Ok commands) answer
-served_right set workers commands hosted ringed warned words h rings warns tells answer e =
+-- what was hosted is right for a script
+pub served_right : (set : Set) (workers : ℕ) (held : Supply) (commands : Vec Command)
+    (hosted : Hosted) (ringed words : List ℕ) → ReadsScript held (Ok commands)
+    → Hosts set workers commands.items hosted
+    → ringed ≡ ringed_threads hosted.machine.set hosted.machine.world → TellsOfRing ringed words
+    → (answer : Answer) → IsServedAs hosted ringed words answer
+    → IsServedOf workers held set answer
+served_right set workers held commands hosted ringed words (text, holds, is) h rings tells answer e =
     let same : ringed ≡ ringed_after set workers h.history = rings
     ∙ ap (λ w. ringed_threads hosted.machine.set w) h.run.world
     ∙ ap (λ s. ringed_threads s (run s workers (events_of h.history)).world) h.same_set in
-    let all : List ℕ = warned ++ words in
-    let told : List (Option Reply) = all_told h.history (length commands) in (
+    let told : List (Option Reply) = all_told h.history (length commands.items) in
+    let right : IsServed workers set (Ok commands.items) answer = (
       h.history,
       h.served,
       (
-        warned,
-        warns,
-        (
-          words,
-          subst (λ xs. TellsOfRing xs words) same tells,
-          e ∙ ap (λ x. served_as x hosted.told.items hosted.entries ringed all) h.agrees
-              ∙ ap (λ x. served_as true x hosted.entries ringed all) h.told
-              ∙ ap (λ x. served_as true told x ringed all) h.entries
-              ∙ ap (λ x. served_as true told (length h.history) x all) same,
-        ),
+        words,
+        subst (λ xs. TellsOfRing xs words) same tells,
+        e ∙ ap (λ x. served_as x hosted.told.items hosted.entries ringed words) h.agrees
+            ∙ ap (λ x. served_as true x hosted.entries ringed words) h.told
+            ∙ ap (λ x. served_as true told x ringed words) h.entries
+            ∙ ap (λ x. served_as true told (length h.history) x words) same,
       ),
-    )
-
--- and so for the script that lists them
-pub script_right : (set : Set) (workers : ℕ) (held : Supply) (commands : Vec Command)
-    → ReadsScript held (Ok commands) → (answer : Answer)
-    → IsServed workers set (Ok commands.items) answer → IsServedOf workers held set answer
-script_right set workers held commands (text, holds, is) answer right =
+    ) in
     (text, holds, subst (λ r. IsServed workers set r answer) (sym is) right)

@@ -18,7 +18,6 @@ use Rattle.drvhost_devices.specs.Answer.{Answer, IsIfAccepted, end_status, fault
 use Rattle.drvhost_devices.specs.Device.{Holds, Supply}
 use Rattle.drvhost_devices.specs.Ends.{IsOfSupply}
 use Rattle.tell_audit.specs.Findings.{ringed_threads}
-use Rattle.verifier_words.specs.Warnings.{AreWarnings}
 
 -- the line of a command of a script: what is told of it, or that it was left
 abbrev pub command_line : ℕ → Option Reply → List ℕ
@@ -49,7 +48,7 @@ abbrev pub TellsOfRing : List ℕ → List ℕ → Type 0
 TellsOfRing ringed words = ringed ≡ [] → words ≡ []
 
 -- what is answered of the commands of a script and their history: what is told of each, whether the
--- history agrees, and of cycles of locks and the threads that wait in a ring
+-- history agrees, and of the threads that wait in a ring
 abbrev pub served_as : Bool → List (Option Reply) → ℕ → List ℕ → List ℕ → Answer
 served_as agrees told entries ringed words = record {
   status = end_status (served_end agrees ringed);
@@ -62,15 +61,13 @@ abbrev pub ringed_after : Set → ℕ → List Entry → List ℕ
 ringed_after set threads history = ringed_threads set (world_after_all set threads history)
 
 -- what `host` answers for a set that is accepted, with so many workers, and its script: that of some
--- history in which they served the commands, and which agrees, with the set's warnings told before
--- they began and a ring behind; or the fault of the script
+-- history in which they served the commands, and which agrees; or the fault of the script
 abbrev pub IsServed : ℕ → Set → Result (List Command) ScheduleFault → Answer → Type 0
 IsServed workers set (Ok commands) answer =
     (history : List Entry) × HasServed set workers commands history
-    × ((warned : List ℕ) × AreWarnings set warned
     × ((words : List ℕ) × TellsOfRing (ringed_after set workers history) words
     × (answer ≡ served_as true (all_told history (length commands)) (length history)
-    (ringed_after set workers history) (warned ++ words))))
+    (ringed_after set workers history) words))
 IsServed workers set (Err fault) answer = answer ≡ faulty (script_fault_line fault)
 
 -- what so many workers answer that serve the commands of the script that a source has

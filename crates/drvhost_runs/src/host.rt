@@ -1,17 +1,16 @@
 //! What comes of a script of commands that workers serve over one locked core.
 
-ghost use Rattle.std.specs.Prelude.{◌≡◌, ◌+◌, ◌++◌, ◌≤◌, ◌⊎◌, [], IfErr, IfOk, Ok, OnErr, OnOk, length};
+ghost use Rattle.std.specs.Prelude.{◌≡◌, ◌+◌, ◌++◌, ◌≤◌, ◌⊎◌, [], IfErr, IfOk, OnErr, OnOk, length};
 ghost use Rattle.model.specs.Typable.{IsTypable};
 ghost use Rattle.model.specs.declared.limits.TheConstants.{MAX_THREADS};
 ghost use Rattle.report.specs.Lines.{HasRoom};
-ghost use Rattle.verifier_words.specs.Warnings.{AreWarnings};
 ghost use Rattle.interleave_script.specs.declared.parse.TheConstants.{MAX_COMMANDS};
 ghost use Rattle.drvhost_devices.specs.Answer.{IsIfAccepted};
-ghost use Rattle.drvhost_devices.specs.Device.{Adds, CanCount, Says, SaysBehind, TakesBeginning};
+ghost use Rattle.drvhost_devices.specs.Device.{Adds, CanCount, Says, TakesBeginning};
 ghost use Rattle.drvhost_devices.specs.Ends.{Answers, HoldsRun};
-ghost use Rattle.drvhost_devices.specs.Fault.{ReadsScript, fault_status, reads_failed, status_of, writes_failed};
-ghost use Rattle.drvhost_runs.specs.Hosting.{GoesTold, HoldsWarned, IsBlank, IsLate, IsWarned, IsWarnedOf, SaysWarned, WarnsBefore, told_behind, told_on};
-ghost use Rattle.drvhost_runs.specs.Served.{IsHostOf, IsServed, IsServedOf, command_line, command_lines, replay_line, served_as, served_end};
+ghost use Rattle.drvhost_devices.specs.Fault.{ReadsScript, reads_failed, status_of, writes_failed};
+ghost use Rattle.drvhost_runs.specs.Hosting.{GoesTold, IsBlank, told_behind};
+ghost use Rattle.drvhost_runs.specs.Served.{IsHostOf, IsServedOf, command_line, command_lines, replay_line, served_as, served_end};
 
 use crate::page::Page;
 use drvhost_devices::device::{Sink, Source};
@@ -48,9 +47,8 @@ pub struct Hosting<'a, R, G> {
 /// accepted driver set, and writes a line for each command: how its request's packet topped out, or
 /// else the reply to it, or that it was left. The last line says of how many entries the history
 /// is, and whether the reference machine, which replays it, agrees. Before each turn a worker asks
-/// the gate. Where a driver takes its locks in a cycle, a line of warning stands on the error
-/// writer before any worker begins. Where threads wait for each other in a ring, their workers end;
-/// a line for each of these threads then stands on the error writer, behind the warnings. The answer is the exit status: 0 where the history
+/// the gate. Where threads wait for each other in a ring, their workers end; a line for each of
+/// these threads then stands on the error writer. The answer is the exit status: 0 where the history
 /// agrees, 1 where it differs, where threads wait in a ring or where the set is refused, 2 where an
 /// input is faulty or a read or a write failed, 3 where memory ran out. Faults are told on the
 /// error writer: those of the set before a refusal, and a refusal before those of the script, which
@@ -75,170 +73,119 @@ pub fn host<S: Source, P: Source, G: Gate + Sync, O: Sink, E: Sink, R: Threads +
         (IsHostOf hosting.now.workers (S.supply set.old) (P.supply script.old))
         (S.failures set.old + P.failures script.old) (S.failures set.new + P.failures script.new)
         (O.failures out.old) (O.failures out.new) (O.contents out.old) (O.contents out.new)
-        (SaysWarned (WarnsBefore (S.supply set.old)) (Says (E.failures err.old)
-        (E.failures err.new) (E.contents err.old) (E.contents err.new)))
+        (Says (E.failures err.old) (E.failures err.new) (E.contents err.old) (E.contents err.new))
         result }
 {
-    let failures = err.failures();
     match Page::new(alloc) {
         Ok(mut page) => {
-            let end = host_set(set, script, hosting, &mut page, out, err);
-            finish_page(end, &mut page, failures, err)
+            let end = host_set(alloc, set, script, hosting, &mut page, out);
+            finish_page(end, &mut page, err)
         }
         Err(AllocError) => no_memory(err),
     }
 }
 
-/// Ends the job, as [`finish`] does, behind what the error writer was told since it had failed so
-/// often, unless it has failed since. Where the job met no fault, the words on a ring are told.
-fn finish_page<E: Sink>(end: Result<End, Fault>, page: &mut Page, failures: u64, err: &mut E) -> u8
-    requires { CanCount failures }
+/// Ends the job, as [`finish`] does. Where it met no fault, the words on a ring are told.
+fn finish_page<E: Sink>(end: Result<End, Fault>, page: &mut Page, err: &mut E) -> u8
+    requires { CanCount (E.failures err.old) }
     ensures status { result ≡ status_of end }
-    ensures told { SaysBehind failures (E.failures err.old) (E.failures err.new)
-        (E.contents err.old) (E.contents err.new) (told_behind page.old.words.items end) }
+    ensures told { Says (E.failures err.old) (E.failures err.new) (E.contents err.old)
+        (E.contents err.new) (told_behind page.old.words.items end) }
 {
-    let is_good = err.failures() == failures;
     match end {
         Ok(end) => {
-            if is_good {
-                say(err, page.words.as_slice());
-            }
+            say(err, page.words.as_slice());
             end.status()
         }
-        Err(fault) if is_good => finish(Err(fault), &mut page.lines, err),
-        Err(fault) => untold_status(fault),
+        Err(fault) => finish(Err(fault), &mut page.lines, err),
     }
 }
 
-/// The exit status for a fault that isn't told.
-fn untold_status(fault: Fault) -> u8
-    ensures { result ≡ fault_status fault }
-{
-    if matches!(fault, Fault::Memory) { 3 } else { 2 }
-}
-
 /// Has a script served over the set that a source has, and writes the lines that gather.
-fn host_set<S: Source, P: Source, G: Gate + Sync, O: Sink, E: Sink, R: Threads + Wait + Sync>(
+fn host_set<S: Source, P: Source, G: Gate + Sync, O: Sink, R: Threads + Wait + Sync>(
+    alloc: Global,
     set: &mut S,
     script: &mut P,
     hosting: &Hosting<'_, R, G>,
     page: &mut Page,
     out: &mut O,
-    err: &mut E,
 ) -> Result<End, Fault>
     requires some { 1 ≤ hosting.now.workers }
     requires few { hosting.now.workers ≤ MAX_THREADS }
     requires set { CanCount (S.failures set.old) }
     requires script { CanCount (P.failures script.old) }
     requires out { CanCount (O.failures out.old) }
-    requires err { CanCount (E.failures err.old) }
     requires empty { IsBlank page.old }
     ensures unread { (script.new ≡ script.old)
         ⊎ HoldsRun Verification.Required (S.supply set.old) }
     ensures goes { GoesTold (IsHostOf hosting.now.workers (S.supply set.old) (P.supply script.old))
-        (told_on page.new) (O.contents out.old) (O.contents out.new) [] [] result }
-    ensures warned { IsWarned (HoldsWarned (S.supply set.old)) page.new.warned.items result }
-    ensures said { Says (E.failures err.old) (E.failures err.new) (E.contents err.old)
-        (E.contents err.new) page.new.warned.items }
+        page.new.words.items (O.contents out.old) (O.contents out.new) [] [] result }
     ensures reads { S.failures set.new + P.failures script.new
         ≡ S.failures set.old + P.failures script.old + reads_failed result }
     ensures writes { O.failures out.new ≡ O.failures out.old + writes_failed result }
 {
-    let set = page.read_set(set)?;
-    let end = host_verified(set, script, hosting, page, out, err)?;
+    let set = page.read_set(alloc, set)?;
+    let end = host_verified(alloc, set, script, hosting, page, out)?;
     write_lines(&mut page.lines, out)?;
     Ok(end)
 }
 
 /// Has a script served over a set, if that is accepted.
-fn host_verified<P: Source, G: Gate + Sync, O: Sink, E: Sink, R: Threads + Wait + Sync>(
+fn host_verified<P: Source, G: Gate + Sync, O: Sink, R: Threads + Wait + Sync>(
+    alloc: Global,
     set: DriverSet,
     script: &mut P,
     hosting: &Hosting<'_, R, G>,
     page: &mut Page,
     out: &mut O,
-    err: &mut E,
 ) -> Result<End, Fault>
     requires some { 1 ≤ hosting.now.workers }
     requires few { hosting.now.workers ≤ MAX_THREADS }
     requires script { CanCount (P.failures script.old) }
     requires out { CanCount (O.failures out.old) }
-    requires err { CanCount (E.failures err.old) }
     requires empty { IsBlank page.old }
     ensures unread { (script.new ≡ script.old) ⊎ IsTypable set }
     ensures goes { GoesTold
         (IsIfAccepted (IsServedOf hosting.now.workers (P.supply script.old)) set)
-        (told_on page.new) (O.contents out.old) (O.contents out.new) [] page.new.lines result }
-    ensures warned { IsWarned (IsWarnedOf set) page.new.warned.items result }
-    ensures said { Says (E.failures err.old) (E.failures err.new) (E.contents err.old)
-        (E.contents err.new) page.new.warned.items }
+        page.new.words.items (O.contents out.old) (O.contents out.new) [] page.new.lines result }
     ensures reads { P.failures script.new ≡ P.failures script.old + reads_failed result }
     ensures writes { O.failures out.new ≡ O.failures out.old + writes_failed result }
 {
-    match verify(page.alloc, set) {
-        Ok(accepted) => host_accepted(accepted, script, hosting, page, out, err),
+    match verify(alloc, set) {
+        Ok(accepted) => host_accepted(alloc, accepted, script, hosting, page, out),
         Err((_set, refusal)) => refuse(&refusal, &mut page.lines),
     }
 }
 
-/// Has a script served over an accepted set, and adds the lines of what came of its commands. The
-/// set's warnings are told before.
-fn host_accepted<P: Source, G: Gate + Sync, O: Sink, E: Sink, R: Threads + Wait + Sync>(
+/// Has a script served over an accepted set, and adds the lines of what came of its commands.
+fn host_accepted<P: Source, G: Gate + Sync, O: Sink, R: Threads + Wait + Sync>(
+    alloc: Global,
     accepted: Accepted,
     script: &mut P,
     hosting: &Hosting<'_, R, G>,
     page: &mut Page,
     out: &mut O,
-    err: &mut E,
 ) -> Result<End, Fault>
     requires some { 1 ≤ hosting.now.workers }
     requires few { hosting.now.workers ≤ MAX_THREADS }
     requires script { CanCount (P.failures script.old) }
     requires out { CanCount (O.failures out.old) }
-    requires err { CanCount (E.failures err.old) }
     requires empty { IsBlank page.old }
     ensures goes { GoesTold (IsServedOf hosting.now.workers (P.supply script.old) accepted)
-        (told_on page.new) (O.contents out.old) (O.contents out.new) [] page.new.lines result }
-    ensures warned { IsWarned (AreWarnings accepted) page.new.warned.items result }
-    ensures said { Says (E.failures err.old) (E.failures err.new) (E.contents err.old)
-        (E.contents err.new) page.new.warned.items }
+        page.new.words.items (O.contents out.old) (O.contents out.new) [] page.new.lines result }
     ensures reads { P.failures script.new ≡ P.failures script.old + reads_failed result }
     ensures writes { O.failures out.new ≡ O.failures out.old + writes_failed result }
 {
-    let commands = read_script(page.alloc, script)?;
-    page.note_warnings(&accepted)?;
-    say(err, page.warned.as_slice());
-    serve(accepted, commands.as_slice(), hosting, page, out)
-}
-
-/// Has commands served over an accepted set, and adds the lines of what came of them.
-fn serve<G: Gate + Sync, O: Sink, R: Threads + Wait + Sync>(
-    accepted: Accepted,
-    commands: &[Command],
-    hosting: &Hosting<'_, R, G>,
-    page: &mut Page,
-    out: &mut O,
-) -> Result<End, Fault>
-    requires some { 1 ≤ hosting.now.workers }
-    requires few { hosting.now.workers ≤ MAX_THREADS }
-    requires out { CanCount (O.failures out.old) }
-    requires empty { page.old.lines ≡ [] }
-    requires warned { AreWarnings accepted page.old.warned.items }
-    ensures goes { GoesTold (IsServed hosting.now.workers accepted (Ok commands.now))
-        (told_on page.new) (O.contents out.old) (O.contents out.new) [] page.new.lines result }
-    ensures warned { page.new.warned.items ≡ page.old.warned.items }
-    ensures late { IsLate result }
-    ensures reads { reads_failed result ≡ 0 }
-    ensures writes { O.failures out.new ≡ O.failures out.old + writes_failed result }
-{
+    let commands = read_script(alloc, script)?;
+    let commands = commands.as_slice();
     let Hosting {
         runtime,
         workers,
         gate,
     } = *hosting;
-    match serve_script(runtime, page.alloc, accepted, workers, commands, gate) {
+    match serve_script(runtime, alloc, accepted, workers, commands, gate) {
         Ok(hosted) => {
-            page.note_rings(&hosted.machine)?;
+            page.note_rings(alloc, &hosted.machine)?;
             tell_hosted(&hosted, page, out)
         }
         Err(OutOfMemory) => Err(Fault::Memory),
@@ -266,10 +213,8 @@ fn tell_hosted<O: Sink>(hosted: &Hosted, page: &mut Page, out: &mut O) -> Result
     requires empty { page.old.lines ≡ [] }
     ensures goes { GoesTold
         (λ answer. answer ≡ served_as hosted.now.agrees hosted.now.told.items hosted.now.entries
-        page.old.ringed.items (told_on page.old))
-        (told_on page.new) (O.contents out.old) (O.contents out.new) [] page.new.lines result }
-    ensures warned { page.new.warned.items ≡ page.old.warned.items }
-    ensures late { IsLate result }
+        page.old.ringed.items page.old.words.items)
+        page.new.words.items (O.contents out.old) (O.contents out.new) [] page.new.lines result }
     ensures reads { reads_failed result ≡ 0 }
     ensures writes { O.failures out.new ≡ O.failures out.old + writes_failed result }
 {
@@ -319,8 +264,7 @@ fn tell_replay(hosted: &Hosted, page: &mut Page) -> End
     ensures end { result ≡ served_end hosted.now.agrees page.old.ringed.items }
     ensures line { page.new.lines
         ≡ page.old.lines ++ replay_line hosted.now.agrees hosted.now.entries }
-    ensures told { told_on page.new ≡ told_on page.old }
-    ensures warned { page.new.warned.items ≡ page.old.warned.items }
+    ensures words { page.new.words.items ≡ page.old.words.items }
 {
     if hosted.agrees {
         page.lines.agrees(hosted.entries);

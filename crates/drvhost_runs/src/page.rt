@@ -1,10 +1,9 @@
 //! What gathers while a script is served.
 
-ghost use Rattle.std.specs.Prelude.{◌≡◌, ◌+◌, IfErr, IfOk, OnErr, OnOk};
+ghost use Rattle.std.specs.Prelude.{◌≡◌, ◌+◌, IfErr, IfOk, OnOk};
 ghost use Rattle.drvhost_devices.specs.Device.{CanCount};
 ghost use Rattle.drvhost_devices.specs.Fault.{ReadsSet, reads_failed};
 ghost use Rattle.drvhost_runs.specs.Hosting.{IsBlank};
-ghost use Rattle.verifier_words.specs.Warnings.{AreWarnings};
 ghost use Rattle.drvhost_runs.specs.Served.{TellsOfRing};
 ghost use Rattle.tell_audit.specs.Findings.{ringed_threads};
 
@@ -13,25 +12,19 @@ use drvhost_devices::device::Source;
 use drvhost_devices::fault::Fault;
 use drvhost_devices::reading::{set_of, source_of};
 use drvhost_devices::transfer::read_whole;
-use drvhost_sets::warning::lock_warnings;
 use image::DriverSet;
 use report::lines::Lines;
 use std::alloc::{AllocError, Global};
 use tell_audit::findings::ringed_threads;
 use tell_changes::ring_words;
-use verifier::Accepted;
 
 /// What gathers while a script is served.
 #[derive(Drop)]
 pub(crate) struct Page {
-    /// What memory is taken from.
-    pub(crate) alloc: Global,
     /// The bytes that the set was read from.
     bytes: Vec<u8>,
     /// Lines that aren't written yet.
     pub(crate) lines: Lines,
-    /// What is told before workers begin.
-    pub(crate) warned: Vec<u8>,
     /// The threads that wait for each other in a ring, where workers have ended.
     pub(crate) ringed: Vec<u8>,
     /// What is told of them.
@@ -44,56 +37,41 @@ impl Page {
         ensures { IfOk result IsBlank }
     {
         Ok(Page {
-            alloc,
             bytes: Vec::new(alloc),
             lines: Lines::new(alloc)?,
-            warned: Vec::new(alloc),
             ringed: Vec::new(alloc),
             words: Vec::new(alloc),
         })
     }
 
     /// The set that the bytes of a source name, which are kept.
-    pub(crate) fn read_set<S: Source>(&mut self, source: &mut S) -> Result<DriverSet, Fault>
+    pub(crate) fn read_set<S: Source>(
+        &mut self,
+        alloc: Global,
+        source: &mut S,
+    ) -> Result<DriverSet, Fault>
         requires source { CanCount (S.failures source.old) }
         requires empty { IsBlank self.old }
         ensures set { ReadsSet (S.supply source.old) result }
         ensures reads { S.failures source.new ≡ S.failures source.old + reads_failed result }
         ensures empty { IsBlank self.new }
     {
-        self.bytes = read_whole(self.alloc, source)?;
-        set_of(self.alloc, self.bytes.as_slice())
-    }
-
-    /// Notes what is told of an accepted set before workers serve it.
-    pub(crate) fn note_warnings(&mut self, accepted: &Accepted) -> Result<(), Fault>
-        requires { IsBlank self.old }
-        ensures warned { OnOk result (AreWarnings accepted.now self.new.warned.items) }
-        ensures lines { self.new.lines ≡ self.old.lines }
-        ensures blank { OnErr result (IsBlank self.new) }
-        ensures fault { IfErr result (λ fault. fault ≡ Fault.Memory) }
-    {
-        self.warned = lock_warnings(self.alloc, self.bytes.as_slice(), accepted)?;
-        Ok(())
+        self.bytes = read_whole(alloc, source)?;
+        set_of(alloc, self.bytes.as_slice())
     }
 
     /// Notes which threads of a machine wait in a ring, with what is told of them.
-    pub(crate) fn note_rings(&mut self, machine: &Checked) -> Result<(), Fault>
+    pub(crate) fn note_rings(&mut self, alloc: Global, machine: &Checked) -> Result<(), Fault>
+        requires { IsBlank self.old }
         ensures lines { self.new.lines ≡ self.old.lines }
-        ensures warned { self.new.warned.items ≡ self.old.warned.items }
         ensures ringed { OnOk result
             (self.new.ringed.items ≡ ringed_threads machine.now.set machine.now.world) }
         ensures words { OnOk result
             (TellsOfRing self.new.ringed.items self.new.words.items) }
         ensures fault { IfErr result (λ fault. fault ≡ Fault.Memory) }
     {
-        let ringed = ringed_threads(self.alloc, machine)?;
-        self.words = words_on(
-            self.alloc,
-            self.bytes.as_slice(),
-            machine,
-            ringed.as_slice(),
-        )?;
+        let ringed = ringed_threads(alloc, machine)?;
+        self.words = words_on(alloc, self.bytes.as_slice(), machine, ringed.as_slice())?;
         self.ringed = ringed;
         Ok(())
     }

@@ -105,7 +105,7 @@ words_tell words job before after e f b n named told (text, tells, says) =
     (text, inr (job, named, tells), says)
 
 -- by other counts of failed reads
-pub unread_moved : (Such : List ℕ → Type 0) (reads before after : ℕ) (text : List ℕ)
+unread_moved : (Such : List ℕ → Type 0) (reads before after : ℕ) (text : List ℕ)
     → after ≡ before + reads → IsNamedUnread Such 0 reads text
     → IsNamedUnread Such before after text
 unread_moved Such reads before after text are (inl (none, empty)) = inl (omega arith, empty)
@@ -157,7 +157,7 @@ answers_quietly R Q k m i j w x u v p b n c Tells status a on same moved =
     }
 
 -- what a file holds, what is known of it holds
-pub holds_known : (known supply : Supply) (bytes : List ℕ) → IsSuppliedAs known supply
+holds_known : (known supply : Supply) (bytes : List ℕ) → IsSuppliedAs known supply
     → Holds supply bytes → Holds known bytes
 holds_known Unknown supply bytes h p = tt
 holds_known Closed supply bytes h p = let P : Supply → Type 0 = λ s. Holds s bytes in subst P h p

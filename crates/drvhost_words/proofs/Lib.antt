@@ -1,4 +1,3 @@
 pub mod Answering
 pub mod Rewritten
 pub mod Behind
-pub mod Warned

@@ -12,7 +12,6 @@ use Rattle.drvhost_devices.specs.declared.verification.Verification.TheVariants.
 use Rattle.drvhost_devices.specs.Ends.{HoldsRun, IsCheckOf, IsListOf, IsRewriteOf, IsTraceOf}
 use Rattle.drvhost_hunts.specs.Hunt.{IsHuntOf}
 use Rattle.drvhost_sets.specs.Explained.{IsExplainedOf, IsLockOrderExplained}
-use Rattle.drvhost_runs.specs.Hosting.{WarnsBefore}
 use Rattle.drvhost_runs.specs.Served.{IsHostOf}
 use Rattle.drvhost_views.specs.Told.{IsDrawOf, IsTellOf}
 use Rattle.drvhost_words.specs.declared.answer.Task.{Task}
@@ -111,21 +110,6 @@ WordsTell words before after text =
 abbrev pub ProgramTells : Result (Vec (String Global)) ErrorKind → ℕ → ℕ → List ℕ → Type 0
 ProgramTells (Ok words) before after text = WordsTell (arguments words) before after text
 ProgramTells (Err kind) before after text = text ≡ []
-
--- what may stand before what is told of a job: the warnings of `host` on the set that it serves
-abbrev pub JobWarns : (List ℕ → Supply) → Job → List ℕ → List ℕ → Type 0
-JobWarns supply (Alone job) told warned = warned ≡ []
-JobWarns supply (Host set script workers) told warned =
-    WarnsBefore (supply set.now) told warned
-
-abbrev pub WordsWarn : (List ℕ → Supply) → List Text → List ℕ → List ℕ → Type 0
-WordsWarn supply words told warned =
-    (warned ≡ []) ⊎ ((job : Job) × NamesJob words job × JobWarns supply job told warned)
-
-abbrev pub ProgramWarns : (List ℕ → Supply) → Result (Vec (String Global)) ErrorKind → List ℕ
-    → List ℕ → Type 0
-ProgramWarns supply (Ok words) told warned = WordsWarn supply (arguments words) told warned
-ProgramWarns supply (Err kind) told warned = warned ≡ []
 
 -- how many files are opened for a run: that of its input for a set that is run alone
 abbrev pub OpensToTrace : Verification → Supply → ℕ → Type 0

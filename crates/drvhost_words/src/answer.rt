@@ -1,11 +1,10 @@
 //! What the program answers.
 
 ghost use Rattle.std.specs.Prelude.{◌≡◌, ◌+◌, ◌<◌, ◌^◌, ◌⊎◌, ℕ, List, Option, drop, map, string_bytes, true};
-ghost use Rattle.drvhost_words.specs.Program.{IsAnswerTo, IsAnswerToLost, IsDoneOf, IsJobOf, IsOfNamed, IsProgram, IsRunBy, Opens, OpensFor, OpensToTrace, IsQuietly, JobStores, JobTells, JobWarns, ProgramOpens, ProgramStores, ProgramTells, ProgramWarns, RewritesFile, WordsStore, WordsTell, WordsWarn, verification_of};
+ghost use Rattle.drvhost_words.specs.Program.{IsAnswerTo, IsAnswerToLost, IsDoneOf, IsJobOf, IsOfNamed, IsProgram, IsRunBy, Opens, OpensFor, OpensToTrace, IsQuietly, JobStores, JobTells, ProgramOpens, ProgramStores, ProgramTells, RewritesFile, WordsStore, WordsTell, verification_of};
 ghost use Rattle.drvhost_words.specs.Unread.{IsNamedUnread, IsOneOf, SaysMore};
 ghost use Rattle.drvhost_devices.specs.Device.{CanCount, Says};
 ghost use Rattle.drvhost_devices.specs.Ends.{Answers, HoldsRun, IsCheckOf, IsRewriteOf};
-ghost use Rattle.drvhost_runs.specs.Hosting.{SaysWarned, WarnsBefore};
 ghost use Rattle.drvhost_runs.specs.Served.{IsHostOf};
 
 use crate::files::{Files, Later, Pending};
@@ -54,9 +53,8 @@ pub fn answer<F: Files, O: Sink, E: Sink, R: Threads + Wait + Sync>(
         (F.failures files.old) (F.failures files.new)
         (F.unwritten files.old + O.failures out.old) (F.unwritten files.new + O.failures out.new)
         (O.contents out.old) (O.contents out.new)
-        (SaysWarned (ProgramWarns (F.supply files.old) words)
         (SaysMore (ProgramTells words (F.failures files.old) (F.failures files.new))
-        (E.failures err.old) (E.failures err.new) (E.contents err.old) (E.contents err.new)))
+        (E.failures err.old) (E.failures err.new) (E.contents err.old) (E.contents err.new))
         result }
     ensures opened { (count : ℕ) × ProgramOpens (F.supply files.old) words count
         × (F.opened files.new ≡ F.opened files.old + count) }
@@ -114,10 +112,9 @@ fn answer_words<F: Files, O: Sink, E: Sink, R: Threads + Wait + Sync>(
         (F.failures files.old) (F.failures files.new)
         (F.unwritten files.old + O.failures out.old) (F.unwritten files.new + O.failures out.new)
         (O.contents out.old) (O.contents out.new)
-        (SaysWarned (WordsWarn (F.supply files.old) (map string_bytes words.now))
         (SaysMore (WordsTell (map string_bytes words.now)
         (F.failures files.old) (F.failures files.new))
-        (E.failures err.old) (E.failures err.new) (E.contents err.old) (E.contents err.new)))
+        (E.failures err.old) (E.failures err.new) (E.contents err.old) (E.contents err.new))
         result }
     ensures opened { (count : ℕ) × OpensFor (F.supply files.old) (map string_bytes words.now) count
         × (F.opened files.new ≡ F.opened files.old + count) }
@@ -150,9 +147,8 @@ fn perform<F: Files, O: Sink, E: Sink, R: Threads + Wait + Sync>(
         (F.failures files.old) (F.failures files.new)
         (F.unwritten files.old + O.failures out.old) (F.unwritten files.new + O.failures out.new)
         (O.contents out.old) (O.contents out.new)
-        (SaysWarned (JobWarns (F.supply files.old) job.now)
         (SaysMore (JobTells job.now (F.failures files.old) (F.failures files.new))
-        (E.failures err.old) (E.failures err.new) (E.contents err.old) (E.contents err.new)))
+        (E.failures err.old) (E.failures err.new) (E.contents err.old) (E.contents err.new))
         result }
     ensures opened { (count : ℕ) × Opens (F.supply files.old) job.now count
         × (F.opened files.new ≡ F.opened files.old + count) }
@@ -510,11 +506,10 @@ fn host_files<F: Files, O: Sink, E: Sink, R: Threads + Wait + Sync>(
         (F.supply files.old serving.entry.names.input.now))
         (F.failures files.old) (F.failures files.new) (O.failures out.old) (O.failures out.new)
         (O.contents out.old) (O.contents out.new)
-        (SaysWarned (WarnsBefore (F.supply files.old serving.entry.names.set.now))
         (SaysMore (IsNamedUnread
         (IsOneOf serving.entry.names.set.now serving.entry.names.input.now)
         (F.failures files.old) (F.failures files.new))
-        (E.failures err.old) (E.failures err.new) (E.contents err.old) (E.contents err.new)))
+        (E.failures err.old) (E.failures err.new) (E.contents err.old) (E.contents err.new))
         result }
     ensures opened { (count : ℕ)
         × OpensToTrace Verification.Required

@@ -10,5 +10,3 @@ mod overlap;
 mod rings;
 #[cfg(test)]
 mod scripts;
-#[cfg(test)]
-mod warned;

@@ -3,8 +3,6 @@ use Rattle.std.proofs.lemmas.Result.{err_from_is_err_and}
 use Rattle.drvhost_devices.specs.Answer.{IsIfAccepted}
 use Rattle.drvhost_runs.specs.Served.{IsHostOf, IsServedOf}
 use Rattle.drvhost_devices.proofs.Jobs.{goes_left, goes_rightly, right_on, set_unread}
-use Rattle.drvhost_runs.specs.Hosting.{HoldsWarned, IsWarnedOf, told_on}
-use Rattle.drvhost_runs.proofs.Warning.{held_warned, says_nothing, warned_late, warned_rightly}
 use Rattle.drvhost_runs.proofs.RingsTold.{told_broken, told_rightly, told_written}
 use Rattle.drvhost_runs.proofs.host.host_set.Goals as goal
 
@@ -46,10 +44,10 @@ returns-in_err-write_lines-clause-goes g c =
     let between = g.O.Sink.contents c.host_verified.new.out in
     let end = c.in_ok-end.end in
     rw (p.1, p.2, c.in_err-write_lines.ensures.fault)
-    (told_broken (IsHostOf n held scheduled) (told_on c.host_verified.new.page) before between
+    (told_broken (IsHostOf n held scheduled) c.host_verified.new.page.words.items before between
     (g.O.Sink.contents c.write_lines.new.sink) c.host_verified.new.page.lines end
     (told_rightly (IsIfAccepted (IsServedOf n scheduled) set) (IsHostOf n held scheduled)
-    (told_on c.host_verified.new.page) before between []
+    c.host_verified.new.page.words.items before between []
     c.host_verified.new.page.lines (Ok end) (right_on (IsIfAccepted (IsServedOf n scheduled)) held set c.in_ok-set.ensures.set)
     c.in_ok-end.ensures.goes)
     c.in_err-write_lines.ensures.written)
@@ -63,10 +61,10 @@ returns-clause-goes g c =
     let before = g.O.Sink.contents c.args.out.now in
     let between = g.O.Sink.contents c.host_verified.new.out in
     let end = c.in_ok-end.end in
-    told_written (IsHostOf n held scheduled) (told_on c.host_verified.new.page) before between
+    told_written (IsHostOf n held scheduled) c.host_verified.new.page.words.items before between
     (g.O.Sink.contents c.write_lines.new.sink) c.host_verified.new.page.lines end
     (told_rightly (IsIfAccepted (IsServedOf n scheduled) set) (IsHostOf n held scheduled)
-    (told_on c.host_verified.new.page) before between []
+    c.host_verified.new.page.words.items before between []
     c.host_verified.new.page.lines (Ok end) (right_on (IsIfAccepted (IsServedOf n scheduled)) held set c.in_ok-set.ensures.set)
     c.in_ok-end.ensures.goes)
     c.in_ok-write_lines.ensures.written

@@ -1,5 +1,4 @@
 use Rattle.std.proofs.lemmas.Result.{err_from_is_err_and}
-use Rattle.drvhost_runs.specs.Hosting.{told_on}
 use Rattle.drvhost_runs.proofs.Serving.{served_broken, served_broken_late, served_told}
 use Rattle.drvhost_runs.proofs.host.tell_hosted.Goals as goal
 
@@ -7,7 +6,7 @@ pub returns-in_err-tell_commands-clause-goes : goal.returns-in_err-tell_commands
 returns-in_err-tell_commands-clause-goes g c =
     let p = err_from_is_err_and c.from_residual.result c.from_residual.ensures.1 in
     rw (p.1, p.2, c.in_err-tell_commands.ensures.fault)
-    (served_broken c.args.hosted.now c.args.page.now.ringed.items (told_on c.args.page.now) (g.O.Sink.contents c.args.out.now)
+    (served_broken c.args.hosted.now c.args.page.now.ringed.items c.args.page.now.words.items (g.O.Sink.contents c.args.out.now)
     (g.O.Sink.contents c.tell_commands.new.out) c.tell_commands.new.lines
     (rw (c.requires.empty, c.as_slice.ensures.value) at c.in_err-tell_commands.ensures.broken))
 
@@ -17,7 +16,7 @@ returns-in_err-make_room-clause-goes g c =
     c.from_residual-in_err-make_room.ensures.1 in
     rw (p.1, p.2, c.in_err-make_room.ensures.fault)
     (served_broken_late c.args.hosted.now c.args.page.now.ringed.items
-    (told_on c.args.page.now) (g.O.Sink.contents c.args.out.now)
+    c.args.page.now.words.items (g.O.Sink.contents c.args.out.now)
     (g.O.Sink.contents c.tell_commands.new.out) (g.O.Sink.contents c.make_room.new.sink)
     c.tell_commands.new.lines c.make_room.new.lines
     (rw (c.requires.empty, c.as_slice.ensures.value) at c.in_ok-tell_commands.ensures.added)
@@ -25,8 +24,8 @@ returns-in_err-make_room-clause-goes g c =
 
 pub returns-clause-goes : goal.returns-clause-goes
 returns-clause-goes g c =
-    served_told c.args.hosted.now c.args.page.now.ringed.items (told_on c.args.page.now)
+    served_told c.args.hosted.now c.args.page.now.ringed.items c.args.page.now.words.items
     _ _ _ _ _ _ _ _
     (rw (c.requires.empty, c.as_slice.ensures.value) at c.in_ok-tell_commands.ensures.added)
     c.in_ok-make_room.ensures.written c.tell_replay.ensures.end c.tell_replay.ensures.line
-    c.tell_replay.ensures.told
+    c.tell_replay.ensures.words

@@ -18,8 +18,8 @@ returns-in-Ok g c = λ reads. record {
       c.in-Ok.ensures.written;
 }
 
-pub returns : goal.returns
-returns g c = λ reads. record {
+pub returns-in-Err : goal.returns-in-Err
+returns-in-Err g c = λ reads. record {
   reads = 0;
   writes = 1;
   told = codes "write failed\n";

@@ -1,7 +1,6 @@
-use Rattle.std.proofs.Common.{[], ◌∙◌, arith, inl, inr, refl, sym}
+use Rattle.std.proofs.Common.{◌∙◌, arith, inl, inr, refl, sym}
 use Rattle.drvhost_words.specs.Program.{IsAnswerTo, IsJobOf, WordsTell}
-use Rattle.drvhost_words.proofs.Answering.{answers_rightly, answers_telling, refused_status, refused_words, says_alone}
-use Rattle.drvhost_words.proofs.Warned.{words_warn}
+use Rattle.drvhost_words.proofs.Answering.{answers_rightly, answers_telling, refused_status, refused_words, says_alone, words_tell}
 use Rattle.drvhost_words.proofs.answer.answer_words.Goals as goal
 
 pub returns-in-Ok-clause-answers : goal.returns-in-Ok-clause-answers
@@ -9,7 +8,7 @@ returns-in-Ok-clause-answers g c =
     let supply = g.F.Files.supply c.args.files.now in
     answers_rightly (IsJobOf supply c.in-Ok.job) (IsAnswerTo supply _) _ _ _ _ _ _ _ _ _ _
     (answers_telling _ _ _ _ _ _ _ _ _ _ c.perform.ensures.answers
-    (words_warn supply _ c.in-Ok.job _ _ _ _ _ _ c.in-Ok.ensures.task))
+    (words_tell _ c.in-Ok.job _ _ _ _ _ _ c.in-Ok.ensures.task))
     (λ answer right. inl (
       c.in-Ok.job,
       c.in-Ok.ensures.task,
@@ -21,7 +20,7 @@ pub returns-in-Err-clause-answers : goal.returns-in-Err-clause-answers
 returns-in-Err-clause-answers g c =
     refused_words (g.F.Files.supply c.args.files.now) _ c.in-Err.fault _ _ _ _ _
     c.in-Err.ensures.refused c.refuse_words.ensures.status
-    ([], inl refl, says_alone (WordsTell _ _ _) _ _ _ _ (inl (refl, refl)) _ c.refuse_words.ensures.told)
+    (says_alone (WordsTell _ _ _) _ _ _ _ (inl (refl, refl)) _ c.refuse_words.ensures.told)
 
 pub returns-in-Ok-clause-stores : goal.returns-in-Ok-clause-stores
 returns-in-Ok-clause-stores g c =

@@ -1,17 +1,9 @@
 use Rattle.std.proofs.Common.{refl}
 use Rattle.drvhost_words.proofs.Answering.{answers_beside}
-use Rattle.drvhost_words.proofs.Warned.{answers_unwarned}
 use Rattle.drvhost_words.proofs.answer.perform.Goals as goal
 
 pub returns-in-Alone : goal.returns-in-Alone
-returns-in-Alone g c =
-    rw c.in-Alone.is
-    (record {
-      answers =
-          answers_unwarned _ _ _ _ _ _ _ _ _ _ (λ told. refl) c.perform_alone.ensures.answers;
-      opened = c.perform_alone.ensures.opened;
-      stores = c.perform_alone.ensures.stores;
-    })
+returns-in-Alone g c = rw c.in-Alone.is c.perform_alone.ensures
 
 pub returns-in-Host-clause-answers : goal.returns-in-Host-clause-answers
 returns-in-Host-clause-answers g c =
