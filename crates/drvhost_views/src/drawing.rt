@@ -15,7 +15,7 @@ use drvhost_runs::follow::is_last;
 use drvhost_runs::running::Machine;
 use drvhost_runs::watching::{Observer, Taken, observe};
 use interleave::schedule::Schedule;
-use model::event::Event;
+use model::event::{Event, Reply};
 use std::alloc::{AllocError, Global};
 use tell_changes::Moment;
 use tell_lines::kept::ToldLines;
@@ -60,6 +60,23 @@ struct Painter<'a> {
     number: u64,
 }
 
+impl<'a> Painter<'a> {
+    /// Draws the next event: the moment before it, what the machine replied, and the machine after
+    /// it.
+    fn paint<'s>(
+        &mut self,
+        event: &'s Event,
+        moment: &'s Moment,
+        reply: &'s Reply,
+        machine: &'s Checked,
+    ) -> Result<(), AllocError> {
+        let seen = Seen::of(event, moment, reply, machine);
+        self.drawing.add_event(&self.book, self.number, seen)?;
+        self.number = self.number.saturating_add(1);
+        Ok(())
+    }
+}
+
 impl<'a> Observer<Checked> for Painter<'a> {
     ghost tells = { λ start now set threads past. ⊤ };
 
@@ -73,9 +90,7 @@ impl<'a> Observer<Checked> for Painter<'a> {
     ) -> Result<Taken, Fault> {
         let moment = Moment::before(machine, event);
         let reply = machine.answer(event);
-        let seen = Seen::of(event, &moment, &reply, machine);
-        self.drawing.add_event(&self.book, self.number, seen)?;
-        self.number = self.number.saturating_add(1);
+        self.paint(event, &moment, &reply, machine)?;
         Ok(Taken {
             count: 1,
             ended: is_last(&reply),

@@ -2,8 +2,8 @@ use Rattle.std.proofs.Common.{[], arith}
 use Rattle.std.proofs.lemmas.Result.{err_from_is_err_and}
 use Rattle.drvhost_views.proofs.drawing.PainterObserverChecked.watch.Goals as goal
 
-pub returns-in_err-add_event-clause-breaks : goal.returns-in_err-add_event-clause-breaks
-returns-in_err-add_event-clause-breaks c =
+pub returns-in_err-paint-clause-breaks : goal.returns-in_err-paint-clause-breaks
+returns-in_err-paint-clause-breaks c =
     let p = err_from_is_err_and c.from_residual.result c.from_residual.ensures.1 in
     rw p.1
     (record {
