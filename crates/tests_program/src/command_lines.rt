@@ -84,16 +84,10 @@ fn runs_that_are_shown(rt: HostRuntime) -> Result<(), Fail> {
     Ok(())
 }
 
-/// How far hunts go, by the numbers that are given, and numbers that are none.
+/// Numbers that are none of a hunt's.
 #[test]
-fn hunts(rt: HostRuntime) -> Result<(), Fail> {
+fn hunts(rt: HostRuntime) {
     let alloc = rt.alloc();
-    let job = Job::of(alloc, &["hunt", "a"])?;
-    assert!(rt; is_to_hunt(job, 2, 2, 1_000_000));
-    let job = Job::of(alloc, &["hunt", "a", "--threads", "64", "--states=50"])?;
-    assert!(rt; is_to_hunt(job, 64, 2, 50));
-    let job = Job::of(alloc, &["hunt", "--packets", "4096", "--threads", "1", "a"])?;
-    assert!(rt; is_to_hunt(job, 1, 4_096, 1_000_000));
     for (option, number) in [
         ("--threads", "0"),
         ("--threads", "65"),
@@ -108,21 +102,6 @@ fn hunts(rt: HostRuntime) -> Result<(), Fail> {
             is_refused(alloc, &["hunt", "a", option, number]),
             "{option} {number}"
         );
-    }
-    Ok(())
-}
-
-/// Whether a job is to hunt in the set of a file so far.
-fn is_to_hunt(job: Job<'_>, threads: u8, packets: usize, worlds: usize) -> bool {
-    match job {
-        Job::Hunt { set, reach } => {
-            let bounds = reach.bounds();
-            set == "a"
-                && bounds.threads == threads
-                && bounds.packets == packets
-                && bounds.worlds == worlds
-        }
-        _ => false,
     }
 }
 
