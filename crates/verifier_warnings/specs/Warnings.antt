@@ -6,7 +6,7 @@ use Rattle.model.specs.Set.{Set}
 use Rattle.verifier_orders.specs.declared.order.LockOrder.{LockOrder}
 use Rattle.verifier_orders.specs.Edges.{HasNoOrder}
 use Rattle.verifier_orders.specs.Orders.{IsOrdered}
-use Rattle.verifier_words.specs.Orders.{EndsWith, IsCycle}
+use Rattle.verifier_warnings.specs.Orders.{EndsWith, IsCycle}
 
 -- the last words of a warning
 abbrev pub for_ever : List ℕ

@@ -1,6 +1,6 @@
 use Rattle.std.specs.Prelude.{string_bytes}
-use Rattle.verifier_words.proofs.Warned.{all_warned}
-use Rattle.verifier_words.proofs.warning.warnings.Goals as goal
+use Rattle.verifier_warnings.proofs.Warned.{all_warned}
+use Rattle.verifier_warnings.proofs.warning.warnings.Goals as goal
 
 pub returns : goal.returns
 returns c =

@@ -1,6 +1,6 @@
 use Rattle.std.specs.Prelude.{string_bytes}
-use Rattle.verifier_words.proofs.Cycles.{all_told, order_told}
-use Rattle.verifier_words.proofs.orders.add_cycles.Goals as goal
+use Rattle.verifier_warnings.proofs.Cycles.{all_told, order_told}
+use Rattle.verifier_warnings.proofs.orders.add_cycles.Goals as goal
 
 pub loop-order-preserved : goal.loop-order-preserved
 loop-order-preserved c =

@@ -1,7 +1,7 @@
 use Rattle.std.proofs.Common.{length}
 use Rattle.std.specs.Prelude.{string_bytes}
-use Rattle.verifier_words.proofs.Cycles.{told_rightly}
-use Rattle.verifier_words.proofs.orders.acceptance.Goals as goal
+use Rattle.verifier_warnings.proofs.Cycles.{told_rightly}
+use Rattle.verifier_warnings.proofs.orders.acceptance.Goals as goal
 
 pub returns-clause-orders : goal.returns-clause-orders
 returns-clause-orders c =

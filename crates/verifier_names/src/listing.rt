@@ -14,16 +14,16 @@ const MOST: u64 = 1 << 32;
 
 /// Lines of a listing.
 #[derive(Drop)]
-pub(crate) struct ListedPart {
-    pub(crate) text: String,
+pub struct ListedPart {
+    pub text: String,
     /// Where lines of it stand: by their numbers in the whole listing, and by the bytes of this
     /// part.
-    pub(crate) spots: Spots,
+    pub spots: Spots,
 }
 
 /// The lines of the routine of a number in the driver of a number, with a line on each side, and
 /// where its instructions stand.
-pub(crate) fn listed_routine(
+pub fn listed_routine(
     alloc: Global,
     set: &DriverSet,
     driver: u8,
@@ -47,7 +47,7 @@ pub(crate) fn listed_routine(
 }
 
 /// The lines of the devices of a set, and where they stand.
-pub(crate) fn listed_devices(alloc: Global, set: &DriverSet) -> Result<ListedPart, AllocError> {
+pub fn listed_devices(alloc: Global, set: &DriverSet) -> Result<ListedPart, AllocError> {
     let mut text = String::new(alloc);
     for (number, device) in set.devices().iter().enumerate() {
         Entry::Device(number, *device).write(&mut text)?;

@@ -5,7 +5,7 @@ use Rattle.model.specs.Set.{Set}
 use Rattle.verifier_orders.specs.declared.order.LockOrder.{LockOrder}
 use Rattle.verifier_orders.specs.declared.order.LockOrder.TheVariants.{Ordered, Cycle}
 use Rattle.verifier_orders.specs.Orders.{AreLockOrders, IsLockOrder}
-use Rattle.verifier_words.specs.Warnings.{AddsWarning, AreLines, AreWarnings, IsWarningOn, Warns, WarnsAt}
+use Rattle.verifier_warnings.specs.Warnings.{AddsWarning, AreLines, AreWarnings, IsWarningOn, Warns, WarnsAt}
 
 -- texts of which more is so
 lines_on : (P Q : ℕ → List ℕ → Type 0) (count : ℕ) (words : List ℕ)

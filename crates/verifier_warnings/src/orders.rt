@@ -2,20 +2,20 @@
 
 ghost use Rattle.std.specs.Prelude.{IfOk, OnOk, string_bytes};
 ghost use Rattle.model.specs.Typable.{IsTypable};
-ghost use Rattle.verifier_words.specs.Orders.{EndsRightly, EndsWith, TellsCycle, TellsCycles, TellsOrders, advice};
+ghost use Rattle.verifier_warnings.specs.Orders.{EndsRightly, EndsWith, TellsCycle, TellsCycles, TellsOrders, advice};
 
-use crate::listing::listed_routine;
-use crate::place::{Source, add_lines, add_title};
-use crate::telling::{Origin, add_roll, names_of};
-use asm_places::routine_source;
+use crate::roll::add_roll;
+use asm_places::{outline, routine_source};
 use driver_set::DriverSet;
 use model::instr::Instr;
 use model::set::{Driver, Guard};
 use std::alloc::{AllocError, Global};
 use text::Spot;
 use verifier::Accepted;
+use verifier_names::{
+    Names, Origin, SetNames, Source, add_lines, add_lock, add_title, listed_routine, spin_number,
+};
 use verifier_orders::{Edge, LockOrder, orders_of};
-use verifier_reasons::{Names, SetNames, add_lock, spin_number};
 
 /// What is told last where each driver takes its locks in an order.
 const NO_RING: &str = "No threads ever wait for each other in a ring, and every routine ends.\n";
@@ -48,6 +48,14 @@ impl<'s, 't> Telling<'s, 't> {
     /// What the driver of a number and the things in it are called.
     pub(crate) fn names(&self, number: u8) -> Names<'_, 't> {
         self.names.in_driver(number)
+    }
+}
+
+/// What the things in a set are called.
+fn names_of<'t>(alloc: Global, origin: Origin<'t>) -> Result<SetNames<'t>, AllocError> {
+    match origin {
+        Origin::Text(text) => SetNames::of(alloc, text, &outline(alloc, text)?),
+        Origin::Image => Ok(SetNames::Listed),
     }
 }
 

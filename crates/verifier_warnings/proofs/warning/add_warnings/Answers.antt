@@ -1,6 +1,6 @@
 use Rattle.std.specs.Prelude.{string_bytes}
-use Rattle.verifier_words.proofs.Warned.{line_added}
-use Rattle.verifier_words.proofs.warning.add_warnings.Goals as goal
+use Rattle.verifier_warnings.proofs.Warned.{line_added}
+use Rattle.verifier_warnings.proofs.warning.add_warnings.Goals as goal
 
 pub loop-order-preserved : goal.loop-order-preserved
 loop-order-preserved c =

@@ -1,8 +1,8 @@
 //! What is told of a broken rule: why it is broken, where that is written, and how to mend it.
 
-use crate::names::Names;
 use model::set::{Guard, QueueName};
 use std::alloc::AllocError;
+use verifier_names::{Names, add_lock, spin_number};
 
 /// Why a rule is broken, where that is written, and how to mend it. In the words `$R` stands for
 /// the register that they are about, `$Q` for the name of the queue, `$L` for the lock, `$A` and
@@ -18,15 +18,15 @@ pub struct Lesson {
 /// What words are about, where they name it. Without the number of a spin lock, their lock is the
 /// system cancel spin lock.
 #[derive(Clone, Copy)]
-pub(crate) struct About {
-    pub(crate) register: Option<usize>,
-    pub(crate) queue: Option<QueueName>,
-    pub(crate) lock: Option<usize>,
+pub struct About {
+    pub register: Option<usize>,
+    pub queue: Option<QueueName>,
+    pub lock: Option<usize>,
 }
 
 impl About {
     /// A register, and nothing else.
-    pub(crate) fn register(number: usize) -> About {
+    pub fn register(number: usize) -> About {
         About {
             register: Some(number),
             queue: None,
@@ -35,7 +35,7 @@ impl About {
     }
 
     /// A queue, and nothing else.
-    pub(crate) fn queue(name: QueueName) -> About {
+    pub fn queue(name: QueueName) -> About {
         About {
             register: None,
             queue: Some(name),
@@ -44,7 +44,7 @@ impl About {
     }
 
     /// A lock, and nothing else.
-    pub(crate) fn lock(lock: &Guard) -> About {
+    pub fn lock(lock: &Guard) -> About {
         About {
             register: None,
             queue: None,
@@ -55,7 +55,7 @@ impl About {
 
 impl Lesson {
     /// One whose words are about no register, queue or lock.
-    pub(crate) fn of(why: &'static str, source: &'static str, mend: &'static str) -> Lesson {
+    pub fn of(why: &'static str, source: &'static str, mend: &'static str) -> Lesson {
         let about = About {
             register: None,
             queue: None,
@@ -70,7 +70,7 @@ impl Lesson {
     }
 
     /// One whose words are about something.
-    pub(crate) fn about(
+    pub fn about(
         why: &'static str,
         source: &'static str,
         mend: &'static str,
@@ -147,22 +147,6 @@ impl Lesson {
         } else {
             prose.push_str(piece)
         }
-    }
-}
-
-/// The number of a spin lock, where a lock is one of the device.
-pub fn spin_number(lock: &Guard) -> Option<usize> {
-    match lock {
-        Guard::DeviceLock(spin) => Some(spin.index()),
-        Guard::CancelLock => None,
-    }
-}
-
-/// Adds the name of the spin lock of a number, or of the system cancel spin lock.
-pub fn add_lock(prose: &mut String, spin: Option<usize>) -> Result<(), AllocError> {
-    match spin {
-        Some(number) => write!(prose, "l{number}"),
-        None => prose.push_str("the system cancel spin lock"),
     }
 }
 

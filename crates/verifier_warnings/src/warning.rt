@@ -1,13 +1,13 @@
 //! The warnings of an accepted set's drivers that take their locks in a cycle.
 
 ghost use Rattle.std.specs.Prelude.{◌≡◌, [], IfOk, OnOk, length, string_bytes};
-ghost use Rattle.verifier_words.specs.Orders.{EndsWith};
-ghost use Rattle.verifier_words.specs.Warnings.{AddsWarning, AreLines, AreWarnings, WarnsAt, for_ever};
+ghost use Rattle.verifier_warnings.specs.Orders.{EndsWith};
+ghost use Rattle.verifier_warnings.specs.Warnings.{AddsWarning, AreLines, AreWarnings, WarnsAt, for_ever};
 
 use crate::orders::{Telling, begin_cycle, line_of};
-use crate::telling::Origin;
 use std::alloc::{AllocError, Global};
 use verifier::Accepted;
+use verifier_names::Origin;
 use verifier_orders::{Edge, LockOrder, orders_of};
 
 /// What is told last of a driver that takes its locks in a cycle.

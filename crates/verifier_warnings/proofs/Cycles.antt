@@ -6,7 +6,7 @@ use Rattle.model.specs.Set.{Set}
 use Rattle.verifier_orders.specs.declared.order.LockOrder.{LockOrder}
 use Rattle.verifier_orders.specs.declared.order.LockOrder.TheVariants.{Ordered, Cycle}
 use Rattle.verifier_orders.specs.Orders.{AreAllOrdered, AreLockOrders, IsLockOrder, IsOrdered}
-use Rattle.verifier_words.specs.Orders.{EndsRightly, EndsWith, HasCycle, IsCycle, IsCycleAmong, TellsCycle, TellsCycles, TellsOrders, advice, no_ring}
+use Rattle.verifier_warnings.specs.Orders.{EndsRightly, EndsWith, HasCycle, IsCycle, IsCycleAmong, TellsCycle, TellsCycles, TellsOrders, advice, no_ring}
 
 -- those among so many
 abbrev pub TellsSome : List LockOrder → ℕ → List ℕ → Bool → Type 0

@@ -103,11 +103,7 @@ impl Names<'_, '_> {
     }
 
     /// Adds the name of a queue as an instruction has it.
-    pub(crate) fn add_queue_alone(
-        self,
-        prose: &mut String,
-        name: QueueName,
-    ) -> Result<(), AllocError> {
+    pub fn add_queue_alone(self, prose: &mut String, name: QueueName) -> Result<(), AllocError> {
         let QueueName::Declared(number) = name else {
             return prose.push_str("the device queue");
         };
