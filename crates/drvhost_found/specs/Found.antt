@@ -1,0 +1,15 @@
+-- The files that a path stands for.
+use Rattle.std.specs.Prelude.{ℕ, ◌≡◌, List, [], ◌∷◌, Bool, ◌||◌, IsTrue, All, String, codes, map, nat_eq, string_bytes}
+use Rattle.std.specs.List.{ends_with}
+
+-- a path ends as that of a driver text, or of an image
+abbrev pub is_set_name : List ℕ → Bool
+is_set_name path = ends_with nat_eq path (codes ".drv") || ends_with nat_eq path (codes ".image")
+
+-- each of these paths does
+abbrev pub AreSets : {A : Type 0} → List (String A) → Type 0
+AreSets paths = All (λ path. IsTrue (is_set_name (string_bytes path))) paths
+
+-- this path alone
+abbrev pub IsAlone : {A : Type 0} → List ℕ → List (String A) → Type 0
+IsAlone path paths = map string_bytes paths ≡ path ∷ []

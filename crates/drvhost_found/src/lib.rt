@@ -1,0 +1,6 @@
+//! Which files a path on the command line stands for: itself, or those of driver sets in the folder
+//! that it is, and below it.
+#![tactic(auto)]
+
+pub mod find;
+pub mod set_name;
