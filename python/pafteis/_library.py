@@ -139,6 +139,7 @@ WHOLE: dict[str, list[Any]] = {
     "trace": [*SET, *SET, c_uint32, *BUFFER],
     "list": [*SET, *BUFFER],
     "rewrite": [*SET, *BUFFER],
+    "version_number": [],
     "version": BUFFER,
     "world_new": [*SET, c_uint8, *WORLD, POINTER(CVerdict)],
 }
