@@ -56,8 +56,8 @@ pub enum Fault {
 }
 
 impl Fault {
-    /// The exit status.
-    fn status(self) -> u8
+    /// The exit status: 3 where memory ran out, else 2.
+    pub fn status(self) -> u8
         ensures { result ≡ fault_status self }
     {
         match self {

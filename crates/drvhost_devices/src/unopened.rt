@@ -38,7 +38,7 @@ pub fn tell_unread<E: Sink>(name: &str, failures: u64, err: &mut E)
 
 /// Writes a text behind what an error writer was told since it had failed so often, unless it has
 /// failed since.
-fn say_behind<E: Sink>(text: &[u8], failures: u64, err: &mut E)
+pub fn say_behind<E: Sink>(text: &[u8], failures: u64, err: &mut E)
     requires { CanCount failures }
     ensures { SaysBehind failures (E.failures err.old) (E.failures err.new) (E.contents err.old)
         (E.contents err.new) text.now }
