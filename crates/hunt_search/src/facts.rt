@@ -27,7 +27,8 @@ pub(crate) struct Facts {
 /// What some routine of a driver set does.
 #[derive(Clone, Copy)]
 pub(crate) struct Uses {
-    /// It touches paged cells, and may run below IoCancelIrp: so that is called at DISPATCH_LEVEL too.
+    /// It touches paged cells, and may run below IoCancelIrp, so that this is called at
+    /// DISPATCH_LEVEL too.
     pub(crate) paged: bool,
     /// It asks whether a packet is cancelled.
     pub(crate) cancel: bool,

@@ -1,5 +1,5 @@
-//! Which numbers can reach a jump: two worlds that differ only in others go on alike. Each routine is
-//! gone through backwards, again and again until no more is found to matter.
+//! Which numbers can reach a jump: two worlds that differ only in others go on alike. Each routine
+//! is gone through backwards, again and again until no more is found to matter.
 
 use crate::registers::Registers;
 use driver_set::{DriverSet, Instr};
