@@ -96,6 +96,40 @@ typedef struct {
  * _NO_MEMORY. Takes memory. */
 uint32_t pafteis_check(const uint8_t *set, size_t set_length, pafteis_verdict *verdict);
 
+/* Orders of locks ---------------------------------------------------------------------------- */
+
+/* The nine locks of a driver: 0 to 7 are the spin locks l0 to l7, of which each device has its own,
+ * and this is the system cancel spin lock. */
+#define PAFTEIS_CANCEL_LOCK 8
+
+/* A routine acquires a lock while it holds another. */
+typedef struct {
+    uint32_t position; /* the instruction that acquires the lock, from 0 */
+    uint8_t routine;   /* of the driver, from 0 */
+    uint8_t held;      /* the lock that it holds there */
+    uint8_t taken;     /* the lock that it acquires */
+} pafteis_lock_edge;
+
+enum { PAFTEIS_ORDER = 1, PAFTEIS_CYCLE = 2 };
+
+/* What the routines of a driver make of its locks. What tells nothing is 0. */
+typedef struct {
+    uint64_t edges;             /* how many the cycle has */
+    uint32_t kind;              /* PAFTEIS_ORDER or PAFTEIS_CYCLE */
+    uint8_t order[9];           /* all nine: none is acquired while it or a later one is held */
+    pafteis_lock_edge cycle[9]; /* each acquires the lock that is held at the next, the last the one
+                                   that is held at the first */
+} pafteis_lock_order;
+
+/* Of the set that a text or an image names the locks of a driver in an order, or where they have
+ * none a shortest cycle, of which the edges come first by routine and position. With PAFTEIS_DONE
+ * `order` tells it, and `verdict` is all 0. Else `order` is as it was: with _REFUSED, _FAULTY and
+ * _NO_MEMORY `verdict` is that of pafteis_check; with _WRONG_ARGUMENT the set has no driver of this
+ * number, and `verdict` is all 0. Where all drivers have an order, no threads of any run wait for
+ * each other's locks in a ring. Takes memory. */
+uint32_t pafteis_order_of_locks(const uint8_t *set, size_t set_length, uint8_t driver,
+                                pafteis_lock_order *order, pafteis_verdict *verdict);
+
 /* Answers in bytes ---------------------------------------------------------------------------
  *
  * Each writes what the program of the same name writes, on its two streams: of these one is empty,

@@ -20,11 +20,11 @@ public:
     std::uint32_t status;
 };
 
-// What is thrown where a world of a refused or a faulty set is asked for.
+// What is thrown where a world or an order of a refused or a faulty set is asked for.
 class no_set : public error {
 public:
     no_set(std::uint32_t status, const pafteis_verdict &verdict)
-        : error(status, "no world: the set is refused or faulty"), verdict(verdict) {}
+        : error(status, "the set is refused or faulty"), verdict(verdict) {}
     pafteis_verdict verdict;
 };
 
@@ -78,6 +78,18 @@ inline std::string trace(std::string_view set, std::string_view schedule, bool *
         return pafteis_trace(bytes(set), set.size(), bytes(schedule), schedule.size(), flags, buffer,
                              capacity, needed);
     }, complete);
+}
+
+// The locks of a driver of an accepted set in an order, or a shortest cycle.
+inline pafteis_lock_order order_of_locks(std::string_view set, std::uint8_t driver) {
+    pafteis_lock_order order;
+    pafteis_verdict verdict;
+    std::uint32_t status =
+        pafteis_order_of_locks(bytes(set), set.size(), driver, &order, &verdict);
+    if (status == PAFTEIS_REFUSED || status == PAFTEIS_FAULTY)
+        throw no_set(status, verdict);
+    expect(status);
+    return order;
 }
 
 // The world of an accepted set. It can be moved, and not copied.

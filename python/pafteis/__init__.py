@@ -18,6 +18,7 @@ from pafteis.errors import (
     Refused,
     WrongArgument,
 )
+from pafteis.locks import CANCEL_LOCK, LockEdge, LockOrder, order_of_locks
 from pafteis.replies import Irql, Major, Reply, ReplyKind, Status
 from pafteis.verdicts import (
     ImageFault,
@@ -53,9 +54,10 @@ from pafteis.worlds import (
 __version__ = (Path(__file__).parent / "VERSION").read_text(encoding="ascii").strip()
 
 __all__ = [
-    "Armed", "ArmedKind", "Due", "Event", "EventKind", "Faulty", "FaultyImage", "FaultyText",
-    "Frame", "FrameKind", "ImageFault", "Irql", "LibraryMissing", "Major", "NoMemory", "NoWorld",
-    "Packet", "PacketKind", "PafteisError", "Place", "Refused", "Reply", "ReplyKind", "Rule",
-    "Source", "Status", "TextFault", "Thread", "Trace", "Verdict", "World", "WrongArgument",
-    "check", "explain", "explain_rule", "library_version", "listing", "report", "rewrite", "trace",
+    "Armed", "ArmedKind", "CANCEL_LOCK", "Due", "Event", "EventKind", "Faulty", "FaultyImage",
+    "FaultyText", "Frame", "FrameKind", "ImageFault", "Irql", "LibraryMissing", "LockEdge",
+    "LockOrder", "Major", "NoMemory", "NoWorld", "Packet", "PacketKind", "PafteisError", "Place",
+    "Refused", "Reply", "ReplyKind", "Rule", "Source", "Status", "TextFault", "Thread", "Trace",
+    "Verdict", "World", "WrongArgument", "check", "explain", "explain_rule", "library_version",
+    "listing", "order_of_locks", "report", "rewrite", "trace",
 ]

@@ -33,6 +33,28 @@ class CVerdict(ctypes.Structure):
     ]
 
 
+class CLockEdge(ctypes.Structure):
+    """`pafteis_lock_edge`"""
+
+    _fields_ = [
+        ("position", c_uint32),
+        ("routine", c_uint8),
+        ("held", c_uint8),
+        ("taken", c_uint8),
+    ]
+
+
+class CLockOrder(ctypes.Structure):
+    """`pafteis_lock_order`"""
+
+    _fields_ = [
+        ("edges", c_uint64),
+        ("kind", c_uint32),
+        ("order", c_uint8 * 9),
+        ("cycle", CLockEdge * 9),
+    ]
+
+
 class CWorld(ctypes.Structure):
     """`pafteis_world`"""
 
@@ -110,12 +132,14 @@ WORLD = [POINTER(CWorld)]
 # Calls that let other threads go on, and calls that don't, by the types of their arguments.
 WHOLE: dict[str, list[Any]] = {
     "check": [*SET, POINTER(CVerdict)],
+    "order_of_locks": [*SET, c_uint8, POINTER(CLockOrder), POINTER(CVerdict)],
     "report": [*SET, *BUFFER],
     "explain": [*SET, c_uint32, *BUFFER],
     "explain_rule": [c_uint32, *BUFFER],
     "trace": [*SET, *SET, c_uint32, *BUFFER],
     "list": [*SET, *BUFFER],
     "rewrite": [*SET, *BUFFER],
+    "version_number": [],
     "version": BUFFER,
     "world_new": [*SET, c_uint8, *WORLD, POINTER(CVerdict)],
 }

@@ -14,6 +14,8 @@ from tests import TOP
 HEADER = TOP / "include/pafteis.h"
 STRUCTS = {
     "verdict": _library.CVerdict,
+    "lock_edge": _library.CLockEdge,
+    "lock_order": _library.CLockOrder,
     "world": _library.CWorld,
     "event": _library.CEvent,
     "reply": _library.CReply,

@@ -1,7 +1,8 @@
 /* A stand-in for the library, which asks a program: for trying what is built round the library
  * where the library itself isn't proved yet. PAFTEIS_PROGRAM names the program, `drvhost` or one
  * that answers `check` and `trace` as it does. A world runs all its events again at each event, and
- * tells nothing of threads, packets and devices. No proof says anything of it. */
+ * tells nothing of threads, packets and devices; no order of locks is told. No proof says anything
+ * of it. */
 #include "pafteis.h"
 
 #include <stdio.h>
@@ -73,6 +74,14 @@ uint32_t pafteis_check(const uint8_t *set, size_t length, pafteis_verdict *verdi
     free(told);
     *verdict = found;
     return status;
+}
+
+uint32_t pafteis_order_of_locks(const uint8_t *set, size_t length, uint8_t driver,
+                                pafteis_lock_order *order, pafteis_verdict *verdict) {
+    uint32_t status = pafteis_check(set, length, verdict);
+    if (status == PAFTEIS_DONE)
+        memset(order, 0, sizeof *order);
+    return driver == 0 ? status : PAFTEIS_WRONG_ARGUMENT;
 }
 
 uint32_t pafteis_report(const uint8_t *set, size_t length, uint8_t *buffer, size_t capacity,

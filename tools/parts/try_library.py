@@ -40,7 +40,7 @@ def built(folder):
     """The commands that answer as the program does, by their language."""
     found = {}
     here = ["-std=c11", "-Wall", "-Wextra", "-Werror", "-I", TOP / "include"]
-    for name in ("answer", "step", "first"):
+    for name in ("answer", "step", "first", "locks"):
         subprocess.run(["cc", *here, EXAMPLES / f"{name}.c", LIBRARY / "libpafteis.a", "-o",
                         f"{folder}/{name}"], check=True)
     found["C"] = [f"{folder}/answer"]
@@ -76,14 +76,23 @@ def cases():
     yield ["version"], ["version"]
 
 
+LOCKS = (b"driver 0\nl1, l0, l2, l3, l4, l5, l6, l7, cancel\n"
+         b"driver 1\nroutine 0 at 1: l0 under cancel\n"
+         b"routine 1 at 1: cancel under l0\n")
+
+
 def wrong_worlds(folder):
-    """What is told of the programs that drive a world, each of which is tried once."""
+    """What is told of the programs that drive a world or ask for orders of locks, each of which is
+    tried once."""
     steps = b"started 0\nstepped\ntopped 0 0x00000000 0\nfinished\nidle\nfreed 0, again 5\n"
     if answered([f"{folder}/step", "examples/echo.drv"])[:2] != (0, steps):
         yield "a world from C answers otherwise"
     steps = b"started 0\nstepped\ntopped 0\nfinished\nidle\n"
     if answered([f"{folder}/step_cpp", "examples/echo.drv"])[:2] != (0, steps):
         yield "a world from C++ answers otherwise"
+    told = answered([f"{folder}/locks"])
+    if told[:2] != (0, LOCKS):
+        yield f"orders of locks from C are others: {told}"
     own = {"PYTHONPATH": str(TOP / "python"), "PAFTEIS_LIBRARY": os.environ["PAFTEIS"]}
     os.environ.update(own)
     first = (0, b"reply 1\nreply 2\nreply 4\npacket 0: 0x00000000\nreply 3\n")
@@ -95,7 +104,7 @@ def wrong_worlds(folder):
 def main():
     program = sys.argv[1] if len(sys.argv) > 1 else str(TOP / "crates/drvhost/out/drvhost")
     only = sys.argv[2:]
-    wrong, tried = 0, 4
+    wrong, tried = 0, 5
     with tempfile.TemporaryDirectory() as folder:
         commands = built(folder)
         for words, own in cases():

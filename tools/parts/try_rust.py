@@ -34,11 +34,11 @@ def argument(told):
 
 def calls_of_c(text):
     for name, arguments in re.findall(r"^uint32_t (\w+)\(([^)]*)\);", text, re.M):
-        yield name, [argument(it) for it in arguments.split(",")]
+        yield name, [argument(it) for it in arguments.split(",") if it != "void"]
 
 def calls_of_rust(text):
     for name, arguments in re.findall(r"pub fn (\w+)\((.*)\) -> u32;", text):
-        yield name, [it.split(": ")[1] for it in arguments.split(", ")]
+        yield name, [it.split(": ")[1] for it in arguments.split(", ") if it]
 
 def main():
     folder = os.path.abspath(sys.argv[1] if len(sys.argv) > 1 else os.path.join(TOP, "out/lib"))

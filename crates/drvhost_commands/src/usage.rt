@@ -24,8 +24,15 @@ pub(crate) fn unnamed(
     match matches.subcommand() {
         Some(("explain", inner)) => unexplained(alloc, inner),
         Some(("tell", _)) => untold(alloc),
-        _ => program.render_usage(),
+        _ => unnumbered(program),
     }
+}
+
+/// What is told where a number has a sign, which the command line takes and no task does.
+fn unnumbered(program: &mut Command<'_>) -> Result<String, AllocError> {
+    let mut text = program.render_usage()?;
+    text.push_str("\n\nFor more information, try '--help'.\n")?;
+    Ok(text)
 }
 
 /// What is told where `explain` isn't told what to explain.

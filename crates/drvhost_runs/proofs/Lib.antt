@@ -4,3 +4,4 @@ pub mod Following
 pub mod Observing
 pub mod Lining
 pub mod RingsTold
+pub mod Readying

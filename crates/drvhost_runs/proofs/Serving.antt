@@ -1,6 +1,5 @@
 -- How the lines of the commands of a script are added, and that they are right.
 use Rattle.std.proofs.Common.{◌≡◌, ◌∙◌, ◌<◌, ℕ, ◌+◌, true, List, [], ◌++◌, drop, get_or, length, Option, Ok, Err, refl, sym, ap, subst, append_assoc}
-use Rattle.std.specs.Global.{Vec}
 use Rattle.std.proofs.lemmas.List.{append-nil, at_drop_more}
 use Rattle.model.specs.declared.event.Reply.{Reply}
 use Rattle.model.specs.declared.history.Command.{Command}
@@ -14,9 +13,9 @@ use Rattle.drvhost_devices.specs.declared.fault.End.{End}
 use Rattle.drvhost_devices.specs.declared.fault.Fault.TheVariants.{Write}
 use Rattle.drvhost_devices.specs.Answer.{Answer}
 use Rattle.drvhost_runs.specs.Hosting.{GoesTold, ended_with}
-use Rattle.drvhost_runs.specs.Served.{IsServed, IsServedOf, TellsOfRing, command_line, command_lines, replay_line, ringed_after, served_as, served_end}
-use Rattle.drvhost_devices.specs.Device.{Adds, Supply, TakesBeginning}
-use Rattle.drvhost_devices.specs.Fault.{Goes, ReadsScript}
+use Rattle.drvhost_runs.specs.Served.{IsServed, TellsOfRing, command_line, command_lines, replay_line, ringed_after, served_as, served_end}
+use Rattle.drvhost_devices.specs.Device.{Adds, TakesBeginning}
+use Rattle.drvhost_devices.specs.Fault.{Goes}
 use Rattle.drvhost_devices.proofs.Writing.{adds_breaks, adds_line, adds_more}
 
 -- the next command's line
@@ -76,19 +75,17 @@ module _ (hosted : Hosted) (ringed words : List ℕ) where
         subst Q (sym adds) (adds_line b n [] l text line gathered),
       )
 
--- what was hosted is right for a script
-pub served_right : (set : Set) (workers : ℕ) (held : Supply) (commands : Vec Command)
-    (hosted : Hosted) (ringed words : List ℕ) → ReadsScript held (Ok commands)
-    → Hosts set workers commands.items hosted
+-- what was hosted is right for the commands of a script
+pub served_right : (set : Set) (workers : ℕ) (commands : List Command) (hosted : Hosted)
+    (ringed words : List ℕ) → Hosts set workers commands hosted
     → ringed ≡ ringed_threads hosted.machine.set hosted.machine.world → TellsOfRing ringed words
     → (answer : Answer) → IsServedAs hosted ringed words answer
-    → IsServedOf workers held set answer
-served_right set workers held commands hosted ringed words (text, holds, is) h rings tells answer e =
+    → IsServed workers set (Ok commands) answer
+served_right set workers commands hosted ringed words h rings tells answer e =
     let same : ringed ≡ ringed_after set workers h.history = rings
     ∙ ap (λ w. ringed_threads hosted.machine.set w) h.run.world
     ∙ ap (λ s. ringed_threads s (run s workers (events_of h.history)).world) h.same_set in
-    let told : List (Option Reply) = all_told h.history (length commands.items) in
-    let right : IsServed workers set (Ok commands.items) answer = (
+    let told : List (Option Reply) = all_told h.history (length commands) in (
       h.history,
       h.served,
       (
@@ -99,5 +96,4 @@ served_right set workers held commands hosted ringed words (text, holds, is) h r
             ∙ ap (λ x. served_as true told x ringed words) h.entries
             ∙ ap (λ x. served_as true told (length h.history) x words) same,
       ),
-    ) in
-    (text, holds, subst (λ r. IsServed workers set r answer) (sym is) right)
+    )

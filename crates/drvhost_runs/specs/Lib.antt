@@ -3,3 +3,4 @@ pub mod Repeats
 pub mod Served
 pub mod Watching
 pub mod Hosting
+pub mod Readiness

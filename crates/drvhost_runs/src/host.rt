@@ -1,34 +1,29 @@
 //! What comes of a script of commands that workers serve over one locked core.
 
-ghost use Rattle.std.specs.Prelude.{◌≡◌, ◌+◌, ◌++◌, ◌≤◌, ◌⊎◌, [], IfErr, IfOk, OnErr, OnOk, length};
-ghost use Rattle.model.specs.Typable.{IsTypable};
+ghost use Rattle.std.specs.Prelude.{◌≡◌, ◌+◌, ◌++◌, ◌≤◌, ◌⊎◌, [], IfErr, IfOk, IfSome, Ok, OnErr, OnOk};
 ghost use Rattle.model.specs.declared.limits.TheConstants.{MAX_THREADS};
 ghost use Rattle.report.specs.Lines.{HasRoom};
-ghost use Rattle.interleave_script.specs.declared.parse.TheConstants.{MAX_COMMANDS};
-ghost use Rattle.drvhost_devices.specs.Answer.{IsIfAccepted};
-ghost use Rattle.drvhost_devices.specs.Device.{Adds, CanCount, Says, TakesBeginning};
+ghost use Rattle.drvhost_devices.specs.Device.{Adds, CanCount, Says, SaysBehind, Supply, TakesBeginning};
 ghost use Rattle.drvhost_devices.specs.Ends.{Answers, HoldsRun};
-ghost use Rattle.drvhost_devices.specs.Fault.{ReadsScript, reads_failed, status_of, writes_failed};
+ghost use Rattle.drvhost_devices.specs.Fault.{reads_failed, status_of, writes_failed};
 ghost use Rattle.drvhost_runs.specs.Hosting.{GoesTold, IsBlank, told_behind};
-ghost use Rattle.drvhost_runs.specs.Served.{IsHostOf, IsServedOf, command_line, command_lines, replay_line, served_as, served_end};
+ghost use Rattle.drvhost_runs.specs.Readiness.{AreWarningsOf, IsReady, IsServing, SaysWarned};
+ghost use Rattle.drvhost_runs.specs.Served.{IsHostOf, IsServed, command_line, command_lines, replay_line, served_as, served_end};
 
 use crate::page::Page;
+use crate::ready::{Ready, get_ready, warn};
 use drvhost_devices::device::{Sink, Source};
-use drvhost_devices::fault::{End, Fault, finish, no_memory, of_script, say};
-use drvhost_devices::transfer::{make_room, read_whole, write_lines};
+use drvhost_devices::fault::{End, Fault, finish, no_memory};
+use drvhost_devices::transfer::{make_room, write_lines};
+use drvhost_devices::unopened::say_behind;
 use drvhost_devices::verification::Verification;
-use drvhost_sets::check::refuse;
-use image::DriverSet;
-use interleave_script::parse::parse_script;
 use model::event::Reply;
-use model::history::Command;
 use model::memory::OutOfMemory;
 use report::event_number::EventNumber;
 use report::lines::Lines;
 use std::alloc::{AllocError, Global};
 use std::sync::Wait;
 use std::thread::Threads;
-use verifier::{Accepted, verify};
 use workers::Gate;
 use workers_script::{Hosted, serve_script};
 
@@ -47,8 +42,9 @@ pub struct Hosting<'a, R, G> {
 /// accepted driver set, and writes a line for each command: how its request's packet topped out, or
 /// else the reply to it, or that it was left. The last line says of how many entries the history
 /// is, and whether the reference machine, which replays it, agrees. Before each turn a worker asks
-/// the gate. Where threads wait for each other in a ring, their workers end; a line for each of
-/// these threads then stands on the error writer. The answer is the exit status: 0 where the history
+/// the gate. Before the workers start, a line for each driver that takes its locks in a cycle stands
+/// on the error writer. Where threads wait for each other in a ring, their workers end; a line for
+/// each of these threads then stands there too. The answer is the exit status: 0 where the history
 /// agrees, 1 where it differs, where threads wait in a ring or where the set is refused, 2 where an
 /// input is faulty or a read or a write failed, 3 where memory ran out. Faults are told on the
 /// error writer: those of the set before a refusal, and a refusal before those of the script, which
@@ -73,117 +69,81 @@ pub fn host<S: Source, P: Source, G: Gate + Sync, O: Sink, E: Sink, R: Threads +
         (IsHostOf hosting.now.workers (S.supply set.old) (P.supply script.old))
         (S.failures set.old + P.failures script.old) (S.failures set.new + P.failures script.new)
         (O.failures out.old) (O.failures out.new) (O.contents out.old) (O.contents out.new)
-        (Says (E.failures err.old) (E.failures err.new) (E.contents err.old) (E.contents err.new))
+        (SaysWarned (AreWarningsOf (S.supply set.old) result)
+        (E.failures err.old) (E.failures err.new) (E.contents err.old) (E.contents err.new))
         result }
 {
     match Page::new(alloc) {
         Ok(mut page) => {
-            let end = host_set(alloc, set, script, hosting, &mut page, out);
-            finish_page(end, &mut page, err)
+            let ready = get_ready(alloc, set, script, &mut page);
+            let failures = err.failures();
+            warn(&ready, err);
+            let end = serve_ready(alloc, ready, hosting, &mut page, out);
+            finish_page(end, &mut page, failures, err)
         }
         Err(AllocError) => no_memory(err),
     }
 }
 
-/// Ends the job, as [`finish`] does. Where it met no fault, the words on a ring are told.
-fn finish_page<E: Sink>(end: Result<End, Fault>, page: &mut Page, err: &mut E) -> u8
-    requires { CanCount (E.failures err.old) }
-    ensures status { result ≡ status_of end }
-    ensures told { Says (E.failures err.old) (E.failures err.new) (E.contents err.old)
-        (E.contents err.new) (told_behind page.old.words.items end) }
-{
-    match end {
-        Ok(end) => {
-            say(err, page.words.as_slice());
-            end.status()
-        }
-        Err(fault) => finish(Err(fault), &mut page.lines, err),
-    }
-}
-
-/// Has a script served over the set that a source has, and writes the lines that gather.
-fn host_set<S: Source, P: Source, G: Gate + Sync, O: Sink, R: Threads + Wait + Sync>(
+/// Has what is ready served, and writes the lines that gather.
+fn serve_ready<G: Gate + Sync, O: Sink, R: Threads + Wait + Sync>(
     alloc: Global,
-    set: &mut S,
-    script: &mut P,
+    ready: Result<Option<Ready>, Fault>,
     hosting: &Hosting<'_, R, G>,
     page: &mut Page,
     out: &mut O,
 ) -> Result<End, Fault>
     requires some { 1 ≤ hosting.now.workers }
     requires few { hosting.now.workers ≤ MAX_THREADS }
-    requires set { CanCount (S.failures set.old) }
-    requires script { CanCount (P.failures script.old) }
     requires out { CanCount (O.failures out.old) }
-    requires empty { IsBlank page.old }
-    ensures unread { (script.new ≡ script.old)
-        ⊎ HoldsRun Verification.Required (S.supply set.old) }
-    ensures goes { GoesTold (IsHostOf hosting.now.workers (S.supply set.old) (P.supply script.old))
+    requires writes { writes_failed ready ≡ 0 }
+    requires blank { IfOk ready (λ ready. IfSome ready (λ _. IsBlank page.old)) }
+    ensures goes { (set script : Supply) → IsReady set script page.old ready
+        → GoesTold (IsHostOf hosting.now.workers set script)
         page.new.words.items (O.contents out.old) (O.contents out.new) [] [] result }
-    ensures reads { S.failures set.new + P.failures script.new
-        ≡ S.failures set.old + P.failures script.old + reads_failed result }
+    ensures served { status_of result ≡ 0 → IsServing ready }
+    ensures reads { reads_failed result ≡ reads_failed ready }
     ensures writes { O.failures out.new ≡ O.failures out.old + writes_failed result }
 {
-    let set = page.read_set(alloc, set)?;
-    let end = host_verified(alloc, set, script, hosting, page, out)?;
-    write_lines(&mut page.lines, out)?;
-    Ok(end)
-}
-
-/// Has a script served over a set, if that is accepted.
-fn host_verified<P: Source, G: Gate + Sync, O: Sink, R: Threads + Wait + Sync>(
-    alloc: Global,
-    set: DriverSet,
-    script: &mut P,
-    hosting: &Hosting<'_, R, G>,
-    page: &mut Page,
-    out: &mut O,
-) -> Result<End, Fault>
-    requires some { 1 ≤ hosting.now.workers }
-    requires few { hosting.now.workers ≤ MAX_THREADS }
-    requires script { CanCount (P.failures script.old) }
-    requires out { CanCount (O.failures out.old) }
-    requires empty { IsBlank page.old }
-    ensures unread { (script.new ≡ script.old) ⊎ IsTypable set }
-    ensures goes { GoesTold
-        (IsIfAccepted (IsServedOf hosting.now.workers (P.supply script.old)) set)
-        page.new.words.items (O.contents out.old) (O.contents out.new) [] page.new.lines result }
-    ensures reads { P.failures script.new ≡ P.failures script.old + reads_failed result }
-    ensures writes { O.failures out.new ≡ O.failures out.old + writes_failed result }
-{
-    match verify(alloc, set) {
-        Ok(accepted) => host_accepted(alloc, accepted, script, hosting, page, out),
-        Err((_set, refusal)) => refuse(&refusal, &mut page.lines),
+    match ready {
+        Ok(Some(ready)) => serve(alloc, ready, hosting, page, out),
+        Ok(None) => {
+            write_lines(&mut page.lines, out)?;
+            Ok(End::Stopped)
+        }
+        Err(fault) => Err(fault),
     }
 }
 
-/// Has a script served over an accepted set, and adds the lines of what came of its commands.
-fn host_accepted<P: Source, G: Gate + Sync, O: Sink, R: Threads + Wait + Sync>(
+/// Has a script served over an accepted set, and writes the lines of what came of its commands.
+fn serve<G: Gate + Sync, O: Sink, R: Threads + Wait + Sync>(
     alloc: Global,
-    accepted: Accepted,
-    script: &mut P,
+    ready: Ready,
     hosting: &Hosting<'_, R, G>,
     page: &mut Page,
     out: &mut O,
 ) -> Result<End, Fault>
     requires some { 1 ≤ hosting.now.workers }
     requires few { hosting.now.workers ≤ MAX_THREADS }
-    requires script { CanCount (P.failures script.old) }
     requires out { CanCount (O.failures out.old) }
-    requires empty { IsBlank page.old }
-    ensures goes { GoesTold (IsServedOf hosting.now.workers (P.supply script.old) accepted)
-        page.new.words.items (O.contents out.old) (O.contents out.new) [] page.new.lines result }
-    ensures reads { P.failures script.new ≡ P.failures script.old + reads_failed result }
+    requires blank { IsBlank page.old }
+    ensures goes { GoesTold
+        (IsServed hosting.now.workers ready.accepted (Ok ready.commands.items))
+        page.new.words.items (O.contents out.old) (O.contents out.new) [] [] result }
+    ensures reads { reads_failed result ≡ 0 }
     ensures writes { O.failures out.new ≡ O.failures out.old + writes_failed result }
 {
-    let commands = read_script(alloc, script)?;
-    let commands = commands.as_slice();
+    let Ready {
+        accepted,
+        commands,
+        warnings: _,
+    } = ready;
     let Hosting {
         runtime,
         workers,
         gate,
     } = *hosting;
-    match serve_script(runtime, alloc, accepted, workers, commands, gate) {
+    match serve_script(runtime, alloc, accepted, workers, commands.as_slice(), gate) {
         Ok(hosted) => {
             page.note_rings(alloc, &hosted.machine)?;
             tell_hosted(&hosted, page, out)
@@ -192,35 +152,41 @@ fn host_accepted<P: Source, G: Gate + Sync, O: Sink, R: Threads + Wait + Sync>(
     }
 }
 
-/// The commands that the text of a source lists.
-fn read_script<P: Source>(alloc: Global, source: &mut P) -> Result<Vec<Command>, Fault>
-    requires { CanCount (P.failures source.old) }
-    ensures script { ReadsScript (P.supply source.old) result }
-    ensures short { IfOk result (λ commands. length commands.items ≤ MAX_COMMANDS) }
-    ensures reads { P.failures source.new ≡ P.failures source.old + reads_failed result }
+/// Ends the job, as [`finish`] does, behind what the error writer was told since it had failed so
+/// often. Where the job met no fault, the words on a ring are told.
+fn finish_page<E: Sink>(end: Result<End, Fault>, page: &mut Page, failures: u64, err: &mut E) -> u8
+    requires { CanCount failures }
+    ensures status { result ≡ status_of end }
+    ensures told { SaysBehind failures (E.failures err.old) (E.failures err.new)
+        (E.contents err.old) (E.contents err.new) (told_behind page.old.words.items end) }
 {
-    let text = read_whole(alloc, source)?;
-    match parse_script(alloc, text.as_slice()) {
-        Ok(commands) => Ok(commands),
-        Err(fault) => Err(of_script(fault)),
+    match end {
+        Ok(end) => {
+            say_behind(page.words.as_slice(), failures, err);
+            end.status()
+        }
+        Err(fault) if err.failures() == failures => finish(Err(fault), &mut page.lines, err),
+        Err(fault) => fault.status(),
     }
 }
 
-/// Adds the lines of commands that were served, and of their history. The words on a ring are there
-/// before.
+/// Writes the lines of commands that were served, and of their history. The words on a ring are
+/// there before.
 fn tell_hosted<O: Sink>(hosted: &Hosted, page: &mut Page, out: &mut O) -> Result<End, Fault>
     requires out { CanCount (O.failures out.old) }
     requires empty { page.old.lines ≡ [] }
     ensures goes { GoesTold
         (λ answer. answer ≡ served_as hosted.now.agrees hosted.now.told.items hosted.now.entries
         page.old.ringed.items page.old.words.items)
-        page.new.words.items (O.contents out.old) (O.contents out.new) [] page.new.lines result }
+        page.new.words.items (O.contents out.old) (O.contents out.new) [] [] result }
     ensures reads { reads_failed result ≡ 0 }
     ensures writes { O.failures out.new ≡ O.failures out.old + writes_failed result }
 {
     tell_commands(hosted.told.as_slice(), &mut page.lines, out)?;
     make_room(&mut page.lines, out)?;
-    Ok(tell_replay(hosted, page))
+    let end = tell_replay(hosted, page);
+    write_lines(&mut page.lines, out)?;
+    Ok(end)
 }
 
 /// Adds a line for each command.

@@ -7,6 +7,7 @@ pub mod follow;
 pub mod host;
 mod lined;
 mod page;
+mod ready;
 pub mod running;
 pub mod trace;
 pub mod watching;

@@ -6,17 +6,20 @@ ghost use Rattle.drvhost_devices.specs.Fault.{ReadsSet, reads_failed};
 ghost use Rattle.drvhost_runs.specs.Hosting.{IsBlank};
 ghost use Rattle.drvhost_runs.specs.Served.{TellsOfRing};
 ghost use Rattle.tell_audit.specs.Findings.{ringed_threads};
+ghost use Rattle.verifier_warnings.specs.Warnings.{AreWarnings};
 
 use checked::Checked;
 use drvhost_devices::device::Source;
 use drvhost_devices::fault::Fault;
 use drvhost_devices::reading::{set_of, source_of};
 use drvhost_devices::transfer::read_whole;
+use drvhost_sets::warning::lock_warnings;
 use image::DriverSet;
 use report::lines::Lines;
 use std::alloc::{AllocError, Global};
 use tell_audit::findings::ringed_threads;
 use tell_changes::ring_words;
+use verifier::Accepted;
 
 /// What gathers while a script is served.
 #[derive(Drop)]
@@ -58,6 +61,14 @@ impl Page {
     {
         self.bytes = read_whole(alloc, source)?;
         set_of(alloc, self.bytes.as_slice())
+    }
+
+    /// The warnings of an accepted set, in the terms of the bytes that it was read from.
+    pub(crate) fn warnings(&self, alloc: Global, accepted: &Accepted) -> Result<Vec<u8>, Fault>
+        ensures warnings { IfOk result (λ words. AreWarnings accepted.now words.items) }
+        ensures fault { IfErr result (λ fault. fault ≡ Fault.Memory) }
+    {
+        Ok(lock_warnings(alloc, self.bytes.as_slice(), accepted)?)
     }
 
     /// Notes which threads of a machine wait in a ring, with what is told of them.

@@ -3,7 +3,7 @@ use Rattle.std.proofs.Common.{◌≡◌, ◌≢◌, ◌∙◌, ◌⊎◌, ◌+�
 use Rattle.std.proofs.lemmas.List.{append-nil, map_push, take_all, take_more}
 use Rattle.std.specs.Io.KnownBytes.{Appends}
 use Rattle.verifier_words.specs.Faults.{refusals}
-use Rattle.verifier_words.specs.Orders.{TellsOrders}
+use Rattle.verifier_warnings.specs.Orders.{TellsOrders}
 use Rattle.verifier_words.specs.declared.telling.Told.{Told}
 use Rattle.model.specs.declared.abs.Refusal.{Refusal}
 use Rattle.model.specs.declared.abs.Rule.TheVariants.{Memory}

@@ -1,7 +1,7 @@
 -- What `explain` answers: the verdict, with words behind it.
 use Rattle.std.specs.Prelude.{ℕ, ◌≡◌, ◌≢◌, ◌++◌, ◌⊎◌, List, [], ◌∷◌, Result, Ok, Err, codes}
 use Rattle.verifier_words.specs.Faults.{AreFaults}
-use Rattle.verifier_words.specs.Orders.{TellsOrders}
+use Rattle.verifier_warnings.specs.Orders.{TellsOrders}
 use Rattle.drvhost_devices.specs.Answer.{Answer, FileSays, acceptance, ended, faulty}
 use Rattle.drvhost_devices.specs.Device.{Holds, Supply}
 use Rattle.drvhost_devices.specs.declared.fault.End.TheVariants.{Complete, Stopped}

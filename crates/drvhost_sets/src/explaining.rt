@@ -23,7 +23,9 @@ use model::abs::{Refusal, Rule};
 use report::lines::Lines;
 use std::alloc::{AllocError, Global};
 use verifier::{Accepted, verify};
-use verifier_words::{Origin, Told, acceptance, explanation, explanations};
+use verifier_names::Origin;
+use verifier_warnings::acceptance;
+use verifier_words::{Told, explanation, explanations};
 
 /// Of which faults of a refused set words are written.
 #[derive(Clone, Copy, Debug, PartialEq, Eq)]

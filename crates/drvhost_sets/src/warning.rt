@@ -1,12 +1,12 @@
 //! What is told of an accepted set before workers serve it.
 
 ghost use Rattle.std.specs.Prelude.{IfOk};
-ghost use Rattle.verifier_words.specs.Warnings.{AreWarnings};
+ghost use Rattle.verifier_warnings.specs.Warnings.{AreWarnings};
 
 use crate::explaining::origin_of;
 use std::alloc::{AllocError, Global};
 use verifier::Accepted;
-use verifier_words::warnings;
+use verifier_warnings::warnings;
 
 /// The warnings of an accepted set's drivers that take their locks in a cycle, in the terms of the
 /// bytes that it was read from.

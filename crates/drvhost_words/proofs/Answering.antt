@@ -1,5 +1,5 @@
 -- What is right for files is right for what is known of them, and how words are answered.
-use Rattle.std.proofs.Common.{◌≡◌, ◌≢◌, ◌∙◌, ◌⊎◌, ap, ℕ, ◌+◌, List, [], ◌∷◌, Option, None, true, string_bytes, append-nil, arith, inl, inr, refl, subst, sym}
+use Rattle.std.proofs.Common.{◌≡◌, ◌≢◌, ◌∙◌, ◌⊎◌, ap, ℕ, ◌+◌, List, [], ◌++◌, ◌∷◌, Option, None, true, string_bytes, append-nil, arith, inl, inr, refl, subst, sym}
 use Rattle.std.proofs.KnownBytes.{Appends-nil, Keeps-refl}
 use Rattle.clap.specs.Words.{Text, subcommand_of, takes}
 use Rattle.drvhost_devices.specs.Answer.{Answer}
@@ -9,6 +9,7 @@ use Rattle.hunt_search.specs.declared.search.Bounds.{Bounds}
 use Rattle.drvhost_hunts.specs.Hunt.{IsHuntOf}
 use Rattle.drvhost_sets.specs.declared.explaining.Extent.{Extent}
 use Rattle.drvhost_sets.specs.Explained.{IsExplainedOf}
+use Rattle.drvhost_runs.specs.Readiness.{AreWarningsOf, SaysWarned}
 use Rattle.drvhost_runs.specs.Served.{IsHostOf}
 use Rattle.drvhost_views.specs.Told.{IsDrawOf, IsTellOf}
 use Rattle.drvhost_views.specs.declared.tell.Manner.{Manner}
@@ -22,8 +23,8 @@ use Rattle.drvhost_words.specs.declared.answer.Task.{Task}
 use Rattle.drvhost_words.specs.declared.answer.Task.TheVariants.{Explained, Listed, Hunted}
 use Rattle.drvhost_words.specs.declared.answer.Way.{Way}
 use Rattle.drvhost_words.specs.declared.answer.Way.TheVariants.{BySchedule, InWords, AsPicture}
-use Rattle.drvhost_words.specs.Program.{IsAnswerTo, IsDoneOf, IsQuietly, IsRunBy, JobTells, WordsTell}
-use Rattle.drvhost_words.specs.Unread.{IsNamedUnread, SaysMore, SaysUnread}
+use Rattle.drvhost_words.specs.Program.{IsAnswerTo, IsDoneOf, IsQuietly, IsRunBy, JobTells, JobWarns, WordsTell, WordsWarn}
+use Rattle.drvhost_words.specs.Unread.{IsNamedUnread, SaysAround, SaysMore, SaysUnread}
 
 -- where more answers are right
 ends_rightly : (R Q : Answer → Type 0) (reads writes : ℕ) (b n : Option (List ℕ)) (status : ℕ)
@@ -96,13 +97,14 @@ answers_alone R k m w x b n Tells e f p q status none a =
     answers_telling R k m w x b n (Says e f p q) (SaysMore Tells e f p q) status a
     (says_alone Tells e f p q none)
 
--- what is told behind the answer of a job is so for words that name it
-pub words_tell : (words : List Text) (job : Job) (before after e f : ℕ) (b n : Option (List ℕ))
-    → NamesJob words job → (told : List ℕ)
-    → SaysMore (JobTells job before after) e f b n told
-    → SaysMore (WordsTell words before after) e f b n told
-words_tell words job before after e f b n named told (text, tells, says) =
-    (text, inr (job, named, tells), says)
+-- what is told round the answer of a job is so for words that name it
+pub words_tell : (supply : List ℕ → Supply) (words : List Text) (job : Job)
+    (status before after e f : ℕ) (b n : Option (List ℕ)) → NamesJob words job → (told : List ℕ)
+    → SaysAround (JobWarns supply job status) (JobTells job before after) e f b n told
+    → SaysAround (WordsWarn supply words status) (WordsTell words before after) e f b n told
+words_tell supply words job status before after e f b n named told
+    (warnings, text, warns, tells, says) =
+    (warnings, text, inr (job, named, warns), inr (job, named, tells), says)
 
 -- by other counts of failed reads
 unread_moved : (Such : List ℕ → Type 0) (reads before after : ℕ) (text : List ℕ)
@@ -125,6 +127,39 @@ answers_unread R k m w x b n Such reads before after e f h p q r status a (text,
       text,
       unread_moved Such reads before after text are unread,
       said p told says,
+    ))
+
+-- nothing is said before
+pub says_behind_none : (Warns Tells : List ℕ → Type 0) (e f : ℕ) (b n : Option (List ℕ)) → Warns []
+    → (told : List ℕ) → SaysMore Tells e f b n told → SaysAround Warns Tells e f b n told
+says_behind_none Warns Tells e f b n none told (text, tells, says) = ([], text, none, tells, says)
+
+pub answers_unwarned : (R : Answer → Type 0) (k m w x : ℕ) (b n : Option (List ℕ))
+    (Warns Tells : List ℕ → Type 0) (e f : ℕ) (p q : Option (List ℕ)) (status : ℕ) → Warns []
+    → Answers R k m w x b n (SaysMore Tells e f p q) status
+    → Answers R k m w x b n (SaysAround Warns Tells e f p q) status
+answers_unwarned R k m w x b n Warns Tells e f p q status none a =
+    answers_telling R k m w x b n (SaysMore Tells e f p q) (SaysAround Warns Tells e f p q) status a
+    (says_behind_none Warns Tells e f p q none)
+
+-- warnings are said before, and the name of a file that can't be read behind
+pub answers_warned : (R : Answer → Type 0) (k m w x : ℕ) (b n : Option (List ℕ))
+    (Warns Others Such : List ℕ → Type 0) (reads before after e f h : ℕ)
+    (p q r : Option (List ℕ)) (status : ℕ)
+    → Answers R k m w x b n (SaysWarned Warns e f p q) status
+    → ((warnings : List ℕ) → Warns warnings → Others warnings)
+    → SaysUnread Such reads e f h q r → after ≡ before + reads
+    → Answers R k m w x b n (SaysAround Others (IsNamedUnread Such before after) e h p r) status
+answers_warned R k m w x b n Warns Others Such reads before after e f h p q r status a on
+    (text, unread, said) are =
+    answers_telling R k m w x b n (SaysWarned Warns e f p q)
+    (SaysAround Others (IsNamedUnread Such before after) e h p r) status a
+    (λ told warned. (
+      warned.0,
+      text,
+      on warned.0 warned.1,
+      unread_moved Such reads before after text are unread,
+      said p (warned.0 ++ told) warned.2,
     ))
 
 -- where the output goes to a file, and nothing to the standard output
@@ -224,6 +259,14 @@ pub host_known : (workers : ℕ) (known supply script other : Supply)
 host_known workers known supply script other h e answer (bytes, holds, right) =
     let P : Supply → Type 0 = λ s. IsHostOf workers known s answer in
     subst P e (bytes, holds_known known supply bytes h holds, right)
+
+-- the warnings of the set that a file holds are those of what is known of it
+pub warnings_known : (known supply : Supply) → IsSuppliedAs known supply → (status : ℕ)
+    (warnings : List ℕ) → AreWarningsOf supply status warnings
+    → AreWarningsOf known status warnings
+warnings_known known supply h status warnings (inl (bytes, holds, warns)) =
+    inl (bytes, holds_known known supply bytes h holds, warns)
+warnings_known known supply h status warnings (inr none) = inr none
 
 pub way_known : (way : Way) (known supply input other : Supply)
     → IsSuppliedAs known supply → other ≡ input → (answer : Answer)

@@ -1,5 +1,5 @@
--- What the program answers for the words of its command line, what it tells behind that, which files
--- it opens, and what it writes to one.
+-- What the program answers for the words of its command line, what it tells before and behind that,
+-- which files it opens, and what it writes to one.
 use Rattle.std.specs.Prelude.{ℕ, ◌≡◌, ◌≢◌, ◌+◌, ◌++◌, ◌⊎◌, List, [], map, true, Result, Ok, Err, String, drop, string_bytes}
 use Rattle.std.specs.Global.{Global, Vec}
 use Rattle.std.specs.declared.io.ErrorKind.{ErrorKind}
@@ -12,6 +12,7 @@ use Rattle.drvhost_devices.specs.declared.verification.Verification.TheVariants.
 use Rattle.drvhost_devices.specs.Ends.{HoldsRun, IsCheckOf, IsListOf, IsRewriteOf, IsTraceOf}
 use Rattle.drvhost_hunts.specs.Hunt.{IsHuntOf}
 use Rattle.drvhost_sets.specs.Explained.{IsExplainedOf, IsLockOrderExplained}
+use Rattle.drvhost_runs.specs.Readiness.{AreWarningsOf}
 use Rattle.drvhost_runs.specs.Served.{IsHostOf}
 use Rattle.drvhost_views.specs.Told.{IsDrawOf, IsTellOf}
 use Rattle.drvhost_words.specs.declared.answer.Task.{Task}
@@ -110,6 +111,25 @@ WordsTell words before after text =
 abbrev pub ProgramTells : Result (Vec (String Global)) ErrorKind → ℕ → ℕ → List ℕ → Type 0
 ProgramTells (Ok words) before after text = WordsTell (arguments words) before after text
 ProgramTells (Err kind) before after text = text ≡ []
+
+-- what is told before the answer of a job, by its exit status: of a set that workers serve, its
+-- warnings
+abbrev pub JobWarns : (List ℕ → Supply) → Job → ℕ → List ℕ → Type 0
+JobWarns supply (Alone job) status warnings = warnings ≡ []
+JobWarns supply (Hunt set reach) status warnings = warnings ≡ []
+JobWarns supply (Host set script workers) status warnings =
+    AreWarningsOf (supply set.now) status warnings
+
+-- and before the answer to words: nothing where they name no job
+abbrev pub WordsWarn : (List ℕ → Supply) → List Text → ℕ → List ℕ → Type 0
+WordsWarn supply words status warnings =
+    ((warnings ≡ []) × (status ≢ 0))
+    ⊎ ((job : Job) × NamesJob words job × JobWarns supply job status warnings)
+
+abbrev pub ProgramWarns : (List ℕ → Supply) → Result (Vec (String Global)) ErrorKind → ℕ → List ℕ
+    → Type 0
+ProgramWarns supply (Ok words) status warnings = WordsWarn supply (arguments words) status warnings
+ProgramWarns supply (Err kind) status warnings = warnings ≡ []
 
 -- how many files are opened for a run: that of its input for a set that is run alone
 abbrev pub OpensToTrace : Verification → Supply → ℕ → Type 0

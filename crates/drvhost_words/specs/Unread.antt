@@ -27,3 +27,10 @@ abbrev pub SaysMore : (List ℕ → Type 0) → ℕ → ℕ → Option (List ℕ
 SaysMore Tells failures_before failures_after before after told =
     (text : List ℕ) × Tells text
     × Says failures_before failures_after before after (told ++ text)
+
+-- warnings were told before these bytes, and such a text behind them
+abbrev pub SaysAround : (List ℕ → Type 0) → (List ℕ → Type 0) → ℕ → ℕ → Option (List ℕ)
+    → Option (List ℕ) → List ℕ → Type 0
+SaysAround Warns Tells failures_before failures_after before after told =
+    (warnings text : List ℕ) × Warns warnings × Tells text
+    × Says failures_before failures_after before after ((warnings ++ told) ++ text)

@@ -1,10 +1,11 @@
 //! What the program answers.
 
 ghost use Rattle.std.specs.Prelude.{◌≡◌, ◌+◌, ◌<◌, ◌^◌, ◌⊎◌, ℕ, List, Option, drop, map, string_bytes, true};
-ghost use Rattle.drvhost_words.specs.Program.{IsAnswerTo, IsAnswerToLost, IsDoneOf, IsJobOf, IsOfNamed, IsProgram, IsRunBy, Opens, OpensFor, OpensToTrace, IsQuietly, JobStores, JobTells, ProgramOpens, ProgramStores, ProgramTells, RewritesFile, WordsStore, WordsTell, verification_of};
-ghost use Rattle.drvhost_words.specs.Unread.{IsNamedUnread, IsOneOf, SaysMore};
+ghost use Rattle.drvhost_words.specs.Program.{IsAnswerTo, IsAnswerToLost, IsDoneOf, IsJobOf, IsOfNamed, IsProgram, IsRunBy, Opens, OpensFor, OpensToTrace, IsQuietly, JobStores, JobTells, JobWarns, ProgramOpens, ProgramStores, ProgramTells, ProgramWarns, RewritesFile, WordsStore, WordsTell, WordsWarn, verification_of};
+ghost use Rattle.drvhost_words.specs.Unread.{IsNamedUnread, IsOneOf, SaysAround, SaysMore};
 ghost use Rattle.drvhost_devices.specs.Device.{CanCount, Says};
 ghost use Rattle.drvhost_devices.specs.Ends.{Answers, HoldsRun, IsCheckOf, IsRewriteOf};
+ghost use Rattle.drvhost_runs.specs.Readiness.{AreWarningsOf};
 ghost use Rattle.drvhost_runs.specs.Served.{IsHostOf};
 
 use crate::files::{Files, Later, Pending};
@@ -53,7 +54,8 @@ pub fn answer<F: Files, O: Sink, E: Sink, R: Threads + Wait + Sync>(
         (F.failures files.old) (F.failures files.new)
         (F.unwritten files.old + O.failures out.old) (F.unwritten files.new + O.failures out.new)
         (O.contents out.old) (O.contents out.new)
-        (SaysMore (ProgramTells words (F.failures files.old) (F.failures files.new))
+        (SaysAround (ProgramWarns (F.supply files.old) words result)
+        (ProgramTells words (F.failures files.old) (F.failures files.new))
         (E.failures err.old) (E.failures err.new) (E.contents err.old) (E.contents err.new))
         result }
     ensures opened { (count : ℕ) × ProgramOpens (F.supply files.old) words count
@@ -112,8 +114,8 @@ fn answer_words<F: Files, O: Sink, E: Sink, R: Threads + Wait + Sync>(
         (F.failures files.old) (F.failures files.new)
         (F.unwritten files.old + O.failures out.old) (F.unwritten files.new + O.failures out.new)
         (O.contents out.old) (O.contents out.new)
-        (SaysMore (WordsTell (map string_bytes words.now)
-        (F.failures files.old) (F.failures files.new))
+        (SaysAround (WordsWarn (F.supply files.old) (map string_bytes words.now) result)
+        (WordsTell (map string_bytes words.now) (F.failures files.old) (F.failures files.new))
         (E.failures err.old) (E.failures err.new) (E.contents err.old) (E.contents err.new))
         result }
     ensures opened { (count : ℕ) × OpensFor (F.supply files.old) (map string_bytes words.now) count
@@ -147,7 +149,8 @@ fn perform<F: Files, O: Sink, E: Sink, R: Threads + Wait + Sync>(
         (F.failures files.old) (F.failures files.new)
         (F.unwritten files.old + O.failures out.old) (F.unwritten files.new + O.failures out.new)
         (O.contents out.old) (O.contents out.new)
-        (SaysMore (JobTells job.now (F.failures files.old) (F.failures files.new))
+        (SaysAround (JobWarns (F.supply files.old) job.now result)
+        (JobTells job.now (F.failures files.old) (F.failures files.new))
         (E.failures err.old) (E.failures err.new) (E.contents err.old) (E.contents err.new))
         result }
     ensures opened { (count : ℕ) × Opens (F.supply files.old) job.now count
@@ -163,7 +166,7 @@ fn perform<F: Files, O: Sink, E: Sink, R: Threads + Wait + Sync>(
             script,
             workers,
         } => {
-            let names = Names { set, input: script };
+            let names = Names::of(set, script);
             host_files(rt, alloc, Serving { names, workers }, files, out, err)
         }
     }
@@ -210,10 +213,7 @@ fn perform_alone<F: Files, O: Sink, E: Sink>(
             schedule,
             verification,
         } => {
-            let names = Names {
-                set,
-                input: schedule,
-            };
+            let names = Names::of(set, schedule);
             let way = Way::BySchedule(verification);
             run_files(alloc, names, way, files, out, err)
         }
@@ -223,10 +223,7 @@ fn perform_alone<F: Files, O: Sink, E: Sink>(
             verification,
             manner,
         } => {
-            let names = Names {
-                set,
-                input: schedule,
-            };
+            let names = Names::of(set, schedule);
             let way = Way::InWords(verification, manner);
             run_files(alloc, names, way, files, out, err)
         }
@@ -235,10 +232,7 @@ fn perform_alone<F: Files, O: Sink, E: Sink>(
             schedule,
             verification,
         } => {
-            let names = Names {
-                set,
-                input: schedule,
-            };
+            let names = Names::of(set, schedule);
             let way = Way::AsPicture(verification);
             run_files(alloc, names, way, files, out, err)
         }
@@ -506,8 +500,8 @@ fn host_files<F: Files, O: Sink, E: Sink, R: Threads + Wait + Sync>(
         (F.supply files.old serving.entry.names.input.now))
         (F.failures files.old) (F.failures files.new) (O.failures out.old) (O.failures out.new)
         (O.contents out.old) (O.contents out.new)
-        (SaysMore (IsNamedUnread
-        (IsOneOf serving.entry.names.set.now serving.entry.names.input.now)
+        (SaysAround (AreWarningsOf (F.supply files.old serving.entry.names.set.now) result)
+        (IsNamedUnread (IsOneOf serving.entry.names.set.now serving.entry.names.input.now)
         (F.failures files.old) (F.failures files.new))
         (E.failures err.old) (E.failures err.new) (E.contents err.old) (E.contents err.new))
         result }

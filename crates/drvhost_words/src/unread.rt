@@ -14,6 +14,16 @@ pub(crate) struct Names<'n> {
     pub(crate) input: &'n str,
 }
 
+impl<'n> Names<'n> {
+    /// The names of a set, and of what it is run by.
+    pub(crate) fn of(set: &'n str, input: &'n str) -> Names<'n>
+        ensures set { result.set.now ≡ set.now }
+        ensures input { result.input.now ≡ input.now }
+    {
+        Names { set, input }
+    }
+}
+
 /// Tells the name of a file, if a read of it failed, behind what an error writer was told since it
 /// had failed so often.
 pub(crate) fn tell_if_unread<S: Source, E: Sink>(name: &str, file: &S, failures: u64, err: &mut E)

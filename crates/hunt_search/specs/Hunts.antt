@@ -1,11 +1,13 @@
 -- What a search answers.
-use Rattle.std.specs.Prelude.{ℕ, ◌≡◌, ⊤, Some}
+use Rattle.std.specs.Prelude.{ℕ, ◌≡◌, List, Option, ⊤, Some}
+use Rattle.hunt_ends.specs.declared.amiss.Amiss.{Amiss}
 use Rattle.hunt_ends.specs.Ends.{amiss_after}
 use Rattle.hunt_search.specs.declared.search.Find.{Find}
 use Rattle.hunt_search.specs.declared.search.Hunted.{Hunted}
 use Rattle.hunt_search.specs.declared.search.Hunted.TheVariants.{Found, All, More}
 use Rattle.hunt_search.specs.declared.search.Outcome.{Outcome}
 use Rattle.hunt_search.specs.declared.search.Outcome.TheVariants.{Stays, World, Ends}
+use Rattle.model.specs.declared.event.Event.{Event}
 use Rattle.model.specs.Set.{Set}
 
 -- a run of so many threads ends with what is told to be amiss
@@ -24,3 +26,14 @@ abbrev pub IsOutcome : Set → ℕ → Outcome → Type 0
 IsOutcome set threads Stays = ⊤
 IsOutcome set threads (World key) = ⊤
 IsOutcome set threads (Ends find) = IsFind set threads find
+
+-- the run of these events and a last one, where this is amiss behind it
+abbrev pub IsFindOf : List Event → Event → Option Amiss → Find → Type 0
+IsFindOf path last amiss find =
+    (find.before.items ≡ path) × (find.last ≡ last) × (amiss ≡ Some find.amiss)
+
+-- what comes of it
+abbrev pub ComesOf : List Event → Event → Option Amiss → Outcome → Type 0
+ComesOf path last amiss Stays = ⊤
+ComesOf path last amiss (World key) = ⊤
+ComesOf path last amiss (Ends find) = IsFindOf path last amiss find

@@ -1,9 +1,8 @@
 //! What of a driver set says which events may matter.
 
+use crate::reaching::Reaching;
 use driver_set::{DriverSet, Instr};
-use model::instr::Field;
-use model::limits::CELLS;
-use model::set::{Driver, Routine, Sort};
+use model::set::{Driver, Sort};
 use model::status::Major;
 use std::alloc::{AllocError, Global};
 
@@ -13,13 +12,6 @@ const MAX_ARGUMENTS: usize = 8;
 /// The major functions of requests.
 const MAJORS: [Major; 3] = [Major::Read, Major::Write, Major::Control];
 
-/// The cells that the routines of a driver load.
-#[derive(Clone, Copy)]
-pub(crate) struct Loaded {
-    pub(crate) plain: [bool; CELLS],
-    pub(crate) paged: [bool; CELLS],
-}
-
 /// What of a driver set says which events may matter.
 #[derive(Drop)]
 pub(crate) struct Facts {
@@ -27,25 +19,31 @@ pub(crate) struct Facts {
     pub(crate) majors: Vec<Major>,
     /// The arguments that are tried.
     pub(crate) arguments: Vec<u64>,
-    /// IoCancelIrp is called at DISPATCH_LEVEL too.
-    pub(crate) raised: bool,
-    /// The cells that matter, by driver.
-    pub(crate) loaded: Vec<Loaded>,
+    pub(crate) uses: Uses,
+    /// The numbers that matter.
+    pub(crate) reaching: Reaching,
+}
+
+/// What some routine of a driver set does.
+#[derive(Clone, Copy)]
+pub(crate) struct Uses {
+    /// It touches paged cells, and may run below IoCancelIrp, so that this is called at
+    /// DISPATCH_LEVEL too.
+    pub(crate) paged: bool,
+    /// It asks whether a packet is cancelled.
+    pub(crate) cancel: bool,
 }
 
 impl Facts {
     /// Those of a set.
     pub(crate) fn of(alloc: Global, set: &DriverSet) -> Result<Facts, AllocError> {
-        let drivers = set.drivers();
-        let mut loaded = Vec::new(alloc);
-        for driver in drivers {
-            loaded.push(loaded_by(driver))?;
-        }
+        let reaching = Reaching::of(alloc, set)?;
+        let is_read = reaching.fields().argument;
         Ok(Facts {
-            majors: served_majors(alloc, drivers)?,
-            arguments: arguments_of(alloc, drivers)?,
-            raised: drivers.iter().any(|driver| touches_paged(driver)),
-            loaded,
+            majors: served_majors(alloc, set.drivers())?,
+            arguments: arguments_of(alloc, set.drivers(), is_read)?,
+            uses: uses_of(set.drivers()),
+            reaching,
         })
     }
 }
@@ -53,71 +51,55 @@ impl Facts {
 /// The major functions that a driver serves.
 fn served_majors(alloc: Global, drivers: &[Driver]) -> Result<Vec<Major>, AllocError> {
     let mut majors = Vec::new(alloc);
-    for major in MAJORS.iter() {
-        if drivers
-            .iter()
-            .any(|driver| driver.handler(*major).is_some())
-        {
-            majors.push(*major)?;
+    for major in MAJORS {
+        if is_served(drivers, major) {
+            majors.push(major)?;
         }
     }
     Ok(majors)
 }
 
-/// 0, and where a routine reads the argument of a packet, 1 and each constant and the number after
+/// Whether a driver serves a major function.
+fn is_served(drivers: &[Driver], major: Major) -> bool {
+    for driver in drivers {
+        if driver.handler(major).is_some() {
+            return true;
+        }
+    }
+    false
+}
+
+/// 0, and where the argument of a packet can reach a jump, 1 and each constant and the number after
 /// it.
-fn arguments_of(alloc: Global, drivers: &[Driver]) -> Result<Vec<u64>, AllocError> {
+fn arguments_of(alloc: Global, drivers: &[Driver], is_read: bool) -> Result<Vec<u64>, AllocError> {
     let mut arguments = Vec::new(alloc);
     arguments.push(0)?;
-    if !drivers.iter().any(|driver| driver_reads(driver)) {
-        return Ok(arguments);
-    }
-    arguments.push(1)?;
-    for driver in drivers {
-        add_driver(&mut arguments, driver)?;
+    if is_read {
+        arguments.push(1)?;
+        for driver in drivers {
+            add_driver(&mut arguments, driver)?;
+        }
     }
     Ok(arguments)
-}
-
-/// Whether a routine of a driver reads the argument of a packet.
-fn driver_reads(driver: &Driver) -> bool {
-    driver
-        .routines
-        .as_slice()
-        .iter()
-        .any(|routine| routine_reads(routine))
-}
-
-/// Whether a routine does so.
-fn routine_reads(routine: &Routine) -> bool {
-    routine.code.as_slice().iter().any(|instr| matches!(*instr, Instr::Get(_, _, Field::Argument)))
 }
 
 /// Adds the constants of a driver.
 fn add_driver(arguments: &mut Vec<u64>, driver: &Driver) -> Result<(), AllocError> {
     for routine in driver.routines.as_slice() {
-        add_routine(arguments, routine)?;
+        add_code(arguments, routine.code.as_slice())?;
     }
     Ok(())
 }
 
 /// Adds the constants of a routine.
-fn add_routine(arguments: &mut Vec<u64>, routine: &Routine) -> Result<(), AllocError> {
-    for instr in routine.code.as_slice() {
-        if let Some(number) = constant_of(instr) {
-            add_argument(arguments, number)?;
-            add_argument(arguments, number.saturating_add(1))?;
+fn add_code(arguments: &mut Vec<u64>, code: &[Instr]) -> Result<(), AllocError> {
+    for instr in code {
+        if let Instr::Const(_, number) = *instr {
+            add_argument(arguments, u64::from(number))?;
+            add_argument(arguments, u64::from(number).saturating_add(1))?;
         }
     }
     Ok(())
-}
-
-/// The number that an instruction makes by itself.
-fn constant_of(instr: &Instr) -> Option<u64> {
-    match *instr {
-        Instr::Const(_, number) => Some(u64::from(number)),
-        _ => None,
-    }
 }
 
 /// Adds an argument that isn't there, unless there are enough.
@@ -128,44 +110,33 @@ fn add_argument(arguments: &mut Vec<u64>, number: u64) -> Result<(), AllocError>
     Ok(())
 }
 
-/// Whether a routine of a driver touches paged cells which may run below IoCancelIrp.
-fn touches_paged(driver: &Driver) -> bool {
-    driver.routines.as_slice().iter().any(|routine| !matches!(routine.sort, Sort::Dispatch)
-        && uses_paged(routine))
-}
-
-/// Whether a routine touches paged cells.
-fn uses_paged(routine: &Routine) -> bool {
-    routine.code.as_slice().iter().any(|instr| matches!(
-        *instr,
-        Instr::LoadPaged(_, _) | Instr::StorePaged(_, _)
-    ))
-}
-
-/// The cells that the routines of a driver load.
-fn loaded_by(driver: &Driver) -> Loaded {
-    let mut loaded = Loaded {
-        plain: [false; CELLS],
-        paged: [false; CELLS],
+/// What the routines of drivers do.
+fn uses_of(drivers: &[Driver]) -> Uses {
+    let mut uses = Uses {
+        paged: false,
+        cancel: false,
     };
+    for driver in drivers {
+        note_driver(&mut uses, driver);
+    }
+    uses
+}
+
+/// Notes what the routines of a driver do.
+fn note_driver(uses: &mut Uses, driver: &Driver) {
     for routine in driver.routines.as_slice() {
-        note_routine(&mut loaded, routine);
-    }
-    loaded
-}
-
-/// Notes the cells that a routine loads.
-fn note_routine(loaded: &mut Loaded, routine: &Routine) {
-    for instr in routine.code.as_slice() {
-        note_instruction(loaded, instr);
+        let is_below = !matches!(routine.sort, Sort::Dispatch);
+        note_code(uses, is_below, routine.code.as_slice());
     }
 }
 
-/// Notes the cell that an instruction loads.
-fn note_instruction(loaded: &mut Loaded, instr: &Instr) {
-    match *instr {
-        Instr::Load(_, cell) => loaded.plain[cell.index()] = true,
-        Instr::LoadPaged(_, cell) => loaded.paged[cell.index()] = true,
-        _ => {}
+/// Notes what a routine does, which may run below IoCancelIrp or not.
+fn note_code(uses: &mut Uses, is_below: bool, code: &[Instr]) {
+    for instr in code {
+        match *instr {
+            Instr::LoadPaged(_, _) | Instr::StorePaged(_, _) => uses.paged |= is_below,
+            Instr::IfCancel(_, _) => uses.cancel = true,
+            _ => {}
+        }
     }
 }

@@ -1,8 +1,10 @@
 //! The key of a world: the same bytes for worlds that differ in nothing but the numbers of packets
-//! and threads, and in cells that no routine loads.
+//! and threads, and in numbers that can't reach a jump.
 
 use crate::cells::{paged_cell, plain_cell};
-use crate::facts::{Facts, Loaded};
+use crate::facts::Facts;
+use crate::reaching::Cells;
+use crate::registers::Registers;
 use crate::sorting::{sorted_threads, step_number};
 use crate::writer::Writer;
 use checked::{Checked, Thread};
@@ -14,8 +16,10 @@ use irp::Packet;
 use model::cell::Cell;
 use model::event::{Lock, OfDevice};
 use model::instr::Field;
-use model::limits::{CELLS, MAX_QUEUES, SPIN_LOCKS};
+use model::limits::{CELLS, MAX_QUEUES, REGISTERS, SPIN_LOCKS};
+use model::register::Register;
 use model::set::QueueName;
+use model::status::Status;
 use model::world::{Activation, Armer, Completion, Irql, Value};
 use std::alloc::{AllocError, Global};
 
@@ -34,9 +38,9 @@ fn add_world(writer: &mut Writer, machine: &Checked, facts: &Facts) {
     let shared = machine.shared();
     writer.owner(shared.owner(Lock::SystemCancel));
     add_devices(writer, machine, facts);
-    add_threads(writer, machine);
+    add_threads(writer, machine, facts);
     name_others(writer, shared);
-    add_packets(writer, shared);
+    add_packets(writer, shared, facts);
 }
 
 fn add_devices(writer: &mut Writer, machine: &Checked, facts: &Facts) {
@@ -44,8 +48,8 @@ fn add_devices(writer: &mut Writer, machine: &Checked, facts: &Facts) {
     for device in 0..devices {
         add_device(writer, machine.shared(), device);
         let driver = driver_of(machine.set(), device);
-        if let Some(loaded) = facts.loaded.get(driver as usize) {
-            add_cells(writer, machine.shared(), device, loaded);
+        if let Some(cells) = facts.reaching.cells(driver) {
+            add_cells(writer, machine.shared(), device, &cells);
         }
     }
 }
@@ -101,44 +105,45 @@ fn add_locks(writer: &mut Writer, shared: &Shared, device: u8) {
     }
 }
 
-fn add_cells(writer: &mut Writer, shared: &Shared, device: u8, loaded: &Loaded) {
+fn add_cells(writer: &mut Writer, shared: &Shared, device: u8, cells: &Cells) {
     for number in 0..CELLS as u8 {
         if let Some(cell) = Cell::of(number) {
-            add_cell(writer, shared, device, cell, loaded);
+            add_cell(writer, shared, device, cell, cells);
         }
     }
 }
 
 /// Adds the numbers in a plain and in a paged cell, where they matter.
-fn add_cell(writer: &mut Writer, shared: &Shared, device: u8, cell: Cell, loaded: &Loaded) {
-    if loaded.plain[cell.index()] {
+fn add_cell(writer: &mut Writer, shared: &Shared, device: u8, cell: Cell, cells: &Cells) {
+    if cells.plain[cell.index()] {
         writer.number(plain_cell(shared, device, cell));
     }
-    if loaded.paged[cell.index()] {
+    if cells.paged[cell.index()] {
         writer.number(paged_cell(shared, device, cell));
     }
 }
 
-fn add_threads(writer: &mut Writer, machine: &Checked) {
+fn add_threads(writer: &mut Writer, machine: &Checked, facts: &Facts) {
     for place in 0..writer.threads() {
         let thread = writer.thread(place);
         if let Some(its) = machine.threads().get(thread as usize) {
-            add_thread(writer, machine.shared(), its);
+            add_thread(writer, machine.shared(), facts, its);
         }
     }
 }
 
-fn add_thread(writer: &mut Writer, shared: &Shared, thread: &Thread) {
+fn add_thread(writer: &mut Writer, shared: &Shared, facts: &Facts, thread: &Thread) {
     writer.number(level_number(thread.view().root));
     writer.number(thread.frames().len() as u64);
     for frame in thread.frames() {
-        add_frame(writer, shared, frame);
+        add_frame(writer, shared, facts, frame);
     }
 }
 
-fn add_frame(writer: &mut Writer, shared: &Shared, frame: &Frame) {
+fn add_frame(writer: &mut Writer, shared: &Shared, facts: &Facts, frame: &Frame) {
     if let Some(a) = frame.activation() {
-        add_activation(writer, shared, a);
+        add_place(writer, a);
+        add_registers(writer, shared, facts.reaching.registers(a), a);
         return;
     }
     match frame.manager() {
@@ -151,13 +156,6 @@ fn add_frame(writer: &mut Writer, shared: &Shared, frame: &Frame) {
             writer.packet(shared, n);
         }
         None => {}
-    }
-}
-
-fn add_activation(writer: &mut Writer, shared: &Shared, a: &Activation) {
-    add_place(writer, a);
-    for value in a.registers.iter() {
-        add_value(writer, shared, *value);
     }
 }
 
@@ -176,15 +174,30 @@ fn add_place(writer: &mut Writer, a: &Activation) {
     }
 }
 
-fn add_value(writer: &mut Writer, shared: &Shared, value: Value) {
+/// Adds what is in the registers of an activation, where these have numbers that matter.
+fn add_registers(writer: &mut Writer, shared: &Shared, reaching: Registers, a: &Activation) {
+    for number in 0..REGISTERS as u8 {
+        if let Some(register) = Register::of(number) {
+            let value = a.registers[register.index()];
+            add_value(writer, shared, value, reaching.has(register));
+        }
+    }
+}
+
+/// Adds a value, and if it is a number that matters, which. Of a status it matters whether it is
+/// STATUS_PENDING.
+fn add_value(writer: &mut Writer, shared: &Shared, value: Value, matters: bool) {
     match value {
         Value::Blank => writer.number(0),
-        Value::Num(number) => writer.numbers(&[1, number]),
+        Value::Num(number) => {
+            writer.number(1);
+            writer.number_if(matters, number);
+        }
         Value::Ref(n) => {
             writer.number(2);
             writer.packet(shared, n);
         }
-        Value::Status(status) => writer.numbers(&[3, u64::from(status.code())]),
+        Value::Status(status) => writer.number(3 + u64::from(matches!(status, Status::Pending))),
     }
 }
 
@@ -198,28 +211,28 @@ fn name_others(writer: &mut Writer, shared: &Shared) {
 }
 
 /// Adds what the live packets are, by their names.
-fn add_packets(writer: &mut Writer, shared: &Shared) {
+fn add_packets(writer: &mut Writer, shared: &Shared, facts: &Facts) {
     for name in 0..writer.packets_met() {
         let n = writer.packet_named(name);
         if let Some(packet) = shared.live_packet(n) {
-            add_packet(writer, packet);
+            add_packet(writer, packet, facts);
         }
     }
 }
 
-fn add_packet(writer: &mut Writer, packet: &Packet) {
+fn add_packet(writer: &mut Writer, packet: &Packet, facts: &Facts) {
+    let fields = facts.reaching.fields();
     writer.numbers(&[
         packet.stack_size() as u64,
         u64::from(packet.depth()),
         u64::from(packet.is_completing()),
         u64::from(packet.pending_returned()),
-        u64::from(packet.is_cancelled()),
-        u64::from(packet.status().code()),
-        packet.info(),
+        u64::from(packet.is_cancelled() && facts.uses.cancel),
     ]);
+    writer.number_if(fields.information, packet.info());
     add_armer(writer, packet.armer());
     for place in 0..packet.depth() as usize {
-        add_location(writer, packet, place);
+        add_location(writer, packet, place, fields.argument);
     }
 }
 
@@ -241,8 +254,8 @@ fn queue_number(queue: QueueName) -> u64 {
     }
 }
 
-/// Adds the stack location at a place.
-fn add_location(writer: &mut Writer, packet: &Packet, place: usize) {
+/// Adds the stack location at a place, with its argument if that matters.
+fn add_location(writer: &mut Writer, packet: &Packet, place: usize, argument: bool) {
     let Some(location) = packet.location(place) else {
         return;
     };
@@ -252,10 +265,10 @@ fn add_location(writer: &mut Writer, packet: &Packet, place: usize) {
     };
     writer.numbers(&[
         major,
-        location.field(Field::Argument),
         u64::from(location.device()),
         u64::from(location.is_marked()),
     ]);
+    writer.number_if(argument, location.field(Field::Argument));
     add_completion(writer, location.completion());
 }
 

@@ -5,6 +5,8 @@ mod cells;
 mod facts;
 mod keys;
 mod moves;
+mod reaching;
+mod registers;
 pub mod search;
 mod sorting;
 mod worlds;

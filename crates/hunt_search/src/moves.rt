@@ -139,7 +139,7 @@ fn add_cancels(
                 packet,
                 level: 0,
             })?;
-            if facts.raised {
+            if facts.uses.paged {
                 moves.push(Event::Cancel {
                     thread,
                     packet,

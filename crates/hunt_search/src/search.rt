@@ -1,7 +1,7 @@
 //! A shortest run that ends amiss.
 
-ghost use Rattle.std.specs.Prelude.{◌≤◌, IfOk, IfSome};
-ghost use Rattle.hunt_search.specs.Hunts.{IsFind, IsHunted, IsOutcome};
+ghost use Rattle.std.specs.Prelude.{◌≤◌, IfOk, IfSome, Some};
+ghost use Rattle.hunt_search.specs.Hunts.{ComesOf, IsFind, IsFindOf, IsHunted, IsOutcome};
 ghost use Rattle.model.specs.declared.limits.TheConstants.{MAX_THREADS};
 
 use crate::facts::Facts;
@@ -11,7 +11,7 @@ use crate::worlds::Worlds;
 use checked::says_unchanged;
 use driver_set::DriverSet;
 use hunt_ends::amiss::Amiss;
-use hunt_ends::rehearsal::{Rehearsal, rehearse};
+use hunt_ends::rehearsal::{Ended, Rehearsal, rehearse};
 use model::event::Event;
 use std::alloc::{AllocError, Global};
 
@@ -47,6 +47,16 @@ pub enum Hunted {
     More { worlds: usize, events: usize },
 }
 
+/// A world to go on from.
+#[derive(Drop)]
+struct Place {
+    number: usize,
+    /// The events that led to it.
+    path: Vec<Event>,
+    /// Those that are tried in it.
+    moves: Vec<Event>,
+}
+
 /// What comes of an event that is tried in a world.
 #[derive(Drop)]
 enum Outcome {
@@ -71,8 +81,36 @@ pub fn hunt(alloc: Global, set: &DriverSet, bounds: Bounds) -> Result<Hunted, Al
 {
     let facts = Facts::of(alloc, set)?;
     let mut worlds = Worlds::new(alloc);
-    let first = Rehearsal::of(alloc, set, bounds.threads)?;
-    worlds.begin(key_of(alloc, first.machine(), &facts)?)?;
+    worlds.begin(first_key(alloc, set, bounds.threads, &facts)?)?;
+    hunt_from(alloc, set, bounds, &facts, &mut worlds)
+}
+
+/// The key of the first world.
+fn first_key(
+    alloc: Global,
+    set: &DriverSet,
+    threads: u8,
+    facts: &Facts,
+) -> Result<Vec<u8>, AllocError>
+    requires some { 1 ≤ threads }
+    requires few { threads ≤ MAX_THREADS }
+{
+    let first = Rehearsal::of(alloc, set, threads)?;
+    key_of(alloc, first.machine(), facts)
+}
+
+/// Goes on from each world that was seen, in that order, until none is left or enough are.
+fn hunt_from(
+    alloc: Global,
+    set: &DriverSet,
+    bounds: Bounds,
+    facts: &Facts,
+    worlds: &mut Worlds,
+) -> Result<Hunted, AllocError>
+    requires some { 1 ≤ bounds.threads }
+    requires few { bounds.threads ≤ MAX_THREADS }
+    ensures { IfOk result (IsHunted set.now bounds.threads) }
+{
     for number in 0..bounds.worlds {
         if number >= worlds.len() {
             return Ok(Hunted::All {
@@ -85,7 +123,7 @@ pub fn hunt(alloc: Global, set: &DriverSet, bounds: Bounds) -> Result<Hunted, Al
                 events: worlds.depth(number),
             });
         }
-        if let Some(find) = expand(alloc, set, bounds, &facts, &mut worlds, number)? {
+        if let Some(find) = expand(alloc, set, bounds, facts, worlds, number)? {
             return Ok(Hunted::Found(find));
         }
     }
@@ -110,12 +148,54 @@ fn expand(
     ensures { IfOk result (λ found. IfSome found (IsFind set.now bounds.threads)) }
 {
     let path = worlds.path(alloc, number)?;
-    let run = Rehearsal::replay(alloc, set, bounds.threads, path.as_slice())?;
-    let moves = moves_of(alloc, run.machine(), facts, bounds)?;
-    for event in moves.as_slice() {
-        match attempt(alloc, set, bounds, facts, path.as_slice(), event)? {
+    let moves = moves_behind(alloc, set, bounds, facts, path.as_slice())?;
+    let place = Place {
+        number,
+        path,
+        moves,
+    };
+    try_moves(alloc, set, bounds, facts, worlds, &place)
+}
+
+/// The events that are tried behind those that led to a world.
+fn moves_behind(
+    alloc: Global,
+    set: &DriverSet,
+    bounds: Bounds,
+    facts: &Facts,
+    path: &[Event],
+) -> Result<Vec<Event>, AllocError>
+    requires some { 1 ≤ bounds.threads }
+    requires few { bounds.threads ≤ MAX_THREADS }
+{
+    let run = Rehearsal::replay(alloc, set, bounds.threads, path)?;
+    moves_of(alloc, run.machine(), facts, bounds)
+}
+
+/// Tries the events of a place.
+fn try_moves(
+    alloc: Global,
+    set: &DriverSet,
+    bounds: Bounds,
+    facts: &Facts,
+    worlds: &mut Worlds,
+    place: &Place,
+) -> Result<Option<Find>, AllocError>
+    requires some { 1 ≤ bounds.threads }
+    requires few { bounds.threads ≤ MAX_THREADS }
+    ensures { IfOk result (λ found. IfSome found (IsFind set.now bounds.threads)) }
+{
+    for event in place.moves.as_slice() {
+        match attempt(
+            alloc,
+            set,
+            bounds.threads,
+            facts,
+            place.path.as_slice(),
+            event,
+        )? {
             Outcome::Stays => {}
-            Outcome::World(key) => worlds.add(key, number, *event)?,
+            Outcome::World(key) => worlds.add(key, place.number, *event)?,
             Outcome::Ends(find) => return Ok(Some(find)),
         }
     }
@@ -126,27 +206,48 @@ fn expand(
 fn attempt(
     alloc: Global,
     set: &DriverSet,
-    bounds: Bounds,
+    threads: u8,
     facts: &Facts,
     path: &[Event],
     event: &Event,
 ) -> Result<Outcome, AllocError>
-    requires some { 1 ≤ bounds.threads }
-    requires few { bounds.threads ≤ MAX_THREADS }
-    ensures { IfOk result (IsOutcome set.now bounds.threads) }
+    requires some { 1 ≤ threads }
+    requires few { threads ≤ MAX_THREADS }
+    ensures { IfOk result (IsOutcome set.now threads) }
 {
-    let ended = rehearse(alloc, set, bounds.threads, path, event)?;
-    let amiss = ended.amiss;
-    if let Some(amiss) = amiss {
-        return Ok(Outcome::Ends(Find {
-            before: Vec::from_slice(alloc, path)?,
-            last: *event,
-            amiss,
-        }));
+    let ended = rehearse(alloc, set, threads, path, event)?;
+    outcome_of(alloc, facts, path, event, &ended)
+}
+
+/// What comes of a run that has ended.
+fn outcome_of(
+    alloc: Global,
+    facts: &Facts,
+    path: &[Event],
+    event: &Event,
+    ended: &Ended,
+) -> Result<Outcome, AllocError>
+    ensures { IfOk result (ComesOf path.now event.now ended.now.amiss) }
+{
+    if let Some(amiss) = ended.amiss {
+        let find = find_of(alloc, path, event, amiss)?;
+        return Ok(Outcome::Ends(find));
     }
     if says_unchanged(&ended.reply) {
         return Ok(Outcome::Stays);
     }
     let key = key_of(alloc, ended.run.machine(), facts)?;
     Ok(Outcome::World(key))
+}
+
+/// The run of these events and a last one, which ends amiss.
+fn find_of(alloc: Global, path: &[Event], event: &Event, amiss: Amiss) -> Result<Find, AllocError>
+    ensures { IfOk result (IsFindOf path.now event.now (Some amiss)) }
+{
+    let before = Vec::from_slice(alloc, path)?;
+    Ok(Find {
+        before,
+        last: *event,
+        amiss,
+    })
 }

@@ -76,6 +76,13 @@ impl Writer {
         }
     }
 
+    /// Adds a number, if it matters.
+    pub(crate) fn number_if(&mut self, matters: bool, number: u64) {
+        if matters {
+            self.number(number);
+        }
+    }
+
     /// Adds numbers.
     pub(crate) fn numbers(&mut self, numbers: &[u64]) {
         for number in numbers {

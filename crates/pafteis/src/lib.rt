@@ -2,6 +2,7 @@
 //! of each.
 #![tactic(auto)]
 
+pub mod locks;
 pub mod texts;
 pub mod version;
 pub mod worlds;

@@ -1,4 +1,5 @@
 pub mod Event
+pub mod Locks
 pub mod Reply
 pub mod Rule
 pub mod Verdict

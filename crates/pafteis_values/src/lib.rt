@@ -1,8 +1,9 @@
-//! The structs and numbers of the library's header: what crosses to C of a verdict, an event, a
-//! reply, and what a world tells.
+//! The structs and numbers of the library's header: what crosses to C of a verdict, an order of
+//! locks, an event, a reply, and what a world tells.
 #![tactic(auto)]
 
 pub mod event;
+pub mod locks;
 pub mod reply;
 pub mod rule;
 pub mod verdict;

@@ -1,3 +1,4 @@
 pub mod Judged
+pub mod Locks
 pub mod Held
 pub mod Driven

@@ -100,7 +100,7 @@ fn text_kind_number(kind: AsmKind) -> u8
 }
 
 /// The name of a kind of fault of the text of a set.
-fn text_kind_name(kind: AsmKind) -> &'static str
+pub fn text_kind_name(kind: AsmKind) -> &'static str
     ensures name { result.now ≡ text_kind_name kind }
     ensures short { length result.now ≤ LONGEST_NAME }
 {
@@ -124,7 +124,7 @@ fn image_fault_number(fault: ImageFault) -> u8
 }
 
 /// The name of a fault of an image.
-fn image_fault_name(fault: ImageFault) -> &'static str
+pub fn image_fault_name(fault: ImageFault) -> &'static str
     ensures name { result.now ≡ image_fault_name fault }
     ensures short { length result.now ≤ LONGEST_NAME }
 {
@@ -146,7 +146,7 @@ fn schedule_kind_number(kind: ScheduleKind) -> u8
 }
 
 /// The name of a kind of fault of a schedule.
-fn schedule_kind_name(kind: ScheduleKind) -> &'static str
+pub fn schedule_kind_name(kind: ScheduleKind) -> &'static str
     ensures name { result.now ≡ schedule_kind_name kind }
     ensures short { length result.now ≤ LONGEST_NAME }
 {

@@ -5,6 +5,8 @@
 #[cfg(test)]
 mod handles;
 #[cfg(test)]
+mod orders;
+#[cfg(test)]
 mod rows;
 #[cfg(test)]
 mod sets;

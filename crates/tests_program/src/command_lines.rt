@@ -150,34 +150,24 @@ fn is_to_explain(job: &Job<'_>, file: &str, all: Extent) -> bool {
     }
 }
 
+/// Whether a job is to explain this rule.
+fn is_to_explain_rule(job: &Job<'_>, wanted: Rule) -> bool {
+    match *job {
+        Job::Alone(AloneJob::ExplainRule { rule }) => rule == wanted,
+        _ => false,
+    }
+}
+
 /// The words of rules, and words that are no rule's.
 #[test]
 fn rules_by_their_words(rt: HostRuntime) -> Result<(), Fail> {
     let alloc = rt.alloc();
     let job = Job::of(alloc, &["explain", "--rule", "V1"])?;
-    let is_first = matches!(
-        job,
-        Job::Alone(AloneJob::ExplainRule {
-            rule: Rule::Malformed
-        })
-    );
-    assert!(rt; is_first);
+    assert!(rt; is_to_explain_rule(&job, Rule::Malformed));
     let job = Job::of(alloc, &["explain", "--rule=V20"])?;
-    assert!(rt;
-        matches!(
-            job,
-            Job::Alone(AloneJob::ExplainRule { rule: Rule::Memory })
-        )
-    );
+    assert!(rt; is_to_explain_rule(&job, Rule::Memory));
     let job = Job::of(alloc, &["explain", "--rule", "CancelState"])?;
-    assert!(rt;
-        matches!(
-            job,
-            Job::Alone(AloneJob::ExplainRule {
-                rule: Rule::CancelState
-            })
-        )
-    );
+    assert!(rt; is_to_explain_rule(&job, Rule::CancelState));
     let job = Job::of(alloc, &["explain", "--rule", "LockOrder"])?;
     assert!(rt; matches!(job, Job::Alone(AloneJob::ExplainLockOrder)));
     for word in [

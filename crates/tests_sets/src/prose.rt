@@ -6,7 +6,9 @@ use asm::assemble;
 use asm_places::instruction_lines;
 use std::alloc::Global;
 use verifier::verify;
-use verifier_words::{Origin, acceptance, explanation};
+use verifier_names::Origin;
+use verifier_warnings::acceptance;
+use verifier_words::explanation;
 
 /// Two routines; the second completes its packet twice.
 const TWICE: &str =

@@ -2,13 +2,14 @@
 //! what was done on the path before.
 
 use crate::kinds::packet_of;
-use crate::lesson::{About, spin_number};
 use driver_set::DriverSet;
 use model::abs::{Abs, Kind, Rule, Stage};
 use model::instr::{Instr, Register};
 use model::set::{Guard, QueueName, Sort};
 use model::spin_lock::SpinLock;
 use verifier_evidence::{Path, Step};
+use verifier_lessons::About;
+use verifier_names::spin_number;
 
 /// An instruction of a routine of a driver of a set, that breaks a rule where a path leads.
 #[derive(Drop)]

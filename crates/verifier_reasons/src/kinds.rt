@@ -1,11 +1,11 @@
 //! Registers that have something else than an instruction wants of them, in words.
 
 use crate::case::{Case, first_packet, is_packet, kind_of};
-use crate::lesson::{About, Lesson};
 use crate::returns::no_lower;
 use model::abs::{Abs, Duty, Kind};
 use model::instr::{Instr, Register, Return};
 use model::set::QueueName;
+use verifier_lessons::{About, Lesson};
 
 /// What an instruction wants of a register and doesn't find there.
 #[derive(Clone, Copy)]

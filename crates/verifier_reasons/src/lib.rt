@@ -4,9 +4,7 @@
 
 mod case;
 mod kinds;
-mod lesson;
 mod locks;
-mod names;
 mod packets;
 mod returns;
 mod rules;
@@ -14,7 +12,5 @@ mod tokens;
 
 pub use case::{Case, Fact, is_held};
 pub use kinds::blank_register;
-pub use lesson::{Lesson, add_lock, spin_number};
 pub use locks::{list_of, lock_meant};
-pub use names::{Names, SetNames};
-pub use rules::{lesson_of, lesson_of_code, not_entered, of_set};
+pub use rules::lesson_of;

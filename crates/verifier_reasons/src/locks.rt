@@ -2,11 +2,10 @@
 
 use crate::case::{Case, Fact, kind_of};
 use crate::kinds::packet_of;
-use crate::lesson::{About, Lesson};
-use crate::returns::sent_down;
 use model::abs::{Kind, Rule, Stage};
 use model::instr::Instr;
 use model::set::{Guard, QueueName, Sort};
+use verifier_lessons::{About, Lesson, sent_down};
 
 /// The rules on who holds a lock.
 pub(crate) fn of_locks(case: &Case<'_>) -> Lesson {

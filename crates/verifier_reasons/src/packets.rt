@@ -2,13 +2,13 @@
 
 use crate::case::{Case, Fact, is_held, is_packet, kind_of};
 use crate::kinds::{never_there, no_cancel_routine, packet_of};
-use crate::lesson::{About, Lesson};
 use crate::locks::{is_sent_elsewhere, list_of, lock_of};
-use crate::returns::{is_lent_still, of_form, of_marks, sent_down};
+use crate::returns::{is_lent_still, of_form, of_marks};
 use crate::tokens::of_token;
 use model::abs::{Kind, Rule, Stage};
 use model::instr::{Instr, Return};
 use model::set::{Guard, QueueName, Sort};
+use verifier_lessons::{About, Lesson, sent_down};
 
 const QUEUES: &str = "the Driver Kit on driver-managed IRP queues and IoSetCancelRoutine";
 

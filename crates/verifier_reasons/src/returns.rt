@@ -1,10 +1,10 @@
 //! The rules on pending marks and on what a routine returns, in words.
 
 use crate::case::Case;
-use crate::lesson::{About, Lesson};
 use model::abs::{Duty, Kind};
 use model::instr::{Instr, Return};
 use model::set::Sort;
+use verifier_lessons::{About, Lesson, sent_down};
 
 /// The rule on pending marks.
 pub(crate) fn of_marks(case: &Case<'_>) -> Lesson {
@@ -58,19 +58,6 @@ fn passed_marked(case: &Case<'_>, source: &'static str) -> Lesson {
         (Sort::Dispatch, _) => Lesson::of(why, source, "`call` it"),
         _ => sent_down(case.sort),
     }
-}
-
-/// A packet is sent down by another routine than a dispatch routine.
-pub(crate) fn sent_down(sort: Sort) -> Lesson {
-    Lesson::of(
-        "only a dispatch routine sends a packet down",
-        "the Driver Kit on each sort of routine",
-        match sort {
-            Sort::Propagate | Sort::Hold =>
-                "take it out: let the completion go on, or keep the packet in a queue",
-            _ => "take it out: complete the packet here, or send it down in a dispatch routine",
-        },
-    )
 }
 
 /// The rule on the status that a dispatch routine returns.

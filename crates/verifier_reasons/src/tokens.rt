@@ -1,9 +1,9 @@
 //! The rule on the token of a busy device, in words.
 
 use crate::case::{Case, Fact};
-use crate::lesson::Lesson;
 use model::instr::Instr;
 use model::set::{QueueName, Sort};
+use verifier_lessons::Lesson;
 
 /// The rule on the token: it was spent, was never there, or is still there at the end.
 pub(crate) fn of_token(case: &Case<'_>) -> Lesson {

@@ -4,7 +4,8 @@
 use crate::place::Scene;
 use model::instr::Instr;
 use std::alloc::{AllocError, Global};
-use verifier_reasons::{Case, Fact, add_lock, blank_register, is_held, lock_meant, spin_number};
+use verifier_names::{add_lock, spin_number};
+use verifier_reasons::{Case, Fact, blank_register, is_held, lock_meant};
 
 /// Adds where the register went blank of which an instruction wants something, and why, where it
 /// did so on the path there.

@@ -2,7 +2,7 @@
 
 use model::abs::{Abs, Duty, Kind, Settled, Stage};
 use std::alloc::AllocError;
-use verifier_reasons::Names;
+use verifier_names::Names;
 
 /// Adds what a state says: each register that isn't blank, the locks that are held, what is owed,
 /// and the token; or that it says nothing.

@@ -1,4 +1,4 @@
-//! Refusals explained, and the routines of an accepted set by name.
+//! Refusals explained.
 
 ghost use Rattle.std.specs.Prelude.{◌≡◌, ◌++◌, ◌⊎◌, IfOk, IsSome, OnOk, Some, option_map, option_to_list, slice_get};
 ghost use Rattle.verifier_evidence.specs.Path.{member_of};
@@ -8,26 +8,18 @@ ghost use Rattle.model.specs.Typable.{IsFirstFault, IsFirstFaultOf, at_start};
 
 use crate::devices::{add_devices, add_queue_line};
 use crate::history::{add_blanking, add_lock_history, add_loops, add_token};
-use crate::listing::{listed_devices, listed_routine};
 use crate::path::add_path;
-use crate::place::{Scene, Source};
+use crate::place::Scene;
 use crate::state::{add_differences, add_state};
-use asm_places::{outline, routine_source};
+use asm_places::routine_source;
 use driver_set::DriverSet;
 use model::abs::{Refusal, Rule};
 use model::set::{Driver, Routine};
 use std::alloc::{AllocError, Global};
 use verifier_evidence::{Evidence, Path, Subject, evidence_at, evidence_of};
-use verifier_reasons::{Case, Names, SetNames, lesson_of, lesson_of_code, not_entered, of_set};
-
-/// What a set was read from, which is quoted.
-#[derive(Clone, Copy)]
-pub enum Origin<'a> {
-    /// A text, which names what is in the set.
-    Text(&'a [u8]),
-    /// An image: the listing of the set is quoted.
-    Image,
-}
+use verifier_lessons::{lesson_of_code, not_entered, of_set};
+use verifier_names::{Names, Origin, SetNames, Source, listed_devices, listed_routine};
+use verifier_reasons::{Case, lesson_of};
 
 /// A refusal of a set, told in words: where it stands in the text, the path that
 /// leads there with the state that arrives, and why the rule is broken.
@@ -347,45 +339,4 @@ fn add_arrival(
 fn add_why(prose: &mut String, scene: &Scene<'_>, routine: &Routine) -> Result<(), AllocError> {
     let instr = routine.code.as_slice().get(scene.refusal.at as usize);
     lesson_of_code(scene.refusal.rule, instr).add(prose, scene.names())
-}
-
-/// What the things in a set are called.
-pub(crate) fn names_of<'t>(alloc: Global, origin: Origin<'t>) -> Result<SetNames<'t>, AllocError> {
-    match origin {
-        Origin::Text(text) => SetNames::of(alloc, text, &outline(alloc, text)?),
-        Origin::Image => Ok(SetNames::Listed),
-    }
-}
-
-/// Adds the routines of a set, a line each: where they stand, their sort and their names.
-pub(crate) fn add_roll(
-    prose: &mut String,
-    names: &SetNames<'_>,
-    set: &DriverSet,
-) -> Result<(), AllocError> {
-    let mut number: u8 = 0;
-    for driver in set.drivers() {
-        add_routines(prose, names.in_driver(number), number, driver)?;
-        number = number.saturating_add(1);
-    }
-    Ok(())
-}
-
-/// Adds the lines of a driver's routines.
-fn add_routines(
-    prose: &mut String,
-    names: Names<'_, '_>,
-    number: u8,
-    driver: &Driver,
-) -> Result<(), AllocError> {
-    let mut place: u8 = 0;
-    for routine in driver.routines.as_slice() {
-        write!(prose, "driver {number} routine {place}: ")?;
-        names.add_driver(prose, number)?;
-        prose.push_str(", ")?;
-        names.add_routine(prose, place)?;
-        write!(prose, " ({})\n", routine.sort.as_str())?;
-        place = place.saturating_add(1);
-    }
-    Ok(())
 }

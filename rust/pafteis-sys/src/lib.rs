@@ -23,6 +23,28 @@ pub struct pafteis_verdict {
     pub image_fault: u32,
 }
 
+pub const PAFTEIS_CANCEL_LOCK: u8 = 8;
+pub const PAFTEIS_ORDER: u32 = 1;
+pub const PAFTEIS_CYCLE: u32 = 2;
+
+#[repr(C)]
+#[derive(Clone, Copy, Debug, Default, PartialEq, Eq)]
+pub struct pafteis_lock_edge {
+    pub position: u32,
+    pub routine: u8,
+    pub held: u8,
+    pub taken: u8,
+}
+
+#[repr(C)]
+#[derive(Clone, Copy, Debug, Default, PartialEq, Eq)]
+pub struct pafteis_lock_order {
+    pub edges: u64,
+    pub kind: u32,
+    pub order: [u8; 9],
+    pub cycle: [pafteis_lock_edge; 9],
+}
+
 #[repr(C)]
 #[derive(Debug)]
 pub struct pafteis_world {
@@ -99,6 +121,7 @@ pub struct pafteis_due {
 #[rustfmt::skip]
 unsafe extern "C" {
     pub fn pafteis_check(set: *const u8, length: usize, verdict: *mut pafteis_verdict) -> u32;
+    pub fn pafteis_order_of_locks(set: *const u8, length: usize, driver: u8, order: *mut pafteis_lock_order, verdict: *mut pafteis_verdict) -> u32;
     pub fn pafteis_report(set: *const u8, length: usize, buffer: *mut u8, capacity: usize, needed: *mut usize) -> u32;
     pub fn pafteis_explain(set: *const u8, length: usize, extent: u32, buffer: *mut u8, capacity: usize, needed: *mut usize) -> u32;
     pub fn pafteis_explain_rule(rule: u32, buffer: *mut u8, capacity: usize, needed: *mut usize) -> u32;

@@ -2,11 +2,13 @@
 //! words on them, traces of their runs, and worlds, driven event by event. docs/TEXTS.md says what
 //! stands in texts and schedules.
 mod error;
+mod locks;
 mod verdict;
 mod words;
 mod world;
 
 pub use error::Error;
+pub use locks::{order_of_locks, LockEdge, LockOrder, CANCEL_LOCK};
 pub use verdict::{check, Place, Refusal};
 pub use words::{explain, explain_rule, list, report, rewrite, trace, Extent, Trace};
 pub use world::{Due, Event, Level, Major, Packet, Reply, Thread, World};

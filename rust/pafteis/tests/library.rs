@@ -1,5 +1,6 @@
 //! Over the library, and the examples of the tree.
-use pafteis::{check, trace, Error, Event, Major, Reply, World};
+use pafteis::{check, order_of_locks, trace, Error, Event, LockEdge, LockOrder, Major};
+use pafteis::{Reply, World, CANCEL_LOCK};
 use std::fs;
 
 fn example(name: &str) -> Vec<u8> {
@@ -18,6 +19,30 @@ fn verdicts() {
     assert_eq!(check(b"what"), Err(Error::FaultyText { fault: 2, line: 1 }));
     assert_eq!(check(b"DVB2"), Err(Error::FaultyImage { fault: 2 }));
     assert_eq!(check(b"").unwrap().unwrap().rule, 1);
+}
+
+#[test]
+fn orders_of_locks() {
+    assert!(matches!(
+        order_of_locks(&example("cancel.drv"), 0),
+        Ok(LockOrder::Ordered(_))
+    ));
+    let edge = |held, taken, routine| LockEdge {
+        position: 1,
+        routine,
+        held,
+        taken,
+    };
+    let cycle = LockOrder::Cycle(vec![edge(CANCEL_LOCK, 0, 0), edge(0, CANCEL_LOCK, 1)]);
+    assert_eq!(order_of_locks(&example("cancelring.drv"), 0), Ok(cycle));
+    assert_eq!(
+        order_of_locks(&example("cancelring.drv"), 1),
+        Err(Error::WrongArgument)
+    );
+    assert!(matches!(
+        order_of_locks(&example("twice.drv"), 0),
+        Err(Error::Refused(_))
+    ));
 }
 
 #[test]

@@ -1,26 +1,38 @@
-use Rattle.std.proofs.Common.{arith, refl}
+use Rattle.std.proofs.Common.{[], ◌∙◌, arith, refl, sym}
 use Rattle.drvhost_devices.specs.declared.fault.Fault.TheVariants.{Memory}
 use Rattle.drvhost_devices.specs.Ends.{OutOfMemory}
-use Rattle.drvhost_runs.specs.Served.{IsHostOf}
 use Rattle.drvhost_devices.specs.Fault.{fault_told, reads_failed, writes_failed}
+use Rattle.drvhost_runs.specs.Served.{IsHostOf}
 use Rattle.drvhost_runs.specs.Hosting.{told_behind}
+use Rattle.drvhost_runs.specs.Readiness.{warnings_in}
+use Rattle.drvhost_runs.proofs.Readying.{warnings_none, warnings_right}
 use Rattle.drvhost_runs.proofs.RingsTold.{told_ends}
 use Rattle.drvhost_devices.proofs.Writing.{keeps_same}
 use Rattle.drvhost_runs.proofs.host.host.Goals as goal
 
 pub returns-in-Ok-clause-answers : goal.returns-in-Ok-clause-answers
 returns-in-Ok-clause-answers g c =
-    let end = c.host_set-end.result in
+    let set = g.S.Source.supply c.args.set.now in
+    let script = g.P.Source.supply c.args.script.now in
+    let ready = c.get_ready-ready.result in
+    let is = c.get_ready-ready.ensures.ready in
+    let end = c.serve_ready-end.result in
+    let words = c.serve_ready-end.new.page.words.items in
     record {
       reads = reads_failed end;
       writes = writes_failed end;
-      told = told_behind c.host_set-end.new.page.words.items end;
-      reads_are = c.host_set-end.ensures.reads;
-      writes_are = c.host_set-end.ensures.writes;
-      tells = c.finish_page.ensures.told;
+      told = told_behind words end;
+      reads_are = rw c.serve_ready-end.ensures.reads c.get_ready-ready.ensures.reads;
+      writes_are = c.serve_ready-end.ensures.writes;
+      tells = (
+        warnings_in ready,
+        warnings_right set script _ ready _ is
+            (λ zero. c.serve_ready-end.ensures.served (sym c.finish_page.ensures.status ∙ zero)),
+        (rw c.failures-failures.ensures at c.finish_page.ensures.told) _ _ c.warn.ensures,
+      );
       ends = rw c.finish_page.ensures.status
-          (told_ends (IsHostOf c.args.hosting.now.workers (g.S.Source.supply c.args.set.now)
-          (g.P.Source.supply c.args.script.now)) _ _ _ end c.host_set-end.ensures.goes);
+          (told_ends (IsHostOf c.args.hosting.now.workers set script) _ _ _ end
+          (c.serve_ready-end.ensures.goes set script is));
     }
 
 pub returns-in-Err-clause-answers : goal.returns-in-Err-clause-answers
@@ -31,6 +43,6 @@ returns-in-Err-clause-answers g c =
       told = fault_told Memory;
       reads_are = omega arith;
       writes_are = omega arith;
-      tells = c.no_memory.ensures.told;
+      tells = ([], warnings_none _ _ c.no_memory.ensures.status, c.no_memory.ensures.told);
       ends = OutOfMemory refl refl c.no_memory.ensures.status refl (keeps_same _);
     }

@@ -1,5 +1,6 @@
 use Rattle.std.proofs.lemmas.Result.{err_from_is_err_and}
-use Rattle.drvhost_runs.proofs.Serving.{served_broken, served_broken_late, served_told}
+use Rattle.drvhost_runs.proofs.RingsTold.{told_broken, told_written}
+use Rattle.drvhost_runs.proofs.Serving.{IsServedAs, served_broken, served_broken_late, served_told}
 use Rattle.drvhost_runs.proofs.host.tell_hosted.Goals as goal
 
 pub returns-in_err-tell_commands-clause-goes : goal.returns-in_err-tell_commands-clause-goes
@@ -22,10 +23,27 @@ returns-in_err-make_room-clause-goes g c =
     (rw (c.requires.empty, c.as_slice.ensures.value) at c.in_ok-tell_commands.ensures.added)
     c.in_err-make_room.ensures.broken)
 
+pub returns-in_err-write_lines-clause-goes : goal.returns-in_err-write_lines-clause-goes
+returns-in_err-write_lines-clause-goes g c =
+    let p = err_from_is_err_and c.from_residual-in_err-write_lines.result
+    c.from_residual-in_err-write_lines.ensures.1 in
+    let ringed = c.args.page.now.ringed.items in
+    let words = c.args.page.now.words.items in
+    rw (p.1, p.2, c.in_err-write_lines.ensures.fault)
+    (told_broken (IsServedAs c.args.hosted.now ringed words) _ _ _ _ _ _
+    (served_told c.args.hosted.now ringed words _ _ _ _ _ _ _ _
+    (rw (c.requires.empty, c.as_slice.ensures.value) at c.in_ok-tell_commands.ensures.added)
+    c.in_ok-make_room.ensures.written c.tell_replay-end.ensures.end c.tell_replay-end.ensures.line
+    c.tell_replay-end.ensures.words)
+    c.in_err-write_lines.ensures.written)
+
 pub returns-clause-goes : goal.returns-clause-goes
 returns-clause-goes g c =
-    served_told c.args.hosted.now c.args.page.now.ringed.items c.args.page.now.words.items
-    _ _ _ _ _ _ _ _
+    let ringed = c.args.page.now.ringed.items in
+    let words = c.args.page.now.words.items in
+    told_written (IsServedAs c.args.hosted.now ringed words) _ _ _ _ _ _
+    (served_told c.args.hosted.now ringed words _ _ _ _ _ _ _ _
     (rw (c.requires.empty, c.as_slice.ensures.value) at c.in_ok-tell_commands.ensures.added)
-    c.in_ok-make_room.ensures.written c.tell_replay.ensures.end c.tell_replay.ensures.line
-    c.tell_replay.ensures.words
+    c.in_ok-make_room.ensures.written c.tell_replay-end.ensures.end c.tell_replay-end.ensures.line
+    c.tell_replay-end.ensures.words)
+    c.in_ok-write_lines.ensures.written

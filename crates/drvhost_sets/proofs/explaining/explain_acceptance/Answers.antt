@@ -4,7 +4,7 @@ use Rattle.std.proofs.lemmas.Result.{err_from_is_err_and}
 use Rattle.drvhost_devices.specs.Answer.{acceptance}
 use Rattle.drvhost_devices.specs.declared.fault.End.TheVariants.{Complete}
 use Rattle.drvhost_sets.specs.Explained.{IsAcceptanceExplained}
-use Rattle.verifier_words.specs.Orders.{TellsOrders}
+use Rattle.verifier_warnings.specs.Orders.{TellsOrders}
 use Rattle.drvhost_sets.proofs.Wording.{accepted_broken, broken_behind, goes_behind}
 use Rattle.drvhost_sets.proofs.explaining.explain_acceptance.Goals as goal
 

@@ -1,5 +1,5 @@
 use Rattle.std.proofs.Common.{◌≡◌, [], arith, refl}
-use Rattle.drvhost_words.proofs.Answering.{answers_alone}
+use Rattle.drvhost_words.proofs.Answering.{answers_alone, answers_unwarned}
 use Rattle.drvhost_words.proofs.answer.answer.Goals as goal
 
 pub returns-in-Ok : goal.returns-in-Ok
@@ -12,8 +12,10 @@ returns-in-Err g c =
     rw c.in-Err.is
     (record {
       answers =
-          answers_alone _ _ _ _ _ _ _ (λ text. text ≡ []) _ _ _ _ _ refl
-          (c.refuse_lost_words.ensures _ _ _);
+          answers_unwarned _ _ _ _ _ _ _ (λ warnings. warnings ≡ []) (λ text. text ≡ []) _ _ _ _ _
+          refl
+          (answers_alone _ _ _ _ _ _ _ (λ text. text ≡ []) _ _ _ _ _ refl
+          (c.refuse_lost_words.ensures _ _ _));
       opened = (0, refl, omega arith);
       stores = record { supply = refl; none = refl };
     })

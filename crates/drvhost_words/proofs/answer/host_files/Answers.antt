@@ -1,9 +1,10 @@
 use Rattle.std.proofs.Common.{◌≡◌, ◌∙◌, None, Some, arith, ap, inr, refl, sym}
+use Rattle.drvhost_runs.specs.Readiness.{AreWarningsOf}
 use Rattle.drvhost_runs.specs.Served.{IsHostOf}
 use Rattle.drvhost_devices.specs.declared.verification.Verification.TheVariants.{Required}
 use Rattle.drvhost_words.specs.Files.{failures_of}
 use Rattle.drvhost_words.specs.Unread.{IsOneOf}
-use Rattle.drvhost_words.proofs.Answering.{answers_rightly, answers_unread, host_known, run_known, unopened}
+use Rattle.drvhost_words.proofs.Answering.{answers_rightly, answers_warned, host_known, run_known, unopened, warnings_known}
 use Rattle.drvhost_words.proofs.answer.host_files.Goals as goal
 
 pub returns-in-Some-clause-answers : goal.returns-in-Some-clause-answers
@@ -22,9 +23,10 @@ returns-in-Some-clause-answers g c =
     answers_rightly (IsHostOf c.args.serving.workers supply _)
     (IsHostOf c.args.serving.workers known (named c.args.files.now c.args.serving.names.input.now))
     _ _ _ _ _ _ _ _ _ _
-    (answers_unread _ _ _ _ _ _ _
+    (answers_warned _ _ _ _ _ _ _ _ (AreWarningsOf known _)
     (IsOneOf c.args.serving.names.set.now c.args.serving.names.input.now) _ _ _ _ _ _ _ _ _ _
     (rw c.count-count.ensures.count at c.host-status.ensures.answers)
+    (warnings_known known supply c.open-file.ensures.supply _)
     (rw c.failures-failures.ensures at c.tell_which_unread.ensures) (omega arith))
     (host_known c.args.serving.workers known supply _ _ c.open-file.ensures.supply scheduled)
     (omega arith)
@@ -64,9 +66,10 @@ returns-in_default-clause-answers g c =
     answers_rightly (IsHostOf c.args.serving.workers supply _)
     (IsHostOf c.args.serving.workers known (named c.args.files.now c.args.serving.names.input.now))
     _ _ _ _ _ _ _ _ _ _
-    (answers_unread _ _ _ _ _ _ _
+    (answers_warned _ _ _ _ _ _ _ _ (AreWarningsOf known _)
     (IsOneOf c.args.serving.names.set.now c.args.serving.names.input.now) _ _ _ _ _ _ _ _ _ _
     (rw c.count-count.ensures.count at c.host-status.ensures.answers)
+    (warnings_known known supply c.open-file.ensures.supply _)
     (rw c.failures-failures.ensures at c.tell_which_unread.ensures) (omega arith))
     (host_known c.args.serving.workers known supply _ _ c.open-file.ensures.supply scheduled)
     (omega arith)

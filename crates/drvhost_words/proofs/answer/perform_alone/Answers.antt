@@ -79,7 +79,9 @@ returns-in-Version-clause-stores g c =
 pub returns-in-Trace-clause-answers : goal.returns-in-Trace-clause-answers
 returns-in-Trace-clause-answers g c =
     rw c.in-Trace.is
-    (answers_beside _ _ _ _ _ _ _ _ _ _ _ c.run_files.ensures.answers c.run_files.ensures.unwritten)
+    (answers_beside _ _ _ _ _ _ _ _ _ _ _
+    (rw (c.of-names.ensures.set, c.of-names.ensures.input) at c.run_files.ensures.answers)
+    c.run_files.ensures.unwritten)
 
 pub returns-in-Trace-clause-stores : goal.returns-in-Trace-clause-stores
 returns-in-Trace-clause-stores g c =
@@ -87,12 +89,15 @@ returns-in-Trace-clause-stores g c =
     (record { supply = c.run_files.ensures.supply; none = c.run_files.ensures.created })
 
 pub returns-in-Trace-clause-opened : goal.returns-in-Trace-clause-opened
-returns-in-Trace-clause-opened g c = rw c.in-Trace.is c.run_files.ensures.opened
+returns-in-Trace-clause-opened g c =
+    rw c.in-Trace.is (rw c.of-names.ensures.set at c.run_files.ensures.opened)
 
 pub returns-in-Tell-clause-answers : goal.returns-in-Tell-clause-answers
 returns-in-Tell-clause-answers g c =
     rw c.in-Tell.is
-    (answers_beside _ _ _ _ _ _ _ _ _ _ _ c.run_files-in-Tell.ensures.answers c.run_files-in-Tell.ensures.unwritten)
+    (answers_beside _ _ _ _ _ _ _ _ _ _ _
+    (rw (c.of-names-in-Tell.ensures.set, c.of-names-in-Tell.ensures.input) at c.run_files-in-Tell.ensures.answers)
+    c.run_files-in-Tell.ensures.unwritten)
 
 pub returns-in-Tell-clause-stores : goal.returns-in-Tell-clause-stores
 returns-in-Tell-clause-stores g c =
@@ -100,12 +105,15 @@ returns-in-Tell-clause-stores g c =
     (record { supply = c.run_files-in-Tell.ensures.supply; none = c.run_files-in-Tell.ensures.created })
 
 pub returns-in-Tell-clause-opened : goal.returns-in-Tell-clause-opened
-returns-in-Tell-clause-opened g c = rw c.in-Tell.is c.run_files-in-Tell.ensures.opened
+returns-in-Tell-clause-opened g c =
+    rw c.in-Tell.is (rw c.of-names-in-Tell.ensures.set at c.run_files-in-Tell.ensures.opened)
 
 pub returns-in-Draw-clause-answers : goal.returns-in-Draw-clause-answers
 returns-in-Draw-clause-answers g c =
     rw c.in-Draw.is
-    (answers_beside _ _ _ _ _ _ _ _ _ _ _ c.run_files-in-Draw.ensures.answers c.run_files-in-Draw.ensures.unwritten)
+    (answers_beside _ _ _ _ _ _ _ _ _ _ _
+    (rw (c.of-names-in-Draw.ensures.set, c.of-names-in-Draw.ensures.input) at c.run_files-in-Draw.ensures.answers)
+    c.run_files-in-Draw.ensures.unwritten)
 
 pub returns-in-Draw-clause-stores : goal.returns-in-Draw-clause-stores
 returns-in-Draw-clause-stores g c =
@@ -113,4 +121,5 @@ returns-in-Draw-clause-stores g c =
     (record { supply = c.run_files-in-Draw.ensures.supply; none = c.run_files-in-Draw.ensures.created })
 
 pub returns-in-Draw-clause-opened : goal.returns-in-Draw-clause-opened
-returns-in-Draw-clause-opened g c = rw c.in-Draw.is c.run_files-in-Draw.ensures.opened
+returns-in-Draw-clause-opened g c =
+    rw c.in-Draw.is (rw c.of-names-in-Draw.ensures.set at c.run_files-in-Draw.ensures.opened)

@@ -1,0 +1,130 @@
+-- What is read before workers serve, that it goes rightly, and what is told of it.
+use Rattle.std.proofs.Common.{◌≡◌, ◌∙◌, ◌≢◌, ◌⊎◌, ◌+◌, ◌++◌, arith, ℕ, List, [], Option, None, Some, Result, Ok, Err, IfOk, IfErr, inl, inr, refl, subst, sym}
+use Rattle.model.specs.declared.abs.Refusal.{Refusal}
+use Rattle.model.specs.declared.abs.Rule.TheVariants as Rule
+use Rattle.model.specs.Set.{Set}
+use Rattle.model.specs.Typable.{IsFirstFault, IsTypable, at_start}
+use Rattle.report.specs.Fault.{script_fault_line}
+use Rattle.report.specs.Verdict.{refusal_line}
+use Rattle.drvhost_devices.specs.declared.fault.End.{End}
+use Rattle.drvhost_devices.specs.declared.fault.End.TheVariants.{Stopped}
+use Rattle.drvhost_devices.specs.declared.fault.Fault.{Fault}
+use Rattle.drvhost_devices.specs.declared.fault.Fault.TheVariants.{Read, Write, Memory, Text, Image, Schedule as OfSchedule, Script as OfScript}
+use Rattle.drvhost_devices.specs.Answer.{Answer, IsIfAccepted, IsRefused, faulty}
+use Rattle.drvhost_devices.specs.Device.{Says, Supply}
+use Rattle.drvhost_devices.specs.Fault.{Goes, ReadsScript, ReadsSet, fault_status}
+use Rattle.drvhost_devices.proofs.Jobs.{goes_refused, goes_rightly, right_on, set_unread}
+use Rattle.drvhost_devices.proofs.Writing.{keeps_same, writes_behind}
+use Rattle.drvhost_runs.specs.declared.page.Page.{Page}
+use Rattle.drvhost_runs.specs.declared.ready.Ready.{Ready}
+use Rattle.drvhost_runs.specs.Readiness.{AreWarningsOf, IsReady, IsServing, IsUnserved, warnings_in}
+use Rattle.drvhost_runs.specs.Served.{IsHostOf, IsServed, IsServedOf}
+
+-- the set can't be read
+pub unserved_unread : (set script : Supply) (l : List ℕ) (fault : Fault) → ReadsSet set (Err fault)
+    → IsUnserved set script l (Err fault)
+unserved_unread set script l fault h workers b =
+    set_unread (IsIfAccepted (IsServedOf workers script)) set b [] l fault h
+
+-- what a set that was read answers, the sources answer
+on_set : (set script : Supply) (s : Set) (workers : ℕ) (b : Option (List ℕ)) (l : List ℕ)
+    (end : Result End Fault) → ReadsSet set (Ok s)
+    → Goes (IsIfAccepted (IsServedOf workers script) s) b b [] l end
+    → Goes (IsHostOf workers set script) b b [] l end
+on_set set script s workers b l end read goes =
+    goes_rightly (IsIfAccepted (IsServedOf workers script) s) (IsHostOf workers set script) b b [] l end
+    (right_on (IsIfAccepted (IsServedOf workers script)) set s read) goes
+
+-- the set is refused, or there was no memory for a verdict
+pub unserved_refused : (set script : Supply) (s : Set) (refusal : Refusal) (l : List ℕ)
+    (end : Result End Fault) → ReadsSet set (Ok s)
+    → (refusal ≡ at_start Rule.Memory) ⊎ IsFirstFault s refusal
+    → IfOk end (λ e. (e ≡ Stopped) × (refusal.rule ≢ Rule.Memory) × (l ≡ refusal_line refusal))
+    → IfErr end (λ fault. fault ≡ Memory)
+    → IsUnserved set script l end
+unserved_refused set script s refusal l end read first ended failed workers b =
+    on_set set script s workers b l end read
+    (goes_rightly (IsRefused s) (IsIfAccepted (IsServedOf workers script) s) b b [] l end
+    (λ answer refused. inr refused)
+    (goes_refused s refusal b l end first ended failed))
+
+-- the script can't be read, or is faulty
+script_unread : (s : Set) (script : Supply) (workers : ℕ) (b : Option (List ℕ)) (l : List ℕ)
+    (fault : Fault) → ReadsScript script (Err fault)
+    → Goes (IsServedOf workers script s) b b [] l (Err fault)
+script_unread s script workers b l Read h = keeps_same b
+script_unread s script workers b l Write h = absurd h
+script_unread s script workers b l Memory h = keeps_same b
+script_unread s script workers b l (Text fault) h = absurd h
+script_unread s script workers b l (Image fault) h = absurd h
+script_unread s script workers b l (OfSchedule fault) h = absurd h
+script_unread s script workers b l (OfScript fault) (text, holds, is) = (
+  (
+    text,
+    holds,
+    subst (λ r. IsServed workers s r (faulty (script_fault_line fault))) (sym is) refl,
+  ),
+  keeps_same b,
+)
+
+pub unserved_script : (set script : Supply) (s : Set) (l : List ℕ) (fault : Fault)
+    → ReadsSet set (Ok s) → IsTypable s → ReadsScript script (Err fault)
+    → IsUnserved set script l (Err fault)
+unserved_script set script s l fault read typable faulted workers b =
+    on_set set script s workers b l (Err fault) read
+    (goes_rightly (IsServedOf workers script s) (IsIfAccepted (IsServedOf workers script) s) b b [] l
+    (Err fault) (λ answer right. inl (typable, right))
+    (script_unread s script workers b l fault faulted))
+
+-- what is served for what was read is right for the sources
+pub served_host : (set script : Supply) (page : Page) (ready : Ready) (workers : ℕ)
+    → IsReady set script page (Ok (Some ready)) → (answer : Answer)
+    → IsServed workers ready.accepted (Ok ready.commands.items) answer
+    → IsHostOf workers set script answer
+served_host set script page ready workers (read, typable, of, blank) answer right =
+    let commands = of.commands in
+    right_on (IsIfAccepted (IsServedOf workers script)) set ready.accepted read answer
+    (inl (
+      typable,
+      (
+        commands.0,
+        commands.1,
+        subst (λ r. IsServed workers ready.accepted r answer) (sym commands.2) right,
+      ),
+    ))
+
+-- a fault has a status of its own
+pub fault_is_told : (fault : Fault) → fault_status fault ≢ 0
+fault_is_told Memory e = cc
+fault_is_told Read e = cc
+fault_is_told Write e = cc
+fault_is_told (Text fault) e = cc
+fault_is_told (Image fault) e = cc
+fault_is_told (OfSchedule fault) e = cc
+fault_is_told (OfScript fault) e = cc
+
+-- the warnings are those of the set
+pub warnings_right : (set script : Supply) (page : Page) (ready : Result (Option Ready) Fault)
+    (status : ℕ) → IsReady set script page ready → (status ≡ 0 → IsServing ready)
+    → AreWarningsOf set status (warnings_in ready)
+warnings_right set script page (Ok (Some ready)) status (read, typable, of, blank) serving =
+    inl (read.0, read.1, (ready.accepted, read.2, (typable, of.warnings)))
+warnings_right set script page (Ok None) status h serving = inr (refl, serving)
+warnings_right set script page (Err fault) status h serving = inr (refl, serving)
+
+-- there are none where memory ran out before anything else
+pub warnings_none : (set : Supply) (status : ℕ) → status ≡ 3 → AreWarningsOf set status []
+warnings_none set status is = inr (refl, λ zero. let no : 3 ≡ 0 = sym is ∙ zero in cc)
+
+-- a text is said behind what was said since a writer had failed so often
+pub says_on : (failures e f : ℕ) (b m n : Option (List ℕ)) (told text : List ℕ) → e ≡ failures
+    → Says failures e b m told → Says e f m n text → Says failures f b n (told ++ text)
+says_on failures e f b m n told text same (inl first) (inl second) =
+    inl (second.0 ∙ same, writes_behind {T = ℕ} {E = ℕ} (Ok 0) b m n told text first.1 second.1)
+says_on failures e f b m n told text same (inl first) (inr second) =
+    inr (
+      omega (arith, same, second.0),
+      writes_behind {T = ℕ} {E = ℕ} (Err 0) b m n told text first.1 second.1,
+    )
+says_on failures e f b m n told text same (inr first) second =
+    let no : ⊥ = omega (arith, same, first.0) in absurd no

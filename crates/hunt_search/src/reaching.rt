@@ -1,0 +1,255 @@
+//! Which numbers can reach a jump: two worlds that differ only in others go on alike. Each routine
+//! is gone through backwards, again and again until no more is found to matter.
+
+use crate::registers::Registers;
+use driver_set::{DriverSet, Instr};
+use model::instr::Field;
+use model::limits::CELLS;
+use model::set::Driver;
+use model::world::Activation;
+use std::alloc::{AllocError, Global};
+
+/// The cells of a driver's devices whose numbers can reach a jump.
+#[derive(Clone, Copy)]
+pub(crate) struct Cells {
+    pub(crate) plain: [bool; CELLS],
+    pub(crate) paged: [bool; CELLS],
+}
+
+/// The fields of packets whose numbers can.
+#[derive(Clone, Copy)]
+pub(crate) struct Fields {
+    pub(crate) argument: bool,
+    pub(crate) information: bool,
+    /// More was found to matter, since this was last cleared.
+    grew: bool,
+}
+
+/// What of a driver matters.
+#[derive(Drop)]
+struct Reached {
+    cells: Cells,
+    /// By routine and position, the registers whose numbers can reach a jump from there.
+    routines: Vec<Vec<Registers>>,
+}
+
+/// What of a driver set matters.
+#[derive(Drop)]
+pub(crate) struct Reaching {
+    drivers: Vec<Reached>,
+    fields: Fields,
+}
+
+impl Reaching {
+    /// What of a set matters.
+    pub(crate) fn of(alloc: Global, set: &DriverSet) -> Result<Reaching, AllocError> {
+        let mut reaching = Reaching {
+            drivers: nothing_reached(alloc, set.drivers())?,
+            fields: Fields {
+                argument: false,
+                information: false,
+                grew: false,
+            },
+        };
+        for _round in 0..u64::MAX {
+            reaching.go_through(set.drivers());
+            if !reaching.fields.grew {
+                break;
+            }
+        }
+        Ok(reaching)
+    }
+
+    /// Goes once through all routines.
+    fn go_through(&mut self, drivers: &[Driver]) {
+        self.fields.grew = false;
+        for number in 0..drivers.len() {
+            if let (Some(driver), Some(reached)) = (
+                drivers.get(number),
+                self.drivers.get_mut(number),
+            ) {
+                go_through_driver(reached, &mut self.fields, driver);
+            }
+        }
+    }
+
+    /// The fields of packets that matter.
+    pub(crate) fn fields(&self) -> Fields {
+        self.fields
+    }
+
+    /// The cells of a driver's devices that matter.
+    pub(crate) fn cells(&self, driver: u8) -> Option<Cells> {
+        match self.drivers.get(driver as usize) {
+            Some(reached) => Some(reached.cells),
+            None => None,
+        }
+    }
+
+    /// The registers that matter where an activation stands.
+    pub(crate) fn registers(&self, a: &Activation) -> Registers {
+        let Some(reached) = self.drivers.get(a.driver as usize) else {
+            return Registers::ALL;
+        };
+        match reached.routines.get(a.routine as usize) {
+            Some(places) => at(places.as_slice(), a.position as usize),
+            None => Registers::ALL,
+        }
+    }
+}
+
+/// Nothing yet of each driver.
+fn nothing_reached(alloc: Global, drivers: &[Driver]) -> Result<Vec<Reached>, AllocError> {
+    let mut reached = Vec::new(alloc);
+    for driver in drivers {
+        reached.push(Reached {
+            cells: Cells {
+                plain: [false; CELLS],
+                paged: [false; CELLS],
+            },
+            routines: no_registers(alloc, driver)?,
+        })?;
+    }
+    Ok(reached)
+}
+
+/// No registers at each position of each routine.
+fn no_registers(alloc: Global, driver: &Driver) -> Result<Vec<Vec<Registers>>, AllocError> {
+    let mut routines = Vec::new(alloc);
+    for routine in driver.routines.as_slice() {
+        let length = routine.code.as_slice().len();
+        routines.push(vec![in alloc; Registers::NONE; length]?)?;
+    }
+    Ok(routines)
+}
+
+/// Goes once through the routines of a driver.
+fn go_through_driver(reached: &mut Reached, fields: &mut Fields, driver: &Driver) {
+    let routines = driver.routines.as_slice();
+    for number in 0..routines.len() {
+        if let (Some(routine), Some(places)) = (
+            routines.get(number),
+            reached.routines.get_mut(number),
+        ) {
+            go_through_code(places, &mut reached.cells, fields, routine.code.as_slice());
+        }
+    }
+}
+
+/// Goes once through a routine, from its last instruction to its first.
+fn go_through_code(
+    places: &mut Vec<Registers>,
+    cells: &mut Cells,
+    fields: &mut Fields,
+    code: &[Instr],
+) {
+    for back in 0..code.len() {
+        let position = code.len() - 1 - back;
+        if let Some(instr) = code.get(position) {
+            let behind = behind(places.as_slice(), code, instr, position);
+            note_read(instr, behind, cells, fields);
+            let needed = needed_before(instr, behind, cells, fields);
+            keep(places, position, needed, fields);
+        }
+    }
+}
+
+/// The registers that matter at a position: none behind the last one.
+fn at(places: &[Registers], position: usize) -> Registers {
+    places.get(position).copied().unwrap_or(Registers::NONE)
+}
+
+/// The registers that matter behind an instruction, wherever the routine goes on.
+fn behind(places: &[Registers], code: &[Instr], instr: &Instr, position: usize) -> Registers {
+    let next = match *instr {
+        Instr::Jump(_) | Instr::Ret(_) => Registers::NONE,
+        Instr::End => at(places, position.saturating_add(1)).and(at_loops(places, code)),
+        _ => at(places, position.saturating_add(1)),
+    };
+    match instr.label() {
+        Some(label) => next.and(at(places, label as usize)),
+        None => next,
+    }
+}
+
+/// The registers that matter where some loop's body begins.
+fn at_loops(places: &[Registers], code: &[Instr]) -> Registers {
+    let mut all = Registers::NONE;
+    for position in 0..code.len() {
+        if let Some(Instr::Loop(_)) = code.get(position) {
+            all = all.and(at(places, position.saturating_add(1)));
+        }
+    }
+    all
+}
+
+/// Notes the cell or the field that an instruction reads into a register that matters behind it.
+fn note_read(instr: &Instr, behind: Registers, cells: &mut Cells, fields: &mut Fields) {
+    match *instr {
+        Instr::Load(register, cell) => {
+            if behind.has(register) {
+                note(&mut cells.plain[cell.index()], &mut fields.grew);
+            }
+        }
+        Instr::LoadPaged(register, cell) => {
+            if behind.has(register) {
+                note(&mut cells.paged[cell.index()], &mut fields.grew);
+            }
+        }
+        Instr::Get(register, _, field) => {
+            if behind.has(register) {
+                note_field(field, fields);
+            }
+        }
+        _ => {}
+    }
+}
+
+/// Notes a field of packets. The major function decides which routine serves a packet, so it
+/// matters anyway.
+fn note_field(field: Field, fields: &mut Fields) {
+    match field {
+        Field::Major => {}
+        Field::Argument => note(&mut fields.argument, &mut fields.grew),
+        Field::Info => note(&mut fields.information, &mut fields.grew),
+    }
+}
+
+/// Notes that something matters, and whether that is new.
+fn note(matters: &mut bool, grew: &mut bool) {
+    if !*matters {
+        *matters = true;
+        *grew = true;
+    }
+}
+
+/// The registers that matter before an instruction, by those that matter behind it.
+fn needed_before(instr: &Instr, behind: Registers, cells: &Cells, fields: &Fields) -> Registers {
+    match *instr {
+        Instr::Const(target, _)
+        | Instr::Clear(target)
+        | Instr::Load(target, _)
+        | Instr::LoadPaged(target, _)
+        | Instr::Get(target, _, _) => behind.without(target),
+        Instr::Move(target, source) => behind.without(target).with_if(behind.has(target), source),
+        Instr::Add(target, source) | Instr::Subtract(target, source) => {
+            behind.with_if(behind.has(target), source)
+        }
+        Instr::JumpIfZero(register, _) => behind.with(register),
+        Instr::JumpIfLess(left, right, _) => behind.with(left).with(right),
+        Instr::Store(cell, source) => behind.with_if(cells.plain[cell.index()], source),
+        Instr::StorePaged(cell, source) => behind.with_if(cells.paged[cell.index()], source),
+        Instr::Put(_, source) => behind.with_if(fields.information, source),
+        _ => behind,
+    }
+}
+
+/// Keeps the registers that matter at a position, with those that are known already.
+fn keep(places: &mut Vec<Registers>, position: usize, needed: Registers, fields: &mut Fields) {
+    if let Some(known) = places.get_mut(position) {
+        if !needed.is_within(*known) {
+            *known = known.and(needed);
+            fields.grew = true;
+        }
+    }
+}

@@ -1,0 +1,10 @@
+use Rattle.report_json.proofs.Steps.{more, last}
+use Rattle.report_json.proofs.event.write_topped.Goals as goal
+
+pub returns-clause-tokens : goal.returns-clause-tokens
+returns-clause-tokens c =
+    let t = c.args.out.now.tokens in
+    let a = more t _ _ _ _ c.in_ok-put_number.ensures.tokens c.in_ok-put_text.ensures.tokens in
+    let b = more t _ _ _ _ a c.in_ok-put_long.ensures.tokens in
+    let done = last _ t _ _ _ _ b c.end_object.ensures.ok in
+    rw c.as_str.ensures at done

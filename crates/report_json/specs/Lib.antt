@@ -1,0 +1,5 @@
+pub mod Line
+pub mod Verdict
+pub mod Fault
+pub mod Event
+pub mod Nesting

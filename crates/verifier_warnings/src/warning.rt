@@ -1,0 +1,109 @@
+//! The warnings of an accepted set's drivers that take their locks in a cycle.
+
+ghost use Rattle.std.specs.Prelude.{◌≡◌, [], IfOk, OnOk, length, string_bytes};
+ghost use Rattle.verifier_warnings.specs.Orders.{EndsWith};
+ghost use Rattle.verifier_warnings.specs.Warnings.{AddsWarning, AreLines, AreWarnings, WarnsAt, for_ever};
+
+use crate::orders::{Telling, begin_cycle, line_of};
+use std::alloc::{AllocError, Global};
+use verifier::Accepted;
+use verifier_names::Origin;
+use verifier_orders::{Edge, LockOrder, orders_of};
+
+/// What is told last of a driver that takes its locks in a cycle.
+const FOR_EVER: &str = "): workers may wait for each other for ever\n";
+
+/// What is told of an accepted set before workers serve it: a line for each driver that takes its
+/// locks in a cycle, with the routines that make it and their lines.
+///
+/// # Errors
+///
+/// When memory runs out.
+pub fn warnings(
+    alloc: Global,
+    origin: Origin<'_>,
+    accepted: &Accepted,
+) -> Result<String, AllocError>
+    ensures { IfOk result (λ words. AreWarnings accepted.now (string_bytes words)) }
+{
+    let orders = orders_of(alloc, accepted)?;
+    let telling = Telling::of(alloc, origin, accepted.set())?;
+    let mut lines = String::new(alloc);
+    add_warnings(alloc, &mut lines, &telling, orders.as_slice())?;
+    Ok(lines)
+}
+
+/// Adds a line for each of some orders that is a cycle.
+fn add_warnings(
+    alloc: Global,
+    lines: &mut String,
+    telling: &Telling<'_, '_>,
+    orders: &[LockOrder],
+) -> Result<(), AllocError>
+    requires { string_bytes lines.old ≡ [] }
+    ensures { OnOk result
+        (AreLines (WarnsAt orders.now) (length orders.now) (string_bytes lines.new)) }
+{
+    let mut number: u8 = 0;
+    for order in orders {
+        add_warning(alloc, lines, telling, number, order)?;
+        number = number.saturating_add(1);
+    }
+    Ok(())
+}
+
+/// Adds the line of the driver of a number, if its order is a cycle.
+fn add_warning(
+    alloc: Global,
+    lines: &mut String,
+    telling: &Telling<'_, '_>,
+    number: u8,
+    order: &LockOrder,
+) -> Result<(), AllocError>
+    ensures { OnOk result
+        (AddsWarning order.now (string_bytes lines.old) (string_bytes lines.new)) }
+{
+    let LockOrder::Cycle(cycle) = order else {
+        return Ok(());
+    };
+    let line = cycle_line(alloc, telling, number, cycle.as_slice())?;
+    lines.push_str(line.as_str())
+}
+
+/// The line of the driver of a number, which takes its locks in a cycle.
+fn cycle_line(
+    alloc: Global,
+    telling: &Telling<'_, '_>,
+    number: u8,
+    cycle: &[Edge],
+) -> Result<String, AllocError>
+    ensures { IfOk result (λ line. EndsWith (string_bytes line) for_ever) }
+{
+    let mut line = String::new(alloc);
+    begin_cycle(&mut line, telling.names(number), number)?;
+    line.push_str(" (")?;
+    for (place, edge) in cycle.iter().enumerate() {
+        line.push_str(if place == 0 { "" } else { ", " })?;
+        add_edge(alloc, &mut line, telling, number, edge)?;
+    }
+    line.push_str(FOR_EVER)?;
+    Ok(line)
+}
+
+/// Adds the routine of an edge of the driver of a number, and the line at which it takes the lock.
+fn add_edge(
+    alloc: Global,
+    prose: &mut String,
+    telling: &Telling<'_, '_>,
+    number: u8,
+    edge: &Edge,
+) -> Result<(), AllocError> {
+    let quoted = line_of(alloc, telling, number, edge)?;
+    telling
+        .names(number)
+        .add_routine_alone(prose, edge.routine)?;
+    match quoted.line {
+        Some(line) => write!(prose, " line {}", line.number),
+        None => write!(prose, " position {}", edge.at),
+    }
+}

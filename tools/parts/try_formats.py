@@ -1,0 +1,83 @@
+#!/usr/bin/env python3
+"""Whether the examples of docs/FORMATS.md are what their schemas say: each schema takes its
+examples, and refuses each of them where a member lacks or is of another type.
+
+    tools/try formats [FILE ..]     these documents, or docs/FORMATS.md
+
+It needs a validator of JSON Schema, on Debian `python3-jsonschema`.
+"""
+
+import copy
+import json
+import os
+import re
+import sys
+
+from jsonschema import Draft202012Validator
+
+TOP = os.path.dirname(os.path.dirname(os.path.dirname(os.path.abspath(__file__))))
+BLOCK = re.compile(r"<!-- format: (\w+) -->\n```json\n(.*?)```", re.S)
+
+
+def validator_of(shape):
+    """The validator of a shape, whose schema is one itself."""
+    with open(os.path.join(TOP, "docs", "schemas", shape + ".json"), encoding="ascii") as file:
+        schema = json.load(file)
+    Draft202012Validator.check_schema(schema)
+    return Draft202012Validator(schema)
+
+
+def objects_in(value):
+    """The objects in a value, each as the value that it is part of would have it."""
+    if isinstance(value, dict):
+        yield value
+    for part in value.values() if isinstance(value, dict) else value:
+        if isinstance(part, (dict, list)):
+            yield from objects_in(part)
+
+
+def wrong_ones(value):
+    """A value without each of its members, and with each of another type."""
+    count = sum(len(each) for each in objects_in(value))
+    for number in range(count):
+        for other in (None, True):
+            changed = copy.deepcopy(value)
+            places = [(each, key) for each in objects_in(changed) for key in each]
+            place, key = places[number]
+            if other is None:
+                del place[key]
+            else:
+                place[key] = other
+            yield key, changed
+
+
+def faults_of(validator, line):
+    """What is wrong with an example."""
+    value = json.loads(line)
+    if json.dumps(value, separators=(",", ":"), ensure_ascii=False) != line:
+        yield "isn't written as the program writes it"
+    for error in validator.iter_errors(value):
+        yield f"is refused: {error.message}"
+    for key, changed in wrong_ones(value):
+        if validator.is_valid(changed):
+            yield f"is taken with another member `{key}`, or without it"
+
+
+def main():
+    paths = sys.argv[1:] or [os.path.join(TOP, "docs", "FORMATS.md")]
+    tried = wrong = 0
+    for path in paths:
+        with open(path, encoding="utf-8") as file:
+            blocks = BLOCK.findall(file.read())
+        for shape, block in blocks:
+            validator = validator_of(shape)
+            for line in block.splitlines():
+                tried += 1
+                for fault in faults_of(validator, line):
+                    wrong += 1
+                    print(f"{line}\n    {fault}")
+    print(f"{tried} examples tried, {wrong} faults")
+    sys.exit(wrong > 0 or tried == 0)
+
+
+main()
