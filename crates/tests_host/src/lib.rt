@@ -6,10 +6,6 @@
 mod cores;
 pub mod crossing;
 #[cfg(test)]
-mod crowd;
-#[cfg(test)]
-mod histories;
-#[cfg(test)]
 mod market;
 pub mod pace;
 #[cfg(test)]

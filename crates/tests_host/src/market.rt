@@ -75,16 +75,6 @@ impl Market {
         taker.take(rt, &self.intake)
     }
 
-    /// The queue closes.
-    pub(crate) fn close(&self) {
-        self.intake.close();
-    }
-
-    /// Whether the queue is closed.
-    pub(crate) fn closed(&self) -> bool {
-        self.intake.closed()
-    }
-
     /// All leave.
     pub(crate) fn left(self) -> Left {
         let Market {

@@ -5,10 +5,9 @@ ghost use Rattle.model.specs.declared.limits.TheConstants.{MAX_THREADS};
 
 use crate::crossing::Crossing;
 use crate::market::Market;
-use crate::served::{Account, Told, serve_all, serve_beside};
+use crate::served::{Account, serve_all, serve_beside};
 use crate::sets::{CROSSES, READ, core_of};
 use hostcore::Core;
-use model::event::Reply;
 use model::history::Command;
 use model::status::Major;
 use std::alloc::Global;
@@ -71,18 +70,9 @@ fn serve_ring<R: Threads + Wait + Abort + Sync, C: Clock + Sync>(
 /// Each worker began a request. Two had a lock each, and no other got one. What is left was not
 /// begun.
 fn check_ring<R: Abort>(rt: &R, account: &Account, workers: usize) {
-    assert_eq!(rt; account.started, workers);
+    assert!(rt; account.started == workers && !account.full && account.held == 0);
     assert_eq!(rt; account.core.history().len(), workers.saturating_add(2));
-    assert!(rt; !account.full && account.held.is_empty());
-    assert_eq!(rt; account.left.len(), REQUESTS.saturating_sub(workers));
-    for (number, told) in account.told.iter().enumerate() {
-        assert_eq!(rt; is_begun(told), number < workers);
-    }
-}
-
-/// Whether a request was begun, and its packet is live.
-fn is_begun(told: &Told) -> bool {
-    matches!(*told, Told::Owed(Reply::Started(_)))
+    assert_eq!(rt; account.left, REQUESTS.saturating_sub(workers));
 }
 
 /// Two workers in a ring end at a queue that is open still.

@@ -6,10 +6,9 @@ ghost use Rattle.intake.specs.Ends.{AreSubmittersOf, AreTakersOf, submitter_shar
 ghost use Rattle.model.specs.declared.limits.TheConstants.{MAX_THREADS};
 
 use arrayvec::ArrayVec;
-use hostcore::{Core, Taken, Ticket};
+use hostcore::{Core, Taken};
 use intake::{Intake, Left, Submitter, Taker};
-use model::event::Reply;
-use model::history::{Command, Name, Outcome};
+use model::history::Command;
 use std::alloc::Global;
 use std::process::Abort;
 use std::sync::Wait;
@@ -19,30 +18,17 @@ use workers::{Gate, Served, serve};
 /// How many commands the queue has room for.
 const ROOM: usize = 250;
 
-/// What a core tells of a command in the end.
-#[derive(Clone, Copy)]
-pub(crate) enum Told {
-    /// It is done.
-    Done(Outcome),
-    /// It was performed, with this reply, and its packet is live.
-    Owed(Reply),
-    /// It was not performed.
-    Nothing,
-}
-
 /// What came of serving a queue.
 #[derive(Drop)]
 pub(crate) struct Account {
     pub(crate) core: Core,
-    /// What is told of each command, in the order in which they were put.
-    pub(crate) told: Vec<Told>,
     pub(crate) takers: usize,
     pub(crate) counts: ArrayVec<u64, 64>,
     pub(crate) started: usize,
     pub(crate) full: bool,
-    /// The commands that were held, and those that were left in the queue.
-    pub(crate) held: Vec<Name>,
-    pub(crate) left: Vec<Name>,
+    /// How many commands were held, and how many were left in the queue.
+    pub(crate) held: usize,
+    pub(crate) left: usize,
 }
 
 /// Puts commands into a queue, closes it, and has workers serve it with an idle core.
@@ -62,7 +48,7 @@ pub(crate) fn serve_all<G: Gate + Sync, R: Threads + Wait + Abort + Sync>(
     let Ok((intake, mut submitters, takers)) = Intake::new(alloc, ROOM, 1, workers as u32) else {
         panic!(rt; "memory")
     };
-    let tickets = put_all(rt, alloc, &intake, &mut submitters, commands);
+    put_all(rt, &core, &intake, &mut submitters, commands);
     intake.close();
     let served = serve_it(rt, alloc, core, &intake, takers, gate);
     let Served {
@@ -74,23 +60,18 @@ pub(crate) fn serve_all<G: Gate + Sync, R: Threads + Wait + Abort + Sync>(
         ends: _,
         full,
     } = served;
-    let count = takers.len();
-    let told = all_told(rt, alloc, &core, tickets);
-    let held = names_held(rt, alloc, held);
-    let left = names_left(rt, alloc, intake.left(submitters, takers));
     Account {
         core,
-        told,
-        takers: count,
+        takers: takers.len(),
         counts,
         started,
         full,
-        held,
-        left,
+        held: count_held(held),
+        left: count_left(rt, intake.left(submitters, takers)),
     }
 }
 
-/// Serves a queue to which others submit. Nothing is told of its commands, nor of what is left.
+/// Serves a queue to which others submit. Nothing is told of what is left.
 pub(crate) fn serve_beside<G: Gate + Sync, R: Threads + Wait + Abort + Sync>(
     rt: &R,
     alloc: Global,
@@ -115,13 +96,12 @@ pub(crate) fn serve_beside<G: Gate + Sync, R: Threads + Wait + Abort + Sync>(
     } = serve_it(rt, alloc, core, intake, takers, gate);
     Account {
         core,
-        told: Vec::new(alloc),
         takers: takers.len(),
         counts,
         started,
         full,
-        held: names_held(rt, alloc, held),
-        left: Vec::new(alloc),
+        held: count_held(held),
+        left: 0,
     }
 }
 
@@ -145,14 +125,14 @@ fn serve_it<G: Gate + Sync, R: Threads + Wait + Sync>(
     serve(rt, alloc, core, intake, takers, gate)
 }
 
-/// Puts commands into a queue, which has room for them: their tickets.
+/// Puts commands into a queue, which has room for them. Their outcomes are nobody's.
 fn put_all<R: Wait + Abort>(
     rt: &R,
-    alloc: Global,
+    core: &Core,
     intake: &Intake,
     submitters: &mut Vec<Submitter>,
     commands: &[Command],
-) -> Vec<Ticket>
+)
     requires all { AreSubmittersOf intake.now submitters.old.items }
     requires some { 0 < length submitters.old.items }
     ensures all { AreSubmittersOf intake.now submitters.new.items }
@@ -160,24 +140,19 @@ fn put_all<R: Wait + Abort>(
     ensures shares { submitter_shares submitters.new.items
         ≡ submitter_shares submitters.old.items }
 {
-    let Ok(mut tickets) = Vec::with_capacity(alloc, ROOM) else {
-        panic!(rt; "memory")
-    };
     for command in commands {
-        let ticket = put_one(rt, intake, submitters, *command);
-        assert!(rt; tickets.len() < tickets.capacity());
-        tickets.push_reserved(ticket);
+        put_one(rt, core, intake, submitters, *command);
     }
-    tickets
 }
 
 /// Puts a command into a queue, which has room for it.
 fn put_one<R: Wait + Abort>(
     rt: &R,
+    core: &Core,
     intake: &Intake,
     submitters: &mut Vec<Submitter>,
     command: Command,
-) -> Ticket
+)
     requires all { AreSubmittersOf intake.now submitters.old.items }
     requires some { 0 < length submitters.old.items }
     ensures all { AreSubmittersOf intake.now submitters.new.items }
@@ -187,58 +162,34 @@ fn put_one<R: Wait + Abort>(
 {
     let submitter = &mut submitters[0];
     match submitter.submit(rt, intake, command) {
-        Ok(ticket) => ticket,
+        Ok(ticket) => {
+            core.abandon(ticket);
+        }
         Err(_command) => panic!(rt; "a full queue"),
     }
 }
 
-/// What is told of each ticket's command.
-fn all_told<R: Abort>(rt: &R, alloc: Global, core: &Core, mut tickets: Vec<Ticket>) -> Vec<Told> {
-    let mut told = Vec::new(alloc);
-    while !tickets.is_empty() {
-        let ticket = tickets.remove(0);
-        told.push(told_of(core, ticket)).expect(rt, "memory");
-    }
-    tickets.destroy_empty();
-    told
-}
-
-/// What is told of a ticket's command.
-fn told_of(core: &Core, ticket: Ticket) -> Told {
-    match core.collect(ticket) {
-        Ok(outcome) => Told::Done(outcome),
-        Err(back) => match core.abandon(back) {
-            Some(reply) => Told::Owed(reply),
-            None => Told::Nothing,
-        },
-    }
-}
-
-/// The names of commands that were held.
-fn names_held<R: Abort>(rt: &R, alloc: Global, mut held: Vec<Taken>) -> Vec<Name> {
-    let mut names = Vec::new(alloc);
-    while !held.is_empty() {
-        names.push(given_up(held.remove(0))).expect(rt, "memory");
+/// How many commands were held: they are given up.
+fn count_held(mut held: Vec<Taken>) -> usize {
+    let count = held.len();
+    while let Some(taken) = held.pop() {
+        let _command = taken.give_up();
     }
     held.destroy_empty();
-    names
+    count
 }
 
-/// The names of the commands that were left in a queue.
-fn names_left<R: Wait + Abort>(rt: &R, alloc: Global, mut left: Left) -> Vec<Name> {
-    let mut names = Vec::new(alloc);
+/// How many commands were left in a queue: they are given up.
+fn count_left<R: Wait>(rt: &R, mut left: Left) -> usize {
+    let mut count: usize = 0;
     for _ in rt.forever() {
         match left.next(rt) {
-            Some(taken) => names.push(given_up(taken)).expect(rt, "memory"),
+            Some(taken) => {
+                let _command = taken.give_up();
+                count = count.saturating_add(1);
+            }
             None => break,
         }
     }
-    names
-}
-
-/// The name of a command that is given up.
-fn given_up(taken: Taken) -> Name {
-    let name = taken.name();
-    let _command = taken.give_up();
-    name
+    count
 }

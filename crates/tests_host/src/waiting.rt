@@ -2,19 +2,17 @@
 //! is open still, is empty.
 
 ghost use Rattle.std.specs.Prelude.{◌≡◌, ◌≤◌, None, length, replicate};
-ghost use Rattle.intake.specs.Ends.{AreTakersOf};
+ghost use Rattle.intake.specs.Ends.{AreSubmittersOf, AreTakersOf};
 
-use crate::crowd::{last_submitter, put_one};
 use crate::market::Market;
 use crate::pace::Watch;
-use crate::served::{Account, Told, serve_all, serve_beside};
+use crate::served::{Account, serve_all, serve_beside};
 use crate::serving::is_finished;
 use crate::sets::{COMPLETES, LOCKS, READ, core_of};
 use hostcore::Core;
 use intake::{Intake, Submitter};
-use model::event::Reply;
-use model::history::{Outcome, TopOut};
-use model::status::Status;
+use model::history::Command;
+use model::status::Major;
 use std::alloc::Global;
 use std::process::Abort;
 use std::sync::Wait;
@@ -71,44 +69,35 @@ fn a_worker_goes_on_after_its_thread_waited(rt: HostRuntime) {
     check_rivals(&rt, &account);
 }
 
-/// Both packets topped out, each by six entries of one worker.
+/// Each worker performed its request, by six entries.
 fn check_rivals<R: Abort>(rt: &R, account: &Account) {
     assert_eq!(rt; account.counts.as_slice(), [6, 6].as_slice());
     assert!(rt; is_finished(account, 2));
-    assert!(rt; account.told.iter().all(|told| is_success(told)));
 }
 
-/// Whether a request's packet topped out with STATUS_SUCCESS.
-fn is_success(told: &Told) -> bool {
-    matches!(
-        *told,
-        Told::Done(Outcome {
-            reply: Reply::Started(_),
-            topped: Some(TopOut {
-                status: Status::Success,
-                ..
-            })
-        })
-    )
-}
-
-/// How many requests are put while workers serve.
+/// How many requests each of two submitters puts while workers serve.
 const PUT: u64 = 10;
 
-/// Two workers perform what is put while they serve, and end once the queue is closed.
+/// Two workers perform what two submitters put while they serve, into a queue that has room for one
+/// command, and end once it is closed.
 #[test]
 fn workers_stay_at_an_open_queue(rt: HostRuntime) {
     let alloc = rt.alloc();
     let core = core_of(&rt, alloc, COMPLETES, 2, 100);
-    let market = Market::open(&rt, alloc, 16, 1, 2);
+    let market = Market::open(&rt, alloc, 1, 2, 2);
     let watch = Watch::new();
     let account = serve_market(&rt, alloc, core, market, &watch);
-    assert!(rt; watch.ended_with(account.counts.as_slice()));
-    assert_eq!(rt; account.core.history().len() as u64, 4 * PUT);
-    assert!(rt; is_finished(&account, 2));
+    check_stay(&rt, &account, &watch);
 }
 
-/// Two workers serve a queue with one submitter, which is in a thread of its own.
+/// All requests were performed.
+fn check_stay<R: Abort>(rt: &R, account: &Account, watch: &Watch) {
+    assert!(rt; watch.ended_with(account.counts.as_slice()));
+    assert_eq!(rt; account.core.history().len() as u64, 8 * PUT);
+    assert!(rt; is_finished(account, 2));
+}
+
+/// Two workers serve a queue with two submitters, each in a thread of its own.
 fn serve_market<R: Threads + Wait + Abort + Clock + Sync>(
     rt: &R,
     alloc: Global,
@@ -126,12 +115,13 @@ fn serve_market<R: Threads + Wait + Abort + Clock + Sync>(
         takers,
     } = market;
     assert!(rt; takers.len() == 2);
-    let submitter = last_submitter(rt, &intake, &mut submitters);
-    let (_submitter, account) = join(
+    let first = last_submitter(rt, &intake, &mut submitters);
+    let second = last_submitter(rt, &intake, &mut submitters);
+    let (_put, account) = join(
         rt,
         ||
-            requires { submitter.queue ≡ intake }
-        { put_slowly(rt, &idle, &intake, submitter, watch) },
+            requires { (first.queue ≡ intake) × (second.queue ≡ intake) }
+        { both_put(rt, &idle, &intake, first, second, watch) },
         ||
             requires { (length takers.items ≡ 2) × (core.threads ≡ 2)
                 × (core.seats ≡ replicate core.threads None) × AreTakersOf intake takers.items }
@@ -140,15 +130,48 @@ fn serve_market<R: Threads + Wait + Abort + Clock + Sync>(
     account
 }
 
-/// A submitter puts requests, each once both workers have found nothing to do, and closes the queue
-/// when they have found nothing to do after the last.
+/// The last of the submitters.
+fn last_submitter<R: Abort>(rt: &R, intake: &Intake, submitters: &mut Vec<Submitter>) -> Submitter
+    requires all { AreSubmittersOf intake.now submitters.old.items }
+    ensures all { AreSubmittersOf intake.now submitters.new.items }
+    ensures queue { result.queue ≡ intake.now }
+{
+    match submitters.pop() {
+        Some(last) => last,
+        None => panic!(rt; "a submitter"),
+    }
+}
+
+/// Two submitters put requests at once, and the queue is closed when workers have found nothing to
+/// do after the last.
+fn both_put<R: Threads + Wait + Abort + Clock + Sync>(
+    rt: &R,
+    core: &Core,
+    intake: &Intake,
+    first: Submitter,
+    second: Submitter,
+    watch: &Watch,
+)
+    requires first { first.queue ≡ intake.now }
+    requires second { second.queue ≡ intake.now }
+{
+    join(
+        rt,
+        || put_slowly(rt, core, intake, first, watch),
+        || put_slowly(rt, core, intake, second, watch),
+    );
+    intake.close();
+}
+
+/// A submitter puts requests, each once both workers have found nothing to do, up to when they have
+/// found nothing to do after the last.
 fn put_slowly<R: Wait + Abort + Clock>(
     rt: &R,
     core: &Core,
     intake: &Intake,
     mut submitter: Submitter,
     watch: &Watch,
-) -> Submitter
+)
     requires queue { submitter.queue ≡ intake.now }
 {
     for argument in 0..PUT {
@@ -156,8 +179,33 @@ fn put_slowly<R: Wait + Abort + Clock>(
         put_one(rt, core, intake, &mut submitter, argument);
     }
     await_idle(rt, watch);
-    intake.close();
-    submitter
+}
+
+/// A submitter puts a command, once there is room for it.
+fn put_one<R: Wait + Abort>(
+    rt: &R,
+    core: &Core,
+    intake: &Intake,
+    submitter: &mut Submitter,
+    argument: u64,
+)
+    requires queue { submitter.old.queue ≡ intake.now }
+    ensures queue { submitter.new.queue ≡ intake.now }
+{
+    let command = Command::Request {
+        device: 0,
+        major: Major::Read,
+        argument,
+    };
+    for _turn in rt.forever() {
+        if let Ok(ticket) = submitter.submit(rt, intake, command) {
+            assert_eq!(rt; ticket.name().count, argument);
+            core.abandon(ticket);
+            return;
+        }
+        assert!(rt; !intake.closed());
+    }
+    unreachable!()
 }
 
 /// Waits until each of two workers has twice found nothing to do.
