@@ -114,7 +114,7 @@ enum { PAFTEIS_ORDER = 1, PAFTEIS_CYCLE = 2 };
 
 /* What the routines of a driver make of its locks. What tells nothing is 0. */
 typedef struct {
-    uint64_t edges;             /* how many the cycle has */
+    uint64_t edges;             /* how many the cycle has, at most 9 */
     uint32_t kind;              /* PAFTEIS_ORDER or PAFTEIS_CYCLE */
     uint8_t order[9];           /* all nine: none is acquired while it or a later one is held */
     pafteis_lock_edge cycle[9]; /* each acquires the lock that is held at the next, the last the one

@@ -1,3 +1,4 @@
 pub mod Deeds
+pub mod Few
 pub mod Blank
 pub mod LooseValues

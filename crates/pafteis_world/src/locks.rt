@@ -24,7 +24,7 @@ pub fn lock_order(alloc: Global, bytes: &[u8], driver: u8) -> Result<Option<Lock
         return Err(Verdict::NoMemory);
     };
     let place = driver as usize;
-    if place < orders.len() {
+    if place < accepted.set().drivers().len() {
         Ok(Some(orders.remove(place)))
     } else {
         Ok(None)
