@@ -3,7 +3,7 @@
 ghost use Rattle.std.specs.Prelude.{◌≡◌, ◌≤◌, ◌<◌, ◌+◌, ℕ, List, [], IfOk, OnOk, length};
 ghost use Rattle.intake.specs.Ends.{AreSubmittersOf, AreTakersOf, submitter_shares, taker_shares, weigh_put, weigh_taken};
 ghost use Rattle.intake.specs.Lists.{weigh};
-ghost use Rattle.intake.specs.declared.limits.TheConstants.{SHARES};
+ghost use Rattle.intake.specs.declared.limits.TheConstants.{MAX_CAPACITY, SHARES};
 ghost use Rattle.model.specs.declared.event.Event.{Event};
 ghost use Rattle.model.specs.declared.limits.TheConstants.{MAX_THREADS};
 ghost use Rattle.model.specs.History.{NamedCommand};
@@ -144,7 +144,8 @@ fn serve_all<G: Gate + Sync, R: Threads + Wait + Sync>(
     ensures told { IfOk result (λ ended. ended.told.items
         ≡ all_told ended.core.history (length commands.now)) }
 {
-    let (intake, mut submitters, takers) = Intake::new(alloc, MAX_CAPACITY, 1, workers as u32)?;
+    let room = room_for(commands.len());
+    let (intake, mut submitters, takers) = Intake::new(alloc, room, 1, workers as u32)?;
     let mut told = none_told(alloc, commands.len())?;
     let Ok(mut tickets) = Vec::with_capacity(alloc, commands.len()) else {
         return Err(OutOfMemory);
@@ -158,6 +159,16 @@ fn serve_all<G: Gate + Sync, R: Threads + Wait + Sync>(
         return Err(OutOfMemory);
     }
     Ok(Told { core, told, ends })
+}
+
+/// Room for so many commands in a queue, as far as one can have it. Each place is written when the
+/// queue is made, so what isn't needed isn't asked for.
+fn room_for(commands: usize) -> usize
+    ensures some { 1 ≤ result }
+    ensures few { result ≤ MAX_CAPACITY }
+    ensures all { 1 ≤ commands → commands ≤ MAX_CAPACITY → result ≡ commands }
+{
+    commands.max(1).min(MAX_CAPACITY)
 }
 
 /// Those who served a queue that was closed leave it, and what they held is given up.
