@@ -130,6 +130,43 @@ typedef struct {
 uint32_t pafteis_order_of_locks(const uint8_t *set, size_t set_length, uint8_t driver,
                                 pafteis_lock_order *order, pafteis_verdict *verdict);
 
+/* What a set has -----------------------------------------------------------------------------
+ *
+ * Of a set that is accepted; else the status is that of pafteis_check, and `verdict` tells why, which
+ * is all 0 where something is told. What is told of nothing stays as it was. Each call takes memory,
+ * and judges the set anew. */
+
+typedef struct {
+    uint32_t drivers, devices; /* their numbers begin at 0, in the order of the text */
+} pafteis_set;
+
+uint32_t pafteis_shape(const uint8_t *set, size_t set_length, pafteis_set *shape,
+                       pafteis_verdict *verdict);
+
+enum { PAFTEIS_NONE = 255 };
+
+typedef struct {
+    uint8_t driver;
+    uint8_t stack;               /* stack locations that a packet needs which is sent to it */
+    uint8_t lower;               /* the device under it, or _NONE */
+    uint8_t read, write, control; /* its dispatch routines by number; _NONE the default one */
+    uint8_t startio, dpc;        /* or _NONE */
+} pafteis_device_shape;
+
+/* A device; _WRONG_ARGUMENT where there is none of this number. */
+uint32_t pafteis_device(const uint8_t *set, size_t set_length, uint8_t number,
+                        pafteis_device_shape *device, pafteis_verdict *verdict);
+
+typedef struct {
+    uint32_t instructions;
+    uint32_t certificate; /* instructions that an activation of it executes at most */
+    uint32_t sort;        /* 1 dispatch, 2 StartIo, 3 DPC, 4 propagate, 5 hold, 6 cancel */
+} pafteis_routine_shape;
+
+/* A routine of a driver; _WRONG_ARGUMENT where there is none of these numbers. */
+uint32_t pafteis_routine(const uint8_t *set, size_t set_length, uint8_t driver, uint8_t number,
+                         pafteis_routine_shape *routine, pafteis_verdict *verdict);
+
 /* Answers in bytes ---------------------------------------------------------------------------
  *
  * Each writes what the program of the same name writes, on its two streams: of these one is empty,
@@ -157,6 +194,20 @@ enum { PAFTEIS_CHECKED = 0, PAFTEIS_UNCHECKED = 1 };
 uint32_t pafteis_trace(const uint8_t *set, size_t set_length,
                        const uint8_t *schedule, size_t schedule_length, uint32_t flags,
                        uint8_t *buffer, size_t capacity, size_t *needed);
+
+/* `tell`: a run in words, with an audit of what it has left behind. The flags are the sum of
+ * PAFTEIS_CHECKED or _UNCHECKED, of _QUIET or _EVERY where lines are told of fewer events or of
+ * each, and of _STRICT where an event that was refused is answered by 1. */
+enum { PAFTEIS_QUIET = 2, PAFTEIS_EVERY = 4, PAFTEIS_STRICT = 8 };
+
+uint32_t pafteis_tell(const uint8_t *set, size_t set_length,
+                      const uint8_t *schedule, size_t schedule_length, uint32_t flags,
+                      uint8_t *buffer, size_t capacity, size_t *needed);
+
+/* `draw`: a run as a picture in SVG. PAFTEIS_CHECKED or _UNCHECKED. */
+uint32_t pafteis_draw(const uint8_t *set, size_t set_length,
+                      const uint8_t *schedule, size_t schedule_length, uint32_t flags,
+                      uint8_t *buffer, size_t capacity, size_t *needed);
 
 /* `list`: a text that names the set. */
 uint32_t pafteis_list(const uint8_t *set, size_t set_length,
@@ -239,6 +290,12 @@ typedef struct {
  * no such major function, or _NO_WORLD. `reply` is written with PAFTEIS_DONE alone. */
 uint32_t pafteis_world_apply(pafteis_world *world, const pafteis_event *event,
                              pafteis_reply *reply);
+
+/* Events one after the other, each with its reply at the place of its event: up to the last, or until
+ * `room` replies are written. `applied` is how many were applied. PAFTEIS_DONE; _WRONG_ARGUMENT where
+ * events[*applied] is of no such kind or no such major function, and is not applied; or _NO_WORLD. */
+uint32_t pafteis_world_apply_all(pafteis_world *world, const pafteis_event *events, size_t count,
+                                 pafteis_reply *replies, size_t room, size_t *applied);
 
 /* Steps of a thread, at most `count`, up to the first that replies otherwise than _STEPPED; how
  * many were made, and the reply to the last of them (_STEPPED where none was). */

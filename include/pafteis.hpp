@@ -9,6 +9,7 @@
 #include <string>
 #include <string_view>
 #include <utility>
+#include <vector>
 
 namespace pafteis {
 
@@ -72,12 +73,33 @@ inline std::string explain(std::string_view set, std::uint32_t extent = PAFTEIS_
     });
 }
 
+// A run of a schedule: as `trace` writes it, as `tell` does, as a picture. `complete` becomes whether
+// the program's exit status is 0.
+using run_call = std::uint32_t (*)(const std::uint8_t *, std::size_t, const std::uint8_t *,
+                                   std::size_t, std::uint32_t, std::uint8_t *, std::size_t,
+                                   std::size_t *);
+
+inline std::string run(run_call call, std::string_view set, std::string_view schedule,
+                       bool *complete, std::uint32_t flags) {
+    return told([=](std::uint8_t *buffer, std::size_t capacity, std::size_t *needed) {
+        return call(bytes(set), set.size(), bytes(schedule), schedule.size(), flags, buffer,
+                    capacity, needed);
+    }, complete);
+}
+
 inline std::string trace(std::string_view set, std::string_view schedule, bool *complete = nullptr,
                          std::uint32_t flags = PAFTEIS_CHECKED) {
-    return told([=](std::uint8_t *buffer, std::size_t capacity, std::size_t *needed) {
-        return pafteis_trace(bytes(set), set.size(), bytes(schedule), schedule.size(), flags, buffer,
-                             capacity, needed);
-    }, complete);
+    return run(pafteis_trace, set, schedule, complete, flags);
+}
+
+inline std::string tell(std::string_view set, std::string_view schedule, bool *complete = nullptr,
+                        std::uint32_t flags = PAFTEIS_CHECKED) {
+    return run(pafteis_tell, set, schedule, complete, flags);
+}
+
+inline std::string draw(std::string_view set, std::string_view schedule, bool *complete = nullptr,
+                        std::uint32_t flags = PAFTEIS_CHECKED) {
+    return run(pafteis_draw, set, schedule, complete, flags);
 }
 
 // The locks of a driver of an accepted set in an order, or a shortest cycle.
@@ -114,6 +136,14 @@ public:
         pafteis_reply reply;
         expect(pafteis_world_apply(&handle, &event, &reply));
         return reply;
+    }
+    // One reply for each event. Where one names none, those before it are applied, and it throws.
+    std::vector<pafteis_reply> apply(const std::vector<pafteis_event> &events) {
+        std::vector<pafteis_reply> replies(events.size());
+        std::size_t applied = 0;
+        expect(pafteis_world_apply_all(&handle, events.data(), events.size(), replies.data(),
+                                       replies.size(), &applied));
+        return replies;
     }
     pafteis_reply issue(std::uint8_t thread, std::uint8_t device, std::uint8_t major,
                         std::uint64_t argument) {

@@ -2,6 +2,7 @@
  *
  *     answer check FILE | explain FILE | explain-each FILE | list FILE | rewrite FILE
  *     answer trace FILE SCHEDULE | trace-unchecked FILE SCHEDULE
+ *     answer tell FILE SCHEDULE | tell-every FILE SCHEDULE | draw FILE SCHEDULE
  *     answer rule NUMBER | version
  *
  * It writes and ends as `drvhost` does; `rewrite` writes the image to the standard output. */
@@ -43,7 +44,8 @@ static const struct {
     const char *word;
     int more;
 } WORDS[] = {{"check", 1}, {"explain", 1}, {"explain-each", 1}, {"list", 1}, {"rewrite", 1},
-             {"trace", 2}, {"trace-unchecked", 2}, {"rule", 1}, {"version", 0}};
+             {"trace", 2}, {"trace-unchecked", 2}, {"tell", 2}, {"tell-every", 2}, {"draw", 2},
+             {"rule", 1}, {"version", 0}};
 
 static bool is_known(int count, char **words) {
     for (size_t at = 0; at < sizeof WORDS / sizeof WORDS[0]; at++)
@@ -68,8 +70,19 @@ static uint32_t of_file(const char *word, text set, text buffer, size_t *needed)
     return PAFTEIS_WRONG_ARGUMENT;
 }
 
-static uint32_t trace(text set, text events, uint32_t flags, text buffer, size_t *needed) {
-    return pafteis_trace(set.bytes, set.length, events.bytes, events.length, flags, buffer.bytes,
+/* What is answered of a run. */
+static uint32_t of_run(const char *word, text set, text events, text buffer, size_t *needed) {
+    uint8_t *into = buffer.bytes;
+    uint32_t flags = strcmp(word, "trace-unchecked") == 0 ? PAFTEIS_UNCHECKED : PAFTEIS_CHECKED;
+    if (strcmp(word, "draw") == 0)
+        return pafteis_draw(set.bytes, set.length, events.bytes, events.length, flags, into,
+                            buffer.length, needed);
+    if (strcmp(word, "tell-every") == 0)
+        flags |= PAFTEIS_EVERY;
+    if (strncmp(word, "tell", 4) == 0)
+        return pafteis_tell(set.bytes, set.length, events.bytes, events.length, flags, into,
+                            buffer.length, needed);
+    return pafteis_trace(set.bytes, set.length, events.bytes, events.length, flags, into,
                          buffer.length, needed);
 }
 
@@ -84,8 +97,7 @@ static uint32_t answer(int count, char **words, text buffer, size_t *needed) {
     uint32_t status;
     if (count > 3) {
         text events = read_file(words[3]);
-        uint32_t flags = strcmp(words[1], "trace") == 0 ? PAFTEIS_CHECKED : PAFTEIS_UNCHECKED;
-        status = trace(set, events, flags, buffer, needed);
+        status = of_run(words[1], set, events, buffer, needed);
         free(events.bytes);
     } else {
         status = of_file(words[1], set, buffer, needed);

@@ -25,6 +25,9 @@ WORDS = {
     "rewrite": ("rewrite", BYTES, 1, None),
     "trace": ("trace", BYTES + BYTES + NUMBER, 2, 0),
     "trace-unchecked": ("trace", BYTES + BYTES + NUMBER, 2, 1),
+    "tell": ("tell", BYTES + BYTES + NUMBER, 2, 0),
+    "tell-every": ("tell", BYTES + BYTES + NUMBER, 2, 4),
+    "draw": ("draw", BYTES + BYTES + NUMBER, 2, 0),
     "version": ("version", [], 0, None),
 }
 

@@ -12,8 +12,13 @@ unsafe extern "C" {
     fn pafteis_list(set: *const u8, length: usize, buffer: *mut u8, capacity: usize, needed: *mut usize) -> u32;
     fn pafteis_rewrite(set: *const u8, length: usize, buffer: *mut u8, capacity: usize, needed: *mut usize) -> u32;
     fn pafteis_trace(set: *const u8, length: usize, schedule: *const u8, schedule_length: usize, flags: u32, buffer: *mut u8, capacity: usize, needed: *mut usize) -> u32;
+    fn pafteis_tell(set: *const u8, length: usize, schedule: *const u8, schedule_length: usize, flags: u32, buffer: *mut u8, capacity: usize, needed: *mut usize) -> u32;
+    fn pafteis_draw(set: *const u8, length: usize, schedule: *const u8, schedule_length: usize, flags: u32, buffer: *mut u8, capacity: usize, needed: *mut usize) -> u32;
     fn pafteis_version(buffer: *mut u8, capacity: usize, needed: *mut usize) -> u32;
 }
+
+/// A call that answers of a run.
+type Run = unsafe extern "C" fn(*const u8, usize, *const u8, usize, u32, *mut u8, usize, *mut usize) -> u32;
 
 /// The status and the bytes of a call that puts its answer into a buffer.
 fn called(call: impl Fn(*mut u8, usize, *mut usize) -> u32) -> (u32, Vec<u8>) {
@@ -54,14 +59,16 @@ fn answered(words: &[String]) -> (u32, Vec<u8>) {
             called(|b, c, n| unsafe { pafteis_explain(at, length, extent, b, c, n) })
         }
         _ => {
-            if !word.starts_with("trace") {
-                exit(2);
-            }
-            let flags = u32::from(word != "trace");
+            let (run, flags): (Run, u32) = match word {
+                "trace" => (pafteis_trace, 0),
+                "trace-unchecked" => (pafteis_trace, 1),
+                "tell" => (pafteis_tell, 0),
+                "tell-every" => (pafteis_tell, 4),
+                "draw" => (pafteis_draw, 0),
+                _ => exit(2),
+            };
             let events = read(3);
-            called(|b, c, n| unsafe {
-                pafteis_trace(at, length, events.as_ptr(), events.len(), flags, b, c, n)
-            })
+            called(|b, c, n| unsafe { run(at, length, events.as_ptr(), events.len(), flags, b, c, n) })
         }
     }
 }

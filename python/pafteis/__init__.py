@@ -1,7 +1,7 @@
 """Pafteis, a proved host for driver routines, over the library libpafteis.
 
-`check` judges a driver set, `explain` says in words why it is refused, `trace` runs it by a
-schedule, and a `World` is its machine, driven event by event. docs/TEXTS.md says what stands in
+`check` judges a driver set, `explain` says in words why it is refused, `trace`, `tell` and `draw`
+run it by a schedule, and a `World` is its machine, driven event by event. docs/TEXTS.md says what stands in
 texts and schedules.
 """
 
@@ -20,7 +20,9 @@ from pafteis.errors import (
 )
 from pafteis.locks import CANCEL_LOCK, LockEdge, LockOrder, order_of_locks
 from pafteis.replies import Irql, Major, Reply, ReplyKind, Status
+from pafteis.shapes import Device, Routine, Shape, Sort, describe
 from pafteis.verdicts import (
+    Detail,
     ImageFault,
     Place,
     Rule,
@@ -29,12 +31,14 @@ from pafteis.verdicts import (
     Trace,
     Verdict,
     check,
+    draw,
     explain,
     explain_rule,
     library_version,
     listing,
     report,
     rewrite,
+    tell,
     trace,
 )
 from pafteis.worlds import (
@@ -54,10 +58,11 @@ from pafteis.worlds import (
 __version__ = (Path(__file__).parent / "VERSION").read_text(encoding="ascii").strip()
 
 __all__ = [
-    "Armed", "ArmedKind", "CANCEL_LOCK", "Due", "Event", "EventKind", "Faulty", "FaultyImage",
-    "FaultyText", "Frame", "FrameKind", "ImageFault", "Irql", "LibraryMissing", "LockEdge",
-    "LockOrder", "Major", "NoMemory", "NoWorld", "Packet", "PacketKind", "PafteisError", "Place",
-    "Refused", "Reply", "ReplyKind", "Rule", "Source", "Status", "TextFault", "Thread", "Trace",
-    "Verdict", "World", "WrongArgument", "check", "explain", "explain_rule", "library_version",
-    "listing", "order_of_locks", "report", "rewrite", "trace",
+    "Armed", "ArmedKind", "CANCEL_LOCK", "Detail", "Device", "Due", "Event", "EventKind", "Faulty",
+    "FaultyImage", "FaultyText", "Frame", "FrameKind", "ImageFault", "Irql", "LibraryMissing",
+    "LockEdge", "LockOrder", "Major", "NoMemory", "NoWorld", "Packet", "PacketKind", "PafteisError",
+    "Place", "Refused", "Reply", "ReplyKind", "Routine", "Rule", "Shape", "Sort", "Source",
+    "Status", "TextFault", "Thread", "Trace", "Verdict", "World", "WrongArgument", "check",
+    "describe", "draw", "explain", "explain_rule", "library_version", "listing", "order_of_locks",
+    "report", "rewrite", "tell", "trace",
 ]

@@ -55,6 +55,33 @@ class CLockOrder(ctypes.Structure):
     ]
 
 
+class CSet(ctypes.Structure):
+    """`pafteis_set`"""
+
+    _fields_ = [("drivers", c_uint32), ("devices", c_uint32)]
+
+
+class CDeviceShape(ctypes.Structure):
+    """`pafteis_device_shape`"""
+
+    _fields_ = [
+        ("driver", c_uint8),
+        ("stack", c_uint8),
+        ("lower", c_uint8),
+        ("read", c_uint8),
+        ("write", c_uint8),
+        ("control", c_uint8),
+        ("startio", c_uint8),
+        ("dpc", c_uint8),
+    ]
+
+
+class CRoutineShape(ctypes.Structure):
+    """`pafteis_routine_shape`"""
+
+    _fields_ = [("instructions", c_uint32), ("certificate", c_uint32), ("sort", c_uint32)]
+
+
 class CWorld(ctypes.Structure):
     """`pafteis_world`"""
 
@@ -133,10 +160,15 @@ WORLD = [POINTER(CWorld)]
 WHOLE: dict[str, list[Any]] = {
     "check": [*SET, POINTER(CVerdict)],
     "order_of_locks": [*SET, c_uint8, POINTER(CLockOrder), POINTER(CVerdict)],
+    "shape": [*SET, POINTER(CSet), POINTER(CVerdict)],
+    "device": [*SET, c_uint8, POINTER(CDeviceShape), POINTER(CVerdict)],
+    "routine": [*SET, c_uint8, c_uint8, POINTER(CRoutineShape), POINTER(CVerdict)],
     "report": [*SET, *BUFFER],
     "explain": [*SET, c_uint32, *BUFFER],
     "explain_rule": [c_uint32, *BUFFER],
     "trace": [*SET, *SET, c_uint32, *BUFFER],
+    "tell": [*SET, *SET, c_uint32, *BUFFER],
+    "draw": [*SET, *SET, c_uint32, *BUFFER],
     "list": [*SET, *BUFFER],
     "rewrite": [*SET, *BUFFER],
     "version_number": [],
@@ -145,6 +177,7 @@ WHOLE: dict[str, list[Any]] = {
 }
 OF_WORLDS: dict[str, list[Any]] = {
     "world_apply": [*WORLD, POINTER(CEvent), POINTER(CReply)],
+    "world_apply_all": [*WORLD, c_char_p, c_size_t, c_char_p, c_size_t, POINTER(c_size_t)],
     "world_steps": [*WORLD, c_uint8, c_size_t, POINTER(c_size_t), POINTER(CReply)],
     "world_thread": [*WORLD, c_uint8, POINTER(CThread)],
     "world_packet": [*WORLD, c_uint64, POINTER(CPacket)],

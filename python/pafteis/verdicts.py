@@ -205,18 +205,54 @@ def _reply_of(line: str) -> Optional[Reply]:
     return Reply(kind, int(found[2] or 0), status, int(found[4] or 0))
 
 
+class Detail(enum.IntEnum):
+    """Of which events `tell` tells a line: of those about packets, locks, lists and levels; of
+    those that do more than step; of each."""
+
+    USUAL = 0
+    QUIET = 2
+    EVERY = 4
+
+
+_UNCHECKED, _STRICT = 1, 8
+
+
+def _run(name: str, source: Source, schedule: Source, flags: int) -> tuple[bool, str]:
+    """What a call answers of a run. Raises `Refused` where the set is refused and may not be."""
+    data, events = as_bytes(source), as_bytes(schedule)
+    complete, text = _text(name, data, len(data), events, len(events), flags)
+    if not complete and text.startswith("refused "):
+        raise Refused(check(data))
+    return complete, text
+
+
 def trace(source: Source, schedule: Source, unchecked: bool = False) -> Trace:
     """A run of a schedule of events; of a refused set only with `unchecked`.
 
     Raises `Refused` where the set is refused and may not be, `Faulty` where the set or the schedule
     is faulty, `NoMemory`.
     """
-    data, events = as_bytes(source), as_bytes(schedule)
-    words = (data, len(data), events, len(events), int(unchecked))
-    complete, text = _text("trace", *words)
-    if not complete and text.startswith("refused "):
-        raise Refused(check(data))
+    complete, text = _run("trace", source, schedule, int(unchecked))
     return Trace(text, complete)
+
+
+def tell(
+    source: Source,
+    schedule: Source,
+    unchecked: bool = False,
+    detail: Detail = Detail.USUAL,
+    strict: bool = False,
+) -> str:
+    """A run of a schedule in words, with an audit of what it has left behind: what `drvhost tell`
+    prints. Raises what `trace` raises."""
+    flags = int(unchecked) * _UNCHECKED + int(detail) + int(strict) * _STRICT
+    return _run("tell", source, schedule, flags)[1]
+
+
+def draw(source: Source, schedule: Source, unchecked: bool = False) -> str:
+    """A run of a schedule as a picture in SVG: what `drvhost draw` prints. Raises what `trace`
+    raises."""
+    return _run("draw", source, schedule, int(unchecked))[1]
 
 
 def library_version() -> str:

@@ -17,8 +17,9 @@ from pafteis.verdicts import Source, as_bytes, verdict_of
 _KINDS = (ReplyKind.IDLE, *ReplyKind)
 
 # The fields of an event and of a reply, as they lie in the structs.
-_PUT = struct.Struct("=QQIBBBB").pack_into
-_GET = struct.Struct("=QQII").unpack_from
+_EVENT, _REPLY = struct.Struct("=QQIBBBB"), struct.Struct("=QQII")
+_PUT, _PACK = _EVENT.pack_into, _EVENT.pack
+_GET, _EACH = _REPLY.unpack_from, _REPLY.iter_unpack
 _made = tuple.__new__
 
 
@@ -202,6 +203,30 @@ class World:
             _library.raise_for(status)
         packet, info, answer, ended = _GET(self._reply)
         return _made(Reply, (_KINDS[answer], packet, ended, info))
+
+    def apply_all(self, events: Iterable[Event]) -> list[Reply]:
+        """Events one after the other, in one call: the replies to them. Raises `WrongArgument` where
+        one of them is of no kind that there is: those before it are applied then, and `NoWorld`."""
+        packed, wrong = bytearray(), None
+        for event in events:
+            kind, thread, device, major, argument, packet, level = event
+            try:
+                packed += _PACK(packet, argument, kind, thread, device, major, level)
+            except struct.error:
+                wrong = _wrong(event)
+                break
+        count = len(packed) // _EVENT.size
+        replies, applied = ctypes.create_string_buffer(count * _REPLY.size), ctypes.c_size_t()
+        words = (bytes(packed), count, replies, count, ctypes.byref(applied))
+        status = _library.CALLS["world_apply_all"](ctypes.byref(self._handle), *words)
+        if status:
+            _library.raise_for(status)
+        if wrong is not None:
+            raise wrong
+        return [
+            _made(Reply, (_KINDS[answer], packet, ended, info))
+            for packet, info, answer, ended in _EACH(replies.raw)
+        ]
 
     def issue(self, thread: int, device: int, major: Major, argument: int = 0) -> Reply:
         """A request for a device arrives on a thread that is idle."""

@@ -3,7 +3,7 @@
 import unittest
 
 import pafteis
-from pafteis import Faulty, FaultyImage, FaultyText, ImageFault, Place, Rule, TextFault
+from pafteis import Detail, Faulty, FaultyImage, FaultyText, ImageFault, Place, Rule, TextFault
 from tests import EXAMPLES, IS_STAND_IN, TOP, text
 
 GALLERY = TOP / "crates/tests_stored/data/gallery"
@@ -90,6 +90,23 @@ class Words(unittest.TestCase):
         self.assertEqual(pafteis.rewrite(image), image)
 
 
+@unittest.skipIf(IS_STAND_IN, "a stand-in for the library")
+class Shapes(unittest.TestCase):
+    def test_filter(self):
+        found = pafteis.describe(text("filter.drv"))
+        self.assertEqual([it.lower for it in found.devices], [None, 0])
+        self.assertEqual([it.stack for it in found.devices], [1, 2])
+        for number, routines in enumerate(found.drivers):
+            for at, routine in enumerate(routines):
+                line = f"{number}:{at} {routine.certificate}"
+                self.assertIn(line, pafteis.report(text("filter.drv")).replace(" routine ", ":"))
+
+    def test_refused(self):
+        with self.assertRaises(pafteis.Refused):
+            pafteis.describe(text("twice.drv"))
+        self.assertRaises(FaultyText, pafteis.describe, "what\n")
+
+
 class Traces(unittest.TestCase):
     def test_replies(self):
         found = pafteis.trace(text("echo.drv"), text("one-read.sched"))
@@ -109,6 +126,19 @@ class Traces(unittest.TestCase):
         self.assertFalse(found.complete)
         self.assertEqual(len(list(found.replies())), 3)
         self.assertTrue(found.text.endswith("3 bug 0x44 packet 0\n"))
+
+    @unittest.skipIf(IS_STAND_IN, "a stand-in for the library")
+    def test_told(self):
+        told = pafteis.tell(text("echo.drv"), text("one-read.sched"))
+        every = pafteis.tell(text("echo.drv"), text("one-read.sched"), detail=Detail.EVERY)
+        self.assertIn("topped 0 0x00000000 0", told)
+        self.assertGreaterEqual(len(every), len(told))
+        with self.assertRaises(pafteis.Refused):
+            pafteis.tell(text("twice.drv"), text("one-read.sched"))
+
+    @unittest.skipIf(IS_STAND_IN, "a stand-in for the library")
+    def test_drawn(self):
+        self.assertIn("<svg", pafteis.draw(text("echo.drv"), text("one-read.sched")))
 
     def test_faulty_schedule(self):
         with self.assertRaisesRegex(Faulty, "^schedule fault 2 UnknownWord line 1"):

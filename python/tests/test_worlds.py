@@ -64,6 +64,23 @@ class Worlds(unittest.TestCase):
             lines = pafteis.trace(text(f"{name}.drv"), schedule).text.splitlines()
             self.assertEqual(replies, [line.partition(" ")[2] for line in lines], name)
 
+    def test_all_at_once(self):
+        for name in schedules():
+            threads, events = events_of(text(f"{name}.sched"))
+            with World(text(f"{name}.drv"), threads) as world:
+                one_by_one = list(world.run(events))
+            with World(text(f"{name}.drv"), threads) as world:
+                self.assertEqual(world.apply_all(events), one_by_one, name)
+                self.assertEqual(world.apply_all([]), [])
+
+    def test_all_before_a_wrong_one(self):
+        issue = Event(EventKind.ISSUE, major=Major.READ)
+        for wrong in (Event(9), Event(EventKind.STEP, 256)):
+            with World(text("echo.drv")) as world:
+                with self.assertRaises(pafteis.WrongArgument):
+                    world.apply_all([issue, Event(EventKind.STEP), wrong, issue])
+                self.assertIs(world.step(0).kind, ReplyKind.TOPPED)
+
     def test_steps(self):
         with World(text("echo.drv")) as world:
             self.assertEqual(world.steps(0, 0)[0], 0)
@@ -77,7 +94,8 @@ class Worlds(unittest.TestCase):
         world.close()
         self.assertTrue(world.closed)
         for call in (lambda: world.step(0), lambda: world.thread(0), lambda: world.packet(0),
-                     lambda: world.due(0), lambda: world.steps(0, 1), lambda: world.interrupt(0)):
+                     lambda: world.due(0), lambda: world.steps(0, 1), lambda: world.interrupt(0),
+                     lambda: world.apply_all([])):
             self.assertRaises(pafteis.NoWorld, call)
 
     def test_refused_sets(self):

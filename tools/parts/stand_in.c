@@ -112,6 +112,22 @@ uint32_t pafteis_trace(const uint8_t *set, size_t length, const uint8_t *schedul
                   capacity, needed);
 }
 
+uint32_t pafteis_tell(const uint8_t *set, size_t length, const uint8_t *schedule, size_t size,
+                      uint32_t flags, uint8_t *buffer, size_t capacity, size_t *needed) {
+    if (flags > PAFTEIS_UNCHECKED)
+        return *needed = 0, PAFTEIS_WRONG_ARGUMENT;
+    return answer("tell", flags ? "--unchecked" : "", set, length, schedule, size, buffer,
+                  capacity, needed);
+}
+
+uint32_t pafteis_draw(const uint8_t *set, size_t length, const uint8_t *schedule, size_t size,
+                      uint32_t flags, uint8_t *buffer, size_t capacity, size_t *needed) {
+    if (flags > PAFTEIS_UNCHECKED)
+        return *needed = 0, PAFTEIS_WRONG_ARGUMENT;
+    return answer("draw", flags ? "--unchecked" : "", set, length, schedule, size, buffer,
+                  capacity, needed);
+}
+
 uint32_t pafteis_list(const uint8_t *set, size_t length, uint8_t *buffer, size_t capacity,
                       size_t *needed) {
     return answer("list", "", set, length, NULL, 0, buffer, capacity, needed);
@@ -215,6 +231,17 @@ uint32_t pafteis_world_apply(pafteis_world *world, const pafteis_event *event,
     *reply = last_reply(told);
     free(told);
     return PAFTEIS_DONE;
+}
+
+uint32_t pafteis_world_apply_all(pafteis_world *world, const pafteis_event *events, size_t count,
+                                 pafteis_reply *replies, size_t room, size_t *applied) {
+    uint32_t status = world->live ? PAFTEIS_DONE : PAFTEIS_NO_WORLD;
+    *applied = 0;
+    while (status == PAFTEIS_DONE && *applied < count && *applied < room) {
+        status = pafteis_world_apply(world, events + *applied, replies + *applied);
+        *applied += status == PAFTEIS_DONE;
+    }
+    return status;
 }
 
 uint32_t pafteis_world_steps(pafteis_world *world, uint8_t thread, size_t count, size_t *made,

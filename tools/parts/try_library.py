@@ -69,6 +69,9 @@ def cases():
         events = own if own.exists() else pathlib.Path(name).parent / "events.sched"
         if events.exists():
             yield ["trace", name, str(events)], ["trace", name, str(events)]
+            yield ["tell", name, str(events)], ["tell", name, str(events)]
+            yield ["tell", "--every", name, str(events)], ["tell-every", name, str(events)]
+            yield ["draw", name, str(events)], ["draw", name, str(events)]
             yield (["trace", name, str(events), "--unchecked"],
                    ["trace-unchecked", name, str(events)])
     for rule in range(1, 21):

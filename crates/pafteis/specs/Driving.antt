@@ -1,5 +1,5 @@
 -- What the exported functions about a world answer.
-use Rattle.std.specs.Prelude.{ℕ, ◌≡◌, ◌≤◌, ◌<◌, ◌⊎◌, Bool, true, false, List, Option, None, Some, if◌then◌else◌}
+use Rattle.std.specs.Prelude.{ℕ, ◌≡◌, ◌≤◌, ◌<◌, ◌⊎◌, Bool, true, false, List, Option, None, Some, if◌then◌else◌, length, nat_lt}
 use Rattle.machine.specs.declared.world.Steps.{Steps as StepsMade}
 use Rattle.model.specs.declared.event.Event.{Event}
 use Rattle.model.specs.declared.limits.TheConstants.{MAX_THREADS}
@@ -13,6 +13,7 @@ use Rattle.pafteis_values.specs.Event.{event_named}
 use Rattle.pafteis_values.specs.Reply.{reply_value}
 use Rattle.pafteis_values.specs.Verdict.{no_value, status_number, verdict_value}
 use Rattle.pafteis_world.specs.declared.handle.Handle.{Handle}
+use Rattle.pafteis_world.specs.Batch.{DrivesFirst}
 use Rattle.pafteis_world.specs.Driven as driven
 use Rattle.pafteis_world.specs.Judged.{IsJudged}
 
@@ -58,6 +59,23 @@ AppliesIf (Some e) before after value told status =
 abbrev pub Applies : EventValue → Handle → Handle → ReplyValue → ReplyValue → ℕ → Type 0
 Applies event before after value told status =
     AppliesIf (event_named event) before after value told status
+
+-- events were applied, and how many is told, with the status 0; 4 where one of them names none, and
+-- 5 where there is no world
+abbrev pub all_status : List EventValue → List ReplyValue → ℕ → ℕ
+all_status values places count =
+    if nat_lt count (length values) then (if nat_lt count (length places) then 4 else 0) else 0
+
+abbrev pub IsAllTold : List EventValue → List ReplyValue → Option ℕ → ℕ → ℕ → Type 0
+IsAllTold values places None applied status = (applied ≡ 0) × (status ≡ 5)
+IsAllTold values places (Some count) applied status =
+    (applied ≡ count) × (status ≡ all_status values places count)
+
+abbrev pub AppliesAll : List EventValue → Handle → Handle → List ReplyValue → List ReplyValue → ℕ
+    → ℕ → Type 0
+AppliesAll values before after old new applied status =
+    (count : Option ℕ) × DrivesFirst values before old new count after
+    × IsAllTold values old count applied status
 
 -- steps were made, and how many is told, with the reply to the last
 abbrev pub Steps : ℕ → ℕ → Handle → Handle → ℕ → ℕ → ReplyValue → ReplyValue → ℕ → Type 0

@@ -1,3 +1,4 @@
 pub mod Called
 pub mod Driving
-pub mod Locks
+pub mod Asked
+pub mod Shown

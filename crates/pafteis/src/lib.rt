@@ -3,6 +3,8 @@
 #![tactic(auto)]
 
 pub mod locks;
+pub mod shape;
+pub mod shown;
 pub mod texts;
 pub mod version;
 pub mod worlds;

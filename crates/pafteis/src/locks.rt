@@ -1,6 +1,6 @@
 //! The order of the locks of a driver.
 
-ghost use Rattle.pafteis.specs.Locks.{OrdersLocksOf};
+ghost use Rattle.pafteis.specs.Asked.{OrdersLocksOf};
 
 use crate::texts::WRONG_ARGUMENT;
 use crate::worlds::DONE;

@@ -4,7 +4,7 @@ ghost use Rattle.std.specs.Prelude.{◌≡◌};
 ghost use Rattle.drvhost_devices.specs.Answer.{IsVersion};
 ghost use Rattle.drvhost_devices.specs.Device.{Bytes};
 ghost use Rattle.drvhost_devices.specs.Ends.{IsCheckOf, IsListOf, IsRewriteOf};
-ghost use Rattle.pafteis.specs.Called.{Answers, ExplainsRule, ExplainsSet, IsCheckedAs, Puts, Traces};
+ghost use Rattle.pafteis.specs.Called.{Answers, ExplainsRule, ExplainsSet, IsCheckedAs, Puts, Traces, verification_named};
 
 use drvhost_devices::verification::Verification;
 use drvhost_sets::explaining::Extent;
@@ -93,16 +93,25 @@ pub extern "C" fn pafteis_trace(
 ) -> u32
     ensures { Traces flags set.now schedule.now buffer.old buffer.new needed.new result }
 {
-    let verification = match flags {
-        0 => Verification::Required,
-        1 => Verification::Skipped,
-        _ => return wrong(needed),
-    };
-    put(
-        answers::trace(alloc, set, schedule, verification),
-        buffer,
-        needed,
-    )
+    match verification_of(flags) {
+        Some(verification) => put(
+            answers::trace(alloc, set, schedule, verification),
+            buffer,
+            needed,
+        ),
+        None => wrong(needed),
+    }
+}
+
+/// Whether a set has to be accepted, by the flags.
+pub(crate) fn verification_of(flags: u32) -> Option<Verification>
+    ensures { result ≡ verification_named flags }
+{
+    match flags {
+        0 => Some(Verification::Required),
+        1 => Some(Verification::Skipped),
+        _ => None,
+    }
 }
 
 /// The listing of a set.
@@ -140,7 +149,7 @@ pub extern "C" fn pafteis_version(alloc: Global, buffer: &mut [u8], needed: &mut
 }
 
 /// An argument names nothing.
-fn wrong(needed: &mut usize) -> u32
+pub(crate) fn wrong(needed: &mut usize) -> u32
     ensures status { result ≡ WRONG_ARGUMENT }
     ensures needed { needed.new ≡ 0 }
 {
@@ -149,7 +158,7 @@ fn wrong(needed: &mut usize) -> u32
 }
 
 /// Puts an answer into a buffer and says how many bytes it has.
-fn put(told: Result<Told, OutOfMemory>, buffer: &mut [u8], needed: &mut usize) -> u32
+pub(crate) fn put(told: Result<Told, OutOfMemory>, buffer: &mut [u8], needed: &mut usize) -> u32
     ensures { Puts told buffer.old buffer.new needed.new result }
 {
     let delivered = deliver(told, buffer);

@@ -2,7 +2,7 @@
 
 ghost use Rattle.std.specs.Prelude.{◌≡◌};
 ghost use Rattle.model.specs.View.{due_at, packet_at, thread_at};
-ghost use Rattle.pafteis.specs.Driving.{Applies, Closes, Opens, Steps, TellsAll, TellsIf};
+ghost use Rattle.pafteis.specs.Driving.{Applies, AppliesAll, Closes, Opens, Steps, TellsAll, TellsIf};
 ghost use Rattle.pafteis_values.specs.View.{due_value, packet_value, thread_value};
 
 use crate::texts::WRONG_ARGUMENT;
@@ -13,8 +13,8 @@ use pafteis_values::verdict::{NOTHING, VerdictValue};
 use pafteis_values::view::{
     DueValue, PacketValue, ThreadValue, due_value, packet_value, thread_value,
 };
-use pafteis_world::driving;
 use pafteis_world::handle::Handle;
+use pafteis_world::{batch, driving};
 use std::alloc::Global;
 
 /// The status where what was asked was done.
@@ -62,6 +62,35 @@ pub extern "C" fn pafteis_world_apply(
             DONE
         }
         None => NO_WORLD,
+    }
+}
+
+/// Applies the events that values name, one after the other, and puts each reply at the place of
+/// its event, up to the last, where there is no more room, or before a value that names no event,
+/// which is answered by 4. How many were applied is told: none where there is no world.
+#[unsafe(no_mangle)]
+pub extern "C" fn pafteis_world_apply_all(
+    alloc: Global,
+    world: &mut Handle,
+    events: &[EventValue],
+    replies: &mut [ReplyValue],
+    applied: &mut usize,
+) -> u32
+    ensures { AppliesAll events.now world.old world.new replies.old replies.new applied.new result }
+{
+    match batch::apply_all(alloc, world, events, replies) {
+        Some(count) => {
+            *applied = count;
+            if count < events.len() && count < replies.len() {
+                WRONG_ARGUMENT
+            } else {
+                DONE
+            }
+        }
+        None => {
+            *applied = 0;
+            NO_WORLD
+        }
     }
 }
 

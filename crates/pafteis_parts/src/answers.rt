@@ -6,11 +6,13 @@ ghost use Rattle.drvhost_devices.specs.Answer.{IsRuleExplained, IsVersion};
 ghost use Rattle.drvhost_devices.specs.Device.{Bytes};
 ghost use Rattle.drvhost_devices.specs.Ends.{IsCheckOf, IsListOf, IsRewriteOf, IsTraceOf};
 ghost use Rattle.drvhost_sets.specs.Explained.{IsExplainedOf};
+ghost use Rattle.drvhost_views.specs.Told.{IsDrawOf, IsTellOf};
 
 use crate::returned::{Told, collected};
 use drvhost_devices::device::{Reader, Source, Writer};
 use drvhost_devices::verification::Verification;
 use drvhost_sets::explaining::Extent;
+use drvhost_views::tell::Telling;
 use model::abs::Rule;
 use model::memory::OutOfMemory;
 use std::alloc::Global;
@@ -67,6 +69,55 @@ pub fn trace(
     let mut output = Writer::new(Vec::new(alloc));
     let mut errors = Writer::new(Vec::new(alloc));
     let exit = drvhost_runs::trace::trace(
+        alloc,
+        &mut source,
+        &mut events,
+        verification,
+        &mut output,
+        &mut errors,
+    );
+    collected(exit, source.failures(), events.failures(), output, errors)
+}
+
+/// A run of a set by a schedule, told in words.
+pub fn tell(
+    alloc: Global,
+    set: &[u8],
+    schedule: &[u8],
+    telling: Telling,
+) -> Result<Told, OutOfMemory>
+    ensures { IfOk result
+        (IsTellOf telling.verification telling.manner (Bytes set.now) (Bytes schedule.now)) }
+{
+    let mut source = Reader::new(Some(set));
+    let mut events = Reader::new(Some(schedule));
+    let mut output = Writer::new(Vec::new(alloc));
+    let mut errors = Writer::new(Vec::new(alloc));
+    let exit = drvhost_views::tell::tell(
+        alloc,
+        &mut source,
+        &mut events,
+        telling,
+        &mut output,
+        &mut errors,
+    );
+    collected(exit, source.failures(), events.failures(), output, errors)
+}
+
+/// A run of a set by a schedule, as a picture.
+pub fn draw(
+    alloc: Global,
+    set: &[u8],
+    schedule: &[u8],
+    verification: Verification,
+) -> Result<Told, OutOfMemory>
+    ensures { IfOk result (IsDrawOf verification (Bytes set.now) (Bytes schedule.now)) }
+{
+    let mut source = Reader::new(Some(set));
+    let mut events = Reader::new(Some(schedule));
+    let mut output = Writer::new(Vec::new(alloc));
+    let mut errors = Writer::new(Vec::new(alloc));
+    let exit = drvhost_views::draw::draw(
         alloc,
         &mut source,
         &mut events,

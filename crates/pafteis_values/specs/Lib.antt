@@ -2,5 +2,6 @@ pub mod Event
 pub mod Locks
 pub mod Reply
 pub mod Rule
+pub mod Shape
 pub mod Verdict
 pub mod View

@@ -6,5 +6,6 @@ pub mod event;
 pub mod locks;
 pub mod reply;
 pub mod rule;
+pub mod shape;
 pub mod verdict;
 pub mod view;

@@ -1,4 +1,6 @@
 pub mod Judged
 pub mod Locks
 pub mod Held
+pub mod Shape
 pub mod Driven
+pub mod Batch

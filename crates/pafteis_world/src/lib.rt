@@ -3,7 +3,9 @@
 #![tactic(auto)]
 
 pub mod admitting;
+pub mod batch;
 pub mod driving;
 pub mod handle;
 pub mod locks;
 mod loose;
+pub mod shape;

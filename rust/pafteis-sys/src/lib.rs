@@ -26,6 +26,7 @@ pub struct pafteis_verdict {
 pub const PAFTEIS_CANCEL_LOCK: u8 = 8;
 pub const PAFTEIS_ORDER: u32 = 1;
 pub const PAFTEIS_CYCLE: u32 = 2;
+pub const PAFTEIS_NONE: u8 = 255;
 
 #[repr(C)]
 #[derive(Clone, Copy, Debug, Default, PartialEq, Eq)]
@@ -118,20 +119,54 @@ pub struct pafteis_due {
     pub dpc: bool,
 }
 
+#[repr(C)]
+#[derive(Clone, Copy, Debug, Default, PartialEq, Eq)]
+pub struct pafteis_set {
+    pub drivers: u32,
+    pub devices: u32,
+}
+
+#[repr(C)]
+#[derive(Clone, Copy, Debug, Default, PartialEq, Eq)]
+pub struct pafteis_device_shape {
+    pub driver: u8,
+    pub stack: u8,
+    pub lower: u8,
+    pub read: u8,
+    pub write: u8,
+    pub control: u8,
+    pub startio: u8,
+    pub dpc: u8,
+}
+
+#[repr(C)]
+#[derive(Clone, Copy, Debug, Default, PartialEq, Eq)]
+pub struct pafteis_routine_shape {
+    pub instructions: u32,
+    pub certificate: u32,
+    pub sort: u32,
+}
+
 #[rustfmt::skip]
 unsafe extern "C" {
     pub fn pafteis_check(set: *const u8, length: usize, verdict: *mut pafteis_verdict) -> u32;
     pub fn pafteis_order_of_locks(set: *const u8, length: usize, driver: u8, order: *mut pafteis_lock_order, verdict: *mut pafteis_verdict) -> u32;
+    pub fn pafteis_shape(set: *const u8, length: usize, shape: *mut pafteis_set, verdict: *mut pafteis_verdict) -> u32;
+    pub fn pafteis_device(set: *const u8, length: usize, number: u8, device: *mut pafteis_device_shape, verdict: *mut pafteis_verdict) -> u32;
+    pub fn pafteis_routine(set: *const u8, length: usize, driver: u8, number: u8, routine: *mut pafteis_routine_shape, verdict: *mut pafteis_verdict) -> u32;
     pub fn pafteis_report(set: *const u8, length: usize, buffer: *mut u8, capacity: usize, needed: *mut usize) -> u32;
     pub fn pafteis_explain(set: *const u8, length: usize, extent: u32, buffer: *mut u8, capacity: usize, needed: *mut usize) -> u32;
     pub fn pafteis_explain_rule(rule: u32, buffer: *mut u8, capacity: usize, needed: *mut usize) -> u32;
     pub fn pafteis_trace(set: *const u8, length: usize, schedule: *const u8, schedule_length: usize, flags: u32, buffer: *mut u8, capacity: usize, needed: *mut usize) -> u32;
+    pub fn pafteis_tell(set: *const u8, length: usize, schedule: *const u8, schedule_length: usize, flags: u32, buffer: *mut u8, capacity: usize, needed: *mut usize) -> u32;
+    pub fn pafteis_draw(set: *const u8, length: usize, schedule: *const u8, schedule_length: usize, flags: u32, buffer: *mut u8, capacity: usize, needed: *mut usize) -> u32;
     pub fn pafteis_list(set: *const u8, length: usize, buffer: *mut u8, capacity: usize, needed: *mut usize) -> u32;
     pub fn pafteis_rewrite(set: *const u8, length: usize, buffer: *mut u8, capacity: usize, needed: *mut usize) -> u32;
     pub fn pafteis_version_number() -> u32;
     pub fn pafteis_version(buffer: *mut u8, capacity: usize, needed: *mut usize) -> u32;
     pub fn pafteis_world_new(set: *const u8, length: usize, threads: u8, world: *mut pafteis_world, verdict: *mut pafteis_verdict) -> u32;
     pub fn pafteis_world_apply(world: *mut pafteis_world, event: *const pafteis_event, reply: *mut pafteis_reply) -> u32;
+    pub fn pafteis_world_apply_all(world: *mut pafteis_world, events: *const pafteis_event, count: usize, replies: *mut pafteis_reply, room: usize, applied: *mut usize) -> u32;
     pub fn pafteis_world_steps(world: *mut pafteis_world, thread: u8, count: usize, made: *mut usize, reply: *mut pafteis_reply) -> u32;
     pub fn pafteis_world_thread(world: *mut pafteis_world, number: u8, thread: *mut pafteis_thread) -> u32;
     pub fn pafteis_world_packet(world: *mut pafteis_world, number: u64, packet: *mut pafteis_packet) -> u32;

@@ -3,12 +3,16 @@
 //! stands in texts and schedules.
 mod error;
 mod locks;
+mod shape;
 mod verdict;
 mod words;
 mod world;
 
 pub use error::Error;
 pub use locks::{order_of_locks, LockEdge, LockOrder, CANCEL_LOCK};
+pub use shape::{describe, DeviceShape, RoutineShape, Shape};
 pub use verdict::{check, Place, Refusal};
-pub use words::{explain, explain_rule, list, report, rewrite, trace, Extent, Trace};
+pub use words::{
+    draw, explain, explain_rule, list, report, rewrite, tell, trace, Detail, Extent, Trace,
+};
 pub use world::{Due, Event, Level, Major, Packet, Reply, Thread, World};

@@ -77,13 +77,24 @@ pub fn rewrite(set: &[u8]) -> Result<Vec<u8>, Error> {
     told(|b, c, n| unsafe { sys::pafteis_rewrite(at, length, b, c, n) }).map(|(it, _)| it)
 }
 
-/// A run of a schedule of events; of a refused set only where it is `unchecked`, else `Refused`.
-pub fn trace(set: &[u8], schedule: &[u8], unchecked: bool) -> Result<Trace, Error> {
-    let (at, length, events, flags) = (set.as_ptr(), set.len(), schedule, u32::from(unchecked));
-    let (bytes, complete) = told(|b, c, n| unsafe {
-        sys::pafteis_trace(at, length, events.as_ptr(), events.len(), flags, b, c, n)
-    })?;
-    if !complete && !unchecked {
+/// A call that answers of a run.
+type Call = unsafe extern "C" fn(
+    *const u8,
+    usize,
+    *const u8,
+    usize,
+    u32,
+    *mut u8,
+    usize,
+    *mut usize,
+) -> u32;
+
+/// What a call answers of a run, by its flags.
+fn run(call: Call, set: &[u8], schedule: &[u8], flags: u32) -> Result<Trace, Error> {
+    let (at, length, events, count) = (set.as_ptr(), set.len(), schedule.as_ptr(), schedule.len());
+    let (bytes, complete) =
+        told(|b, c, n| unsafe { call(at, length, events, count, flags, b, c, n) })?;
+    if !complete && flags % 2 == 0 {
         if let Some(refusal) = check(set)? {
             return Err(Error::Refused(refusal));
         }
@@ -92,4 +103,36 @@ pub fn trace(set: &[u8], schedule: &[u8], unchecked: bool) -> Result<Trace, Erro
         text: text(bytes),
         complete,
     })
+}
+
+/// A run of a schedule of events; of a refused set only where it is `unchecked`, else `Refused`.
+pub fn trace(set: &[u8], schedule: &[u8], unchecked: bool) -> Result<Trace, Error> {
+    run(sys::pafteis_trace, set, schedule, u32::from(unchecked))
+}
+
+/// Of which events `tell` tells a line.
+#[derive(Clone, Copy, Debug, PartialEq, Eq)]
+pub enum Detail {
+    /// Of those about packets, locks, lists and levels.
+    Usual,
+    /// Of those that do more than step.
+    Quiet,
+    /// Of each.
+    Every,
+}
+
+/// A run of a schedule in words, with an audit of what it has left behind: it is complete where
+/// nothing was found amiss.
+pub fn tell(set: &[u8], schedule: &[u8], unchecked: bool, detail: Detail) -> Result<Trace, Error> {
+    let detail = match detail {
+        Detail::Usual => 0,
+        Detail::Quiet => 2,
+        Detail::Every => 4,
+    };
+    run(sys::pafteis_tell, set, schedule, u32::from(unchecked) + detail)
+}
+
+/// A run of a schedule as a picture in SVG.
+pub fn draw(set: &[u8], schedule: &[u8], unchecked: bool) -> Result<Trace, Error> {
+    run(sys::pafteis_draw, set, schedule, u32::from(unchecked))
 }

@@ -177,6 +177,19 @@ impl World {
         reply.into()
     }
 
+    /// Does events one after the other: one reply for each.
+    pub fn apply_all(&mut self, events: &[Event]) -> Vec<Reply> {
+        let events: Vec<sys::pafteis_event> = events.iter().map(|&event| event.into()).collect();
+        let mut replies = vec![sys::pafteis_reply::default(); events.len()];
+        let (mut applied, count, room) = (0, events.len(), replies.len());
+        let (from, to) = (events.as_ptr(), replies.as_mut_ptr());
+        let handle = &mut self.handle;
+        let status =
+            unsafe { sys::pafteis_world_apply_all(handle, from, count, to, room, &mut applied) };
+        debug_assert_eq!((status, applied), (sys::PAFTEIS_DONE, count));
+        replies.into_iter().map(Reply::from).collect()
+    }
+
     /// One step of a thread.
     pub fn step(&mut self, thread: u8) -> Reply {
         self.apply(Event::Step { thread })

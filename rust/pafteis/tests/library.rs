@@ -1,6 +1,6 @@
 //! Over the library, and the examples of the tree.
-use pafteis::{check, order_of_locks, trace, Error, Event, LockEdge, LockOrder, Major};
-use pafteis::{Reply, World, CANCEL_LOCK};
+use pafteis::{check, describe, draw, order_of_locks, tell, trace, Detail, Error, Event, LockEdge};
+use pafteis::{LockOrder, Major, Reply, World, CANCEL_LOCK};
 use std::fs;
 
 fn example(name: &str) -> Vec<u8> {
@@ -55,6 +55,45 @@ fn traces() {
     let run = trace(&set, &schedule, true).unwrap();
     assert!(!run.complete && run.text.ends_with("3 bug 0x44 packet 0\n"));
     assert!(matches!(trace(&set, b"what", true), Err(Error::Faulty(_))));
+}
+
+#[test]
+fn shapes() {
+    let found = describe(&example("filter.drv")).unwrap();
+    assert_eq!(found.devices.len(), 2);
+    assert_eq!((found.devices[1].lower, found.devices[1].stack), (0, 2));
+    assert!(found.drivers.iter().flatten().all(|it| it.certificate > 0));
+    assert!(matches!(
+        describe(&example("twice.drv")),
+        Err(Error::Refused(_))
+    ));
+}
+
+#[test]
+fn runs_for_people() {
+    let (set, schedule) = (example("echo.drv"), example("one-read.sched"));
+    let told = tell(&set, &schedule, false, Detail::Every).unwrap();
+    assert!(told.complete && told.text.contains("topped 0 0x00000000 0"));
+    assert!(draw(&set, &schedule, false).unwrap().text.contains("<svg"));
+    assert!(matches!(
+        draw(&example("twice.drv"), &schedule, false),
+        Err(Error::Refused(_))
+    ));
+}
+
+#[test]
+fn events_at_once() {
+    let mut world = World::new(&example("echo.drv"), 1).unwrap();
+    let read = Event::Issue {
+        thread: 0,
+        device: 0,
+        major: Major::Read,
+        argument: 7,
+    };
+    assert_eq!(
+        world.apply_all(&[read, read, Event::Step { thread: 0 }]),
+        [Reply::Started { packet: 0 }, Reply::Refused, Reply::Stepped]
+    );
 }
 
 #[test]
