@@ -27,7 +27,7 @@ returns g c =
     let T : ℕ → Type 0 = λ n. IsLegal accepted n after.history in
     let H : List Entry → Type 0 = IsLegal accepted workers in
     let legal : IsLegal accepted workers history =
-    subst H kept (subst T threads (subst S set c.history.ensures.legal)) in
+    subst H kept (subst T threads (subst S set c.history-entries.ensures.legal)) in
     let never : (events : List Event) → NeverStops accepted workers events = λ events.
     (c.accepted_runs_keep_the_rules.ensures accepted c.in_ok-set.ensures.typable
     c.in_ok-set.ensures.sound workers events).lasting in
@@ -37,7 +37,7 @@ returns g c =
       served = record {
         replays = legal_replays accepted workers history legal never;
         short = let room : length history ≤ after.log =
-            subst (λ (xs : List Entry). length xs ≤ after.log) kept c.history.ensures.room in
+            subst (λ (xs : List Entry). length xs ≤ after.log) kept c.history-entries.ensures.room in
             let log = ap (λ (core : CoreState). core.log) same ∙ served.log
             ∙ ap (λ (core : CoreState). core.log) c.in_ok-core.ensures in
             omega (arith, room, log);
@@ -45,7 +45,7 @@ returns g c =
       };
       started = served.started;
       told = served.told;
-      entries = ap length c.history.ensures.entries
+      entries = ap length c.history-entries.ensures.entries
           ∙ ap (λ (core : CoreState). length core.history) same;
       standing = subst R c.in_ok-set.ensures.set c.in_ok-standing.ensures.standing;
     }
