@@ -1,5 +1,5 @@
 -- Where no thread has frames none waits in a ring.
-use Rattle.std.proofs.Common.{◌≡◌, ◌∙◌, ℕ, zero, suc, false, List, [], ◌∷◌, length, None, Option, Some, refl, ap}
+use Rattle.std.proofs.Common.{◌≡◌, ◌∙◌, ℕ, arith, zero, suc, false, true, List, [], ◌∷◌, length, None, Option, Some, refl, ap, sym}
 use Rattle.std.specs.Prelude.{nat_lt, option_and_then, option_map, slice_get}
 use Rattle.model.specs.declared.event.Lock.{Lock}
 use Rattle.model.specs.declared.limits.TheConstants.{MAX_THREADS}
@@ -10,6 +10,7 @@ use Rattle.model.specs.Run.{frames_of}
 use Rattle.model.specs.Set.{Set}
 use Rattle.model.specs.View.{has_frames, thread_view}
 use Rattle.model.specs.World.{World, owner_of}
+use Rattle.laws_runs.proofs.Past.Packets.{lt_true}
 use Rattle.laws_locks.specs.Waiting.{other_owner, sought_by, waits_for}
 use Rattle.tell_audit.specs.Findings.{rings_below, ringed_threads}
 use Rattle.tell_audit.specs.Ring.{is_in_ring, is_met}
@@ -17,7 +18,8 @@ use Rattle.workers_script.specs.Standing.{AreIdle}
 
 no_top : (frames : List Frame) → nat_lt 0 (length frames) ≡ false → top_of frames ≡ None
 no_top [] idle = refl
-no_top (f ∷ frames) idle = cc
+no_top (f ∷ frames) idle =
+    let no : true ≡ false = sym (lt_true 0 (length (f ∷ frames)) (omega arith)) ∙ idle in cc
 
 no_top_on : (o : Option Thread) → has_frames (option_map thread_view o) ≡ false
     → top_of (frames_of o) ≡ None

@@ -1,8 +1,17 @@
 use Rattle.std.proofs.Common.{Ok}
+use Rattle.std.proofs.lemmas.Result.{err_from_is_err_and}
+use Rattle.drvhost_devices.proofs.Writing.{keeps_same}
 use Rattle.drvhost_runs.specs.Served.{IsServed}
 use Rattle.drvhost_runs.proofs.RingsTold.{told_rightly}
 use Rattle.drvhost_runs.proofs.Serving.{IsServedAs, served_right}
 use Rattle.drvhost_runs.proofs.host.serve.Goals as goal
+
+pub returns-in_err-note_standing-in-Ok-clause-goes :
+    goal.returns-in_err-note_standing-in-Ok-clause-goes
+returns-in_err-note_standing-in-Ok-clause-goes g c =
+    let p = err_from_is_err_and c.from_residual.result c.from_residual.ensures.1 in
+    rw (p.1, p.2, c.in_err-note_standing-in-Ok.ensures.fault)
+    (keeps_same (g.O.Sink.contents c.args.out.now))
 
 pub returns-in-Ok-clause-goes : goal.returns-in-Ok-clause-goes
 returns-in-Ok-clause-goes g c =
