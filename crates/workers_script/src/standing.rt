@@ -12,8 +12,7 @@ ghost use Rattle.workers_script.specs.Standing.{IsStanding};
 
 use checked::Checked;
 use driver_set::DriverSet;
-use hostcore::Core;
-use model::history::Entry;
+use hostcore::{Core, Stored};
 use model::memory::OutOfMemory;
 use std::alloc::Global;
 
@@ -49,7 +48,7 @@ fn after(
     alloc: Global,
     set: DriverSet,
     threads: u8,
-    history: &[Entry],
+    history: &[Stored],
 ) -> Result<Checked, OutOfMemory>
     requires some { 1 ≤ threads }
     requires few { threads ≤ MAX_THREADS }
@@ -61,7 +60,7 @@ fn after(
         Err((_set, refused)) => return Err(refused),
     };
     for entry in history {
-        let _reply = machine.apply(&entry.event);
+        let _reply = machine.apply(&entry.event());
     }
     Ok(machine)
 }
