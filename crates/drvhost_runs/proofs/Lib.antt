@@ -5,3 +5,4 @@ pub mod Observing
 pub mod Lining
 pub mod RingsTold
 pub mod Readying
+pub mod Idling

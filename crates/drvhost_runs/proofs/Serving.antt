@@ -1,19 +1,25 @@
 -- How the lines of the commands of a script are added, and that they are right.
-use Rattle.std.proofs.Common.{◌≡◌, ◌∙◌, ◌<◌, ℕ, ◌+◌, true, List, [], ◌++◌, drop, get_or, length, Option, Ok, Err, refl, sym, ap, subst, append_assoc}
+use Rattle.std.proofs.Common.{◌≡◌, ◌∙◌, ◌<◌, ℕ, ◌+◌, List, [], ◌++◌, drop, get_or, length, None, Option, Some, Ok, Err, refl, sym, ap, subst, append_assoc}
 use Rattle.std.proofs.lemmas.List.{append-nil, at_drop_more}
 use Rattle.model.specs.declared.event.Reply.{Reply}
 use Rattle.model.specs.declared.history.Command.{Command}
+use Rattle.model.specs.declared.history.Entry.{Entry}
+use Rattle.model.specs.Machine.{Machine}
 use Rattle.model.specs.Set.{Set}
+use Rattle.model.specs.World.{World}
 use Rattle.workers_script.specs.declared.hosted.Hosted.{Hosted}
+use Rattle.workers_script.specs.Standing.{IsStanding}
 use Rattle.workers_script.specs.Told.{Hosts, all_told}
 use Rattle.tell_audit.specs.Findings.{ringed_threads}
-use Rattle.model.specs.History.{events_of}
+use Rattle.model.specs.History.{events_of, world_after_all}
 use Rattle.model.specs.Run.{run}
 use Rattle.drvhost_devices.specs.declared.fault.End.{End}
 use Rattle.drvhost_devices.specs.declared.fault.Fault.TheVariants.{Write}
 use Rattle.drvhost_devices.specs.Answer.{Answer}
 use Rattle.drvhost_runs.specs.Hosting.{GoesTold, ended_with}
-use Rattle.drvhost_runs.specs.Served.{IsServed, TellsOfRing, command_line, command_lines, replay_line, ringed_after, served_as, served_end}
+use Rattle.report.specs.Host.{agrees_line}
+use Rattle.drvhost_runs.proofs.Idling.{none_ringed}
+use Rattle.drvhost_runs.specs.Served.{IsServed, TellsOfRing, command_line, command_lines, ringed_after, rings_in, served_as, served_end}
 use Rattle.drvhost_devices.specs.Device.{Adds, TakesBeginning}
 use Rattle.drvhost_devices.specs.Fault.{Goes}
 use Rattle.drvhost_devices.proofs.Writing.{adds_breaks, adds_line, adds_more}
@@ -27,7 +33,7 @@ next_command commands i d within = at_drop_more (command_lines i) commands i d w
 
 abbrev pub IsServedAs : Hosted → List ℕ → List ℕ → Answer → Type 0
 IsServedAs hosted ringed words answer =
-    answer ≡ served_as hosted.agrees hosted.told.items hosted.entries ringed words
+    answer ≡ served_as hosted.told.items hosted.entries ringed words
 
 module _ (hosted : Hosted) (ringed words : List ℕ) where
   -- a write fails: among the lines of the commands, or after them
@@ -35,8 +41,8 @@ module _ (hosted : Hosted) (ringed words : List ℕ) where
       → TakesBeginning b n (command_lines 0 hosted.told.items)
       → Goes (IsServedAs hosted ringed words) b n [] l (Err Write)
   served_broken b n l p =
-      let line = replay_line hosted.agrees hosted.entries in (
-        served_as hosted.agrees hosted.told.items hosted.entries ringed words,
+      let line = agrees_line hosted.entries in (
+        served_as hosted.told.items hosted.entries ringed words,
         refl,
         record {
           part = p.part;
@@ -50,50 +56,58 @@ module _ (hosted : Hosted) (ringed words : List ℕ) where
       → Adds b m [] k (command_lines 0 hosted.told.items) → TakesBeginning m n k
       → Goes (IsServedAs hosted ringed words) b n [] l (Err Write)
   served_broken_late b m n k l a p = (
-    served_as hosted.agrees hosted.told.items hosted.entries ringed words,
+    served_as hosted.told.items hosted.entries ringed words,
     refl,
     adds_breaks b m n [] k (command_lines 0 hosted.told.items)
-        (replay_line hosted.agrees hosted.entries) a p,
+        (agrees_line hosted.entries) a p,
   )
 
   -- all lines are added
   pub served_told : (b m n : Option (List ℕ)) (k l left told : List ℕ) (end : End)
       → Adds b m [] k (command_lines 0 hosted.told.items) → Adds m n k l []
-      → end ≡ served_end hosted.agrees ringed
-      → left ≡ l ++ replay_line hosted.agrees hosted.entries → told ≡ words
+      → end ≡ served_end ringed
+      → left ≡ l ++ agrees_line hosted.entries → told ≡ words
       → GoesTold (IsServedAs hosted ringed words) told b n [] left (Ok end)
   served_told b m n k l left told end a d ends adds same =
       let text = command_lines 0 hosted.told.items in
-      let line = replay_line hosted.agrees hosted.entries in
+      let line = agrees_line hosted.entries in
       let P : List ℕ → Type 0 = λ x. Adds b n [] l x in
       let gathered : Adds b n [] l text =
       subst P (append-nil text) (adds_more b m n [] k l text [] a d) in
       let Q : List ℕ → Type 0 = λ x. Adds b n [] x (text ++ line) in (
         text ++ line,
         ap (λ x. ended_with x (text ++ line) told) ends
-            ∙ ap (λ x. ended_with (served_end hosted.agrees ringed) (text ++ line) x) same,
+            ∙ ap (λ x. ended_with (served_end ringed) (text ++ line) x) same,
         subst Q (sym adds) (adds_line b n [] l text line gathered),
       )
+
+-- the threads that wait in a ring after a history, by what stands
+rings_after : (set : Set) (workers : ℕ) (history : List Entry) (standing : Option Machine)
+    → IsStanding set workers history standing
+    → rings_in standing ≡ ringed_after set workers history
+rings_after set workers history None idle =
+    sym (none_ringed set (world_after_all set workers history) idle)
+rings_after set workers history (Some machine) h =
+    ap (λ (w : World). ringed_threads machine.set w) h.run.world
+    ∙ ap (λ (s : Set). ringed_threads s (run s workers (events_of history)).world) h.same_set
 
 -- what was hosted is right for the commands of a script
 pub served_right : (set : Set) (workers : ℕ) (commands : List Command) (hosted : Hosted)
     (ringed words : List ℕ) → Hosts set workers commands hosted
-    → ringed ≡ ringed_threads hosted.machine.set hosted.machine.world → TellsOfRing ringed words
+    → ringed ≡ rings_in hosted.standing → TellsOfRing ringed words
     → (answer : Answer) → IsServedAs hosted ringed words answer
     → IsServed workers set (Ok commands) answer
 served_right set workers commands hosted ringed words h rings tells answer e =
     let same : ringed ≡ ringed_after set workers h.history = rings
-    ∙ ap (λ w. ringed_threads hosted.machine.set w) h.run.world
-    ∙ ap (λ s. ringed_threads s (run s workers (events_of h.history)).world) h.same_set in
+    ∙ rings_after set workers h.history hosted.standing h.standing in
     let told : List (Option Reply) = all_told h.history (length commands) in (
       h.history,
       h.served,
       (
         words,
         subst (λ xs. TellsOfRing xs words) same tells,
-        e ∙ ap (λ x. served_as x hosted.told.items hosted.entries ringed words) h.agrees
-            ∙ ap (λ x. served_as true x hosted.entries ringed words) h.told
-            ∙ ap (λ x. served_as true told x ringed words) h.entries
-            ∙ ap (λ x. served_as true told (length h.history) x words) same,
+        e ∙ ap (λ x. served_as x hosted.entries ringed words) h.told
+            ∙ ap (λ x. served_as told x ringed words) h.entries
+            ∙ ap (λ x. served_as told (length h.history) x words) same,
       ),
     )

@@ -2,13 +2,14 @@
 
 ghost use Rattle.std.specs.Prelude.{◌≡◌, ◌+◌, ◌++◌, ◌≤◌, ◌⊎◌, [], IfErr, IfOk, IfSome, Ok, OnErr, OnOk};
 ghost use Rattle.model.specs.declared.limits.TheConstants.{MAX_THREADS};
+ghost use Rattle.report.specs.Host.{agrees_line};
 ghost use Rattle.report.specs.Lines.{HasRoom};
 ghost use Rattle.drvhost_devices.specs.Device.{Adds, CanCount, Says, SaysBehind, Supply, TakesBeginning};
 ghost use Rattle.drvhost_devices.specs.Ends.{Answers, HoldsRun};
 ghost use Rattle.drvhost_devices.specs.Fault.{reads_failed, status_of, writes_failed};
 ghost use Rattle.drvhost_runs.specs.Hosting.{GoesTold, IsBlank, told_behind};
 ghost use Rattle.drvhost_runs.specs.Readiness.{AreWarningsOf, IsReady, IsServing, SaysWarned};
-ghost use Rattle.drvhost_runs.specs.Served.{IsHostOf, IsServed, command_line, command_lines, replay_line, served_as, served_end};
+ghost use Rattle.drvhost_runs.specs.Served.{IsHostOf, IsServed, command_line, command_lines, served_as, served_end};
 
 use crate::page::Page;
 use crate::ready::{Ready, get_ready, warn};
@@ -41,12 +42,12 @@ pub struct Hosting<'a, R, G> {
 /// Has the commands of a script served by so many workers, 1 to 64, over one locked core of an
 /// accepted driver set, and writes a line for each command: how its request's packet topped out, or
 /// else the reply to it, or that it was left. The last line says of how many entries the history
-/// is, and whether the reference machine, which replays it, agrees. Before each turn a worker asks
-/// the gate. Before the workers start, a line for each driver that takes its locks in a cycle stands
-/// on the error writer. Where threads wait for each other in a ring, their workers end; a line for
-/// each of these threads then stands there too. The answer is the exit status: 0 where the history
-/// agrees, 1 where it differs, where threads wait in a ring or where the set is refused, 2 where an
-/// input is faulty or a read or a write failed, 3 where memory ran out. Faults are told on the
+/// is, each of which has the reply that the run of its events makes there. Before each turn a worker
+/// asks the gate. Before the workers start, a line for each driver that takes its locks in a cycle
+/// stands on the error writer. Where threads wait for each other in a ring, their workers end; a
+/// line for each of these threads then stands there too. The answer is the exit status: 0 where all
+/// went well, 1 where threads wait in a ring or where the set is refused, 2 where an input is faulty
+/// or a read or a write failed, 3 where memory ran out. Faults are told on the
 /// error writer: those of the set before a refusal, and a refusal before those of the script, which
 /// is read for an accepted set alone.
 pub fn host<S: Source, P: Source, G: Gate + Sync, O: Sink, E: Sink, R: Threads + Wait + Sync>(
@@ -145,7 +146,7 @@ fn serve<G: Gate + Sync, O: Sink, R: Threads + Wait + Sync>(
     } = *hosting;
     match serve_script(runtime, alloc, accepted, workers, commands.as_slice(), gate) {
         Ok(hosted) => {
-            page.note_rings(alloc, &hosted.machine)?;
+            page.note_standing(alloc, &hosted.standing)?;
             tell_hosted(&hosted, page, out)
         }
         Err(OutOfMemory) => Err(Fault::Memory),
@@ -176,7 +177,7 @@ fn tell_hosted<O: Sink>(hosted: &Hosted, page: &mut Page, out: &mut O) -> Result
     requires out { CanCount (O.failures out.old) }
     requires empty { page.old.lines ≡ [] }
     ensures goes { GoesTold
-        (λ answer. answer ≡ served_as hosted.now.agrees hosted.now.told.items hosted.now.entries
+        (λ answer. answer ≡ served_as hosted.now.told.items hosted.now.entries
         page.old.ringed.items page.old.words.items)
         page.new.words.items (O.contents out.old) (O.contents out.new) [] [] result }
     ensures reads { reads_failed result ≡ 0 }
@@ -184,7 +185,7 @@ fn tell_hosted<O: Sink>(hosted: &Hosted, page: &mut Page, out: &mut O) -> Result
 {
     tell_commands(hosted.told.as_slice(), &mut page.lines, out)?;
     make_room(&mut page.lines, out)?;
-    let end = tell_replay(hosted, page);
+    let end = tell_history(hosted.entries, page);
     write_lines(&mut page.lines, out)?;
     Ok(end)
 }
@@ -224,20 +225,16 @@ fn tell_command(number: &mut EventNumber, told: &Option<Reply>, lines: &mut Line
     }
 }
 
-/// Adds the line that says whether a history agrees with its replay, and answers how the job ends.
-fn tell_replay(hosted: &Hosted, page: &mut Page) -> End
+/// Adds the line of a history of so many entries, each reply of which is the run's, and answers how
+/// the job ends.
+fn tell_history(entries: usize, page: &mut Page) -> End
     requires { HasRoom page.old.lines }
-    ensures end { result ≡ served_end hosted.now.agrees page.old.ringed.items }
-    ensures line { page.new.lines
-        ≡ page.old.lines ++ replay_line hosted.now.agrees hosted.now.entries }
+    ensures end { result ≡ served_end page.old.ringed.items }
+    ensures line { page.new.lines ≡ page.old.lines ++ agrees_line entries }
     ensures words { page.new.words.items ≡ page.old.words.items }
 {
-    if hosted.agrees {
-        page.lines.agrees(hosted.entries);
-    } else {
-        page.lines.differs(hosted.entries);
-    }
-    if hosted.agrees && page.ringed.is_empty() {
+    page.lines.agrees(entries);
+    if page.ringed.is_empty() {
         End::Complete
     } else {
         End::Stopped

@@ -4,7 +4,7 @@ ghost use Rattle.std.specs.Prelude.{◌≡◌, ◌+◌, IfErr, IfOk, OnOk};
 ghost use Rattle.drvhost_devices.specs.Device.{CanCount};
 ghost use Rattle.drvhost_devices.specs.Fault.{ReadsSet, reads_failed};
 ghost use Rattle.drvhost_runs.specs.Hosting.{IsBlank};
-ghost use Rattle.drvhost_runs.specs.Served.{TellsOfRing};
+ghost use Rattle.drvhost_runs.specs.Served.{TellsOfRing, rings_in};
 ghost use Rattle.tell_audit.specs.Findings.{ringed_threads};
 ghost use Rattle.verifier_warnings.specs.Warnings.{AreWarnings};
 
@@ -71,8 +71,27 @@ impl Page {
         Ok(lock_warnings(alloc, self.bytes.as_slice(), accepted)?)
     }
 
+    /// Notes which threads wait in a ring in what stands after a history, with what is told of them.
+    pub(crate) fn note_standing(
+        &mut self,
+        alloc: Global,
+        standing: &Option<Checked>,
+    ) -> Result<(), Fault>
+        requires { IsBlank self.old }
+        ensures lines { self.new.lines ≡ self.old.lines }
+        ensures ringed { OnOk result (self.new.ringed.items ≡ rings_in standing.now) }
+        ensures words { OnOk result
+            (TellsOfRing self.new.ringed.items self.new.words.items) }
+        ensures fault { IfErr result (λ fault. fault ≡ Fault.Memory) }
+    {
+        match standing {
+            Some(machine) => self.note_rings(alloc, machine),
+            None => Ok(()),
+        }
+    }
+
     /// Notes which threads of a machine wait in a ring, with what is told of them.
-    pub(crate) fn note_rings(&mut self, alloc: Global, machine: &Checked) -> Result<(), Fault>
+    fn note_rings(&mut self, alloc: Global, machine: &Checked) -> Result<(), Fault>
         requires { IsBlank self.old }
         ensures lines { self.new.lines ≡ self.old.lines }
         ensures ringed { OnOk result

@@ -9,13 +9,16 @@ use Rattle.std.proofs.lemmas.List.Elements.{All-replicate, All-set}
 use Rattle.model.specs.declared.event.Event.{Event}
 use Rattle.model.specs.declared.event.Reply.{Reply}
 use Rattle.model.specs.declared.event.Reply.TheVariants.{Waited, Idle}
+use Rattle.model.specs.declared.history.Command.{Command}
+use Rattle.model.specs.declared.history.Command.TheVariants.{Cancel, Interrupt, Request}
 use Rattle.model.specs.declared.history.Entry.{Entry}
-use Rattle.model.specs.History.{IsLegal, events_of, is_kept, replies_from}
+use Rattle.model.specs.History.{IsLegal, event_of, events_of, is_kept, replies_from}
 use Rattle.model.specs.Machine.{Applies, Shows, reply_to}
-use Rattle.model.specs.Run.{Run, begun, run, run_from, step}
+use Rattle.model.specs.Run.{Run, begun, run, run_from, step, thread_of}
 use Rattle.model.specs.Set.{Set}
 use Rattle.model.specs.Shown.{Shown, ShowsWorld}
 use Rattle.model.specs.World.{World}
+use Rattle.laws_runs.specs.NeverStops.{LetsGoOn}
 use Rattle.laws_runs.specs.Rules.{KeepsTheRules}
 use Rattle.laws_runs.specs.Waits.{WaitingChangesNothing, says_unchanged}
 use Rattle.hostcore.specs.Core.{Log, counted, counted_at}
@@ -49,6 +52,13 @@ unkept_unchanged : (reply : Reply) → is_kept reply ≡ false → says_unchange
 unkept_unchanged Waited h = refl
 unkept_unchanged Idle h = refl
 unkept_unchanged _ h = cc
+
+-- a command as an event is about its thread or about none
+pub own_event : (history : List Entry) (t : ℕ) (command : Command)
+    → IfSome (thread_of (event_of history t command)) (λ s. s ≡ t)
+own_event history t (Request device major argument) = refl
+own_event history t (Cancel name level) = refl
+own_event history t (Interrupt device) = tt
 
 -- a count of entries is one of more
 still_counted : (seat : Option ℕ) (n : ℕ) → IfSome seat (λ k. k ≤ n) → IfSome seat (λ k. k ≤ n + 1)
@@ -89,6 +99,12 @@ module _ (before after : Shown) (threads : ℕ) (log : Log) (seats : List (Optio
 
   pub reply_is : reply ≡ reply_to before.set threads (events_of log.entries) e
   reply_is = applies.replies threads (events_of log.entries) kept.shows
+
+  -- no reply stops the run
+  pub lets_go_on : LetsGoOn reply
+  lets_go_on =
+      subst (λ (x : Reply). LetsGoOn x) (sym reply_is)
+      ((kept.rules (events_of log.entries)).lasting.replies e)
 
   still_rules : (events : List Event) → KeepsTheRules after.set threads events
   still_rules events = rw applies.set (kept.rules events)

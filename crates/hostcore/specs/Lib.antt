@@ -1,4 +1,5 @@
 pub mod Core
+pub mod Stored
 pub mod Kept
 pub mod Indexed
 pub mod Stepping

@@ -8,10 +8,12 @@ ghost use Rattle.machine.specs.Runs.{TellsOf};
 ghost use Rattle.model.specs.History.{IsLegal, entry_named, event_of, events_of, is_kept, outcome_named};
 ghost use Rattle.model.specs.Run.{thread_of};
 ghost use Rattle.model.specs.View.{busy_at, due_at};
+ghost use Rattle.laws_runs.specs.NeverStops.{LetsGoOn};
 ghost use Rattle.laws_runs.specs.Rules.{KeepsTheRules};
 
 use crate::log::Log;
 use crate::seat::Seat;
+use crate::stored::Stored;
 use crate::ticket::{Taken, Ticket};
 use laws_runs::{top_outs_are_told, waiting_changes_nothing};
 use machine::World;
@@ -101,6 +103,8 @@ fn had_frames(world: &World, thread: u8, reply: &Reply) -> bool
 fn append(log: &mut Log, seats: &mut Vec<Option<u64>>, entry: Entry)
     requires room { nat_eq (length log.old.entries) log.old.most ≡ false }
     requires counts { All (λ seat. IfSome seat (λ n. n ≤ MAX_HISTORY)) seats.old.items }
+    requires own { IfSome (thread_of entry.event) (λ t. t ≡ entry.thread) }
+    requires goes_on { LetsGoOn entry.reply }
     ensures log { log.new ≡ record log.old { entries = log.old.entries ++ entry ∷ [] } }
     ensures seats { seats.new.items ≡ counted seats.old.items entry.thread }
 {
@@ -150,7 +154,7 @@ impl Core {
 
     /// The entries so far: each reply is the one that the run makes there, and the run keeps the
     /// rules.
-    pub fn history(&self) -> &[Entry]
+    pub fn history(&self) -> &[Stored]
         ensures entries { result.now ≡ self.now.history }
         ensures room { length self.now.history ≤ self.now.log }
         ensures legal { IsLegal self.now.set self.now.threads self.now.history }
@@ -295,6 +299,7 @@ impl Core {
     /// An event enters with the seat of a thread, for the command of a name or for none.
     fn enter(&mut self, thread: u8, event: Event, name: Option<Name>) -> Reply
         requires room { nat_eq (length self.old.history) self.old.log ≡ false }
+        requires own { IfSome (thread_of event) (λ t. t ≡ thread) }
         ensures reply { result ≡ reply_in self.old event }
         ensures entered { self.new ≡ entered self.old thread event name }
     {

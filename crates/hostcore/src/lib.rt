@@ -8,10 +8,12 @@ pub mod index;
 mod log;
 pub mod numbered;
 pub mod seat;
+pub mod stored;
 pub mod ticket;
 
 pub use host_core::{Core, LogFull, Stepped};
 pub use index::Index;
 pub use numbered::Numbered;
 pub use seat::Seat;
+pub use stored::Stored;
 pub use ticket::{Desk, Queued, Taken, Ticket};

@@ -1,12 +1,15 @@
 //! The stored history of a core.
 
-ghost use Rattle.std.specs.Prelude.{◌≡◌, ◌≤◌, ◌<◌, ◌+◌, ◌++◌, ◌∷◌, [], false, length, nat_eq, option_map, IfOk};
+ghost use Rattle.std.specs.Prelude.{◌≡◌, ◌≤◌, ◌<◌, ◌+◌, ◌++◌, ◌∷◌, [], false, length, nat_eq, option_map, IfOk, IfSome};
 ghost use Rattle.hostcore.specs.Noted.{get, noted, room};
 ghost use Rattle.model.specs.declared.limits.TheConstants.{MAX_HISTORY};
 ghost use Rattle.model.specs.History.{entry_named, is_name, outcome_named, packet_named, request_started};
+ghost use Rattle.model.specs.Run.{thread_of};
+ghost use Rattle.laws_runs.specs.NeverStops.{LetsGoOn};
 ghost use Rattle.hostcore.specs.Indexed.{IsPlaceOf, Notes, told_top};
 
 use crate::Index;
+use crate::stored::Stored;
 use model::event::{Event, Reply};
 use model::history::{Entry, Name, Outcome, TopOut};
 use model::limits::MAX_ISSUED;
@@ -18,7 +21,7 @@ use std::marker::Model;
 #[derive(Drop)]
 pub struct Log {
     most: usize,
-    entries: Vec<Entry>,
+    entries: Vec<Stored>,
     places: Index<Name, usize>,
     tops: Index<u64, TopOut>,
 }
@@ -110,7 +113,7 @@ impl Log {
     }
 
     /// The entries in their order.
-    pub fn entries(&self) -> &[Entry]
+    pub fn entries(&self) -> &[Stored]
         ensures { result.now ≡ self.now.entries }
     {
         self.entries.as_slice()
@@ -123,14 +126,16 @@ impl Log {
         self.entries.len() == self.most
     }
 
-    /// Appends an entry.
+    /// Appends an entry of a run that goes on, whose event is about its thread or about none.
     pub fn append(&mut self, entry: Entry)
         requires room { nat_eq (length self.old.entries) self.old.most ≡ false }
+        requires own { IfSome (thread_of entry.event) (λ t. t ≡ entry.thread) }
+        requires goes_on { LetsGoOn entry.reply }
         ensures { self.new ≡ record self.old { entries = self.old.entries ++ entry ∷ [] } }
     {
         note_name(&mut self.places, entry.name, self.entries.len());
         note_top(&mut self.tops, &entry.reply);
-        self.entries.push_reserved(entry);
+        self.entries.push_reserved(Stored::of(entry));
     }
 
     /// The place of the first entry with a name.
@@ -145,7 +150,7 @@ impl Log {
         ensures { result ≡ entry_named self.now.entries name }
     {
         match self.place_of(name) {
-            Some(place) => self.entries.get(place).copied(),
+            Some(place) => self.entries.get(place).map(|stored| stored.entry()),
             None => None,
         }
     }

@@ -117,7 +117,7 @@ fn check_full<R: Abort>(rt: &R, account: &Account) {
     assert_eq!(rt; account.core.history().len(), 100);
     assert_eq!(rt; counted(account), 100);
     let named = account.core.history().iter();
-    let performed = named.filter(|entry| entry.name.is_some()).count();
+    let performed = named.filter(|entry| entry.name().is_some()).count();
     let others = account.held.saturating_add(account.left);
     assert_eq!(rt; performed.saturating_add(others) as u64, COMMANDS);
 }

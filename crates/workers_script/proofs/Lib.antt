@@ -7,3 +7,4 @@ pub mod OneSubmitter
 pub mod TicketLists
 pub mod ToldLists
 pub mod ReplayedEntries
+pub mod Idleness

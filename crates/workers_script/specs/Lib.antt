@@ -1,3 +1,4 @@
 pub mod Served
 pub mod Told
 pub mod Replay
+pub mod Standing

@@ -1,5 +1,5 @@
--- The replay of a history.
-use Rattle.std.specs.Prelude.{ℕ, ◌≡◌, Bool, IsTrue, List, true}
+-- The run of a history's events.
+use Rattle.std.specs.Prelude.{ℕ, List}
 use Rattle.std.specs.List.{All}
 use Rattle.model.specs.declared.history.Entry.{Entry}
 use Rattle.model.specs.History.{IsLegal}
@@ -10,8 +10,3 @@ use Rattle.laws_runs.specs.NeverStops.{LetsGoOn}
 pub record Replays (set : Set) (threads : ℕ) (history : List Entry) : Type 0 where
   pub legal : IsLegal set threads history
   pub lasting : All (λ (e : Entry). LetsGoOn e.reply) history
-
--- whether it does, as is told
-pub record IsReplay (set : Set) (threads : ℕ) (history : List Entry) (told : Bool) : Type 0 where
-  pub only : IsTrue told → Replays set threads history
-  pub all : Replays set threads history → told ≡ true

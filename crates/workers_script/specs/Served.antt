@@ -4,11 +4,12 @@ use Rattle.model.specs.declared.history.Command.{Command}
 use Rattle.model.specs.declared.history.Entry.{Entry}
 use Rattle.model.specs.declared.history.Name.{Name}
 use Rattle.model.specs.declared.limits.TheConstants.{MAX_HISTORY}
-use Rattle.model.specs.History.{IsLegal, NamedCommand, entry_named, has_name}
+use Rattle.model.specs.History.{NamedCommand, entry_named, has_name}
 use Rattle.model.specs.Set.{Set}
 use Rattle.intake.specs.Lists.{name_of}
 use Rattle.workers.specs.Ended.{EndsState, HaveEnded}
 use Rattle.workers.specs.Worked.{IsCommand, IsOwn}
+use Rattle.workers_script.specs.Replay.{Replays}
 
 -- the name of the k-th command of a script, which has one submitter
 abbrev pub command_name : ℕ → Name
@@ -58,9 +59,10 @@ pub record AreStarted (workers : ℕ) (history : List Entry) (ends : EndsState) 
   pub few : ends.started ≤ workers
   pub seated : All (λ (e : Entry). e.thread < ends.started) history
 
--- a legal history of a set in which so many threads served the commands of a script
+-- a history that the run of its events answers as it tells, in which so many threads served the
+-- commands of a script
 pub record HasServed (set : Set) (threads : ℕ) (commands : List Command) (history : List Entry)
     : Type 0 where
-  pub legal : IsLegal set threads history
+  pub replays : Replays set threads history
   pub short : length history ≤ MAX_HISTORY
   pub accounts : Accounts threads commands history

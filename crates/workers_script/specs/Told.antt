@@ -1,5 +1,5 @@
 -- What is told of the commands of a script.
-use Rattle.std.specs.Prelude.{ℕ, ◌≡◌, ◌<◌, ◌≤◌, List, [], None, Option, Some, length, map, option_map, replicate, slice_get, true}
+use Rattle.std.specs.Prelude.{ℕ, ◌≡◌, ◌<◌, ◌≤◌, List, [], None, Option, Some, length, map, option_map, replicate, slice_get}
 use Rattle.std.specs.List.{range_with_len}
 use Rattle.model.specs.declared.event.Reply.{Reply}
 use Rattle.model.specs.declared.event.Reply.TheVariants.{Topped}
@@ -9,12 +9,12 @@ use Rattle.model.specs.declared.history.Name.{Name}
 use Rattle.model.specs.declared.history.Outcome.{Outcome}
 use Rattle.model.specs.declared.history.TopOut.{TopOut}
 use Rattle.model.specs.declared.limits.TheConstants.{MAX_HISTORY}
-use Rattle.model.specs.History.{entry_named, events_of, outcome_named}
-use Rattle.model.specs.Machine.{ShowsWhole}
+use Rattle.model.specs.History.{entry_named, outcome_named}
 use Rattle.model.specs.Set.{Set}
 use Rattle.hostcore.specs.Core.{CoreState}
 use Rattle.workers_script.specs.declared.hosted.Hosted.{Hosted}
 use Rattle.workers_script.specs.Served.{AreStarted, HasServed, command_name}
+use Rattle.workers_script.specs.Standing.{IsStanding}
 
 -- how the packet of a request topped out, or else the reply
 abbrev pub shown_as : Reply → Option TopOut → Reply
@@ -57,8 +57,8 @@ new_core set threads = record {
   seats = replicate threads None;
 }
 
--- what came of a script's commands: that of a history in which they were served, and whose events
--- the reference machine has run
+-- what came of a script's commands: that of a history in which they were served, and what stands
+-- after it
 pub record Hosts (set : Set) (threads : ℕ) (commands : List Command) (hosted : Hosted) : Type 0
   where
     pub history : List Entry
@@ -66,6 +66,4 @@ pub record Hosts (set : Set) (threads : ℕ) (commands : List Command) (hosted :
     pub started : AreStarted threads history hosted.ends
     pub told : hosted.told.items ≡ all_told history (length commands)
     pub entries : hosted.entries ≡ length history
-    pub agrees : hosted.agrees ≡ true
-    pub same_set : hosted.machine.set ≡ set
-    pub run : ShowsWhole hosted.machine threads (events_of history)
+    pub standing : IsStanding set threads history hosted.standing

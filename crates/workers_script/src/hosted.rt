@@ -4,18 +4,18 @@ ghost use Rattle.std.specs.Prelude.{◌≡◌, ◌≤◌, ◌<◌, ◌+◌, ℕ,
 ghost use Rattle.intake.specs.Ends.{AreSubmittersOf, AreTakersOf, submitter_shares, taker_shares, weigh_put, weigh_taken};
 ghost use Rattle.intake.specs.Lists.{weigh};
 ghost use Rattle.intake.specs.declared.limits.TheConstants.{MAX_CAPACITY, SHARES};
-ghost use Rattle.model.specs.declared.event.Event.{Event};
 ghost use Rattle.model.specs.declared.limits.TheConstants.{MAX_THREADS};
 ghost use Rattle.model.specs.History.{NamedCommand};
-ghost use Rattle.model.specs.Machine.{ShowsWhole};
-ghost use Rattle.laws_runs.specs.Rules.{KeepsTheRules};
+ghost use Rattle.model.specs.Sound.{IsSound};
+ghost use Rattle.model.specs.Typable.{IsTypable};
 ghost use Rattle.workers_script.specs.Served.{Accounts, AreStarted};
 ghost use Rattle.workers_script.specs.Told.{Hosts, all_told, new_core};
 
 use crate::collecting::{none_told, tell_all};
-use crate::replay::agrees;
+use crate::standing::standing_in;
 use crate::submitting::submit_all;
 use checked::Checked;
+use driver_set::DriverSet;
 use hostcore::{Core, Taken, Ticket};
 use intake::limits::MAX_CAPACITY;
 use intake::{Closed, Intake, Submitter};
@@ -40,10 +40,9 @@ pub struct Hosted {
     pub entries: usize,
     /// The ends of the workers that were started, of which there is at least one.
     pub ends: Ends,
-    /// Whether the reference machine answers the events of the history as the history tells.
-    pub agrees: bool,
-    /// The reference machine, which has run these events.
-    pub machine: Checked,
+    /// Where a thread still has frames: the reference machine, which has run the events of the
+    /// history.
+    pub standing: Option<Checked>,
 }
 
 /// A core that served commands, and what is told of each.
@@ -61,8 +60,9 @@ struct Settled {
 }
 
 /// Submits the commands of a script to a queue, closes it, and has it served over a core of an
-/// accepted set by so many workers, 1 to 64, each with a thread of the core. The history is then
-/// replayed on the reference machine.
+/// accepted set by so many workers, 1 to 64, each with a thread of the core. The run of the events
+/// of their history answers each of them as the history tells: that is proved, and nothing replays
+/// them to find out. They are run again where a thread still has frames, to tell where it stands.
 ///
 /// # Errors
 ///
@@ -79,36 +79,33 @@ pub fn serve_script<G: Gate + Sync, R: Threads + Wait + Sync>(
     requires few { workers ≤ MAX_THREADS }
     ensures { IfOk result (Hosts accepted workers commands.now) }
 {
-    let mut machine = reference(alloc, &accepted, workers)?;
+    accepted_runs_keep_the_rules();
+    let set = set_of(alloc, &accepted)?;
     let core = core_of(alloc, accepted, workers)?;
-    let Told { core, told, ends } = serve_all(rt, alloc, core, workers, commands, gate)?;
-    let history = core.history();
-    let entries = history.len();
-    let agrees = agrees(&mut machine, history);
+    let Told {
+        mut core,
+        told,
+        ends,
+    } = serve_all(rt, alloc, core, workers, commands, gate)?;
+    let standing = standing_in(alloc, set, &mut core, workers)?;
+    let entries = core.history().len();
     Ok(Hosted {
         told,
         entries,
         ends,
-        agrees,
-        machine,
+        standing,
     })
 }
 
-/// The reference machine of an accepted set, before its first event.
-fn reference(alloc: Global, accepted: &Accepted, threads: u8) -> Result<Checked, OutOfMemory>
-    requires some { 1 ≤ threads }
-    requires few { threads ≤ MAX_THREADS }
-    ensures set { IfOk result (λ machine. machine.set ≡ accepted.now) }
-    ensures begun { IfOk result (λ machine. ShowsWhole machine threads []) }
-    ensures rules { OnOk result
-        ((events : List Event) → KeepsTheRules accepted.now threads events) }
+/// The set of an accepted one, to be kept beside it.
+fn set_of(alloc: Global, accepted: &Accepted) -> Result<DriverSet, OutOfMemory>
+    ensures set { IfOk result (λ set. set ≡ accepted.now) }
+    ensures typable { OnOk result (IsTypable accepted.now) }
+    ensures sound { OnOk result (IsSound accepted.now) }
 {
-    accepted_runs_keep_the_rules();
-    let set = accepted.set().copy(alloc)?;
-    match Checked::new(alloc, set, threads) {
-        Ok(machine) => Ok(machine),
-        Err((_set, refused)) => Err(refused),
-    }
+    let set = accepted.set();
+    let _drivers = set.drivers();
+    set.copy(alloc)
 }
 
 /// A core of an accepted set, before its first entry.

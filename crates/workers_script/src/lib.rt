@@ -1,11 +1,11 @@
-//! What comes of the commands of a script, which workers serve over one locked core, and whether
-//! the history that they made is that of the reference machine.
+//! What comes of the commands of a script, which workers serve over one locked core, and of their
+//! threads.
 #![tactic(auto)]
 
 mod back;
 mod collecting;
 pub mod hosted;
-mod replay;
+mod standing;
 mod submitting;
 
 pub use hosted::{Hosted, serve_script};

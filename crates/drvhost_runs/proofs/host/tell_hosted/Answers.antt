@@ -33,8 +33,8 @@ returns-in_err-write_lines-clause-goes g c =
     (told_broken (IsServedAs c.args.hosted.now ringed words) _ _ _ _ _ _
     (served_told c.args.hosted.now ringed words _ _ _ _ _ _ _ _
     (rw (c.requires.empty, c.as_slice.ensures.value) at c.in_ok-tell_commands.ensures.added)
-    c.in_ok-make_room.ensures.written c.tell_replay-end.ensures.end c.tell_replay-end.ensures.line
-    c.tell_replay-end.ensures.words)
+    c.in_ok-make_room.ensures.written c.tell_history-end.ensures.end c.tell_history-end.ensures.line
+    c.tell_history-end.ensures.words)
     c.in_err-write_lines.ensures.written)
 
 pub returns-clause-goes : goal.returns-clause-goes
@@ -44,6 +44,6 @@ returns-clause-goes g c =
     told_written (IsServedAs c.args.hosted.now ringed words) _ _ _ _ _ _
     (served_told c.args.hosted.now ringed words _ _ _ _ _ _ _ _
     (rw (c.requires.empty, c.as_slice.ensures.value) at c.in_ok-tell_commands.ensures.added)
-    c.in_ok-make_room.ensures.written c.tell_replay-end.ensures.end c.tell_replay-end.ensures.line
-    c.tell_replay-end.ensures.words)
+    c.in_ok-make_room.ensures.written c.tell_history-end.ensures.end c.tell_history-end.ensures.line
+    c.tell_history-end.ensures.words)
     c.in_ok-write_lines.ensures.written

@@ -1,8 +1,12 @@
 use Rattle.std.proofs.Common.{◌≡◌, ◌∙◌, false, length, refl, subst, sym}
 use Rattle.std.specs.Prelude.{nat_eq}
 use Rattle.hostcore.specs.Core.{CoreState}
-use Rattle.hostcore.proofs.Keeping.{kept_more, kept_same}
+use Rattle.hostcore.proofs.Keeping.{lets_go_on, kept_more, kept_same}
 use Rattle.hostcore.proofs.host_core.Core.enter.Goals as goal
+
+pub append-requires-clause-goes_on : goal.append-requires-clause-goes_on
+append-requires-clause-goes_on c =
+    lets_go_on _ _ _ _ _ _ _ c.self.invariant c.apply-reply.ensures.applies
 
 pub invariant_of-self : goal.invariant_of-self
 invariant_of-self c =

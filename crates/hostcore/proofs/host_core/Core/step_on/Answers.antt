@@ -3,9 +3,13 @@ use Rattle.std.specs.Prelude.{nat_eq}
 use Rattle.hostcore.specs.Core.{CoreState}
 use Rattle.hostcore.specs.Stepping.{Steps}
 use Rattle.hostcore.specs.declared.host_core.Stepped.TheVariants.{Entered, Idle, Waits}
-use Rattle.hostcore.proofs.Keeping.{kept_more, kept_same}
+use Rattle.hostcore.proofs.Keeping.{lets_go_on, kept_more, kept_same}
 use Rattle.hostcore.proofs.Stepping.{core_of, enters, is_idle, keeps_idle, waits}
 use Rattle.hostcore.proofs.host_core.Core.step_on.Goals as goal
+
+pub append-requires-clause-goes_on : goal.append-requires-clause-goes_on
+append-requires-clause-goes_on c =
+    lets_go_on _ _ _ _ _ _ _ c.self.invariant c.apply-told.ensures.applies
 
 pub invariant_of-self : goal.invariant_of-self
 invariant_of-self c =

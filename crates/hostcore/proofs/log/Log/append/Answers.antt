@@ -28,6 +28,6 @@ invariant_of-self c =
       omega (arith, long, c.self.invariant.3, c.note_name.ensures.longer),
       c.note_top.ensures.room ∙ c.self.invariant.4,
       omega (arith, long, c.self.invariant.5, c.note_top.ensures.longer),
-      rw c.push_reserved.ensures.items
+      rw (c.push_reserved.ensures.items, c.of.ensures)
           (indexed_more _ _ _ _ _ _ c.self.invariant.6 noted c.note_top.ensures.noted),
     )
