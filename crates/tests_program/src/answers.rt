@@ -4,8 +4,8 @@ ghost use Rattle.std.specs.Prelude.{◌≡◌};
 ghost use Rattle.drvhost_devices.specs.Device.{Unknown};
 
 use drvhost_devices::device::{Reader, Sink, Source, Writer};
+use drvhost_files::files::{Files, Output};
 use drvhost_words::answer::answer;
-use drvhost_words::files::{Files, Output};
 use std::alloc::{AllocError, Global};
 use std::io::ErrorKind;
 use std::sync::Wait;

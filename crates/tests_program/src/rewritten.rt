@@ -5,8 +5,8 @@ ghost use Rattle.drvhost_devices.specs.Device.{Unknown};
 
 use crate::answers::given;
 use drvhost_devices::device::{Reader, Sink, Source, Writer};
+use drvhost_files::files::{Files, Output};
 use drvhost_words::answer::answer;
-use drvhost_words::files::{Files, Output};
 use std::alloc::Global;
 use std::sync::Wait;
 use std::thread::Threads;

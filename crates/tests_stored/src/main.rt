@@ -7,8 +7,8 @@
 mod texts;
 
 use drvhost_devices::device::Writer;
+use drvhost_files::files::Disk;
 use drvhost_words::answer::answer;
-use drvhost_words::files::Disk;
 use std::alloc::{AllocError, Global};
 use std::fs::{self, Files};
 use std::io::{self, Write};

@@ -3,7 +3,7 @@
 ghost use Rattle.std.specs.Prelude.{◌≡◌, ◌+◌, ◌<◌, ◌^◌, ◌↔◌, ℕ, IsTrue, List, None, Option};
 ghost use Rattle.std.specs.Io.KnownBytes.{Keeps};
 ghost use Rattle.drvhost_devices.specs.Device.{Closed, IsSuppliedAs, Supply, Unknown};
-ghost use Rattle.drvhost_words.specs.Files.{blank, contents_given, contents_of, failures_of, supply_of, Stores};
+ghost use Rattle.drvhost_files.specs.Files.{blank, contents_given, contents_of, failures_of, supply_of, Stores};
 
 use drvhost_devices::device::{Failed, Reader, Sink, Source, Writer};
 use std::fs::{self, File};
@@ -191,7 +191,7 @@ impl<W: Write> Output<W> {
 }
 
 impl<W: Write> Sink for Output<W> {
-    ghost use Rattle.drvhost_words.specs.Outside.{output_contents, output_failures};
+    ghost use Rattle.drvhost_files.specs.Outside.{output_contents, output_failures};
 
     ghost failures = { λ output. output_failures output };
 
@@ -214,7 +214,7 @@ impl<W: Write> Sink for Output<W> {
 }
 
 /// A file that is opened when it is first read.
-pub(crate) struct Later<'f, F: Files> {
+pub struct Later<'f, F: Files> {
     files: &'f F,
     name: &'f str,
     file: Option<F::File>,
@@ -222,7 +222,7 @@ pub(crate) struct Later<'f, F: Files> {
 
 impl<'f, F: Files> Later<'f, F> {
     /// The file of a name.
-    pub(crate) fn new(files: &'f F, name: &'f str) -> Later<'f, F>
+    pub fn new(files: &'f F, name: &'f str) -> Later<'f, F>
         ensures files { result.files.now ≡ files.entry.now }
         ensures name { result.name.now ≡ name.entry.now }
         ensures unopened { result.file ≡ None }
@@ -235,7 +235,7 @@ impl<'f, F: Files> Later<'f, F> {
     }
 
     /// The file, if it was opened.
-    pub(crate) fn into_file(self) -> Option<F::File>
+    pub fn into_file(self) -> Option<F::File>
         ensures { result ≡ self.entry.file }
     {
         let Later {
@@ -274,7 +274,7 @@ impl<F: Files> Source for Later<'_, F> {
 }
 
 /// A file that is opened when it is first written to.
-pub(crate) struct Pending<'f, F: Files> {
+pub struct Pending<'f, F: Files> {
     files: &'f F,
     name: &'f str,
     target: Option<F::Target>,
@@ -282,7 +282,7 @@ pub(crate) struct Pending<'f, F: Files> {
 
 impl<'f, F: Files> Pending<'f, F> {
     /// The file of a name.
-    pub(crate) fn new(files: &'f F, name: &'f str) -> Pending<'f, F>
+    pub fn new(files: &'f F, name: &'f str) -> Pending<'f, F>
         ensures files { result.files.now ≡ files.entry.now }
         ensures name { result.name.now ≡ name.entry.now }
         ensures unopened { result.target ≡ None }
@@ -295,7 +295,7 @@ impl<'f, F: Files> Pending<'f, F> {
     }
 
     /// The file, if it was opened.
-    pub(crate) fn into_target(self) -> Option<F::Target>
+    pub fn into_target(self) -> Option<F::Target>
         ensures { result ≡ self.entry.target }
     {
         let Pending {
