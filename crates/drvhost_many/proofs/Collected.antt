@@ -1,5 +1,5 @@
 -- What was written in memory, where nothing failed there, is the answer for a file.
-use Rattle.std.proofs.Common.{◌≡◌, ◌≢◌, ◌∙◌, ◌+◌, ℕ, List, [], Option, Some, IfOk, Result, Ok, Err, arith, codes, inl, inr, subst, sym}
+use Rattle.std.proofs.Common.{◌≡◌, ◌≢◌, ◌∙◌, ◌+◌, ℕ, List, [], Option, Some, IfOk, Result, Ok, Err, arith, codes, inl, inr, refl, subst, sym}
 use Rattle.std.specs.Io.KnownBytes.{Appends}
 use Rattle.drvhost_devices.specs.Answer.{Answer, faulty}
 use Rattle.drvhost_devices.specs.Device.{IsSuppliedAs, Says, Supply}
@@ -60,36 +60,31 @@ pub told_one : {E : Type 0} (task : Task) (known supply : Supply) → IsSupplied
     → Answers (IsDoneOf task supply) start end 0 u (Some []) n (Says 0 v (Some []) errors) status
     → IfOk r (Collects status u n v errors) → start ≡ 0 → after ≡ before + end
     → IsToldOne task known (λ answer. answer) before after r
-told_one task known supply h status start end u v before after n errors (Ok answer) told c none are =
-    (
-      told.reads,
-      omega (arith, told.reads_are, none, are),
-      (
-        answer,
-        one_end task known supply h told.reads told.writes n status told.told answer told.ends
-            (omega (arith, told.writes_are, c.wrote)) c.found c.status c.output
-            (said v errors told.told answer.told told.tells c.said c.words),
-        refl,
-      ),
-    )
+told_one task known supply h status start end u v before after n errors (Ok answer) told c none are = (
+  told.reads,
+  omega (arith, told.reads_are, none, are),
+  (
+    answer,
+    one_end task known supply h told.reads told.writes n status told.told answer told.ends
+        (omega (arith, told.writes_are, c.wrote)) c.found c.status c.output
+        (said v errors told.told answer.told told.tells c.said c.words),
+    refl,
+  ),
+)
 told_one task known supply h status start end u v before after n errors (Err e) told c none are =
     (told.reads, omega (arith, told.reads_are, none, are), tt)
 
--- and told with the name of the file
-pub told_named : {E F : Type 0} (task : Task) (known : Supply) (before after : ℕ)
-    (telling : Answer → Answer) (told : Answer) (r : Result Answer E) (named : Result Answer F)
-    → r ≡ Ok told → IsToldOne task known (λ answer. answer) before after r
-    → IfOk named (λ n. n ≡ telling told) → IsToldOne task known telling before after named
-told_named task known before after telling told (Ok other) (Ok named) e (reads, are, (answer, is, same)) n =
-    let one : answer ≡ told = sym same ∙ ok_same e in
-    (reads, are, (answer, is, n ∙ ap telling (sym one)))
-told_named task known before after telling told (Ok other) (Err f) e (reads, are, rest) n =
-    (reads, are, tt)
-told_named task known before after telling told (Err x) named e (reads, are, rest) n = cc
-
--- no memory for it
-pub told_none : {E F : Type 0} (task : Task) (known : Supply) (before after : ℕ)
-    (telling : Answer → Answer) (r : Result Answer E) (f : F)
-    → IsToldOne task known (λ answer. answer) before after r
-    → IsToldOne {E = F} task known telling before after (Err f)
-told_none task known before after telling r f (reads, are, rest) = (reads, are, tt)
+-- where writers in memory are empty before
+pub told_alone : {E : Type 0} (task : Task) (known supply : Supply) → IsSuppliedAs known supply
+    → (status start end w u e v before after : ℕ) (b n p errors : Option (List ℕ))
+    (r : Result Answer E)
+    → Answers (IsDoneOf task supply) start end w u b n (Says e v p errors) status
+    → IfOk r (Collects status u n v errors) → start ≡ 0 → after ≡ before + end → w ≡ 0 → e ≡ 0
+    → b ≡ Some [] → p ≡ Some [] → IsToldOne task known (λ answer. answer) before after r
+told_alone task known supply h status start end w u e v before after b n p errors r a c none are wrote said first second =
+    let Right : Answer → Type 0 = IsDoneOf task supply in
+    let one = subst (λ x. Answers Right start end x u b n (Says e v p errors) status) wrote a in
+    let two = subst (λ x. Answers Right start end 0 u b n (Says x v p errors) status) said one in
+    let three = subst (λ x. Answers Right start end 0 u x n (Says 0 v p errors) status) first two in
+    let four = subst (λ x. Answers Right start end 0 u (Some []) n (Says 0 v x errors) status) second three in
+    told_one task known supply h status start end u v before after n errors r four c none are

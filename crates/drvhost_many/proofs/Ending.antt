@@ -1,5 +1,6 @@
 -- How a task with several files comes to its end.
-use Rattle.std.proofs.Common.{◌≡◌, ◌∙◌, ◌+◌, ◌≤◌, ℕ, List, [], ◌∷◌, ◌++◌, Option, Result, Ok, Err, String, append-nil, arith, codes, inl, inr, length, max, refl, string_bytes, subst, sym}
+use Rattle.std.proofs.Common.{◌≡◌, ◌∙◌, ◌+◌, ◌≤◌, ◌<◌, ℕ, List, [], ◌∷◌, ◌++◌, Option, Result, Ok, Err, String, ap, append-nil, arith, codes, drop, get_or, inl, inr, length, max, refl, rules, string_bytes, subst, sym, take}
+use Rattle.std.proofs.lemmas.List.{drop_more, take-append-drop, take_all, take_more}
 use Rattle.std.specs.Global.{Global}
 use Rattle.std.specs.Io.KnownBytes.{Appends, Keeps}
 use Rattle.drvhost_devices.specs.Answer.{Answer}
@@ -8,8 +9,10 @@ use Rattle.drvhost_devices.proofs.Writing.{appends_more, appends_none, behind_mo
 use Rattle.drvhost_many.specs.declared.many.Halt.{Halt}
 use Rattle.drvhost_many.specs.declared.many.Halt.TheVariants.{Memory, Write}
 use Rattle.drvhost_many.specs.declared.many.Task.{Task}
-use Rattle.drvhost_many.specs.All.{Answered, AnswersEach, AreOf, OutOfMemory, WriteFailed, nothing}
-use Rattle.drvhost_many.specs.Marked.{marked, named_answer}
+use Rattle.drvhost_many.specs.declared.many.Task.TheVariants.{Checked, Explained}
+use Rattle.drvhost_found.specs.declared.find.Found.{Found}
+use Rattle.drvhost_many.specs.All.{Answered, AnswersAll, AnswersEach, AreFound, AreOf, EachEnds, OutOfMemory, WriteFailed, nothing}
+use Rattle.drvhost_many.specs.Marked.{gap, marked, named_answer}
 use Rattle.drvhost_many.specs.One.{GoesOne, IsOfOne, halt_status}
 use Rattle.drvhost_many.proofs.Joining.{of_more}
 
@@ -43,6 +46,15 @@ reads_most : (task : Task) (supply : Supply) (reads : ℕ) (answer : Answer)
 reads_most task supply reads answer (inl (none, right)) = omega (arith, none)
 reads_most task supply reads answer (inr (one, is)) = omega (arith, one)
 
+not_ended : (status : ℕ) (end other : Result ℕ Halt) → end ≡ Ok status → other ≡ Err Memory
+    → end ≡ other → ⊥
+not_ended status end other p q e = let same : Ok status ≡ Err Memory = sym p ∙ e ∙ q in cc
+
+not_both : (end other : Result ℕ Halt) → end ≡ Err Write → other ≡ Err Memory → end ≡ other → ⊥
+not_both end other p q e =
+    let same : Err Write ≡ Err Memory = sym p ∙ e ∙ q in
+    let halts : Write ≡ Memory = search rules in cc
+
 pub so_far_none : (task : Task) (supply : List ℕ → Supply) (b : Option (List ℕ)) (failures e : ℕ)
     (p : Option (List ℕ)) → SoFar task supply [] 0 0 b b (SaysBehind failures e e p p)
 so_far_none task supply b failures e p =
@@ -66,8 +78,7 @@ module _ (task : Task) (supply : List ℕ → Supply) (before : List (String Glo
       × SoFar task supply (before ++ one ∷ []) (r + s) (max status answered) b n
       (SaysBehind failures e h p t)
   so_far_more answered (s, are, inl (answer, is, (ended, wrote, out, tells))) =
-      let told = named_answer task (string_bytes one) answer in
-      (
+      let told = named_answer task (string_bytes one) answer in (
         s,
         are,
         reads_most task (supply (string_bytes one)) s answer is,
@@ -80,7 +91,7 @@ module _ (task : Task) (supply : List ℕ → Supply) (before : List (String Glo
           tells = behind_more failures e f h p q t so.answer.told told.told so.tells tells;
         },
       )
-  so_far_more answered (s, are, inr (no, wrote, keep, tells)) = cc
+  so_far_more answered (s, are, inr (other, wrote, keep, tells)) = absurd (not_ended answered _ _ refl refl other)
 
   module _ (names behind : List (String Global)) (opened_before opened_after reads_start w_start : ℕ)
       (split : names ≡ before ++ one ∷ behind) (same : failures ≡ e)
@@ -123,8 +134,8 @@ module _ (task : Task) (supply : List ℕ → Supply) (before : List (String Glo
               part);
         }
     halts Memory (s, are, inl (answer, is, never)) = absurd never
-    halts Write (s, are, inr (no, wrote, keep, tells)) = cc
-    halts Memory (s, are, inr (no, wrote, keep, tells)) =
+    halts Write (s, are, inr (other, wrote, keep, tells)) = absurd (not_both _ _ refl refl other)
+    halts Memory (s, are, inr (other, wrote, keep, tells)) =
         let name = string_bytes one in
         let text = marked task name (codes "out of memory\n") in
         record {
@@ -173,3 +184,100 @@ ends_all task supply names r status failures e h opened_before opened_after read
       tells = behind_says failures e h p t so.answer.told same so.tells;
       ends = Answered so.answer so.are refl refl so.status_is refl so.appended;
     }
+
+-- by what is known of a name
+pub goes_as : (task other : Task) (supply known : List ℕ → Supply) (name same : List ℕ)
+    (reads_before reads_after w x : ℕ) (m n : Option (List ℕ)) (Tells : List ℕ → Type 0)
+    (end : Result ℕ Halt) → other ≡ task → known ≡ supply → same ≡ name
+    → GoesOne other (known same) same reads_before reads_after w x m n Tells end
+    → GoesOne task (supply name) name reads_before reads_after w x m n Tells end
+goes_as task other supply known name same reads_before reads_after w x m n Tells end p q r goes =
+    let first = subst (λ y. GoesOne other (known y) y reads_before reads_after w x m n Tells end) r goes in
+    let second = subst (λ k. GoesOne other (k name) name reads_before reads_after w x m n Tells end) q first in
+    subst (λ t. GoesOne t (supply name) name reads_before reads_after w x m n Tells end) p second
+
+-- a list up to an element, that, and what is behind it
+pub split_at : {A : Type 0} (xs : List A) (i : ℕ) (x : A) → i < length xs → x ≡ get_or xs i x
+    → xs ≡ take i xs ++ x ∷ drop (i + 1) xs
+split_at xs i x h is =
+    sym (take-append-drop i xs)
+    ∙ ap (λ l. take i xs ++ l) (drop_more xs i x h ∙ ap (λ y. y ∷ drop (i + 1) xs) (sym is))
+
+pub so_far_next : (task : Task) (supply : List ℕ → Supply) (names : List (String Global)) (i : ℕ)
+    (one : String Global) (r reads status st : ℕ) (b n : Option (List ℕ)) (Tells : List ℕ → Type 0)
+    → i < length names → one ≡ get_or names i one → r ≡ reads → status ≡ st
+    → SoFar task supply (take i names ++ one ∷ []) r status b n Tells
+    → SoFar task supply (take (i + 1) names) reads st b n Tells
+so_far_next task supply names i one r reads status st b n Tells h is same sames so =
+    let next : take i names ++ one ∷ [] ≡ take (i + 1) names =
+    ap (λ x. take i names ++ x ∷ []) is ∙ sym (take_more names i one h) in
+    subst (λ s. SoFar task supply (take (i + 1) names) reads s b n Tells) sames
+    (subst (λ k. SoFar task supply (take (i + 1) names) k status b n Tells) same
+    (subst (λ l. SoFar task supply l r status b n Tells) next so))
+
+pub so_far_all : (task : Task) (supply : List ℕ → Supply) (names : List (String Global)) (i : ℕ)
+    (reads status : ℕ) (b n : Option (List ℕ)) (Tells : List ℕ → Type 0)
+    → length names ≤ i → SoFar task supply (take i names) reads status b n Tells
+    → SoFar task supply names reads status b n Tells
+so_far_all task supply names i reads status b n Tells h so =
+    subst (λ l. SoFar task supply l reads status b n Tells) (take_all i names h) so
+
+-- by the paths that the files are found for
+pub all_found : {P : Type 0} (task : Task) (Stands : P → Found → Type 0) (supply : List ℕ → Supply)
+    (paths : List P) (names same : List (String Global)) (o1 o2 r1 r2 w x : ℕ)
+    (b n : Option (List ℕ)) (Tells : List ℕ → Type 0) (status : ℕ) → AreFound Stands paths names
+    → same ≡ names → AnswersEach task supply same o1 o2 r1 r2 w x b n Tells status
+    → AnswersAll task Stands supply paths o1 o2 r1 r2 w x b n Tells status
+all_found task Stands supply paths names same o1 o2 r1 r2 w x b n Tells status found is a =
+    record {
+      opened = a.opened;
+      reads = a.reads;
+      writes = a.writes;
+      told = a.told;
+      opened_are = a.opened_are;
+      reads_are = a.reads_are;
+      writes_are = a.writes_are;
+      tells = a.tells;
+      ends = inl (
+        names,
+        found,
+        subst (λ l. EachEnds task supply l a.opened a.reads a.writes b n status a.told) is a.ends,
+      );
+    }
+
+pub none_found : {P : Type 0} (task : Task) (Stands : P → Found → Type 0)
+    (supply : List ℕ → Supply) (paths : List P) (o r w : ℕ) (b : Option (List ℕ))
+    (Tells : List ℕ → Type 0) (status : ℕ) → status ≡ 3 → Tells (codes "out of memory\n")
+    → AnswersAll task Stands supply paths o o r r w w b b Tells status
+none_found task Stands supply paths o r w b Tells status is tells =
+    record {
+      opened = 0;
+      reads = 0;
+      writes = 0;
+      told = codes "out of memory\n";
+      opened_are = omega arith;
+      reads_are = omega arith;
+      writes_are = omega arith;
+      tells = tells;
+      ends = inr (record {
+        opened_are = refl;
+        reads_are = refl;
+        writes_are = refl;
+        status_is = is;
+        told_is = refl;
+        keeps = keeps_same b;
+      });
+    }
+
+-- what is told where memory runs out for a file
+pub no_memory_told : (task : Task) (name a d text : List ℕ) → a ≡ name → d ≡ gap task
+    → text ≡ codes "out of memory\n"
+    → (a ++ d) ++ text ≡ marked task name (codes "out of memory\n")
+no_memory_told task name a d text p q r =
+    ap (λ x. (x ++ d) ++ text) p ∙ ap (λ x. (name ++ x) ++ text) q
+    ∙ ap (λ x. (name ++ gap task) ++ x) r ∙ no_memory_marked task name
+  where
+    no_memory_marked : (task : Task) (name : List ℕ)
+        → (name ++ gap task) ++ codes "out of memory\n" ≡ marked task name (codes "out of memory\n")
+    no_memory_marked Checked name = refl
+    no_memory_marked (Explained extent) name = refl

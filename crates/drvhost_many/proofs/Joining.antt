@@ -35,8 +35,7 @@ pub of_more : (task : Task) (supply : List ℕ → Supply) (names : List (String
     → AreOf task supply (names ++ name ∷ []) (r + s)
     (joined first (named_answer task (string_bytes name) last))
 of_more task supply [] name r s first last (none, empty) is =
-    let told = named_answer task (string_bytes name) last in
-    (
+    let told = named_answer task (string_bytes name) last in (
       s,
       0,
       last,
@@ -47,8 +46,7 @@ of_more task supply [] name r s first last (none, empty) is =
       ap (λ a. joined a told) empty ∙ joined_none told,
     )
 of_more task supply (one ∷ names) name r s first last (failed, others, answer, rest, here, more, sum, whole) is =
-    let told = named_answer task (string_bytes name) last in
-    (
+    let told = named_answer task (string_bytes name) last in (
       failed,
       others + s,
       answer,

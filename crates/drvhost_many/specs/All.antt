@@ -1,5 +1,5 @@
 -- What is answered for several files.
-use Rattle.std.specs.Prelude.{ℕ, ◌≡◌, ◌+◌, ◌++◌, ◌⊎◌, List, [], ◌∷◌, codes, length, map, max, Option, String, string_bytes}
+use Rattle.std.specs.Prelude.{ℕ, ◌≡◌, ◌+◌, ◌++◌, ◌⊎◌, List, [], ◌∷◌, codes, length, max, Option, String, string_bytes}
 use Rattle.std.specs.Global.{Global}
 use Rattle.std.specs.Io.KnownBytes.{Appends, Keeps}
 use Rattle.drvhost_devices.specs.Answer.{Answer}
@@ -17,11 +17,6 @@ AreFound Stands (path ∷ paths) names =
     (found : Found) × (others : List (String Global)) × Stands path found
     × AreFound Stands paths others
     × (names ≡ (found.files.items ++ found.unread.items) ++ others)
-
--- a path stands for itself alone
-abbrev pub StandsAlone : List ℕ → Found → Type 0
-StandsAlone path found =
-    (map string_bytes found.files.items ≡ path ∷ []) × (found.unread.items ≡ [])
 
 -- the answer for no file
 abbrev pub nothing : Answer

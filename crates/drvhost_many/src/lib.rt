@@ -5,5 +5,5 @@
 mod file;
 pub mod many;
 mod named;
-pub mod paths;
+mod paths;
 mod told;

@@ -1,6 +1,6 @@
 //! A task with the driver sets of several files.
 
-ghost use Rattle.std.specs.Prelude.{◌≡◌, ◌+◌, ◌<◌, ◌^◌, ℕ, List};
+ghost use Rattle.std.specs.Prelude.{◌≡◌, ◌+◌, ◌<◌, ◌^◌, ℕ, List, max};
 ghost use Rattle.drvhost_devices.specs.Device.{CanCount, Says, SaysBehind};
 ghost use Rattle.drvhost_many.specs.All.{AnswersAll, AnswersEach};
 ghost use Rattle.drvhost_many.specs.One.{Delivers, GoesOne, halt_status};
@@ -87,11 +87,18 @@ fn answer_each<F: Files, O: Sink, E: Sink>(
     for name in names {
         let one = One::of(task, name.as_str());
         match answer_one(alloc, one, files, out, failures, err) {
-            Ok(answered) => status = status.max(answered),
+            Ok(answered) => status = greater(status, answered),
             Err(halt) => return halt.status(),
         }
     }
     status
+}
+
+/// The greater of two exit statuses.
+fn greater(status: u8, other: u8) -> u8
+    ensures { result ≡ max status other }
+{
+    if status < other { other } else { status }
 }
 
 /// What keeps from going on with the next file.

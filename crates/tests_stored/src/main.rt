@@ -41,7 +41,7 @@ fn main(rt: HostRuntime) -> io::Result<()> {
 }
 
 /// Writes what the program answers to these words.
-fn write_answer<R: Files + Threads + Wait + Sync, W: Write>(
+fn write_answer<R: Files + AllocGlobal + Clone + Drop + Threads + Wait + Sync, W: Write>(
     rt: &R,
     alloc: Global,
     words: &str,
