@@ -3,8 +3,8 @@
 #![tactic(auto)]
 
 use drvhost_devices::device::Writer;
+use drvhost_files::files::Disk;
 use drvhost_words::answer::answer;
-use drvhost_words::files::Disk;
 use std::env;
 use std::io::ErrorKind;
 use std::process::ExitCode;

@@ -1,9 +1,9 @@
 //! The files that a path stands for.
 
-ghost use Rattle.std.specs.Prelude.{◌≡◌, ◌⊎◌, IfOk, IsTrue, OnOk};
+ghost use Rattle.std.specs.Prelude.{◌≡◌, [], IfOk, IsTrue, OnOk};
 ghost use Rattle.std.specs.List.Sorted.{IsSorted};
 ghost use Rattle.std.specs.String.{string_cmp};
-ghost use Rattle.drvhost_found.specs.Found.{AreSets, IsAlone, is_set_name};
+ghost use Rattle.drvhost_found.specs.Found.{AreSets, IsAlone, IsFound, is_set_name};
 
 use crate::set_name::is_set_name;
 use std::alloc::{AllocError, Global};
@@ -16,10 +16,20 @@ use std::rt::Files;
 pub struct Found {
     /// The files, in the order of the bytes of their paths.
     pub files: Vec<String>,
-    /// The folders and entries of folders that can't be looked at, in that order.
+    /// The entries of folders that can't be looked at, and the folders of which not all entries can
+    /// be had, as where the name of one isn't UTF-8; in that order.
     pub unread: Vec<String>,
-    /// How many entries have a name that isn't UTF-8, and that can't be told.
-    pub unnamed: u64,
+}
+
+/// How far a folder could be looked into.
+#[derive(Clone, Copy)]
+enum Look {
+    /// It can't be opened, or is none.
+    Closed,
+    /// Not all its entries can be had.
+    InPart,
+    /// All of them could.
+    Whole,
 }
 
 /// The files that a path stands for. A path that is no folder, or none that can be opened, stands
@@ -31,20 +41,18 @@ pub struct Found {
 ///
 /// When memory runs out.
 pub fn find<R: Files + AllocGlobal + Clone + Drop>(rt: &R, path: &str) -> Result<Found, AllocError>
-    ensures sets { IfOk result (λ found.
-        IsAlone path.now found.files.items ⊎ AreSets found.files.items) }
-    ensures files { IfOk result (λ found. IsSorted string_cmp found.files.items) }
-    ensures unread { IfOk result (λ found. IsSorted string_cmp found.unread.items) }
+    ensures { IfOk result (IsFound path.now) }
 {
     let alloc = rt.alloc();
     let mut waiting = Vec::new(alloc);
     let mut found = Found {
         files: Vec::new(alloc),
         unread: Vec::new(alloc),
-        unnamed: 0,
     };
-    if !look_into(rt, path, &mut waiting, &mut found)? {
-        return alone(alloc, path);
+    match look_into(rt, path, &mut waiting, &mut found)? {
+        Look::Closed => return alone(alloc, path),
+        Look::InPart => found.unread.push(String::from_str(alloc, path)?)?,
+        Look::Whole => {}
     }
     look_below(rt, &mut waiting, &mut found)?;
     found.files.sort()?;
@@ -56,14 +64,13 @@ pub fn find<R: Files + AllocGlobal + Clone + Drop>(rt: &R, path: &str) -> Result
 fn alone(alloc: Global, path: &str) -> Result<Found, AllocError>
     ensures alone { IfOk result (λ found. IsAlone path.now found.files.items) }
     ensures files { IfOk result (λ found. IsSorted string_cmp found.files.items) }
-    ensures unread { IfOk result (λ found. IsSorted string_cmp found.unread.items) }
+    ensures unread { IfOk result (λ found. found.unread.items ≡ []) }
 {
     let mut files = Vec::new(alloc);
     files.push(String::from_str(alloc, path)?)?;
     Ok(Found {
         files,
         unread: Vec::new(alloc),
-        unnamed: 0,
     })
 }
 
@@ -78,23 +85,24 @@ fn look_below<R: Files + AllocGlobal + Clone + Drop>(
 {
     for _ in 0..u64::MAX {
         let Some(folder) = waiting.pop() else {
-            break;
+            return Ok(());
         };
-        if !look_into(rt, folder.as_str(), waiting, found)? {
-            found.unread.push(folder)?;
+        match look_into(rt, folder.as_str(), waiting, found)? {
+            Look::Closed | Look::InPart => found.unread.push(folder)?,
+            Look::Whole => {}
         }
     }
-    Ok(())
+    // So many folders have no memory.
+    Err(AllocError)
 }
 
-/// Looks into a folder: its files are found, and its folders wait. The answer is whether it could
-/// be opened.
+/// Looks into a folder: its files are found, and its folders wait.
 fn look_into<R: Files + AllocGlobal + Clone + Drop>(
     rt: &R,
     folder: &str,
     waiting: &mut Vec<String>,
     found: &mut Found,
-) -> Result<bool, AllocError>
+) -> Result<Look, AllocError>
     requires { AreSets found.old.files.items }
     ensures { OnOk result (AreSets found.new.files.items) }
 {
@@ -103,22 +111,23 @@ fn look_into<R: Files + AllocGlobal + Clone + Drop>(
         Ok(entries) => entries,
         Err(error) => {
             pass_over(error)?;
-            return Ok(false);
+            return Ok(Look::Closed);
         }
     };
+    let mut looked = Look::Whole;
     for entry in entries {
         match entry {
             Ok(entry) => match entry.file_type() {
                 Ok(kind) => keep(alloc, entry.path().as_str(), kind, waiting, found)?,
                 Err(error) => miss(alloc, entry.path().as_str(), error, found)?,
             },
-            Err(error) if error.kind() == io::ErrorKind::InvalidFilename => {
-                found.unnamed = found.unnamed.saturating_add(1);
+            Err(error) => {
+                pass_over(error)?;
+                looked = Look::InPart;
             }
-            Err(error) => miss(alloc, folder, error, found)?,
         }
     }
-    Ok(true)
+    Ok(looked)
 }
 
 /// Keeps an entry of a folder: a folder waits, and a file of a driver set is found.

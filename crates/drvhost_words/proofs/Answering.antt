@@ -18,7 +18,7 @@ use Rattle.drvhost_commands.specs.declared.job.Job.{Job}
 use Rattle.drvhost_commands.specs.declared.job.JobFault.{JobFault}
 use Rattle.drvhost_commands.specs.declared.job.JobFault.TheVariants.{Memory, Usage}
 use Rattle.drvhost_commands.specs.CommandLine.{Names, NamesJob, job_fault_status, job_fault_told, program, text_told}
-use Rattle.drvhost_words.specs.Files.{supply_of}
+use Rattle.drvhost_files.specs.Files.{supply_of}
 use Rattle.drvhost_words.specs.declared.answer.Task.{Task}
 use Rattle.drvhost_words.specs.declared.answer.Task.TheVariants.{Explained, Listed, Hunted}
 use Rattle.drvhost_words.specs.declared.answer.Way.{Way}

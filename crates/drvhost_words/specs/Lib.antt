@@ -1,4 +1,2 @@
-pub mod Files
 pub mod Program
-pub mod Outside
 pub mod Unread

@@ -23,7 +23,7 @@ use Rattle.drvhost_commands.specs.declared.job.Job.{Job}
 use Rattle.drvhost_commands.specs.declared.job.Job.TheVariants.{Alone, Hunt, Host}
 use Rattle.drvhost_commands.specs.declared.job.AloneJob.TheVariants.{Check, Explain, ExplainRule, ExplainLockOrder, List as ListJob, Rewrite, Version, Trace, Tell, Draw}
 use Rattle.drvhost_commands.specs.CommandLine.{Names, NamesJob, program, usage}
-use Rattle.drvhost_words.specs.Files.{Has}
+use Rattle.drvhost_files.specs.Files.{Has}
 use Rattle.drvhost_words.specs.Unread.{IsNamedUnread, IsOneOf}
 
 -- what a run of a set by an input answers, where these are what their files have

@@ -8,12 +8,12 @@ ghost use Rattle.drvhost_devices.specs.Ends.{Answers, HoldsRun, IsCheckOf, IsRew
 ghost use Rattle.drvhost_runs.specs.Readiness.{AreWarningsOf};
 ghost use Rattle.drvhost_runs.specs.Served.{IsHostOf};
 
-use crate::files::{Files, Later, Pending};
 use crate::unread::{Names, tell_if_unread, tell_which_unread};
 use drvhost_commands::job::{AloneJob, Job, JobFault, Workers, refuse_unknown_words, refuse_words};
 use drvhost_devices::device::{Sink, Source};
 use drvhost_devices::unopened::tell_unopened;
 use drvhost_devices::verification::Verification;
+use drvhost_files::files::{Files, Later, Pending};
 use drvhost_hunts::hunt::hunt;
 use drvhost_hunts::reach::Reach;
 use drvhost_runs::host::{Hosting, host};

@@ -1,11 +1,12 @@
 //! What the program answers where the words of its command line name no job.
 
-ghost use Rattle.std.specs.Prelude.{◌≡◌};
+ghost use Rattle.std.specs.Prelude.{⊤, ◌≡◌};
 ghost use Rattle.drvhost_devices.specs.Device.{Unknown};
 
 use drvhost_devices::device::{Reader, Sink, Source, Writer};
+use drvhost_files::files::{Files, Output};
+use drvhost_found::find::{Found, alone};
 use drvhost_words::answer::answer;
-use drvhost_words::files::{Files, Output};
 use std::alloc::{AllocError, Global};
 use std::io::ErrorKind;
 use std::sync::Wait;
@@ -14,6 +15,7 @@ use std::thread::Threads;
 /// A shelf without files.
 #[derive(Drop)]
 struct Shelf {
+    alloc: Global,
     opened: u64,
     failures: u64,
     created: u64,
@@ -27,6 +29,8 @@ impl Files for Shelf {
 
     ghost supply = { λ _ _. Unknown };
 
+    ghost stands = { λ _ _ _. ⊤ };
+
     ghost opened = { λ shelf. shelf.opened };
 
     ghost failures = { λ shelf. shelf.failures };
@@ -34,6 +38,10 @@ impl Files for Shelf {
     ghost created = { λ shelf. shelf.created };
 
     ghost unwritten = { λ shelf. shelf.unwritten };
+
+    fn find(&self, path: &str) -> Result<Found, AllocError> {
+        alone(self.alloc, path)
+    }
 
     fn open(&self, _name: &str) -> Reader<&'static [u8]> {
         Reader::new(None)
@@ -75,6 +83,7 @@ fn told_of<R: Threads + Wait + Sync>(
     status: u8,
 ) -> Vec<u8> {
     let mut files = Shelf {
+        alloc,
         opened: 0,
         failures: 0,
         created: 0,

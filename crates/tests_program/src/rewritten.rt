@@ -1,13 +1,14 @@
 //! Images that `rewrite` writes, over files in memory.
 
-ghost use Rattle.std.specs.Prelude.{◌≡◌};
+ghost use Rattle.std.specs.Prelude.{⊤, ◌≡◌};
 ghost use Rattle.drvhost_devices.specs.Device.{Unknown};
 
 use crate::answers::given;
 use drvhost_devices::device::{Reader, Sink, Source, Writer};
+use drvhost_files::files::{Files, Output};
+use drvhost_found::find::{Found, alone};
 use drvhost_words::answer::answer;
-use drvhost_words::files::{Files, Output};
-use std::alloc::Global;
+use std::alloc::{AllocError, Global};
 use std::sync::Wait;
 use std::thread::Threads;
 use tests_sets::vectors::{OLD_ONE_READ, ONE_READ, ONE_READ_TEXT};
@@ -74,6 +75,8 @@ impl Files for Shelf {
 
     ghost supply = { λ _ _. Unknown };
 
+    ghost stands = { λ _ _ _. ⊤ };
+
     ghost opened = { λ shelf. shelf.opened };
 
     ghost failures = { λ shelf. shelf.failures };
@@ -81,6 +84,10 @@ impl Files for Shelf {
     ghost created = { λ shelf. shelf.created };
 
     ghost unwritten = { λ shelf. shelf.unwritten };
+
+    fn find(&self, path: &str) -> Result<Found, AllocError> {
+        alone(self.alloc, path)
+    }
 
     fn open(&self, name: &str) -> Reader<&'static [u8]> {
         Reader::new(stored(name))

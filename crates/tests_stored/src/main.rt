@@ -7,8 +7,8 @@
 mod texts;
 
 use drvhost_devices::device::Writer;
+use drvhost_files::files::Disk;
 use drvhost_words::answer::answer;
-use drvhost_words::files::Disk;
 use std::alloc::{AllocError, Global};
 use std::fs::{self, Files};
 use std::io::{self, Write};
@@ -41,7 +41,7 @@ fn main(rt: HostRuntime) -> io::Result<()> {
 }
 
 /// Writes what the program answers to these words.
-fn write_answer<R: Files + Threads + Wait + Sync, W: Write>(
+fn write_answer<R: Files + AllocGlobal + Clone + Drop + Threads + Wait + Sync, W: Write>(
     rt: &R,
     alloc: Global,
     words: &str,

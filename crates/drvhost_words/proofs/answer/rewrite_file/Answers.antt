@@ -1,7 +1,7 @@
 use Rattle.std.proofs.Common.{◌≡◌, ◌∙◌, None, Some, List, ℕ, arith, ap, subst, sym}
 use Rattle.drvhost_devices.specs.Device.{Supply}
 use Rattle.drvhost_devices.specs.Ends.{IsRewriteOf}
-use Rattle.drvhost_words.specs.Files.{Stores, contents_of, failures_of}
+use Rattle.drvhost_files.specs.Files.{Stores, contents_of, failures_of}
 use Rattle.drvhost_words.proofs.Answering.{answers_quietly, rewrite_known}
 use Rattle.drvhost_words.proofs.Rewritten.{rewrites_none, rewrites_some, then_other, unopened_target}
 use Rattle.drvhost_words.proofs.answer.rewrite_file.Goals as goal

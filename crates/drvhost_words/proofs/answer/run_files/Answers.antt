@@ -1,6 +1,6 @@
 use Rattle.std.proofs.Common.{◌≡◌, ◌∙◌, None, Some, arith, ap, inr, refl, sym}
 use Rattle.drvhost_words.specs.Program.{IsRunBy, verification_of}
-use Rattle.drvhost_words.specs.Files.{failures_of}
+use Rattle.drvhost_files.specs.Files.{failures_of}
 use Rattle.drvhost_words.specs.Unread.{IsOneOf}
 use Rattle.drvhost_words.proofs.Answering.{answers_rightly, answers_unread, run_known, way_known, unopened}
 use Rattle.drvhost_words.proofs.answer.run_files.Goals as goal

@@ -1,11 +1,13 @@
 //! Files by their names.
 
-ghost use Rattle.std.specs.Prelude.{◌≡◌, ◌+◌, ◌<◌, ◌^◌, ◌↔◌, ℕ, IsTrue, List, None, Option};
+ghost use Rattle.std.specs.Prelude.{◌≡◌, ◌+◌, ◌<◌, ◌^◌, ◌↔◌, ℕ, IfOk, IsTrue, List, None, Option};
 ghost use Rattle.std.specs.Io.KnownBytes.{Keeps};
 ghost use Rattle.drvhost_devices.specs.Device.{Closed, IsSuppliedAs, Supply, Unknown};
-ghost use Rattle.drvhost_words.specs.Files.{blank, contents_given, contents_of, failures_of, supply_of, Stores};
+ghost use Rattle.drvhost_files.specs.Files.{blank, contents_given, contents_of, failures_of, supply_of, Stores};
 
 use drvhost_devices::device::{Failed, Reader, Sink, Source, Writer};
+use drvhost_found::find::{Found, find};
+use std::alloc::AllocError;
 use std::fs::{self, File};
 use std::io::Write;
 
@@ -20,6 +22,11 @@ pub trait Files {
     // What the file of a name has to give, where something is known of it.
     ghost supply: { Self → List ℕ → Supply };
 
+    // What a path may stand for.
+    ghost use Rattle.drvhost_found.specs.declared.find.Found.{Found};
+
+    ghost stands: { Self → List ℕ → Found → Type 0 };
+
     // How many files were opened to be read and handed back so far.
     ghost opened: { Self → ℕ };
 
@@ -31,6 +38,15 @@ pub trait Files {
 
     // How many writes to these failed.
     ghost unwritten: { Self → ℕ };
+
+    /// The files that a path stands for: itself, or those of driver sets in and below the folder
+    /// that it is.
+    ///
+    /// # Errors
+    ///
+    /// When memory runs out.
+    fn find(&self, path: &str) -> Result<Found, AllocError>
+        ensures { IfOk result (stands self.now path.now) };
 
     /// Opens the file of a name, to read it from its start. One that can't be opened is a source
     /// that is closed.
@@ -81,7 +97,7 @@ pub struct Disk<'r, R> {
     unwritten: u64,
 }
 
-impl<'r, R: fs::Files> Disk<'r, R> {
+impl<'r, R: fs::Files + AllocGlobal + Clone + Drop> Disk<'r, R> {
     /// The files of a system, of which none was opened.
     pub fn new(system: &'r R) -> Disk<'r, R>
         ensures opened { ⟦<Disk<'r, R> as Files>⟧.opened result ≡ 0 }
@@ -113,12 +129,16 @@ impl<'r, R: fs::Files> Disk<'r, R> {
     }
 }
 
-impl<R: fs::Files> Files for Disk<'_, R> {
+impl<R: fs::Files + AllocGlobal + Clone + Drop> Files for Disk<'_, R> {
+    ghost use Rattle.drvhost_found.specs.Found.{IsFound};
+
     type File = Reader<R::File>;
 
     type Target = Output<R::File>;
 
     ghost supply = { λ _ _. Unknown };
+
+    ghost stands = { λ _ path found. IsFound path found };
 
     ghost opened = { λ disk. disk.opened };
 
@@ -127,6 +147,10 @@ impl<R: fs::Files> Files for Disk<'_, R> {
     ghost created = { λ disk. disk.created };
 
     ghost unwritten = { λ disk. disk.unwritten };
+
+    fn find(&self, path: &str) -> Result<Found, AllocError> {
+        find(self.system, path)
+    }
 
     fn open(&self, name: &str) -> Reader<R::File> {
         Reader::new(File::open(self.system, name).ok())
@@ -191,7 +215,7 @@ impl<W: Write> Output<W> {
 }
 
 impl<W: Write> Sink for Output<W> {
-    ghost use Rattle.drvhost_words.specs.Outside.{output_contents, output_failures};
+    ghost use Rattle.drvhost_files.specs.Outside.{output_contents, output_failures};
 
     ghost failures = { λ output. output_failures output };
 
@@ -214,7 +238,7 @@ impl<W: Write> Sink for Output<W> {
 }
 
 /// A file that is opened when it is first read.
-pub(crate) struct Later<'f, F: Files> {
+pub struct Later<'f, F: Files> {
     files: &'f F,
     name: &'f str,
     file: Option<F::File>,
@@ -222,7 +246,7 @@ pub(crate) struct Later<'f, F: Files> {
 
 impl<'f, F: Files> Later<'f, F> {
     /// The file of a name.
-    pub(crate) fn new(files: &'f F, name: &'f str) -> Later<'f, F>
+    pub fn new(files: &'f F, name: &'f str) -> Later<'f, F>
         ensures files { result.files.now ≡ files.entry.now }
         ensures name { result.name.now ≡ name.entry.now }
         ensures unopened { result.file ≡ None }
@@ -235,7 +259,7 @@ impl<'f, F: Files> Later<'f, F> {
     }
 
     /// The file, if it was opened.
-    pub(crate) fn into_file(self) -> Option<F::File>
+    pub fn into_file(self) -> Option<F::File>
         ensures { result ≡ self.entry.file }
     {
         let Later {
@@ -274,7 +298,7 @@ impl<F: Files> Source for Later<'_, F> {
 }
 
 /// A file that is opened when it is first written to.
-pub(crate) struct Pending<'f, F: Files> {
+pub struct Pending<'f, F: Files> {
     files: &'f F,
     name: &'f str,
     target: Option<F::Target>,
@@ -282,7 +306,7 @@ pub(crate) struct Pending<'f, F: Files> {
 
 impl<'f, F: Files> Pending<'f, F> {
     /// The file of a name.
-    pub(crate) fn new(files: &'f F, name: &'f str) -> Pending<'f, F>
+    pub fn new(files: &'f F, name: &'f str) -> Pending<'f, F>
         ensures files { result.files.now ≡ files.entry.now }
         ensures name { result.name.now ≡ name.entry.now }
         ensures unopened { result.target ≡ None }
@@ -295,7 +319,7 @@ impl<'f, F: Files> Pending<'f, F> {
     }
 
     /// The file, if it was opened.
-    pub(crate) fn into_target(self) -> Option<F::Target>
+    pub fn into_target(self) -> Option<F::Target>
         ensures { result ≡ self.entry.target }
     {
         let Pending {

@@ -2,7 +2,7 @@
 use Rattle.std.specs.Prelude.{ℕ, List, [], Option, None, Some}
 use Rattle.drvhost_devices.specs.declared.device.Writer.{Writer}
 use Rattle.drvhost_devices.specs.Outside.{writer_contents, writer_failures}
-use Rattle.drvhost_words.specs.declared.files.Output.{Output}
+use Rattle.drvhost_files.specs.declared.files.Output.{Output}
 
 module _ {A : Type 0} where
   -- how often a write to it failed: with no writer each did

@@ -1,0 +1,4 @@
+pub mod Collected
+pub mod Finding
+pub mod Joining
+pub mod Ending

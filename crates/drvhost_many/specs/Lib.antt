@@ -1,0 +1,4 @@
+pub mod One
+pub mod Marked
+pub mod Told
+pub mod All

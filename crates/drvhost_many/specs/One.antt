@@ -1,0 +1,59 @@
+-- What is answered for one of several files.
+use Rattle.std.specs.Prelude.{ℕ, ◌≡◌, ◌+◌, ◌⊎◌, List, codes, IfOk, Option, Result, Ok, Err}
+use Rattle.std.specs.Io.KnownBytes.{Appends, Keeps}
+use Rattle.drvhost_devices.specs.Answer.{Answer, faulty}
+use Rattle.drvhost_devices.specs.Device.{Supply, TakesBeginning}
+use Rattle.drvhost_devices.specs.Ends.{IsCheckOf}
+use Rattle.drvhost_sets.specs.Explained.{IsExplainedOf}
+use Rattle.drvhost_many.specs.declared.many.Halt.{Halt}
+use Rattle.drvhost_many.specs.declared.many.Halt.TheVariants.{Memory, Write}
+use Rattle.drvhost_many.specs.declared.many.Task.{Task}
+use Rattle.drvhost_many.specs.declared.many.Task.TheVariants.{Checked, Explained}
+use Rattle.drvhost_many.specs.Marked.{marked, named_answer}
+
+-- what a task with a set answers, where this is what its file has
+abbrev pub IsDoneOf : Task → Supply → Answer → Type 0
+IsDoneOf Checked = IsCheckOf
+IsDoneOf (Explained extent) = IsExplainedOf extent
+
+-- what is answered for a file of which so many reads failed: what is right for what it has, or that
+-- it can't be read
+abbrev pub IsOfOne : Task → Supply → ℕ → Answer → Type 0
+IsOfOne task supply reads answer =
+    ((reads ≡ 0) × IsDoneOf task supply answer)
+    ⊎ ((reads ≡ 1) × (answer ≡ faulty (codes "read failed\n")))
+
+-- the same of a call, by the failed reads before and after it, told so; or memory ran out
+abbrev pub IsToldOne : {E : Type 0} → Task → Supply → (Answer → Answer) → ℕ → ℕ → Result Answer E
+    → Type 0
+IsToldOne task supply telling before after result =
+    (reads : ℕ) × (after ≡ before + reads)
+    × IfOk result (λ told. (answer : Answer) × IsOfOne task supply reads answer
+    × (told ≡ telling answer))
+
+-- the exit status for what keeps from going on
+abbrev pub halt_status : Halt → ℕ
+halt_status Write = 2
+halt_status Memory = 3
+
+-- an answer goes to its writers, of which so many writes had failed before and have after; or the
+-- write of its output fails, and that is told
+abbrev pub Delivers : Answer → ℕ → ℕ → Option (List ℕ) → Option (List ℕ) → (List ℕ → Type 0)
+    → Result ℕ Halt → Type 0
+Delivers answer writes_before writes_after before after Tells (Ok status) =
+    (status ≡ answer.status) × (writes_after ≡ writes_before) × Appends before after answer.output
+    × Tells answer.told
+Delivers answer writes_before writes_after before after Tells (Err Write) =
+    (writes_after ≡ writes_before + 1) × TakesBeginning before after answer.output
+    × Tells (codes "write failed\n")
+Delivers answer writes_before writes_after before after Tells (Err Memory) = ⊥
+
+-- how it goes with one of several files: its answer is delivered, or memory runs out
+abbrev pub GoesOne : Task → Supply → List ℕ → ℕ → ℕ → ℕ → ℕ → Option (List ℕ) → Option (List ℕ)
+    → (List ℕ → Type 0) → Result ℕ Halt → Type 0
+GoesOne task supply name reads_before reads_after writes_before writes_after before after Tells end =
+    (reads : ℕ) × (reads_after ≡ reads_before + reads)
+    × (((answer : Answer) × IsOfOne task supply reads answer
+    × Delivers (named_answer task name answer) writes_before writes_after before after Tells end)
+    ⊎ ((end ≡ Err Memory) × (writes_after ≡ writes_before) × Keeps before after
+    × Tells (marked task name (codes "out of memory\n"))))

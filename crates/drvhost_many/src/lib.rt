@@ -1,0 +1,9 @@
+//! What the program answers for several files, and for those of a folder: what it answers for each,
+//! in order, told with its name.
+#![tactic(auto)]
+
+mod file;
+pub mod many;
+mod named;
+mod paths;
+mod told;

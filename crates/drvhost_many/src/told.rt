@@ -1,0 +1,83 @@
+//! An answer in memory.
+
+ghost use Rattle.std.specs.Prelude.{◌≡◌, IfOk};
+ghost use Rattle.drvhost_many.specs.Told.{Collects};
+
+use drvhost_devices::device::{Sink, Writer};
+use std::alloc::AllocError;
+use std::marker::Model;
+
+/// What is answered for a file: its exit status, and what goes to the two streams. Contracts see it
+/// as the answer.
+#[derive(Drop)]
+pub(crate) struct Told {
+    exit: u8,
+    written: Vec<u8>,
+    errors: Vec<u8>,
+}
+
+impl Model for Told {
+    ghost use Rattle.drvhost_devices.specs.Answer.{Answer};
+
+    ghost Value = { Answer };
+
+    ghost view = { λ t. record { status = t.exit; output = t.written.items; told = t.errors.items } };
+}
+
+impl Told {
+    /// An answer of this exit status.
+    pub(crate) fn of(exit: u8, written: Vec<u8>, errors: Vec<u8>) -> Told
+        ensures { result ≡ record { status = exit; output = written.items; told = errors.items } }
+    {
+        Told {
+            exit,
+            written,
+            errors,
+        }
+    }
+
+    /// The exit status.
+    pub(crate) fn status(&self) -> u8
+        ensures { result ≡ self.now.status }
+    {
+        self.exit
+    }
+
+    /// What goes to the standard output.
+    pub(crate) fn output(&self) -> &[u8]
+        ensures { result.now ≡ self.now.output }
+    {
+        self.written.as_slice()
+    }
+
+    /// What goes to the standard error output.
+    pub(crate) fn told(&self) -> &[u8]
+        ensures { result.now ≡ self.now.told }
+    {
+        self.errors.as_slice()
+    }
+}
+
+/// The exit status where memory ran out.
+const NO_MEMORY: u8 = 3;
+
+/// What a call answered with this exit status, which wrote to writers in memory. None where a write
+/// failed: what fails in memory is a growth alone.
+pub(crate) fn collected(
+    exit: u8,
+    output: Writer<Vec<u8>>,
+    errors: Writer<Vec<u8>>,
+) -> Result<Told, AllocError>
+    ensures { IfOk result (Collects exit
+        (⟦<Writer<Vec<u8>> as Sink>⟧.failures output) (⟦<Writer<Vec<u8>> as Sink>⟧.contents output)
+        (⟦<Writer<Vec<u8>> as Sink>⟧.failures errors) (⟦<Writer<Vec<u8>> as Sink>⟧.contents errors)) }
+{
+    if exit == NO_MEMORY || output.failures() > 0 || errors.failures() > 0 {
+        return Err(AllocError);
+    }
+    Ok(Told {
+        exit,
+        written: output.into_inner(),
+        errors: errors.into_inner(),
+    })
+}

@@ -1,0 +1,53 @@
+#!/usr/bin/env python3
+"""tools/measure many [--sets N] [PROGRAM]: what the program (crates/drvhost/out/drvhost, if none is named) takes to check N sets
+(1,000 if left out) of 60 lines in one folder, by one process and by one for each set, and the most memory of the one process, also
+for a tenth of the sets: it doesn't grow with their number, but for their names."""
+import argparse, os, subprocess, tempfile, time
+
+TOP = os.path.dirname(os.path.dirname(os.path.dirname(os.path.abspath(__file__))))
+
+def text(number):
+    """A set of 60 lines, each with another number of routines that only step."""
+    lines = ['driver d', 'dispatch READ f', 'routine f dispatch', 'complete r0 SUCCESS', 'ret SUCCESS', 'endr']
+    rest = 60 - len(lines) - 2
+    lines += ['routine g dpc'] + ['const r%d %d' % (1 + place % 8, number) for place in range(rest - 3)] + ['ret void', 'endr']
+    return '\n'.join(lines + ['endd', 'device v d 1', ''])
+
+def spent(program, words):
+    begun = time.monotonic()
+    status = subprocess.run([program, *words], stdout=subprocess.DEVNULL).returncode
+    assert status == 0, words
+    return time.monotonic() - begun
+
+def most_memory(program, words):
+    """The most memory of a run, in KiB."""
+    child = os.fork()
+    if child == 0:
+        out = os.open(os.devnull, os.O_WRONLY)
+        os.dup2(out, 1)
+        os.execv(program, [program, *words])
+    _, status, used = os.wait4(child, 0)
+    assert status == 0, words
+    return used.ru_maxrss
+
+def main():
+    asked = argparse.ArgumentParser()
+    asked.add_argument('--sets', type=int, default=1000)
+    asked.add_argument('program', nargs='?', default=os.path.join(TOP, 'crates/drvhost/out/drvhost'))
+    asked = asked.parse_args()
+    with tempfile.TemporaryDirectory() as folder:
+        for part, count in ('all', asked.sets), ('some', asked.sets // 10):
+            os.mkdir(os.path.join(folder, part))
+            for number in range(count):
+                with open(os.path.join(folder, part, '%05d.drv' % number), 'w') as out:
+                    out.write(text(number))
+        every = [os.path.join(folder, 'all', name) for name in sorted(os.listdir(os.path.join(folder, 'all')))]
+        apart = sum(spent(asked.program, ['check', name]) for name in every)
+        together = min(spent(asked.program, ['check', os.path.join(folder, 'all')]) for _ in range(5))
+        print('%d sets: %.0f ms by one process, %.0f ms by one each (%.1f times)'
+              % (asked.sets, together * 1000, apart * 1000, apart / together))
+        print('memory: %d KiB for %d sets, %d KiB for %d' % (most_memory(asked.program, ['check', os.path.join(folder, 'all')]),
+              asked.sets, most_memory(asked.program, ['check', os.path.join(folder, 'some')]), asked.sets // 10))
+
+if __name__ == '__main__':
+    main()
