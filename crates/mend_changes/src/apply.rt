@@ -15,6 +15,7 @@ use std::alloc::{AllocError, Global};
 /// # Errors
 ///
 /// When memory runs out.
+#[tactic(auto, using(crate::proofs::Turns::edit_on, crate::proofs::Turns::edit_end))]
 pub fn edited_by(
     alloc: Global,
     set: &DriverSet,
@@ -39,11 +40,7 @@ pub fn edited_by(
 /// # Errors
 ///
 /// When memory runs out.
-pub fn edited(
-    alloc: Global,
-    set: &DriverSet,
-    edit: &Edit,
-) -> Result<Option<DriverSet>, AllocError>
+pub fn edited(alloc: Global, set: &DriverSet, edit: &Edit) -> Result<Option<DriverSet>, AllocError>
     ensures { IfOk result (λ made. IfSome made (λ next. edited set.now edit.now ≡ Some next)) }
 {
     match edit.change {
@@ -104,11 +101,7 @@ fn edited_in_driver(
 }
 
 /// What an edit makes of its driver.
-fn driver_edited(
-    alloc: Global,
-    driver: &Driver,
-    edit: &Edit,
-) -> Result<Option<Driver>, AllocError>
+fn driver_edited(alloc: Global, driver: &Driver, edit: &Edit) -> Result<Option<Driver>, AllocError>
     ensures { IfOk result
         (λ made. IfSome made
         (λ next. driver_edited driver.now edit.now.routine edit.now.at edit.now.change ≡ Some next)) }
@@ -178,11 +171,7 @@ fn with_queue(
 }
 
 /// What an edit of code makes of its driver.
-fn code_edited_in(
-    alloc: Global,
-    driver: &Driver,
-    edit: &Edit,
-) -> Result<Option<Driver>, AllocError>
+fn code_edited_in(alloc: Global, driver: &Driver, edit: &Edit) -> Result<Option<Driver>, AllocError>
     ensures { IfOk result
         (λ made. IfSome made
         (λ next. code_edited_in driver.now edit.now.routine edit.now.at edit.now.change

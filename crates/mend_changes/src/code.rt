@@ -1,8 +1,8 @@
 //! Edits of a routine's code.
 
-ghost use Rattle.std.specs.Prelude.{◌≡◌, ◌++◌, ◌∷◌, [], ◌<◌, ◌≤◌, length, OnOk, IfOk};
+ghost use Rattle.std.specs.Prelude.{◌≡◌, ◌++◌, [], ◌<◌, ◌≤◌, Some, length, slice_get, OnOk, IfOk};
 ghost use Rattle.mend_changes.specs.Edited.{all_shifted, code_edited, relabelled, with_label};
-ghost use Rattle.mend_changes.specs.Edited.{inserted, deleted, moved};
+ghost use Rattle.mend_changes.specs.Edited.{deleted, inserted, moved_by, put_earlier, put_later};
 ghost use Rattle.mend_changes.specs.Given.{as_option};
 
 use crate::edit::{Change, Landing};
@@ -121,21 +121,58 @@ fn put(
     requires within { at < length code.now }
     requires there { to ≤ length code.now }
     requires empty { made.old.items ≡ [] }
-    ensures { (i : Instr) → slice_get code.now at ≡ Some i
-        → OnOk result (made.new.items ≡ moved at to landing i code.now) }
+    ensures { OnOk result
+        (moved_by (slice_get code.now at) at to landing code.now ≡ Some made.new.items) }
 {
+    let Some(instr) = code.get(at as usize) else {
+        return Ok(());
+    };
     let shift = Shift::Moved(at, to, landing);
-    let (from, to) = (at as usize, to as usize);
-    let instr = relabelled(code[from], shift);
-    if from < to {
-        add_shifted(made, &code[..from], shift)?;
-        add_shifted(made, &code[from + 1..to], shift)?;
-        made.push(instr)?;
-        add_shifted(made, &code[to..], shift)
+    if at < to {
+        put_later(code, at, to, *instr, shift, made)
     } else {
-        add_shifted(made, &code[..to], shift)?;
-        made.push(instr)?;
-        add_shifted(made, &code[to..from], shift)?;
-        add_shifted(made, &code[from + 1..], shift)
+        put_earlier(code, at, to, *instr, shift, made)
     }
+}
+
+/// Adds the code with an instruction, which stands at a position, put before one behind it.
+fn put_later(
+    code: &[Instr],
+    at: u16,
+    to: u16,
+    instr: Instr,
+    shift: Shift,
+    made: &mut Vec<Instr>,
+) -> Result<(), AllocError>
+    requires later { at < to }
+    requires there { to ≤ length code.now }
+    requires empty { made.old.items ≡ [] }
+    ensures { OnOk result (made.new.items ≡ put_later shift at to instr code.now) }
+{
+    let (from, to) = (at as usize, to as usize);
+    add_shifted(made, &code[..from], shift)?;
+    add_shifted(made, &code[from + 1..to], shift)?;
+    made.push(relabelled(instr, shift))?;
+    add_shifted(made, &code[to..], shift)
+}
+
+/// Adds the code with an instruction, which stands at a position, put before one before it.
+fn put_earlier(
+    code: &[Instr],
+    at: u16,
+    to: u16,
+    instr: Instr,
+    shift: Shift,
+    made: &mut Vec<Instr>,
+) -> Result<(), AllocError>
+    requires within { at < length code.now }
+    requires earlier { to ≤ at }
+    requires empty { made.old.items ≡ [] }
+    ensures { OnOk result (made.new.items ≡ put_earlier shift at to instr code.now) }
+{
+    let (from, to) = (at as usize, to as usize);
+    add_shifted(made, &code[..to], shift)?;
+    made.push(relabelled(instr, shift))?;
+    add_shifted(made, &code[to..from], shift)?;
+    add_shifted(made, &code[from + 1..], shift)
 }

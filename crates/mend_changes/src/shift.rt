@@ -1,6 +1,7 @@
 //! How an edit shifts the labels of a routine.
 
 ghost use Rattle.std.specs.Prelude.{◌≡◌};
+ghost use Rattle.mend_changes.specs.Edited.{closed, opened};
 
 use crate::edit::Landing;
 
@@ -40,7 +41,11 @@ fn opened(at: u16, landing: Landing, label: u16) -> u16
         Landing::Kept => label < at,
         Landing::Taken => label <= at,
     };
-    if stays || label == u16::MAX { label } else { label + 1 }
+    if stays || label == u16::MAX {
+        label
+    } else {
+        label + 1
+    }
 }
 
 /// A label behind a deletion.

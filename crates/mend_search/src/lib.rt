@@ -1,6 +1,11 @@
 //! The search for mends of refused driver sets.
 #![tactic(auto)]
 
+mod draft;
+mod ledger;
 pub mod offers;
+mod pairs;
+mod search;
+mod usual;
 
 pub use offers::{Ending, Mending, Offer, Offers, Standing, offers};
