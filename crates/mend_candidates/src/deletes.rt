@@ -1,7 +1,7 @@
 //! Deletions, alone or with what belongs to the instruction.
 
 use crate::candidate::{Candidates, Manner};
-use crate::form::form;
+use crate::form::form_of;
 use crate::scene::Scene;
 use absstate::Rule;
 use driver_set::{Instr, Return};
@@ -71,10 +71,10 @@ impl<'a> Scene<'a> {
 
     /// Whether the same instruction stands among so many before a position.
     fn stands_before(&self, at: u16, instr: &Instr, within: u16) -> bool {
-        let same = form(instr);
+        let same = form_of(instr);
         let first = at.saturating_sub(within) as usize;
         let before = self.code.get(first..at as usize).unwrap_or_default();
-        before.iter().any(|other| form(other) == same)
+        before.iter().any(|other| form_of(other) == same)
     }
 
     /// Adds the deletion of an instruction with the pair of a lock and its release round it.

@@ -72,7 +72,7 @@ fn field(field: Field) -> u32 {
 }
 
 /// An instruction as numbers.
-pub fn form(instr: &Instr) -> Form {
+pub fn form_of(instr: &Instr) -> Form {
     match *instr {
         Instr::Const(r, number) => Form::of(0, r.index() as u8, 0, number),
         Instr::Move(r, s) => two(1, r, s),
@@ -131,7 +131,7 @@ pub fn token(instr: &Instr) -> u8 {
     match *instr {
         Instr::Ret(Return::WithStatus(Status::Pending)) => 41,
         Instr::Complete(_, Status::Cancelled) => 42,
-        _ => form(instr).word,
+        _ => form_of(instr).word,
     }
 }
 

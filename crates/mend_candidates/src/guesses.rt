@@ -13,6 +13,12 @@ pub(crate) struct Guess {
     pub(crate) extra: u32,
 }
 
+/// Adds a guess.
+pub(crate) fn add_guess(list: &mut Vec<Guess>, instr: Instr, extra: u32) -> Result<(), AllocError> {
+    list.push(Guess { instr, extra })?;
+    Ok(())
+}
+
 /// Statuses that a return is guessed to have.
 const RETURNED: [Status; 3] = [Status::Success, Status::Unsuccessful, Status::Cancelled];
 
@@ -78,20 +84,16 @@ impl<'a> Scene<'a> {
         extra: u32,
         list: &mut Vec<Guess>,
     ) -> Result<(), AllocError> {
-        let mut add = |form, more: u32| -> Result<(), AllocError> {
-            let instr = Instr::Ret(form);
-            let extra = extra.saturating_add(more);
-            list.push(Guess { instr, extra })?;
-            Ok(())
-        };
         match self.subject.sort {
             Sort::Dispatch => self.add_statuses_returned(at, state, extra, list),
-            Sort::Propagate => add(Return::Continue, 0),
+            Sort::Propagate => add_guess(list, Instr::Ret(Return::Continue), extra),
             Sort::Hold => {
-                add(Return::Continue, 0)?;
-                add(Return::Stop, 0)
+                add_guess(list, Instr::Ret(Return::Continue), extra)?;
+                add_guess(list, Instr::Ret(Return::Stop), extra)
             }
-            Sort::StartIo | Sort::Dpc | Sort::Cancel => add(Return::Void, 0),
+            Sort::StartIo | Sort::Dpc | Sort::Cancel => {
+                add_guess(list, Instr::Ret(Return::Void), extra)
+            }
         }
     }
 
@@ -105,18 +107,18 @@ impl<'a> Scene<'a> {
     ) -> Result<(), AllocError> {
         let likely = self.completed_before(at).unwrap_or(Status::Success);
         if likely != Status::Pending {
-            let instr = Instr::Ret(Return::WithStatus(likely));
-            list.push(Guess { instr, extra })?;
+            add_guess(list, Instr::Ret(Return::WithStatus(likely)), extra)?;
         }
         for status in RETURNED {
             if status != likely {
-                let instr = Instr::Ret(Return::WithStatus(status));
-                let extra = extra.saturating_add(40);
-                list.push(Guess { instr, extra })?;
+                add_guess(
+                    list,
+                    Instr::Ret(Return::WithStatus(status)),
+                    extra.saturating_add(40),
+                )?;
             }
         }
-        let instr = Instr::Ret(Return::WithStatus(Status::Pending));
-        list.push(Guess { instr, extra })?;
+        add_guess(list, Instr::Ret(Return::WithStatus(Status::Pending)), extra)?;
         self.add_lower_returns(state, extra, list)
     }
 
@@ -129,8 +131,7 @@ impl<'a> Scene<'a> {
     ) -> Result<(), AllocError> {
         for register in registers() {
             if state.kinds[register.index()] == Kind::Lower {
-                let instr = Instr::Ret(Return::Lower(register));
-                list.push(Guess { instr, extra })?;
+                add_guess(list, Instr::Ret(Return::Lower(register)), extra)?;
             }
         }
         Ok(())

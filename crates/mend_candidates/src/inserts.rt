@@ -1,7 +1,7 @@
 //! Insertions of one instruction, led by the state that arrives there.
 
 use crate::candidate::{Candidates, Manner};
-use crate::guesses::Guess;
+use crate::guesses::{Guess, add_guess};
 use crate::scene::{Scene, is_packet, registers};
 use absstate::{Abs, Kind, Rule, Stage};
 use driver_set::{Cell, Field, Instr, Register, Sort};
@@ -38,8 +38,7 @@ impl<'a> Scene<'a> {
         if let Some(state) = self.state(self.last()).or(self.subject.entry) {
             self.add_returns(at, &state, 0, list)?;
         }
-        let instr = Instr::End;
-        list.push(Guess { instr, extra: 0 })?;
+        add_guess(list, Instr::End, 0)?;
         for guess in list.as_slice() {
             self.add_insert(at, Landing::Kept, guess, out)?;
         }
@@ -91,15 +90,15 @@ impl<'a> Scene<'a> {
             self.guess_named(register, kind, list)?;
         }
         if self.fault.rule == Rule::Unreachable && kind == Kind::Num {
-            guess(list, Instr::JumpIfZero(register, 0), 30)?;
+            add_guess(list, Instr::JumpIfZero(register, 0), 30)?;
         }
         if self
             .differing
             .iter()
             .any(|other| other.index() == register.index())
         {
-            guess(list, Instr::Clear(register), 0)?;
-            guess(list, Instr::Const(register, 0), 30)?;
+            add_guess(list, Instr::Clear(register), 0)?;
+            add_guess(list, Instr::Const(register, 0), 30)?;
         }
         Ok(())
     }
@@ -112,35 +111,35 @@ impl<'a> Scene<'a> {
         kind: Kind,
         list: &mut Vec<Guess>,
     ) -> Result<(), AllocError> {
-        guess(list, Instr::Mark(register), 0)?;
+        add_guess(list, Instr::Mark(register), 0)?;
         for queue in 0..self.queues() {
-            guess(list, Instr::Insert(register, queue), 0)?;
-            guess(list, Instr::Unlink(register, queue), 0)?;
-            guess(list, Instr::Arm(register, queue), 0)?;
+            add_guess(list, Instr::Insert(register, queue), 0)?;
+            add_guess(list, Instr::Unlink(register, queue), 0)?;
+            add_guess(list, Instr::Arm(register, queue), 0)?;
         }
-        guess(list, Instr::Disarm(register, 0), 0)?;
+        add_guess(list, Instr::Disarm(register, 0), 0)?;
         let armed = matches!(kind, Kind::Queued(_, Stage::Armed));
         let starts = matches!(self.instr(at), Some(Instr::Start(_)));
         if self.fault.rule == Rule::Unreachable || armed || starts {
-            guess(list, Instr::IfCancel(register, 0), 0)?;
+            add_guess(list, Instr::IfCancel(register, 0), 0)?;
         }
-        guess(list, Instr::Start(register), 0)?;
-        guess(list, Instr::Begin(register), 0)?;
-        guess(list, Instr::Pass(register), 0)?;
-        guess(list, Instr::Dequeue(register), 0)?;
-        guess(list, Instr::IfPending(register, 0), 0)
+        add_guess(list, Instr::Start(register), 0)?;
+        add_guess(list, Instr::Begin(register), 0)?;
+        add_guess(list, Instr::Pass(register), 0)?;
+        add_guess(list, Instr::Dequeue(register), 0)?;
+        add_guess(list, Instr::IfPending(register, 0), 0)
     }
 
     /// Guesses that a packet is sent down, with or without each completion routine.
     fn guess_calls(&self, register: Register, list: &mut Vec<Guess>) -> Result<(), AllocError> {
-        guess(list, Instr::Call(register, None), 30)?;
+        add_guess(list, Instr::Call(register, None), 30)?;
         let Some(driver) = self.driver() else {
             return Ok(());
         };
         for (number, routine) in driver.routines.as_slice().iter().enumerate() {
             if matches!(routine.sort, Sort::Propagate | Sort::Hold) {
                 let number = number.min(255) as u8;
-                guess(list, Instr::Call(register, Some(number)), 10)?;
+                add_guess(list, Instr::Call(register, Some(number)), 10)?;
             }
         }
         Ok(())
@@ -156,7 +155,7 @@ impl<'a> Scene<'a> {
         let likely = self.status_at(at);
         for status in self.statuses.as_slice() {
             let extra = if *status == likely { 0 } else { 50 };
-            guess(list, Instr::Complete(register, *status), extra)?;
+            add_guess(list, Instr::Complete(register, *status), extra)?;
         }
         Ok(())
     }
@@ -170,21 +169,21 @@ impl<'a> Scene<'a> {
     ) -> Result<(), AllocError> {
         let starts = [Rule::Token, Rule::WrongKind, Rule::Unreachable];
         if matches!(self.subject.sort, Sort::Dpc) && self.breaks(starts.as_slice()) {
-            guess(list, Instr::Take(register, 0), 0)?;
+            add_guess(list, Instr::Take(register, 0), 0)?;
         }
         if self.fault.rule != Rule::WrongKind || kind != Kind::Blank {
             return Ok(());
         }
-        guess(list, Instr::Const(register, 0), 0)?;
-        guess(list, Instr::Const(register, 1), 20)?;
+        add_guess(list, Instr::Const(register, 0), 0)?;
+        add_guess(list, Instr::Const(register, 1), 20)?;
         for number in 0..2_u8 {
             if let Some(cell) = Cell::of(number) {
                 let extra = if number == 0 { 20 } else { 30 };
-                guess(list, Instr::Load(register, cell), extra)?;
+                add_guess(list, Instr::Load(register, cell), extra)?;
             }
         }
         for packet in registers() {
-            guess(list, Instr::Get(register, packet, Field::Argument), 10)?;
+            add_guess(list, Instr::Get(register, packet, Field::Argument), 10)?;
         }
         Ok(())
     }
@@ -192,12 +191,12 @@ impl<'a> Scene<'a> {
     /// Guesses that a lock is acquired or released, or the next packet started.
     fn guess_locks(&self, list: &mut Vec<Guess>) -> Result<(), AllocError> {
         for lock in self.locks.as_slice() {
-            guess(list, Instr::Acquire(*lock), 0)?;
-            guess(list, Instr::Release(*lock), 0)?;
+            add_guess(list, Instr::Acquire(*lock), 0)?;
+            add_guess(list, Instr::Release(*lock), 0)?;
         }
-        guess(list, Instr::AcquireCancel, 0)?;
-        guess(list, Instr::ReleaseCancel, 0)?;
-        guess(list, Instr::Next, 0)
+        add_guess(list, Instr::AcquireCancel, 0)?;
+        add_guess(list, Instr::ReleaseCancel, 0)?;
+        add_guess(list, Instr::Next, 0)
     }
 
     /// Guesses that the way to a label is left before it.
@@ -218,7 +217,7 @@ impl<'a> Scene<'a> {
         ];
         if self.breaks(rules.as_slice()) {
             self.add_returns(at, state, 0, list)?;
-            guess(list, Instr::Jump(0), 40)?;
+            add_guess(list, Instr::Jump(0), 40)?;
         }
         Ok(())
     }
@@ -261,10 +260,4 @@ impl<'a> Scene<'a> {
             cost.saturating_add(50)
         }
     }
-}
-
-/// Adds a guess.
-fn guess(list: &mut Vec<Guess>, instr: Instr, extra: u32) -> Result<(), AllocError> {
-    list.push(Guess { instr, extra })?;
-    Ok(())
 }

@@ -3,7 +3,7 @@
 use crate::operands::{names, registers_of};
 use crate::scene::Scene;
 use absstate::Rule;
-use driver_set::Instr;
+use driver_set::{Instr, Register};
 
 impl<'a> Scene<'a> {
     /// What an insertion of an instruction before a position costs.
@@ -134,8 +134,7 @@ impl<'a> Scene<'a> {
     }
 
     /// Whether the instruction at the fault names a register.
-    pub(crate) fn is_named(&self, register: driver_set::Register) -> bool {
-        let (one, other) = registers_of(&self.bad);
-        crate::operands::is_register(one, register) || crate::operands::is_register(other, register)
+    pub(crate) fn is_named(&self, register: Register) -> bool {
+        names(&self.bad, register)
     }
 }

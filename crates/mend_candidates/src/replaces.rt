@@ -1,8 +1,8 @@
 //! Replacements of a word or an operand.
 
 use crate::candidate::{Candidates, Manner};
-use crate::form::form;
-use crate::guesses::Guess;
+use crate::form::form_of;
+use crate::guesses::{Guess, add_guess};
 use crate::operands::{names, registers_of, with_first, with_second};
 use crate::scene::{Scene, registers};
 use absstate::Rule;
@@ -41,7 +41,7 @@ impl<'a> Scene<'a> {
         let state = self.state(at);
         for guess in list {
             let taken = state.is_none_or(|state| self.subject.takes(&state, &guess.instr));
-            if taken && form(&guess.instr) != form(&instr) {
+            if taken && form_of(&guess.instr) != form_of(&instr) {
                 let cost = guess.extra.saturating_add(self.near(at));
                 let one = out.begin(Manner::Replace, cost, Some(guess.instr), Some(instr));
                 out.add(one, at, Change::Replace(guess.instr))?;
@@ -59,13 +59,13 @@ impl<'a> Scene<'a> {
             Instr::Acquire(lock) => {
                 self.guess_locks_for(instr, list)?;
                 if here {
-                    guess(list, Instr::Release(lock), 130)
+                    add_guess(list, Instr::Release(lock), 130)
                 } else {
                     Ok(())
                 }
             }
             Instr::Release(_) => self.guess_locks_for(instr, list),
-            Instr::AcquireCancel if here => guess(list, Instr::ReleaseCancel, 130),
+            Instr::AcquireCancel if here => add_guess(list, Instr::ReleaseCancel, 130),
             Instr::Complete(r, _) => self.guess_statuses(at, r, list),
             Instr::Loop(turns) => self.guess_turns(turns.count(), list),
             Instr::LoadPaged(r, cell) => {
@@ -74,7 +74,7 @@ impl<'a> Scene<'a> {
                 } else {
                     190
                 };
-                guess(list, Instr::Load(r, cell), cost)
+                add_guess(list, Instr::Load(r, cell), cost)
             }
             Instr::StorePaged(cell, r) => {
                 let cost = if self.is_written_back(at, &instr) {
@@ -82,7 +82,7 @@ impl<'a> Scene<'a> {
                 } else {
                     190
                 };
-                guess(list, Instr::Store(cell, r), cost)
+                add_guess(list, Instr::Store(cell, r), cost)
             }
             Instr::Pass(r) | Instr::Call(r, _) => self.guess_forwards(r, list),
             _ => self.guess_queues(instr, list),
@@ -100,7 +100,7 @@ impl<'a> Scene<'a> {
             return Ok(());
         };
         match form {
-            Return::Stop => { guess(list, Instr::Ret(Return::Continue), 220) }
+            Return::Stop => { add_guess(list, Instr::Ret(Return::Continue), 220) }
             _ => self.add_returns(at, &state, 100, list),
         }
     }
@@ -125,7 +125,7 @@ impl<'a> Scene<'a> {
                 Instr::Acquire(_) => Instr::Acquire(*lock),
                 _ => Instr::Release(*lock),
             };
-            guess(list, other, if right { 110 } else { 140 })?;
+            add_guess(list, other, if right { 110 } else { 140 })?;
         }
         Ok(())
     }
@@ -159,7 +159,7 @@ impl<'a> Scene<'a> {
                 true => 140,
                 false => 250,
             };
-            guess(list, Instr::Complete(register, *status), cost)?;
+            add_guess(list, Instr::Complete(register, *status), cost)?;
         }
         Ok(())
     }
@@ -173,7 +173,7 @@ impl<'a> Scene<'a> {
                     Rule::TooLong => 120,
                     _ => 300,
                 };
-                guess(list, Instr::Loop(count), cost)?;
+                add_guess(list, Instr::Loop(count), cost)?;
             }
         }
         Ok(())
@@ -197,14 +197,14 @@ impl<'a> Scene<'a> {
 
     /// Guesses other ways to send a packet down.
     fn guess_forwards(&self, r: Register, list: &mut Vec<Guess>) -> Result<(), AllocError> {
-        guess(list, Instr::Call(r, None), 160)?;
-        guess(list, Instr::Pass(r), 160)?;
+        add_guess(list, Instr::Call(r, None), 160)?;
+        add_guess(list, Instr::Pass(r), 160)?;
         let Some(driver) = self.driver() else {
             return Ok(());
         };
         for (number, routine) in driver.routines.as_slice().iter().enumerate() {
             if matches!(routine.sort, Sort::Propagate | Sort::Hold) {
-                guess(list, Instr::Call(r, Some(number.min(255) as u8)), 150)?;
+                add_guess(list, Instr::Call(r, Some(number.min(255) as u8)), 150)?;
             }
         }
         Ok(())
@@ -213,15 +213,15 @@ impl<'a> Scene<'a> {
     /// Guesses other queues.
     fn guess_queues(&self, instr: Instr, list: &mut Vec<Guess>) -> Result<(), AllocError> {
         if let Instr::Unlink(r, _) = instr {
-            guess(list, Instr::Dequeue(r), 150)?;
+            add_guess(list, Instr::Dequeue(r), 150)?;
         }
         for q in 0..self.queues() {
             match instr {
-                Instr::Insert(r, _) => guess(list, Instr::Insert(r, q), 160)?,
-                Instr::Remove(r, _, label) => guess(list, Instr::Remove(r, q, label), 160)?,
-                Instr::Unlink(r, _) => guess(list, Instr::Unlink(r, q), 160)?,
-                Instr::Arm(r, _) => guess(list, Instr::Arm(r, q), 160)?,
-                Instr::Dequeue(r) => guess(list, Instr::Unlink(r, q), 140)?,
+                Instr::Insert(r, _) => add_guess(list, Instr::Insert(r, q), 160)?,
+                Instr::Remove(r, _, label) => add_guess(list, Instr::Remove(r, q, label), 160)?,
+                Instr::Unlink(r, _) => add_guess(list, Instr::Unlink(r, q), 160)?,
+                Instr::Arm(r, _) => add_guess(list, Instr::Arm(r, q), 160)?,
+                Instr::Dequeue(r) => add_guess(list, Instr::Unlink(r, q), 140)?,
                 _ => {}
             }
         }
@@ -244,10 +244,10 @@ impl<'a> Scene<'a> {
             let cost = if used { 160 } else { 180 };
             if used || register.index() < 4 {
                 if one.is_some() {
-                    guess(list, with_first(instr, register), cost)?;
+                    add_guess(list, with_first(instr, register), cost)?;
                 }
                 if other.is_some() {
-                    guess(list, with_second(instr, register), cost)?;
+                    add_guess(list, with_second(instr, register), cost)?;
                 }
             }
         }
@@ -279,10 +279,4 @@ impl<'a> Scene<'a> {
         }
         Ok(())
     }
-}
-
-/// Adds a guess with its cost.
-fn guess(list: &mut Vec<Guess>, instr: Instr, extra: u32) -> Result<(), AllocError> {
-    list.push(Guess { instr, extra })?;
-    Ok(())
 }

@@ -23,10 +23,15 @@ impl Draft {
         }
     }
 
-    /// Takes this code, as it stands.
-    pub(crate) fn take(&mut self, code: &[Instr]) -> Result<(), AllocError> {
+    /// Takes this code.
+    pub(crate) fn take_code(&mut self, code: &[Instr]) -> Result<(), AllocError> {
         self.code.clear();
-        self.code.extend_from_slice(code)?;
+        self.code.extend_from_slice(code)
+    }
+
+    /// Takes this code, of which nothing is touched.
+    pub(crate) fn take(&mut self, code: &[Instr]) -> Result<(), AllocError> {
+        self.take_code(code)?;
         self.touched.clear();
         self.touched.resize(code.len(), false)?;
         Ok(())

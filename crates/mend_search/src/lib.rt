@@ -6,6 +6,7 @@ mod ledger;
 pub mod offers;
 mod pairs;
 mod search;
+mod table;
 mod usual;
 
-pub use offers::{Ending, Mending, Offer, Offers, Standing, offers};
+pub use offers::{Ending, Mending, Offer, Offers, Standing, find_offers};

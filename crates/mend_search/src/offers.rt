@@ -69,7 +69,7 @@ const LEAD: u32 = 40;
 /// # Errors
 ///
 /// When memory runs out.
-pub fn offers(alloc: Global, set: &DriverSet, tries: u64) -> Result<Offers, AllocError>
+pub fn find_offers(alloc: Global, set: &DriverSet, tries: u64) -> Result<Offers, AllocError>
     ensures { IfOk result (AreOffersOf set.now) }
 {
     let Ok(copy) = set.copy(alloc) else {

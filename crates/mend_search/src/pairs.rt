@@ -2,7 +2,7 @@
 
 use crate::usual::are_pair;
 use driver_set::Instr;
-use mend_candidates::form::form;
+use mend_candidates::form::form_of;
 use mend_candidates::{Candidate, Manner};
 
 /// An edit that was made: what kind it is, and the instructions that came and went.
@@ -40,7 +40,7 @@ fn rebate_of_words(before: &Made, next: &Candidate, one: &Instr, other: &Instr) 
             _ if are_pair(one, other) => 70,
             (Instr::Complete(..), Instr::Ret(_)) => 50,
             (Instr::Release(_), Instr::Release(_)) | (Instr::ReleaseCancel, Instr::ReleaseCancel)
-                if form(one) == form(other) => { 50 }
+                if form_of(one) == form_of(other) => { 50 }
             (Instr::Clear(_), Instr::Clear(_)) => 50,
             _ => 0,
         },
@@ -54,7 +54,7 @@ fn rebate_of_words(before: &Made, next: &Candidate, one: &Instr, other: &Instr) 
                 _ => 0,
             }
         }
-        (Manner::Move, Manner::Move) if form(one).word == form(other).word => 30,
+        (Manner::Move, Manner::Move) if form_of(one).word == form_of(other).word => 30,
         (Manner::Move, Manner::Move) => 20,
         _ => 0,
     }

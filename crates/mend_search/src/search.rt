@@ -6,7 +6,7 @@ use crate::pairs::{Made, rebate};
 use crate::usual::{Usual, empties, mismatches};
 use absstate::Rule;
 use driver_set::{DriverSet, Instr, Items};
-use mend_candidates::form::form;
+use mend_candidates::form::form_of;
 use mend_candidates::{Candidate, Candidates, Fault, Manner, Placed, Reading, Scene, Subject};
 use mend_changes::{Edit, edited};
 use std::alloc::{AllocError, Global};
@@ -94,7 +94,7 @@ pub(crate) fn mends(
             sets.take(&mut ledger)?;
         }
     }
-    found(&task, &ledger)
+    found_edits(&task, &ledger)
 }
 
 impl<'a> Sets<'a> {
@@ -199,12 +199,12 @@ fn try_candidate(
         let code = bench.draft.code.as_slice();
         return try_line(task, subject, here, ledger, (&candidate, changes, code));
     }
-    bench.child.take(bench.draft.code.as_slice())?;
+    bench.child.take_code(bench.draft.code.as_slice())?;
     if !bench.child.apply(changes)? {
         return Ok(());
     }
     let code = bench.child.code.as_slice();
-    let known = first_changed(changes).min(here.fault.at) as usize;
+    let known = known_before(here, &candidate, changes);
     bench
         .next
         .read_behind(subject, code, &bench.reading, known)?;
@@ -239,6 +239,15 @@ fn try_candidate(
             Ok(())
         }
     }
+}
+
+/// How many positions of a node's code are read alike behind a candidate: none where loops change.
+fn known_before(here: &Here, candidate: &Candidate, changes: &[Placed]) -> usize {
+    let loops = matches!(candidate.old, Some(Instr::Loop(_) | Instr::End));
+    if loops || candidate.manner == Manner::Block {
+        return 0;
+    }
+    first_changed(changes).min(here.fault.at) as usize
 }
 
 /// What is kept of a candidate for the costs of those behind it.
@@ -342,7 +351,7 @@ fn rebate_on(here: &Here, ledger: &Ledger, candidate: &Candidate) -> Result<u32,
 fn key_of(code: &[Instr], set: usize) -> u64 {
     let mut key = set as u64;
     for instr in code {
-        key = (key.rotate_left(5) ^ form(instr).mixed()).wrapping_mul(0x9e37_79b9_7f4a_7c15);
+        key = (key.rotate_left(5) ^ form_of(instr).mixed()).wrapping_mul(0x9e37_79b9_7f4a_7c15);
     }
     key
 }
@@ -366,7 +375,7 @@ fn try_line(
     reading.read(&edited, code)?;
     let fault = reading.fault;
     let cost = cost_of(task, subject, here, ledger, candidate, code)?;
-    let cost = match (fault, spoiled(task, subject.set, &set)?) {
+    let cost = match (fault, spoiled_routines(task, subject.set, &set)?) {
         (_, Spoiled::Before) => return Ok(()),
         (None, Spoiled::Behind) => cost.saturating_add(120),
         _ => cost,
@@ -423,7 +432,7 @@ enum Spoiled {
 }
 
 /// Which routines but the one that is mended have a fault in a set that they hadn't in another.
-fn spoiled(task: &Task, old: &DriverSet, new: &DriverSet) -> Result<Spoiled, AllocError> {
+fn spoiled_routines(task: &Task, old: &DriverSet, new: &DriverSet) -> Result<Spoiled, AllocError> {
     let mut spoiled = Spoiled::None;
     for (d, driver) in new.drivers().iter().enumerate() {
         for number in 0..driver.routines.as_slice().len() {
@@ -457,7 +466,7 @@ fn is_fine(task: &Task, set: &DriverSet, place: (u8, u8)) -> Result<bool, AllocE
 }
 
 /// The edits of the best solutions.
-fn found(task: &Task, ledger: &Ledger) -> Result<Vec<Found>, AllocError> {
+fn found_edits(task: &Task, ledger: &Ledger) -> Result<Vec<Found>, AllocError> {
     let mut found = Vec::new(task.alloc);
     for solution in ledger.solutions().iter().take(MAX_FOUND) {
         let mut edits = Vec::new(task.alloc);

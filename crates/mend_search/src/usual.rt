@@ -1,6 +1,6 @@
 //! How usual it is which words stand beside which.
 
-use absstate::Rule;
+use crate::table::EXAMPLES;
 use driver_set::{Driver, DriverSet, Instr, Return, Sort};
 use mend_candidates::form::{TOKENS, start, token};
 use model::status::Status;
@@ -13,10 +13,13 @@ pub(crate) struct Usual {
 }
 
 impl Usual {
-    /// As in the routines of a set.
+    /// As in the examples and in the routines of a set.
     pub(crate) fn of(alloc: Global, set: &DriverSet) -> Result<Usual, AllocError> {
         let counts = vec![in alloc; 0; TOKENS * TOKENS]?;
         let mut usual = Usual { counts };
+        for (before, word, count) in EXAMPLES {
+            usual.add(before, word, u32::from(count));
+        }
         for driver in set.drivers() {
             usual.add_driver(driver);
         }
@@ -35,10 +38,15 @@ impl Usual {
         let mut before = start(sort);
         for instr in code {
             let word = token(instr);
-            if let Some(count) = self.counts.get_mut(place(before, word)) {
-                *count = count.saturating_add(1);
-            }
+            self.add(before, word, 1);
             before = word;
+        }
+    }
+
+    /// Counts that a word stands so often behind another one.
+    fn add(&mut self, before: u8, word: u8, often: u32) {
+        if let Some(count) = self.counts.get_mut(place(before, word)) {
+            *count = count.saturating_add(often);
         }
     }
 
@@ -100,9 +108,4 @@ pub(crate) fn are_pair(lock: &Instr, release: &Instr) -> bool {
         (Instr::AcquireCancel, Instr::ReleaseCancel) => true,
         _ => false,
     }
-}
-
-/// Whether a rule is a later one than another.
-pub(crate) fn is_greater(rule: Rule, other: Rule) -> bool {
-    rule.number() > other.number()
 }
