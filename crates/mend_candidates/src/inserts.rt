@@ -3,7 +3,7 @@
 use crate::candidate::{Candidates, Manner};
 use crate::guesses::{Guess, add_guess};
 use crate::scene::{Scene, is_packet, registers};
-use absstate::{Abs, Kind, Rule, Stage};
+use absstate::{Abs, Kind, Rule, Stage, Tracked};
 use driver_set::{Cell, Field, Instr, Register, Sort};
 use mend_changes::{Change, Landing, with_label};
 use std::alloc::{AllocError, Global};
@@ -65,8 +65,9 @@ impl<'a> Scene<'a> {
         if landing == Landing::Kept && self.is_target(at) {
             self.guess_ways_out(at, &state, list)?;
         }
+        let tracked = Tracked::of(state);
         for guess in list.as_slice() {
-            if self.subject.takes(&state, &guess.instr) {
+            if self.subject.takes(&tracked, &guess.instr) {
                 self.add_insert(at, landing, guess, out)?;
             }
         }
@@ -230,22 +231,22 @@ impl<'a> Scene<'a> {
         guess: &Guess,
         out: &mut Candidates,
     ) -> Result<(), AllocError> {
-        let instr = guess.instr;
-        let cost = self.insert_cost(&instr, at).saturating_add(guess.extra);
-        let cost = cost.saturating_add(self.near(at));
-        if instr.label().is_none() {
-            let one = out.begin(Manner::Insert, cost, Some(instr), None);
-            return out.add(one, at, Change::Insert(instr, landing));
+        let cost = self.insert_cost(&guess.instr, at);
+        let cost = cost
+            .saturating_add(guess.extra)
+            .saturating_add(self.near(at));
+        if guess.instr.label().is_none() {
+            let one = out.begin(Manner::Insert, cost, Some(guess.instr), None);
+            return out.add(one, at, Change::Insert(guess.instr, landing));
         }
-        let jumps = matches!(instr, Instr::Jump(_));
+        let jumps = matches!(guess.instr, Instr::Jump(_));
         for label in at..self.len() {
-            if !self.are_in_same_loops(label, at) || jumps && label == at {
-                continue;
+            if self.are_in_same_loops(label, at) && !(jumps && label == at) {
+                let cost = self.cost_of_label(cost, label);
+                let led = with_label(guess.instr, label.saturating_add(1));
+                let one = out.begin(Manner::Insert, cost, Some(led), None);
+                out.add(one, at, Change::Insert(led, landing))?;
             }
-            let cost = self.cost_of_label(cost, label);
-            let led = with_label(instr, label.saturating_add(1));
-            let one = out.begin(Manner::Insert, cost, Some(led), None);
-            out.add(one, at, Change::Insert(led, landing))?;
         }
         Ok(())
     }

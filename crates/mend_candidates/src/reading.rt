@@ -2,7 +2,7 @@
 //! search; it is the verifier who judges what is offered.
 
 use crate::loops::Loops;
-use absstate::{Abs, Rule, are_same, transfer};
+use absstate::{Abs, Rule, Tracked, are_same, broken_rule, transfer};
 use driver_set::{Driver, DriverSet, Instr, Sort};
 use model::limits::{MAX_CERTIFICATE, MAX_LOOPS};
 use std::alloc::{AllocError, Global};
@@ -37,8 +37,8 @@ impl<'a> Subject<'a> {
     }
 
     /// Whether an instruction breaks no rule in a state.
-    pub fn takes(&self, state: &Abs, instr: &Instr) -> bool {
-        transfer(state, instr, self.sort, self.set, self.driver).is_ok()
+    pub fn takes(&self, state: &Tracked, instr: &Instr) -> bool {
+        broken_rule(state, instr, self.sort, self.set, self.driver).is_none()
     }
 }
 

@@ -5,7 +5,7 @@ use crate::form::form_of;
 use crate::guesses::{Guess, add_guess};
 use crate::operands::{names, registers_of, with_first, with_second};
 use crate::scene::{Scene, registers};
-use absstate::Rule;
+use absstate::{Rule, Tracked};
 use driver_set::{Instr, Register, Return, Sort, SpinLock, Turns};
 use mend_changes::{Change, with_label};
 use std::alloc::{AllocError, Global};
@@ -19,7 +19,10 @@ impl<'a> Scene<'a> {
     ) -> Result<(), AllocError> {
         let mut list = Vec::new(alloc);
         for at in 0..=self.last() {
-            if let (Some(instr), true) = (self.instr(at), self.is_fresh(at)) {
+            let Some(instr) = self.instr(at) else {
+                continue;
+            };
+            if self.is_fresh(at) {
                 list.clear();
                 self.guess_words(at, instr, &mut list)?;
                 self.guess_registers(at, instr, &mut list)?;
@@ -38,9 +41,12 @@ impl<'a> Scene<'a> {
         list: &[Guess],
         out: &mut Candidates,
     ) -> Result<(), AllocError> {
-        let state = self.state(at);
+        let state = self.state(at).map(|state| Tracked::of(state));
         for guess in list {
-            let taken = state.is_none_or(|state| self.subject.takes(&state, &guess.instr));
+            let taken = match &state {
+                Some(state) => self.subject.takes(state, &guess.instr),
+                None => true,
+            };
             if taken && form_of(&guess.instr) != form_of(&instr) {
                 let cost = guess.extra.saturating_add(self.near(at));
                 let one = out.begin(Manner::Replace, cost, Some(guess.instr), Some(instr));

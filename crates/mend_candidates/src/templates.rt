@@ -41,7 +41,8 @@ impl<'a> Scene<'a> {
         out: &mut Candidates,
     ) -> Result<(), AllocError> {
         for register in registers() {
-            match state.kinds[register.index()] {
+            let kind = state.kinds[register.index()];
+            match kind {
                 Kind::View => self.add_carried(at, landing, state, register, out)?,
                 Kind::Queued(QueueName::Declared(q), Stage::Cancelling) => {
                     self.add_unlinked(at, landing, state, (register, q), out)?;

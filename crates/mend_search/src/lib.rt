@@ -6,6 +6,7 @@ mod ledger;
 pub mod offers;
 mod pairs;
 mod search;
+mod spread;
 mod table;
 mod usual;
 

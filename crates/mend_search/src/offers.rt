@@ -5,7 +5,8 @@ ghost use Rattle.model.specs.Typable.{IsFirstFault};
 ghost use Rattle.mend_search.specs.Offers.{AreOffersOf, IsLater, IsOffer, after_first};
 
 use crate::ledger::MAX_OFFERS;
-use crate::search::{Found, mends};
+use crate::search::Found;
+use crate::spread::mends;
 use driver_set::{DriverSet, Items};
 use mend_changes::{Edit, edited_by};
 use std::alloc::{AllocError, Global};
@@ -171,7 +172,7 @@ fn offers_of(
 ) -> Result<Vec<Offer>, AllocError>
     ensures { IfOk result (λ offers. All (IsOffer set.now refusal.now) offers.items) }
 {
-    let found = mends(alloc, set, refusal.driver, refusal.routine, tries)?;
+    let found = mends(alloc, set, refusal, tries)?;
     let mut offers = Vec::new(alloc);
     for (place, one) in found.iter().enumerate() {
         if offers.len() >= MAX_OFFERS {

@@ -59,8 +59,9 @@ struct Here {
     empties: u32,
 }
 
-/// Mends of a routine of a set, by number, the best first. So many edits are tried, at most.
-pub(crate) fn mends(
+/// Mends of a routine of a set, by number, the best first. So many edits are tried, at most. Routines
+/// before it may have faults behind edits of lines.
+pub(crate) fn search(
     alloc: Global,
     set: &DriverSet,
     driver: u8,
@@ -356,7 +357,7 @@ fn key_of(code: &[Instr], set: usize) -> u64 {
     key
 }
 
-/// Tries an edit of lines: no routine before this one may get a fault, and one behind it costs more.
+/// Tries an edit of lines. It costs more where another routine has a fault then.
 fn try_line(
     task: &Task,
     subject: &Subject,
@@ -375,10 +376,11 @@ fn try_line(
     reading.read(&edited, code)?;
     let fault = reading.fault;
     let cost = cost_of(task, subject, here, ledger, candidate, code)?;
-    let cost = match (fault, spoiled_routines(task, subject.set, &set)?) {
-        (_, Spoiled::Before) => return Ok(()),
-        (None, Spoiled::Behind) => cost.saturating_add(120),
-        _ => cost,
+    let spoils = fault.is_none() && spoils_others(task, subject.set, &set)?;
+    let cost = if spoils {
+        cost.saturating_add(120)
+    } else {
+        cost
     };
     let number = ledger.next_set();
     let next = ledger.add(Some(here.number), made(candidate), cost, number, changes)?;
@@ -423,31 +425,18 @@ fn edit_of(task: &Task, placed: &Placed) -> Edit {
     }
 }
 
-/// Which routines have a fault that they hadn't.
-#[derive(Clone, Copy)]
-enum Spoiled {
-    None,
-    Before,
-    Behind,
-}
-
-/// Which routines but the one that is mended have a fault in a set that they hadn't in another.
-fn spoiled_routines(task: &Task, old: &DriverSet, new: &DriverSet) -> Result<Spoiled, AllocError> {
-    let mut spoiled = Spoiled::None;
+/// Whether a routine but the one that is mended has a fault in a set that it hadn't in another.
+fn spoils_others(task: &Task, old: &DriverSet, new: &DriverSet) -> Result<bool, AllocError> {
     for (d, driver) in new.drivers().iter().enumerate() {
         for number in 0..driver.routines.as_slice().len() {
             let place = (d.min(255) as u8, number.min(255) as u8);
-            let here = (task.driver, task.routine);
-            if place == here || is_fine(task, new, place)? || !is_fine(task, old, place)? {
-                continue;
+            let same = place.0 == task.driver && place.1 == task.routine;
+            if !same && !is_fine(task, new, place)? && is_fine(task, old, place)? {
+                return Ok(true);
             }
-            if place < here {
-                return Ok(Spoiled::Before);
-            }
-            spoiled = Spoiled::Behind;
         }
     }
-    Ok(spoiled)
+    Ok(false)
 }
 
 /// Whether a routine of a set has no fault.
