@@ -1,7 +1,7 @@
 //! Several edits that belong together.
 
 use crate::candidate::{Candidates, Manner};
-use crate::deletes::are_pair;
+use crate::form::{are_pair, same_lock};
 use crate::scene::Scene;
 use absstate::{Abs, Kind, Rule};
 use driver_set::{Instr, Register, SpinLock, Turns};
@@ -98,35 +98,39 @@ impl<'a> Scene<'a> {
         let (Some(right), Some(state)) = (self.guard_wanted(), self.state(self.fault.at)) else {
             return Ok(());
         };
-        for at in 0..self.fault.at {
-            if let Some(Instr::Acquire(wrong)) = self.instr(at)
-                && wrong.index() != right.index()
-                && state.locks[wrong.index()]
-            {
-                self.add_right_lock(at, wrong, right, out)?;
+        let before = self.code.get(..self.fault.at as usize).unwrap_or_default();
+        for (at, instr) in before.iter().enumerate() {
+            let Instr::Acquire(wrong) = *instr else {
+                continue;
+            };
+            if wrong.index() != right.index() && state.locks[wrong.index()] {
+                self.add_right_lock(at, instr, right, out)?;
             }
         }
         Ok(())
     }
 
+    /// Adds that a lock is taken for the one that is acquired at a position, and released for it.
     fn add_right_lock(
         &self,
-        at: u16,
-        wrong: SpinLock,
+        at: usize,
+        wrong: &Instr,
         right: SpinLock,
         out: &mut Candidates,
     ) -> Result<(), AllocError> {
-        let cost = self.near(at).saturating_add(110);
+        let place = u16::try_from(at).unwrap_or(u16::MAX);
+        let cost = self.near(place).saturating_add(110);
         let one = out.begin(Manner::Block, cost, None, None);
-        out.change(at, Change::Replace(Instr::Acquire(right)))?;
-        for behind in at.saturating_add(1)..self.len() {
-            match self.instr(behind) {
-                Some(Instr::Acquire(other)) if other.index() == wrong.index() => break,
-                Some(Instr::Release(other)) if other.index() == wrong.index() => {
-                    out.change(behind, Change::Replace(Instr::Release(right)))?;
-                }
-                _ => {}
+        out.change(place, Change::Replace(Instr::Acquire(right)))?;
+        for (behind, instr) in self.code.iter().enumerate().skip(at.saturating_add(1)) {
+            if !same_lock(instr, wrong) {
+                continue;
             }
+            if matches!(*instr, Instr::Acquire(_)) {
+                break;
+            }
+            let behind = u16::try_from(behind).unwrap_or(u16::MAX);
+            out.change(behind, Change::Replace(Instr::Release(right)))?;
         }
         out.end(one)
     }

@@ -1,7 +1,7 @@
 //! Deletions, alone or with what belongs to the instruction.
 
 use crate::candidate::{Candidates, Manner};
-use crate::form::form_of;
+use crate::form::{are_pair, form_of};
 use crate::scene::Scene;
 use absstate::Rule;
 use driver_set::{Instr, Return};
@@ -182,15 +182,6 @@ impl<'a> Scene<'a> {
             }
         }
         self.len()
-    }
-}
-
-/// Whether two instructions acquire a lock and release it.
-pub(crate) fn are_pair(lock: &Instr, release: &Instr) -> bool {
-    match (*lock, *release) {
-        (Instr::Acquire(one), Instr::Release(other)) => one.index() == other.index(),
-        (Instr::AcquireCancel, Instr::ReleaseCancel) => true,
-        _ => false,
     }
 }
 

@@ -3,6 +3,19 @@
 use driver_set::{Cell, Field, Instr, Register, Return, Sort, SpinLock};
 use model::status::Status;
 
+/// Words that are looked for.
+const ACQUIRE: u8 = 17;
+
+const RELEASE: u8 = 18;
+
+const ACQUIRE_CANCEL: u8 = 19;
+
+const RELEASE_CANCEL: u8 = 20;
+
+const COMPLETE: u8 = 34;
+
+const RETURN: u8 = 36;
+
 /// An instruction as numbers.
 #[derive(Clone, Copy, PartialEq, Eq)]
 pub struct Form {
@@ -91,10 +104,10 @@ pub fn form_of(instr: &Instr) -> Form {
         Instr::Get(r, s, name) => Form::of(14, r.index() as u8, s.index() as u8, field(name)),
         Instr::Put(s, r) => two(15, s, r),
         Instr::Mark(r) => one(16, r),
-        Instr::Acquire(l) => lock(17, l),
-        Instr::Release(l) => lock(18, l),
-        Instr::AcquireCancel => bare(19),
-        Instr::ReleaseCancel => bare(20),
+        Instr::Acquire(l) => lock(ACQUIRE, l),
+        Instr::Release(l) => lock(RELEASE, l),
+        Instr::AcquireCancel => bare(ACQUIRE_CANCEL),
+        Instr::ReleaseCancel => bare(RELEASE_CANCEL),
         Instr::Insert(r, q) => queue(21, r, q),
         Instr::Remove(r, q, label) => queue(22, r, q).to(label),
         Instr::Unlink(r, q) => queue(23, r, q),
@@ -108,7 +121,7 @@ pub fn form_of(instr: &Instr) -> Form {
         Instr::Dequeue(r) => one(31, r),
         Instr::Pass(r) => one(32, r),
         Instr::Call(r, routine) => queue(33, r, routine.unwrap_or(u8::MAX)),
-        Instr::Complete(r, status) => Form::of(34, r.index() as u8, 0, status.code()),
+        Instr::Complete(r, status) => Form::of(COMPLETE, r.index() as u8, 0, status.code()),
         Instr::IfPending(r, label) => one(35, r).to(label),
         Instr::Ret(form) => returned(form),
     }
@@ -117,12 +130,36 @@ pub fn form_of(instr: &Instr) -> Form {
 /// A return as numbers.
 fn returned(form: Return) -> Form {
     match form {
-        Return::WithStatus(status) => Form::of(36, 0, 0, status.code()),
+        Return::WithStatus(status) => Form::of(RETURN, 0, 0, status.code()),
         Return::Lower(r) => one(37, r),
         Return::Continue => bare(38),
         Return::Stop => bare(39),
         Return::Void => bare(40),
     }
+}
+
+/// Whether an instruction acquires a lock that another one releases.
+pub fn are_pair(lock: &Instr, release: &Instr) -> bool {
+    let (one, other) = (form_of(lock), form_of(release));
+    let spin = one.word == ACQUIRE && other.word == RELEASE;
+    let cancel = one.word == ACQUIRE_CANCEL && other.word == RELEASE_CANCEL;
+    (spin || cancel) && one.first == other.first
+}
+
+/// Whether two instructions acquire or release one spin lock.
+pub fn same_lock(one: &Instr, other: &Instr) -> bool {
+    let (one, other) = (form_of(one), form_of(other));
+    let first = one.word == ACQUIRE || one.word == RELEASE;
+    let second = other.word == ACQUIRE || other.word == RELEASE;
+    first && second && one.first == other.first
+}
+
+/// Whether a packet is completed with another status than is returned behind that, which isn't
+/// STATUS_PENDING.
+pub fn differ(completion: &Instr, returned: &Instr) -> bool {
+    let (one, other) = (form_of(completion), form_of(returned));
+    let both = one.word == COMPLETE && other.word == RETURN;
+    both && one.number != other.number && other.number != Status::Pending.code()
 }
 
 /// What counts of an instruction where its neighbours are looked at: its word, and whether a status

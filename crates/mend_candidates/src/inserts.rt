@@ -175,8 +175,11 @@ impl<'a> Scene<'a> {
         if self.fault.rule != Rule::WrongKind || kind != Kind::Blank {
             return Ok(());
         }
-        add_guess(list, Instr::Const(register, 0), 0)?;
-        add_guess(list, Instr::Const(register, 1), 20)?;
+        // a condition on a constant is no condition
+        let decides = matches!(self.bad, Instr::JumpIfZero(..) | Instr::JumpIfLess(..));
+        let made_up = if decides { 30 } else { 0 };
+        add_guess(list, Instr::Const(register, 0), made_up)?;
+        add_guess(list, Instr::Const(register, 1), made_up + 20)?;
         for number in 0..2_u8 {
             if let Some(cell) = Cell::of(number) {
                 let extra = if number == 0 { 20 } else { 30 };

@@ -21,12 +21,7 @@ impl<'a> Scene<'a> {
             };
             let stays = matches!(
                 instr,
-                Instr::Ret(_)
-                    | Instr::Loop(_)
-                    | Instr::End
-                    | Instr::Jump(_)
-                    | Instr::JumpIfZero(..)
-                    | Instr::JumpIfLess(..)
+                Instr::Ret(_) | Instr::Loop(_) | Instr::End | Instr::Jump(_)
             );
             if !stays && self.is_fresh(from) && from.saturating_add(1) < self.len() {
                 self.add_moves_of(from, &instr, out)?;
@@ -106,9 +101,13 @@ impl<'a> Scene<'a> {
         } else {
             (to, from)
         };
-        for at in first..end {
-            let faulty = at == self.fault.at;
-            if !faulty && self.instr(at).is_some_and(|other| interfere(instr, &other)) {
+        let passed = self
+            .code
+            .get(first as usize..end as usize)
+            .unwrap_or_default();
+        for (place, other) in passed.iter().enumerate() {
+            let faulty = place.saturating_add(first as usize) == self.fault.at as usize;
+            if !faulty && interfere(instr, other) {
                 return true;
             }
         }

@@ -80,14 +80,8 @@ impl<'a> Scene<'a> {
 
     /// Whether an instruction acquires or releases the lock that the one at the fault does.
     fn pairs(&self, instr: &Instr, returns: bool) -> bool {
-        match (*instr, self.bad) {
-            (Instr::Release(_), Instr::Ret(_)) => returns,
-            (
-                Instr::Acquire(one) | Instr::Release(one),
-                Instr::Acquire(other) | Instr::Release(other),
-            ) => one.index() == other.index(),
-            _ => false,
-        }
+        let releases = matches!(*instr, Instr::Release(_));
+        returns && releases || same_lock(instr, &self.bad)
     }
 
     /// Whether an instruction is asked for by the lists of packets.

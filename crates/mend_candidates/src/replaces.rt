@@ -191,14 +191,13 @@ impl<'a> Scene<'a> {
             Instr::LoadPaged(..) => (at, at.saturating_add(5)),
             _ => (at.saturating_sub(5), at),
         };
-        let near = first..end.min(self.len());
-        near.into_iter().any(|place| match (*instr, self.instr(place)) {
-            (Instr::LoadPaged(r, c), Some(Instr::Store(other, s))) => {
-                c.index() == other.index() && r.index() == s.index()
+        let near = self.code.get(first as usize..end.min(self.len()) as usize);
+        for other in near.unwrap_or_default() {
+            if writes_back(instr, other) {
+                return true;
             }
-            (Instr::StorePaged(c, _), Some(Instr::Load(_, other))) => c.index() == other.index(),
-            _ => false,
-        })
+        }
+        false
     }
 
     /// Guesses other ways to send a packet down.
@@ -222,13 +221,13 @@ impl<'a> Scene<'a> {
             add_guess(list, Instr::Dequeue(r), 150)?;
         }
         for q in 0..self.queues() {
-            match instr {
-                Instr::Insert(r, _) => add_guess(list, Instr::Insert(r, q), 160)?,
-                Instr::Remove(r, _, label) => add_guess(list, Instr::Remove(r, q, label), 160)?,
-                Instr::Unlink(r, _) => add_guess(list, Instr::Unlink(r, q), 160)?,
-                Instr::Arm(r, _) => add_guess(list, Instr::Arm(r, q), 160)?,
-                Instr::Dequeue(r) => add_guess(list, Instr::Unlink(r, q), 140)?,
-                _ => {}
+            if let Some(other) = with_queue(&instr, q) {
+                let cost = if matches!(other, Instr::Unlink(..)) {
+                    140
+                } else {
+                    160
+                };
+                add_guess(list, other, cost)?;
             }
         }
         Ok(())
@@ -284,5 +283,27 @@ impl<'a> Scene<'a> {
             out.add(one, at, Change::Replace(with_label(instr, label)))?;
         }
         Ok(())
+    }
+}
+
+/// An instruction with another queue.
+fn with_queue(instr: &Instr, q: u8) -> Option<Instr> {
+    match *instr {
+        Instr::Insert(r, _) => Some(Instr::Insert(r, q)),
+        Instr::Remove(r, _, label) => Some(Instr::Remove(r, q, label)),
+        Instr::Unlink(r, _) | Instr::Dequeue(r) => Some(Instr::Unlink(r, q)),
+        Instr::Arm(r, _) => Some(Instr::Arm(r, q)),
+        _ => None,
+    }
+}
+
+/// Whether what an instruction reads from a cell is stored there by another one, or what it stores
+/// there was read by that.
+fn writes_back(instr: &Instr, other: &Instr) -> bool {
+    let (one, two) = (form_of(instr), form_of(other));
+    if matches!(*instr, Instr::LoadPaged(..)) {
+        matches!(*other, Instr::Store(..)) && one.first == two.first && one.second == two.second
+    } else {
+        matches!(*other, Instr::Load(..)) && one.second == two.second
     }
 }

@@ -46,7 +46,7 @@ impl<'a> Scene<'a> {
         let Some(driver) = subject.its_driver() else {
             return Ok(None);
         };
-        let bad = code.get(fault.at as usize).copied();
+        let bad = code.get(usize::from(fault.at)).copied();
         let mut scene = Scene {
             subject,
             code,
@@ -130,9 +130,10 @@ impl<'a> Scene<'a> {
         self.targets.get(at as usize).copied().unwrap_or(false)
     }
 
-    /// Whether nothing arrives at a position, as it should: a label there may have lost its jump.
+    /// Whether nothing leads to a position: the jump there may be lost.
     pub(crate) fn is_dead(&self, at: u16) -> bool {
-        self.fault.rule == Rule::Unreachable && at == self.fault.at
+        let left = matches!(self.instr_before(at), Some(Instr::Ret(_) | Instr::Jump(_)));
+        left && !self.is_target(at)
     }
 
     /// Whether an instruction may be edited: none was put there or changed.

@@ -1,6 +1,7 @@
 //! Several instructions that belong together, as a rule asks for them.
 
 use crate::candidate::Candidates;
+use crate::form::same_lock;
 use crate::scene::{Scene, registers};
 use absstate::{Abs, Kind, Rule, Settled, Stage};
 use driver_set::{Instr, QueueName, Register, Return, Sort, SpinLock};
@@ -114,16 +115,24 @@ impl<'a> Scene<'a> {
         out: &mut Candidates,
     ) -> Result<(), AllocError> {
         let (register, q) = packet;
+        let dispatch = matches!(self.subject.sort, Sort::Dispatch);
         match self.guard_of(q) {
-            Some(guard)
-                if self.fault.rule == Rule::Guard && matches!(self.subject.sort, Sort::Dispatch) =>
-                {
-                    let lines = armed(register, q, guard, 0);
-                    let lines = lines.get(..9).unwrap_or_default();
-                    out.add_template(180, at, landing, lines)
-                }
+            Some(guard) if dispatch && self.fault.rule == Rule::Guard => {
+                let lines = armed(register, q, guard, 0);
+                let lines = lines.get(..9).unwrap_or_default();
+                let cost = if self.asks_cancel(register) { 180 } else { 90 };
+                out.add_template(cost, at, landing, lines)
+            }
             _ => Ok(()),
         }
+    }
+
+    /// Whether an instruction asks if the packet in a register is cancelled.
+    fn asks_cancel(&self, register: Register) -> bool {
+        self.code.iter().any(|instr| match *instr {
+            Instr::IfCancel(asked, _) => asked.index() == register.index(),
+            _ => false,
+        })
     }
 
     /// Adds that a packet is kept in a queue. The list takes the lines.
@@ -197,11 +206,12 @@ impl<'a> Scene<'a> {
     fn keeping_cost(&self, at: u16, guard: SpinLock, held: bool, lines: usize) -> u32 {
         let long = u32::try_from(lines).unwrap_or(100).saturating_mul(12);
         let cost = self.near(at).saturating_add(long).saturating_add(110);
-        match self.instr_before(at) {
-            Some(Instr::Release(lock)) if !held && lock.index() == guard.index() => {
-                cost.saturating_add(60)
-            }
-            _ => cost,
+        let before = self.instr_before(at);
+        let released = before.is_some_and(|instr| same_lock(&instr, &Instr::Acquire(guard)));
+        if released && !held {
+            cost.saturating_add(60)
+        } else {
+            cost
         }
     }
 

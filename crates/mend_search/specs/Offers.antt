@@ -22,10 +22,13 @@ abbrev pub IsLeft : Set → Refusal → Option Refusal → Type 0
 IsLeft set refusal None = IsTypable set
 IsLeft set refusal (Some left) = IsFirstFault set left × IsLater left refusal
 
--- the edits of an offer make a set of which this is left
+-- edits make a set of which this is left
+abbrev pub Leaves : Option Set → Refusal → Option Refusal → Type 0
+Leaves None refusal left = ⊥
+Leaves (Some made) refusal left = IsLeft made refusal left
+
 abbrev pub IsOffer : Set → Refusal → Offer → Type 0
-IsOffer set refusal offer =
-    (made : Set) × (edited_by set offer.edits ≡ Some made) × IsLeft made refusal offer.left
+IsOffer set refusal offer = Leaves (edited_by set offer.edits) refusal offer.left
 
 -- the set that the first offer makes of a set, if there is an offer
 abbrev pub after_first : Set → List Offer → Set

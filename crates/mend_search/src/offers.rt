@@ -2,7 +2,7 @@
 
 ghost use Rattle.std.specs.Prelude.{◌≡◌, ◌≢◌, ◌↔◌, ◌<◌, All, IsTrue, IfOk, IfSome, OnOk, length};
 ghost use Rattle.model.specs.Typable.{IsFirstFault};
-ghost use Rattle.mend_search.specs.Offers.{AreOffersOf, IsLater, IsOffer, after_first};
+ghost use Rattle.mend_search.specs.Offers.{AreOffersOf, IsLater, IsLeft, IsOffer, after_first};
 
 use crate::ledger::MAX_OFFERS;
 use crate::search::Found;
@@ -217,17 +217,8 @@ fn judged(
     let Some(made) = edited_by(alloc, set, edits)? else {
         return Ok(None);
     };
-    let left = match verify(alloc, made) {
-        Ok(_accepted) => None,
-        Err((_made, left)) => {
-            if left.rule == Rule::Memory {
-                return Err(AllocError);
-            }
-            if !is_later(&left, refusal) {
-                return Ok(None);
-            }
-            Some(left)
-        }
+    let Some(left) = left_of(alloc, made, refusal)? else {
+        return Ok(None);
     };
     Ok(Some(Offer {
         edits: Items::of(Vec::from_slice(alloc, edits)?),
@@ -235,6 +226,30 @@ fn judged(
         standing,
         left,
     }))
+}
+
+/// What the verifier says of a set in which the routine of a refusal was mended: none, or the first
+/// fault, if that is in a later routine.
+fn left_of(
+    alloc: Global,
+    made: DriverSet,
+    refusal: &Refusal,
+) -> Result<Option<Option<Refusal>>, AllocError>
+    ensures { IfOk result (λ left. IfSome left (IsLeft made refusal.now)) }
+{
+    match verify(alloc, made) {
+        Ok(_accepted) => Ok(Some(None)),
+        Err((_made, left)) => {
+            if left.rule == Rule::Memory {
+                return Err(AllocError);
+            }
+            if is_later(&left, refusal) {
+                Ok(Some(Some(left)))
+            } else {
+                Ok(None)
+            }
+        }
+    }
 }
 
 /// Whether a refusal speaks of a later routine than another one.

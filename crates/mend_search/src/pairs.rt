@@ -1,8 +1,7 @@
 //! Edits that complete one another, and cost less together.
 
-use crate::usual::are_pair;
 use driver_set::Instr;
-use mend_candidates::form::form_of;
+use mend_candidates::form::{are_pair, form_of, same_lock};
 use mend_candidates::{Candidate, Manner};
 
 /// An edit that was made: what kind it is, and the instructions that came and went.
@@ -57,17 +56,6 @@ fn rebate_of_words(before: &Made, next: &Candidate, one: &Instr, other: &Instr) 
         (Manner::Move, Manner::Move) if form_of(one).word == form_of(other).word => 30,
         (Manner::Move, Manner::Move) => 20,
         _ => 0,
-    }
-}
-
-/// Whether two instructions acquire or release one spin lock.
-fn same_lock(one: &Instr, other: &Instr) -> bool {
-    match (*one, *other) {
-        (
-            Instr::Acquire(one) | Instr::Release(one),
-            Instr::Acquire(other) | Instr::Release(other),
-        ) => one.index() == other.index(),
-        _ => false,
     }
 }
 

@@ -59,6 +59,14 @@ struct Here {
     empties: u32,
 }
 
+/// A candidate, its changes, and the code that they make, or that is there where they make none.
+#[derive(Clone, Copy)]
+struct Tried<'a> {
+    candidate: Candidate,
+    changes: &'a [Placed],
+    code: &'a [Instr],
+}
+
 /// Mends of a routine of a set, by number, the best first. So many edits are tried, at most. Routines
 /// before it may have faults behind edits of lines.
 pub(crate) fn search(
@@ -196,11 +204,21 @@ fn try_candidate(
         return Ok(());
     };
     let changes = bench.list.changes_of(&candidate);
+    let old = bench.draft.code.as_slice();
     if candidate.manner == Manner::Line {
-        let code = bench.draft.code.as_slice();
-        return try_line(task, subject, here, ledger, (&candidate, changes, code));
+        return try_line(
+            task,
+            subject,
+            here,
+            ledger,
+            &Tried {
+                candidate,
+                changes,
+                code: old,
+            },
+        );
     }
-    bench.child.take_code(bench.draft.code.as_slice())?;
+    bench.child.take_code(old)?;
     if !bench.child.apply(changes)? {
         return Ok(());
     }
@@ -209,37 +227,51 @@ fn try_candidate(
     bench
         .next
         .read_behind(subject, code, &bench.reading, known)?;
-    let cost = cost_of(task, subject, here, ledger, &candidate, code)?;
-    let key = key_of(code, here.node.set);
+    let tried = Tried {
+        candidate,
+        changes,
+        code,
+    };
+    let cost = cost_of(task, subject, here, ledger, &tried)?;
     match bench.next.fault {
-        Some(fault) => match cost_on(here, &candidate, changes, fault, cost) {
-            Some(cost) if ledger.note(key)? => {
-                let number = ledger.add(
-                    Some(here.number),
-                    made(&candidate),
-                    cost,
-                    here.node.set,
-                    changes,
-                )?;
-                ledger.wait(number, cost)
-            }
-            _ => Ok(()),
-        },
-        None => {
-            let new = ledger.note(key)?;
-            if new || ledger.drops_dearer(key, cost) {
-                let number = ledger.add(
-                    Some(here.number),
-                    made(&candidate),
-                    cost,
-                    here.node.set,
-                    changes,
-                )?;
-                ledger.solve(number, cost, key)?;
-            }
-            Ok(())
-        }
+        Some(fault) => keep_on(here, ledger, &tried, fault, cost),
+        None => keep_solution(here, ledger, &tried, cost),
     }
+}
+
+/// Keeps a candidate that leads on to another fault, if it does and its code is new.
+fn keep_on(
+    here: &Here,
+    ledger: &mut Ledger,
+    tried: &Tried,
+    fault: Fault,
+    cost: u32,
+) -> Result<(), AllocError> {
+    let Some(cost) = cost_on(here, tried, fault, cost) else {
+        return Ok(());
+    };
+    if ledger.note(key_of(tried.code, here.node.set))? {
+        let made = made_by(&tried.candidate);
+        let number = ledger.add(Some(here.number), made, cost, here.node.set, tried.changes)?;
+        ledger.wait(number, cost)?;
+    }
+    Ok(())
+}
+
+/// Keeps a candidate behind which there is no fault, if its code is new or costs less.
+fn keep_solution(
+    here: &Here,
+    ledger: &mut Ledger,
+    tried: &Tried,
+    cost: u32,
+) -> Result<(), AllocError> {
+    let key = key_of(tried.code, here.node.set);
+    if ledger.note(key)? || ledger.drops_dearer(key, cost) {
+        let made = made_by(&tried.candidate);
+        let number = ledger.add(Some(here.number), made, cost, here.node.set, tried.changes)?;
+        ledger.solve(number, cost, key)?;
+    }
+    Ok(())
 }
 
 /// How many positions of a node's code are read alike behind a candidate: none where loops change.
@@ -252,7 +284,7 @@ fn known_before(here: &Here, candidate: &Candidate, changes: &[Placed]) -> usize
 }
 
 /// What is kept of a candidate for the costs of those behind it.
-fn made(candidate: &Candidate) -> Made {
+fn made_by(candidate: &Candidate) -> Made {
     Made {
         manner: candidate.manner,
         new: candidate.new,
@@ -262,14 +294,8 @@ fn made(candidate: &Candidate) -> Made {
 
 /// What a node costs that a candidate leads to, if it leads on: its fault is later, or at the same
 /// place with a greater rule. A deletion or replacement elsewhere may leave it as it is.
-fn cost_on(
-    here: &Here,
-    candidate: &Candidate,
-    changes: &[Placed],
-    fault: Fault,
-    cost: u32,
-) -> Option<u32> {
-    let old = here.fault;
+fn cost_on(here: &Here, tried: &Tried, fault: Fault, cost: u32) -> Option<u32> {
+    let (old, changes) = (here.fault, tried.changes);
     let Some(place) = followed(changes, old.at) else {
         let behind = followed(changes, old.at.saturating_add(1));
         return match behind {
@@ -282,7 +308,7 @@ fn cost_on(
         return Some(cost);
     }
     let apart = changes.iter().all(|placed| placed.at != old.at);
-    match candidate.manner {
+    match tried.candidate.manner {
         Manner::Delete | Manner::Replace if fault.at == place && apart => {
             Some(cost.saturating_add(30))
         }
@@ -296,9 +322,9 @@ fn cost_of(
     subject: &Subject,
     here: &Here,
     ledger: &Ledger,
-    candidate: &Candidate,
-    code: &[Instr],
+    tried: &Tried,
 ) -> Result<u32, AllocError> {
+    let (candidate, code) = (tried.candidate, tried.code);
     let strange = task.usual.strangeness(subject.sort, code);
     let part = match candidate.manner {
         Manner::Block | Manner::Template => 4,
@@ -319,7 +345,7 @@ fn cost_of(
     let empty = empties(code)
         .saturating_sub(here.empties)
         .saturating_mul(50);
-    let rebate = rebate_on(here, ledger, candidate)?;
+    let rebate = rebate_on(here, ledger, &candidate)?;
     let alone = if here.node.edits > 0 && rebate == 0 {
         30
     } else {
@@ -363,37 +389,35 @@ fn try_line(
     subject: &Subject,
     here: &Here,
     ledger: &mut Ledger,
-    line: (&Candidate, &[Placed], &[Instr]),
+    tried: &Tried,
 ) -> Result<(), AllocError> {
-    let (candidate, changes, code) = line;
-    let Some(set) = set_with(task, subject.set, changes)? else {
+    let Some(set) = set_with(task, subject.set, tried.changes)? else {
         return Ok(());
     };
     let Some(edited) = Subject::of(&set, task.driver, task.routine) else {
         return Ok(());
     };
     let mut reading = Reading::new(task.alloc);
-    reading.read(&edited, code)?;
-    let fault = reading.fault;
-    let cost = cost_of(task, subject, here, ledger, candidate, code)?;
-    let spoils = fault.is_none() && spoils_others(task, subject.set, &set)?;
-    let cost = if spoils {
-        cost.saturating_add(120)
-    } else {
-        cost
-    };
+    reading.read(&edited, tried.code)?;
+    let cost = cost_of(task, subject, here, ledger, tried)?;
+    let made = made_by(&tried.candidate);
     let number = ledger.next_set();
-    let next = ledger.add(Some(here.number), made(candidate), cost, number, changes)?;
-    match fault {
-        None => ledger.solve(next, cost, u64::MAX),
-        Some(fault) => match cost_on(here, candidate, changes, fault, cost) {
-            Some(cost) => {
-                ledger.keep(set)?;
-                ledger.wait(next, cost)
-            }
-            None => Ok(()),
-        },
+    let Some(fault) = reading.fault else {
+        let spoils = spoils_others(task, subject.set, &set)?;
+        let cost = if spoils {
+            cost.saturating_add(120)
+        } else {
+            cost
+        };
+        let next = ledger.add(Some(here.number), made, cost, number, tried.changes)?;
+        return ledger.solve(next, cost, u64::MAX);
+    };
+    if let Some(cost) = cost_on(here, tried, fault, cost) {
+        let next = ledger.add(Some(here.number), made, cost, number, tried.changes)?;
+        ledger.keep(set)?;
+        ledger.wait(next, cost)?;
     }
+    Ok(())
 }
 
 /// A set with these changes of lines.

@@ -1,9 +1,8 @@
 //! How usual it is which words stand beside which.
 
 use crate::table::EXAMPLES;
-use driver_set::{Driver, DriverSet, Instr, Return, Sort};
-use mend_candidates::form::{TOKENS, start, token};
-use model::status::Status;
+use driver_set::{Driver, DriverSet, Instr, Sort};
+use mend_candidates::form::{TOKENS, are_pair, differ, start, token};
 use std::alloc::{AllocError, Global};
 
 /// How often each word stands behind each, or first in a routine of a sort.
@@ -74,14 +73,8 @@ fn place(before: u8, word: u8) -> usize {
 /// How many returns have another status than the completion before them.
 pub(crate) fn mismatches(code: &[Instr]) -> u32 {
     let mut count = 0_u32;
-    for pair in code.windows(2) {
-        if let [
-            Instr::Complete(_, one),
-            Instr::Ret(Return::WithStatus(other)),
-        ] = *pair
-            && one != other
-            && other != Status::Pending
-        {
+    for (one, other) in code.iter().zip(code.iter().skip(1)) {
+        if differ(one, other) {
             count = count.saturating_add(1);
         }
     }
@@ -91,21 +84,10 @@ pub(crate) fn mismatches(code: &[Instr]) -> u32 {
 /// How many locks are released where they were acquired, or acquired where they were released.
 pub(crate) fn empties(code: &[Instr]) -> u32 {
     let mut count = 0_u32;
-    for pair in code.windows(2) {
-        if let [one, other] = *pair
-            && (are_pair(&one, &other) || are_pair(&other, &one))
-        {
+    for (one, other) in code.iter().zip(code.iter().skip(1)) {
+        if are_pair(one, other) || are_pair(other, one) {
             count = count.saturating_add(1);
         }
     }
     count
-}
-
-/// Whether two instructions acquire a lock and release it.
-pub(crate) fn are_pair(lock: &Instr, release: &Instr) -> bool {
-    match (*lock, *release) {
-        (Instr::Acquire(one), Instr::Release(other)) => one.index() == other.index(),
-        (Instr::AcquireCancel, Instr::ReleaseCancel) => true,
-        _ => false,
-    }
 }
