@@ -177,7 +177,7 @@ impl<'a> Scene<'a> {
         }
         // a condition on a constant is no condition
         let decides = matches!(self.bad, Instr::JumpIfZero(..) | Instr::JumpIfLess(..));
-        let made_up = if decides { 30 } else { 0 };
+        let made_up = if decides { 60 } else { 0 };
         add_guess(list, Instr::Const(register, 0), made_up)?;
         add_guess(list, Instr::Const(register, 1), made_up + 20)?;
         for number in 0..2_u8 {

@@ -1,6 +1,7 @@
 //! How likely an insertion is, by the rule that is broken.
 
-use crate::operands::{names, registers_of};
+use crate::form::same_lock;
+use crate::operands::names;
 use crate::scene::Scene;
 use absstate::Rule;
 use driver_set::{Instr, Register};

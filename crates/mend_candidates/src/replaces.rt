@@ -19,18 +19,29 @@ impl<'a> Scene<'a> {
     ) -> Result<(), AllocError> {
         let mut list = Vec::new(alloc);
         for at in 0..=self.last() {
-            let Some(instr) = self.instr(at) else {
-                continue;
-            };
-            if self.is_fresh(at) {
-                list.clear();
-                self.guess_words(at, instr, &mut list)?;
-                self.guess_registers(at, instr, &mut list)?;
-                self.add_guessed(at, instr, list.as_slice(), out)?;
-                self.add_retargets(at, instr, out)?;
+            if let Some(instr) = self.code.get(at as usize) {
+                self.add_replaces_of(at, instr, &mut list, out)?;
             }
         }
         Ok(())
+    }
+
+    /// Adds the replacements of an instruction, if it may be edited.
+    fn add_replaces_of(
+        &self,
+        at: u16,
+        instr: &Instr,
+        list: &mut Vec<Guess>,
+        out: &mut Candidates,
+    ) -> Result<(), AllocError> {
+        if !self.is_fresh(at) {
+            return Ok(());
+        }
+        list.clear();
+        self.guess_words(at, *instr, list)?;
+        self.guess_registers(at, *instr, list)?;
+        self.add_guessed(at, *instr, list.as_slice(), out)?;
+        self.add_retargets(at, *instr, out)
     }
 
     /// Adds the replacements of an instruction that the rules take.

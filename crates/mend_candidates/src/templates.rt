@@ -206,8 +206,12 @@ impl<'a> Scene<'a> {
     fn keeping_cost(&self, at: u16, guard: SpinLock, held: bool, lines: usize) -> u32 {
         let long = u32::try_from(lines).unwrap_or(100).saturating_mul(12);
         let cost = self.near(at).saturating_add(long).saturating_add(110);
-        let before = self.instr_before(at);
-        let released = before.is_some_and(|instr| same_lock(&instr, &Instr::Acquire(guard)));
+        let lock = Instr::Acquire(guard);
+        let before = self.code.get(..at as usize).unwrap_or_default();
+        let released = match before.last() {
+            Some(instr) => same_lock(instr, &lock),
+            None => false,
+        };
         if released && !held {
             cost.saturating_add(60)
         } else {

@@ -30,6 +30,10 @@ Leaves (Some made) refusal left = IsLeft made refusal left
 abbrev pub IsOffer : Set → Refusal → Offer → Type 0
 IsOffer set refusal offer = Leaves (edited_by set offer.edits) refusal offer.left
 
+-- at most three of them, each of which is one
+abbrev pub AreOffers : Set → Refusal → List Offer → Type 0
+AreOffers set refusal offers = All (IsOffer set refusal) offers × (length offers ≤ 3)
+
 -- the set that the first offer makes of a set, if there is an offer
 abbrev pub after_first : Set → List Offer → Set
 after_first set [] = set
@@ -40,7 +44,7 @@ abbrev pub Lead : Set → List Mending → Set → Type 0
 Lead set [] last = set ≡ last
 Lead set (mending ∷ mendings) last =
     IsFirstFault set mending.refusal
-    × All (IsOffer set mending.refusal) mending.offers
+    × AreOffers set mending.refusal mending.offers
     × Lead (after_first set mending.offers) mendings last
 
 -- the set behind all first offers, and what the verifier says of it

@@ -2,7 +2,8 @@
 
 ghost use Rattle.std.specs.Prelude.{◌≡◌, ◌≢◌, ◌↔◌, ◌<◌, All, IsTrue, IfOk, IfSome, OnOk, length};
 ghost use Rattle.model.specs.Typable.{IsFirstFault};
-ghost use Rattle.mend_search.specs.Offers.{AreOffersOf, IsLater, IsLeft, IsOffer, after_first};
+ghost use Rattle.mend_search.specs.Offers.{AreOffers, AreOffersOf, IsLater, IsLeft, IsOffer};
+ghost use Rattle.mend_search.specs.Offers.{after_first};
 
 use crate::ledger::MAX_OFFERS;
 use crate::search::Found;
@@ -170,7 +171,7 @@ fn offers_of(
     refusal: &Refusal,
     tries: u64,
 ) -> Result<Vec<Offer>, AllocError>
-    ensures { IfOk result (λ offers. All (IsOffer set.now refusal.now) offers.items) }
+    ensures { IfOk result (λ offers. AreOffers set.now refusal.now offers.items) }
 {
     let found = mends(alloc, set, refusal, tries)?;
     let mut offers = Vec::new(alloc);
