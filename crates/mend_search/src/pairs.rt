@@ -14,55 +14,96 @@ pub(crate) struct Made {
 
 /// What an edit costs less behind another one, in hundredths.
 pub(crate) fn rebate(before: &Made, next: &Candidate) -> u32 {
-    if let (Some(one), Some(other)) = (before.new, next.new) {
-        let less = rebate_of_words(before, next, &one, &other);
-        if less > 0 {
-            return less;
-        }
+    let less = rebate_of_new(before, next);
+    if less > 0 {
+        return less;
     }
-    let returns = is_return(next.new) && next.manner == Manner::Replace;
+    let returns = next.manner == Manner::Replace && is_return(&next.new);
     match before.manner {
-        Manner::Delete if returns && is_completion(before.old) => 50,
-        Manner::Delete if next.manner == Manner::Delete => match (before.old, next.old) {
-            (Some(lock), Some(release)) if are_pair(&lock, &release) => 70,
-            _ => 0,
-        },
+        Manner::Delete if returns && is_completion(&before.old) => 50,
+        Manner::Delete if next.manner == Manner::Delete && were_pair(before, next) => 70,
         Manner::Template if returns => 60,
         _ => 0,
     }
 }
 
 /// What it costs less for the instructions that came.
-fn rebate_of_words(before: &Made, next: &Candidate, one: &Instr, other: &Instr) -> u32 {
-    match (before.manner, next.manner) {
-        (Manner::Insert | Manner::Template, Manner::Insert) => match (*one, *other) {
-            _ if are_pair(one, other) => 70,
-            (Instr::Complete(..), Instr::Ret(_)) => 50,
-            (Instr::Release(_), Instr::Release(_)) | (Instr::ReleaseCancel, Instr::ReleaseCancel)
-                if form_of(one) == form_of(other) => { 50 }
-            (Instr::Clear(_), Instr::Clear(_)) => 50,
-            _ => 0,
-        },
-        (Manner::Insert | Manner::Template, Manner::Replace) => match (*one, *other) {
-            (Instr::Mark(_) | Instr::Complete(..), Instr::Ret(_)) => 50,
-            _ => 0,
-        },
-        (Manner::Replace, Manner::Replace) if same_lock(one, other) => {
-            match (before.old, next.old) {
-                (Some(was), Some(is)) if same_lock(&was, &is) => 90,
-                _ => 0,
+fn rebate_of_new(before: &Made, next: &Candidate) -> u32 {
+    let Some(one) = &before.new else {
+        return 0;
+    };
+    let Some(other) = &next.new else {
+        return 0;
+    };
+    let inserted = matches!(before.manner, Manner::Insert | Manner::Template);
+    match next.manner {
+        Manner::Insert if inserted => rebate_of_inserts(one, other),
+        Manner::Replace if inserted => {
+            let marks = matches!(*one, Instr::Mark(_) | Instr::Complete(..));
+            if marks && matches!(*other, Instr::Ret(_)) {
+                50
+            } else {
+                0
             }
         }
-        (Manner::Move, Manner::Move) if form_of(one).word == form_of(other).word => 30,
-        (Manner::Move, Manner::Move) => 20,
+        Manner::Replace if before.manner == Manner::Replace && same_lock(one, other) => {
+            if were_same_lock(before, next) { 90 } else { 0 }
+        }
+        Manner::Move if before.manner == Manner::Move => {
+            if form_of(one).word == form_of(other).word {
+                30
+            } else {
+                20
+            }
+        }
         _ => 0,
     }
 }
 
-fn is_return(instr: Option<Instr>) -> bool {
-    matches!(instr, Some(Instr::Ret(_)))
+/// What an insertion costs less behind another one.
+fn rebate_of_inserts(one: &Instr, other: &Instr) -> u32 {
+    if are_pair(one, other) {
+        return 70;
+    }
+    let completes = matches!(*one, Instr::Complete(..)) && matches!(*other, Instr::Ret(_));
+    let clears = matches!(*one, Instr::Clear(_)) && matches!(*other, Instr::Clear(_));
+    let releases = matches!(*one, Instr::Release(_) | Instr::ReleaseCancel);
+    let again = releases && form_of(one) == form_of(other);
+    if completes || clears || again { 50 } else { 0 }
 }
 
-fn is_completion(instr: Option<Instr>) -> bool {
-    matches!(instr, Some(Instr::Complete(..)))
+/// Whether an instruction went that acquired a lock, and goes that released it.
+fn were_pair(before: &Made, next: &Candidate) -> bool {
+    let Some(lock) = &before.old else {
+        return false;
+    };
+    match &next.old {
+        Some(release) => are_pair(lock, release),
+        None => false,
+    }
+}
+
+/// Whether the instructions that went acquired or released one spin lock.
+fn were_same_lock(before: &Made, next: &Candidate) -> bool {
+    let Some(one) = &before.old else {
+        return false;
+    };
+    match &next.old {
+        Some(other) => same_lock(one, other),
+        None => false,
+    }
+}
+
+fn is_return(instr: &Option<Instr>) -> bool {
+    match instr {
+        Some(instr) => matches!(*instr, Instr::Ret(_)),
+        None => false,
+    }
+}
+
+fn is_completion(instr: &Option<Instr>) -> bool {
+    match instr {
+        Some(instr) => matches!(*instr, Instr::Complete(..)),
+        None => false,
+    }
 }

@@ -276,7 +276,10 @@ fn keep_solution(
 
 /// How many positions of a node's code are read alike behind a candidate: none where loops change.
 fn known_before(here: &Here, candidate: &Candidate, changes: &[Placed]) -> usize {
-    let loops = matches!(candidate.old, Some(Instr::Loop(_) | Instr::End));
+    let loops = match &candidate.old {
+        Some(instr) => matches!(*instr, Instr::Loop(_) | Instr::End),
+        None => false,
+    };
     if loops || candidate.manner == Manner::Block {
         return 0;
     }
