@@ -1,0 +1,211 @@
+//! The trace of a run, as lines of JSON.
+
+ghost use Rattle.std.specs.Prelude.{◌≡◌, ◌+◌, ◌⊎◌, [], IfErr, IfOk};
+ghost use Rattle.interleave.specs.Listing.{IsWithinLimits};
+ghost use Rattle.drvhost_devices.specs.Device.{CanCount, Says};
+ghost use Rattle.drvhost_devices.specs.Ends.{Answers, HoldsRun};
+ghost use Rattle.drvhost_devices.specs.Fault.{reads_failed, writes_failed};
+ghost use Rattle.drvhost_formats.specs.Told.{Tells};
+ghost use Rattle.drvhost_formats.specs.Trace.{IsJudgedJson, IsRunJsonOf, IsTraceJsonOf, ReadsIn};
+ghost use Rattle.model.specs.Typable.{IsTypable};
+
+use crate::check::refuse;
+use crate::events::follow;
+use crate::job::{Job, answer, tell_fault};
+use crate::outcome::Outcome;
+use checked::Checked;
+use drvhost_devices::device::{Sink, Source};
+use drvhost_devices::fault::Fault;
+use drvhost_devices::transfer::read_whole;
+use drvhost_devices::verification::Verification;
+use image::DriverSet;
+use interleave::parse::parse_schedule;
+use interleave::schedule::{Schedule, ScheduleFault, ScheduleKind};
+use machine::World;
+use report_json::fault::InputFault;
+use report_json::json_lines::JsonLines;
+use std::alloc::Global;
+use verifier::{Accepted, verify};
+
+/// A run whose trace is asked for: the names of its files, and whether the set has to be accepted.
+#[derive(Clone, Copy)]
+pub struct Asked<'n> {
+    pub set: &'n str,
+    pub schedule: &'n str,
+    pub verification: Verification,
+}
+
+/// Runs a driver set by a schedule, and writes a line of JSON for each event, up to the first bug
+/// check or wrong operand. Where verification is required, a refused set isn't run, and what is
+/// written is the line of its verdict. The fault of a file is written as a line too: that of the set
+/// before a refusal, and a refusal before that of the schedule, which is read for a run alone. The
+/// answer is the exit status, as that of `trace`: 0 where the run came to the end of its schedule, 1
+/// where the set was refused or the run stopped, 2 where an input is faulty or a read or a write
+/// failed, 3 where memory ran out. That a read or a write failed or memory ran out is told on the
+/// error writer.
+pub fn trace_json<'a, S: Source, P: Source, O: Sink, E: Sink>(
+    alloc: Global,
+    asked: Asked<'a>,
+    set: &mut S,
+    schedule: &'a mut P,
+    out: &mut O,
+    err: &mut E,
+) -> u8
+    requires set { CanCount (S.failures set.old) }
+    requires schedule { CanCount (P.failures schedule.old) }
+    requires out { CanCount (O.failures out.old) }
+    requires err { CanCount (E.failures err.old) }
+    ensures unread { (schedule.new ≡ schedule.old)
+        ⊎ HoldsRun asked.entry.verification (S.supply set.old) }
+    ensures answers { Answers (IsTraceJsonOf asked.entry (S.supply set.old) (P.supply schedule.old))
+        (S.failures set.old + P.failures schedule.old)
+        (S.failures set.new + P.failures schedule.new)
+        (O.failures out.old) (O.failures out.new) (O.contents out.old) (O.contents out.new)
+        (Says (E.failures err.old) (E.failures err.new) (E.contents err.old) (E.contents err.new))
+        result }
+{
+    let mut job = Tracing { asked, schedule };
+    answer(&mut job, alloc, asked.set, set, out, err)
+}
+
+/// The trace of a run by the schedule that a source has.
+#[derive(Drop)]
+struct Tracing<'a, P> {
+    asked: Asked<'a>,
+    schedule: &'a mut P,
+}
+
+impl<'a, P: Source> Job for Tracing<'a, P> {
+    ghost use Rattle.std.specs.Prelude.{◌≡◌, refl};
+    ghost use Rattle.drvhost_devices.specs.Answer.{IsToRun};
+    ghost use Rattle.drvhost_formats.specs.Trace.{IsTraceJson};
+
+    ghost right = { λ job bytes. IsTraceJson job.asked (P.supply job.schedule.now) };
+
+    ghost failures = { λ job. P.failures job.schedule.now };
+
+    ghost needs = { λ job. IsToRun job.asked.verification };
+
+    ghost keeps = { λ old new. new.schedule.ghost_name ≡ old.schedule.ghost_name };
+
+    ghost stays = { λ old new. new.schedule.now ≡ old.schedule.now };
+
+    fn perform<O: Sink>(
+        &mut self,
+        alloc: Global,
+        _bytes: &[u8],
+        set: DriverSet,
+        lines: &mut JsonLines,
+        out: &mut O,
+    ) -> Result<Outcome, Fault> {
+        let asked = self.asked;
+        match asked.verification {
+            Verification::Required => trace_verified(alloc, asked, set, self.schedule, lines, out),
+            Verification::Skipped => {
+                trace_any(alloc, asked.schedule, set, self.schedule, lines, out)
+            }
+        }
+    }
+
+    ghost stays_kept = { λ _. (refl, refl) };
+}
+
+/// Runs a set if it is accepted, and else adds the line of its verdict.
+fn trace_verified<P: Source, O: Sink>(
+    alloc: Global,
+    asked: Asked<'_>,
+    set: DriverSet,
+    schedule: &mut P,
+    lines: &mut JsonLines,
+    out: &mut O,
+) -> Result<Outcome, Fault>
+    requires schedule { CanCount (P.failures schedule.old) }
+    requires out { CanCount (O.failures out.old) }
+    requires empty { lines.old ≡ [] }
+    ensures unread { (schedule.new ≡ schedule.old) ⊎ IsTypable set }
+    ensures tells { Tells (IsJudgedJson Verification.Required asked.entry.set.now
+        (IsRunJsonOf asked.entry.schedule.now (P.supply schedule.old)) set)
+        (O.contents out.old) (O.contents out.new) [] lines.new result }
+    ensures reads { P.failures schedule.new ≡ P.failures schedule.old + reads_failed result }
+    ensures writes { O.failures out.new ≡ O.failures out.old + writes_failed result }
+{
+    match verify(alloc, set) {
+        Ok(accepted) => trace_accepted(alloc, asked.schedule, accepted, schedule, lines, out),
+        Err((_set, refusal)) => Ok(refuse(asked.set, refusal, lines)?),
+    }
+}
+
+/// Runs an accepted set to the end of its schedule, which is the file of a name.
+fn trace_accepted<P: Source, O: Sink>(
+    alloc: Global,
+    name: &str,
+    accepted: Accepted,
+    schedule: &mut P,
+    lines: &mut JsonLines,
+    out: &mut O,
+) -> Result<Outcome, Fault>
+    requires schedule { CanCount (P.failures schedule.old) }
+    requires out { CanCount (O.failures out.old) }
+    requires empty { lines.old ≡ [] }
+    ensures tells { Tells (IsRunJsonOf name.now (P.supply schedule.old) accepted)
+        (O.contents out.old) (O.contents out.new) [] lines.new result }
+    ensures reads { P.failures schedule.new ≡ P.failures schedule.old + reads_failed result }
+    ensures writes { O.failures out.new ≡ O.failures out.old + writes_failed result }
+{
+    let schedule = match read_schedule(alloc, schedule)? {
+        Ok(schedule) => schedule,
+        Err(fault) => return Ok(tell_fault(name, InputFault::Schedule(fault), lines)?),
+    };
+    match World::new(alloc, accepted, schedule.threads) {
+        Ok(mut world) => follow(&mut world, &schedule, lines, out),
+        Err((_accepted, _refused)) => Err(Fault::Memory),
+    }
+}
+
+/// Runs any set, up to the first bug check or wrong operand, likewise.
+fn trace_any<P: Source, O: Sink>(
+    alloc: Global,
+    name: &str,
+    set: DriverSet,
+    schedule: &mut P,
+    lines: &mut JsonLines,
+    out: &mut O,
+) -> Result<Outcome, Fault>
+    requires schedule { CanCount (P.failures schedule.old) }
+    requires out { CanCount (O.failures out.old) }
+    requires empty { lines.old ≡ [] }
+    ensures tells { Tells (IsRunJsonOf name.now (P.supply schedule.old) set)
+        (O.contents out.old) (O.contents out.new) [] lines.new result }
+    ensures reads { P.failures schedule.new ≡ P.failures schedule.old + reads_failed result }
+    ensures writes { O.failures out.new ≡ O.failures out.old + writes_failed result }
+{
+    let schedule = match read_schedule(alloc, schedule)? {
+        Ok(schedule) => schedule,
+        Err(fault) => return Ok(tell_fault(name, InputFault::Schedule(fault), lines)?),
+    };
+    match Checked::new(alloc, set, schedule.threads) {
+        Ok(mut machine) => follow(&mut machine, &schedule, lines, out),
+        Err((_set, _refused)) => Err(Fault::Memory),
+    }
+}
+
+/// The schedule that the text of a source lists, or its fault.
+fn read_schedule<P: Source>(
+    alloc: Global,
+    source: &mut P,
+) -> Result<Result<Schedule, ScheduleFault>, Fault>
+    requires { CanCount (P.failures source.old) }
+    ensures schedule { IfOk result (ReadsIn (P.supply source.old)) }
+    ensures limits { IfOk result (λ read. IfOk read IsWithinLimits) }
+    ensures fault { IfErr result (λ fault. (fault ≡ Fault.Read) ⊎ (fault ≡ Fault.Memory)) }
+    ensures reads { P.failures source.new ≡ P.failures source.old + reads_failed result }
+{
+    let text = read_whole(alloc, source)?;
+    match parse_schedule(alloc, text.as_slice()) {
+        Ok(schedule) => Ok(Ok(schedule)),
+        Err(fault) => match fault.kind {
+            ScheduleKind::Memory => Err(Fault::Memory),
+            _ => Ok(Err(fault)),
+        },
+    }
+}
