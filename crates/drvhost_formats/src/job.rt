@@ -158,7 +158,7 @@ pub(crate) fn tell_fault(
 
 /// Ends a job: what kept it from its answer is told on the error writer. The answer is the exit
 /// status, which stays the same where the error writer fails.
-pub(crate) fn close<E: Sink>(end: Result<Outcome, Fault>, lines: &mut Lines, err: &mut E) -> u8
+pub fn close<E: Sink>(end: Result<Outcome, Fault>, lines: &mut Lines, err: &mut E) -> u8
     requires { CanCount (E.failures err.old) }
     ensures status { result ≡ telling_status end }
     ensures told { Says (E.failures err.old) (E.failures err.new) (E.contents err.old)

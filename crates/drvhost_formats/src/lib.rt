@@ -5,9 +5,9 @@
 mod certified;
 pub mod check;
 mod events;
-mod job;
+pub mod job;
 mod names;
 pub mod outcome;
-mod reading;
+pub mod reading;
 pub mod trace;
 pub mod unopened;

@@ -11,10 +11,7 @@ use report_json::fault::InputFault;
 use std::alloc::{AllocError, Global};
 
 /// The set that the bytes of a file name, an image's or a text's, or their first fault.
-pub(crate) fn said_in(
-    alloc: Global,
-    bytes: &[u8],
-) -> Result<Result<DriverSet, InputFault>, AllocError>
+pub fn said_in(alloc: Global, bytes: &[u8]) -> Result<Result<DriverSet, InputFault>, AllocError>
     ensures { IfOk result (λ said. SaysIn bytes.now said) }
 {
     if begins_image(bytes) {
