@@ -1,7 +1,7 @@
 -- What was written in memory, where nothing failed there, is the answer for a file.
 use Rattle.std.proofs.Common.{◌≡◌, ◌≢◌, ◌∙◌, ◌+◌, ℕ, List, [], Option, Some, IfOk, Result, Ok, Err, arith, codes, inl, inr, refl, subst, sym}
 use Rattle.std.specs.Io.KnownBytes.{Appends}
-use Rattle.drvhost_devices.specs.Answer.{Answer, faulty}
+use Rattle.drvhost_devices.specs.Answer.{Answer}
 use Rattle.drvhost_devices.specs.Device.{IsSuppliedAs, Says, Supply}
 use Rattle.drvhost_devices.specs.Ends.{Answers, Ends, OutOfMemory, ReadFailed, Rightly, WriteFailed}
 use Rattle.drvhost_devices.proofs.Writing.{appends_none}

@@ -1,4 +1,4 @@
-use Rattle.std.proofs.Common.{◌≡◌, ◌∙◌, ◌+◌, Err, Ok, arith, drop, length, refl, string_bytes, sym, take}
+use Rattle.std.proofs.Common.{◌∙◌, ◌+◌, Err, Ok, arith, drop, refl, string_bytes, sym, take}
 use Rattle.std.proofs.lemmas.List.{length-take-le}
 use Rattle.drvhost_devices.specs.Device.{SaysBehind}
 use Rattle.drvhost_many.proofs.Ending.{ends_all, goes_as, halts, so_far_all, so_far_more, so_far_next, split_at}
