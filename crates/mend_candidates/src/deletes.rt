@@ -1,0 +1,221 @@
+//! Deletions, alone or with what belongs to the instruction.
+
+use crate::candidate::{Candidates, Manner};
+use crate::form::form_of;
+use crate::scene::Scene;
+use absstate::Rule;
+use driver_set::{Instr, Return};
+use mend_changes::Change;
+use model::status::Status;
+use std::alloc::AllocError;
+
+impl<'a> Scene<'a> {
+    /// Adds the deletions at or before the fault.
+    pub(crate) fn add_deletes(&self, out: &mut Candidates) -> Result<(), AllocError> {
+        for at in 0..=self.last() {
+            let behind = at.saturating_add(1);
+            let hangs = behind >= self.len() && self.is_target(at);
+            if let (Some(instr), true, false) = (self.instr(at), self.is_fresh(at), hangs) {
+                let cost = self.delete_cost(at, &instr);
+                self.add_with_locks(at, &instr, cost, out)?;
+                self.add_second_completion(at, &instr, out)?;
+                let one = out.begin(Manner::Delete, cost, None, Some(instr));
+                out.add(one, at, Change::Delete)?;
+            }
+        }
+        if self.fault.rule == Rule::Unreachable {
+            self.add_dead_run(out)?;
+        }
+        Ok(())
+    }
+
+    /// What the deletion of an instruction costs.
+    fn delete_cost(&self, at: u16, instr: &Instr) -> u32 {
+        let near = self.near(at);
+        let early = self.fault.rule == Rule::DoubleCompletion && at < self.fault.at;
+        if at != self.fault.at || !self.is_twice(instr) {
+            let cost = weight(instr).saturating_add(150).saturating_add(near);
+            return if early { cost.saturating_add(60) } else { cost };
+        }
+        let more = match self.fault.rule {
+            Rule::WrongKind if self.stands_before(at, instr, 4) => 0,
+            Rule::WrongKind if matches!(*instr, Instr::Complete(..)) => 0,
+            Rule::WrongKind => 80,
+            _ if !matches!(*instr, Instr::Release(_) | Instr::ReleaseCancel) => 0,
+            _ if self.stands_before(at, instr, at) => 0,
+            _ => 40,
+        };
+        near.saturating_add(more).saturating_add(100)
+    }
+
+    /// Whether the instruction at the fault may stand there once too often.
+    fn is_twice(&self, instr: &Instr) -> bool {
+        match self.fault.rule {
+            Rule::DoubleCompletion | Rule::Unreachable | Rule::TooLong => true,
+            Rule::MarkIrpPending => matches!(*instr, Instr::Mark(_)),
+            Rule::CancelSpinLock => {
+                matches!(*instr, Instr::AcquireCancel | Instr::ReleaseCancel)
+            }
+            Rule::SpinLock => matches!(*instr, Instr::Acquire(_) | Instr::Release(_)),
+            Rule::Token => matches!(*instr, Instr::Next | Instr::Begin(_)),
+            Rule::WrongKind => {
+                matches!(
+                    *instr,
+                    Instr::Get(..) | Instr::Put(..) | Instr::Complete(..)
+                )
+            }
+            Rule::Malformed => instr.label().is_none(),
+            _ => false,
+        }
+    }
+
+    /// Whether the same instruction stands among so many before a position.
+    fn stands_before(&self, at: u16, instr: &Instr, within: u16) -> bool {
+        let same = form_of(instr);
+        let first = at.saturating_sub(within) as usize;
+        let before = self.code.get(first..at as usize).unwrap_or_default();
+        before.iter().any(|other| form_of(other) == same)
+    }
+
+    /// Adds the deletion of an instruction with the pair of a lock and its release round it.
+    fn add_with_locks(
+        &self,
+        at: u16,
+        instr: &Instr,
+        cost: u32,
+        out: &mut Candidates,
+    ) -> Result<(), AllocError> {
+        let behind = at.saturating_add(1);
+        let (Some(lock), Some(release)) = (self.instr_before(at), self.instr(behind)) else {
+            return Ok(());
+        };
+        let needs = matches!(
+            *instr,
+            Instr::Next
+                | Instr::Begin(_)
+                | Instr::Start(_)
+                | Instr::Insert(..)
+                | Instr::Dequeue(_)
+                | Instr::Unlink(..)
+        );
+        let led_to = self.is_target(at) || self.is_target(behind);
+        if !needs || led_to || !are_pair(&lock, &release) {
+            return Ok(());
+        }
+        let cost = cost.saturating_add(10);
+        let one = out.begin(Manner::Block, cost, None, Some(*instr));
+        let first = at.saturating_sub(1);
+        for place in [behind, at, first] {
+            out.change(place, Change::Delete)?;
+        }
+        out.end(one)
+    }
+
+    /// Adds the deletion of a second completion, where the return behind it takes the status of the
+    /// first.
+    fn add_second_completion(
+        &self,
+        at: u16,
+        instr: &Instr,
+        out: &mut Candidates,
+    ) -> Result<(), AllocError> {
+        let behind = at.saturating_add(1);
+        let Some(Instr::Ret(Return::WithStatus(returned))) = self.instr(behind) else {
+            return Ok(());
+        };
+        if self.fault.rule != Rule::DoubleCompletion || at != self.fault.at {
+            return Ok(());
+        }
+        let Some(status) = self.first_status(at, instr) else {
+            return Ok(());
+        };
+        if status == returned || returned == Status::Pending || self.is_target(behind) {
+            return Ok(());
+        }
+        let cost = self.near(at).saturating_add(100);
+        let one = out.begin(Manner::Block, cost, None, Some(*instr));
+        let right = Instr::Ret(Return::WithStatus(status));
+        out.change(behind, Change::Replace(right))?;
+        out.change(at, Change::Delete)?;
+        out.end(one)
+    }
+
+    /// The status of the last completion of the same packet before a position.
+    fn first_status(&self, at: u16, instr: &Instr) -> Option<Status> {
+        let Instr::Complete(register, _) = *instr else {
+            return None;
+        };
+        let before = self.code.get(..at as usize).unwrap_or_default();
+        for other in before.iter().rev() {
+            match *other {
+                Instr::Complete(packet, status) if packet.index() == register.index() => {
+                    return Some(status);
+                }
+                _ => {}
+            }
+        }
+        None
+    }
+
+    /// Adds the deletion of all that no path reaches.
+    fn add_dead_run(&self, out: &mut Candidates) -> Result<(), AllocError> {
+        let first = self.fault.at;
+        let end = self.end_of_dead(first);
+        let count = u32::from(end.saturating_sub(first));
+        if count < 2 {
+            return Ok(());
+        }
+        let cost = count.saturating_mul(30).saturating_add(100);
+        let one = out.begin(Manner::Block, cost, None, None);
+        for _ in first..end {
+            out.change(first, Change::Delete)?;
+        }
+        out.end(one)
+    }
+
+    /// The first position behind a dead one to which something leads from before it.
+    fn end_of_dead(&self, first: u16) -> u16 {
+        let before = self.code.get(..first as usize).unwrap_or_default();
+        for at in first.saturating_add(1)..self.len() {
+            if before.iter().any(|instr| instr.label() == Some(at)) {
+                return at;
+            }
+        }
+        self.len()
+    }
+}
+
+/// Whether two instructions acquire a lock and release it.
+pub(crate) fn are_pair(lock: &Instr, release: &Instr) -> bool {
+    match (*lock, *release) {
+        (Instr::Acquire(one), Instr::Release(other)) => one.index() == other.index(),
+        (Instr::AcquireCancel, Instr::ReleaseCancel) => true,
+        _ => false,
+    }
+}
+
+/// What is lost with an instruction.
+fn weight(instr: &Instr) -> u32 {
+    match *instr {
+        Instr::Pass(_) | Instr::Call(..) => 160,
+        Instr::Complete(..)
+        | Instr::Insert(..)
+        | Instr::Start(_)
+        | Instr::Begin(_)
+        | Instr::Next
+        | Instr::Unlink(..)
+        | Instr::Dequeue(_)
+        | Instr::Arm(..)
+        | Instr::Disarm(..)
+        | Instr::IfCancel(..)
+        | Instr::Take(..)
+        | Instr::Remove(..) => 120,
+        Instr::Mark(_)
+        | Instr::Acquire(_)
+        | Instr::Release(_)
+        | Instr::AcquireCancel
+        | Instr::ReleaseCancel => 70,
+        Instr::Ret(_) | Instr::Jump(_) => 100,
+        _ => 30,
+    }
+}

@@ -1,0 +1,264 @@
+//! Insertions of one instruction, led by the state that arrives there.
+
+use crate::candidate::{Candidates, Manner};
+use crate::guesses::{Guess, add_guess};
+use crate::scene::{Scene, is_packet, registers};
+use absstate::{Abs, Kind, Rule, Stage, Tracked};
+use driver_set::{Cell, Field, Instr, Register, Sort};
+use mend_changes::{Change, Landing, with_label};
+use std::alloc::{AllocError, Global};
+
+impl<'a> Scene<'a> {
+    /// Adds the insertions at or before the fault.
+    pub(crate) fn add_inserts(
+        &self,
+        alloc: Global,
+        out: &mut Candidates,
+    ) -> Result<(), AllocError> {
+        let mut list = Vec::new(alloc);
+        for at in 0..=self.last() {
+            if self.is_target(at) {
+                self.add_inserts_at(at, Landing::Taken, self.state(at), &mut list, out)?;
+                let fall = self.reading.fall(at as usize);
+                self.add_inserts_at(at, Landing::Kept, fall, &mut list, out)?;
+            } else {
+                self.add_inserts_at(at, Landing::Kept, self.state(at), &mut list, out)?;
+            }
+        }
+        if self.fault.rule == Rule::Malformed && self.last().saturating_add(1) == self.len() {
+            self.add_ends(&mut list, out)?;
+        }
+        Ok(())
+    }
+
+    /// Adds the insertions at the end.
+    fn add_ends(&self, list: &mut Vec<Guess>, out: &mut Candidates) -> Result<(), AllocError> {
+        let at = self.len();
+        list.clear();
+        if let Some(state) = self.state(self.last()).or(self.subject.entry) {
+            self.add_returns(at, &state, 0, list)?;
+        }
+        add_guess(list, Instr::End, 0)?;
+        for guess in list.as_slice() {
+            self.add_insert(at, Landing::Kept, guess, out)?;
+        }
+        Ok(())
+    }
+
+    /// Adds the insertions before a position that is reached in a state.
+    fn add_inserts_at(
+        &self,
+        at: u16,
+        landing: Landing,
+        state: Option<Abs>,
+        list: &mut Vec<Guess>,
+        out: &mut Candidates,
+    ) -> Result<(), AllocError> {
+        let Some(state) = state else {
+            return Ok(());
+        };
+        list.clear();
+        for register in registers() {
+            self.guess_with(at, register, state.kinds[register.index()], list)?;
+        }
+        self.guess_locks(list)?;
+        if landing == Landing::Kept && self.is_target(at) {
+            self.guess_ways_out(at, &state, list)?;
+        }
+        let tracked = Tracked::of(state);
+        for guess in list.as_slice() {
+            if self.subject.takes(&tracked, &guess.instr) {
+                self.add_insert(at, landing, guess, out)?;
+            }
+        }
+        Ok(())
+    }
+
+    /// Guesses what may be done with a register of a kind.
+    fn guess_with(
+        &self,
+        at: u16,
+        register: Register,
+        kind: Kind,
+        list: &mut Vec<Guess>,
+    ) -> Result<(), AllocError> {
+        if is_packet(kind) {
+            self.guess_packet(at, register, kind, list)?;
+            self.guess_calls(register, list)?;
+            self.guess_completions(at, register, list)?;
+        }
+        if self.is_named(register) {
+            self.guess_named(register, kind, list)?;
+        }
+        if self.fault.rule == Rule::Unreachable && kind == Kind::Num {
+            add_guess(list, Instr::JumpIfZero(register, 0), 30)?;
+        }
+        if self
+            .differing
+            .iter()
+            .any(|other| other.index() == register.index())
+        {
+            add_guess(list, Instr::Clear(register), 0)?;
+            add_guess(list, Instr::Const(register, 0), 30)?;
+        }
+        Ok(())
+    }
+
+    /// Guesses what may be done with a packet.
+    fn guess_packet(
+        &self,
+        at: u16,
+        register: Register,
+        kind: Kind,
+        list: &mut Vec<Guess>,
+    ) -> Result<(), AllocError> {
+        add_guess(list, Instr::Mark(register), 0)?;
+        for queue in 0..self.queues() {
+            add_guess(list, Instr::Insert(register, queue), 0)?;
+            add_guess(list, Instr::Unlink(register, queue), 0)?;
+            add_guess(list, Instr::Arm(register, queue), 0)?;
+        }
+        add_guess(list, Instr::Disarm(register, 0), 0)?;
+        let armed = matches!(kind, Kind::Queued(_, Stage::Armed));
+        let starts = matches!(self.instr(at), Some(Instr::Start(_)));
+        if self.fault.rule == Rule::Unreachable || armed || starts {
+            add_guess(list, Instr::IfCancel(register, 0), 0)?;
+        }
+        add_guess(list, Instr::Start(register), 0)?;
+        add_guess(list, Instr::Begin(register), 0)?;
+        add_guess(list, Instr::Pass(register), 0)?;
+        add_guess(list, Instr::Dequeue(register), 0)?;
+        add_guess(list, Instr::IfPending(register, 0), 0)
+    }
+
+    /// Guesses that a packet is sent down, with or without each completion routine.
+    fn guess_calls(&self, register: Register, list: &mut Vec<Guess>) -> Result<(), AllocError> {
+        add_guess(list, Instr::Call(register, None), 30)?;
+        let Some(driver) = self.driver() else {
+            return Ok(());
+        };
+        for (number, routine) in driver.routines.as_slice().iter().enumerate() {
+            if matches!(routine.sort, Sort::Propagate | Sort::Hold) {
+                let number = number.min(255) as u8;
+                add_guess(list, Instr::Call(register, Some(number)), 10)?;
+            }
+        }
+        Ok(())
+    }
+
+    /// Guesses that a packet is completed.
+    fn guess_completions(
+        &self,
+        at: u16,
+        register: Register,
+        list: &mut Vec<Guess>,
+    ) -> Result<(), AllocError> {
+        let likely = self.status_at(at);
+        for status in self.statuses.as_slice() {
+            let extra = if *status == likely { 0 } else { 50 };
+            add_guess(list, Instr::Complete(register, *status), extra)?;
+        }
+        Ok(())
+    }
+
+    /// Guesses what may be done with a register that the faulty instruction names.
+    fn guess_named(
+        &self,
+        register: Register,
+        kind: Kind,
+        list: &mut Vec<Guess>,
+    ) -> Result<(), AllocError> {
+        let starts = [Rule::Token, Rule::WrongKind, Rule::Unreachable];
+        if matches!(self.subject.sort, Sort::Dpc) && self.breaks(starts.as_slice()) {
+            add_guess(list, Instr::Take(register, 0), 0)?;
+        }
+        if self.fault.rule != Rule::WrongKind || kind != Kind::Blank {
+            return Ok(());
+        }
+        add_guess(list, Instr::Const(register, 0), 0)?;
+        add_guess(list, Instr::Const(register, 1), 20)?;
+        for number in 0..2_u8 {
+            if let Some(cell) = Cell::of(number) {
+                let extra = if number == 0 { 20 } else { 30 };
+                add_guess(list, Instr::Load(register, cell), extra)?;
+            }
+        }
+        for packet in registers() {
+            add_guess(list, Instr::Get(register, packet, Field::Argument), 10)?;
+        }
+        Ok(())
+    }
+
+    /// Guesses that a lock is acquired or released, or the next packet started.
+    fn guess_locks(&self, list: &mut Vec<Guess>) -> Result<(), AllocError> {
+        for lock in self.locks.as_slice() {
+            add_guess(list, Instr::Acquire(*lock), 0)?;
+            add_guess(list, Instr::Release(*lock), 0)?;
+        }
+        add_guess(list, Instr::AcquireCancel, 0)?;
+        add_guess(list, Instr::ReleaseCancel, 0)?;
+        add_guess(list, Instr::Next, 0)
+    }
+
+    /// Guesses that the way to a label is left before it.
+    fn guess_ways_out(
+        &self,
+        at: u16,
+        state: &Abs,
+        list: &mut Vec<Guess>,
+    ) -> Result<(), AllocError> {
+        let rules = [
+            Rule::Unreachable,
+            Rule::StatesDiffer,
+            Rule::WrongKind,
+            Rule::DoubleCompletion,
+            Rule::MarkIrpPending,
+            Rule::CancelSpinLock,
+            Rule::SpinLock,
+        ];
+        if self.breaks(rules.as_slice()) {
+            self.add_returns(at, state, 0, list)?;
+            add_guess(list, Instr::Jump(0), 40)?;
+        }
+        Ok(())
+    }
+
+    /// Adds an insertion, with each label that it may have.
+    fn add_insert(
+        &self,
+        at: u16,
+        landing: Landing,
+        guess: &Guess,
+        out: &mut Candidates,
+    ) -> Result<(), AllocError> {
+        let cost = self.insert_cost(&guess.instr, at);
+        let cost = cost
+            .saturating_add(guess.extra)
+            .saturating_add(self.near(at));
+        if guess.instr.label().is_none() {
+            let one = out.begin(Manner::Insert, cost, Some(guess.instr), None);
+            return out.add(one, at, Change::Insert(guess.instr, landing));
+        }
+        let jumps = matches!(guess.instr, Instr::Jump(_));
+        for label in at..self.len() {
+            if self.are_in_same_loops(label, at) && !(jumps && label == at) {
+                let cost = self.cost_of_label(cost, label);
+                let led = with_label(guess.instr, label.saturating_add(1));
+                let one = out.begin(Manner::Insert, cost, Some(led), None);
+                out.add(one, at, Change::Insert(led, landing))?;
+            }
+        }
+        Ok(())
+    }
+
+    /// What a jump costs that leads to a position: more where nothing else does.
+    fn cost_of_label(&self, cost: u32, label: u16) -> u32 {
+        if self.is_dead(label) {
+            cost.saturating_sub(60)
+        } else if self.is_target(label) {
+            cost
+        } else {
+            cost.saturating_add(50)
+        }
+    }
+}

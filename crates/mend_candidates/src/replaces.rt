@@ -1,0 +1,288 @@
+//! Replacements of a word or an operand.
+
+use crate::candidate::{Candidates, Manner};
+use crate::form::form_of;
+use crate::guesses::{Guess, add_guess};
+use crate::operands::{names, registers_of, with_first, with_second};
+use crate::scene::{Scene, registers};
+use absstate::{Rule, Tracked};
+use driver_set::{Instr, Register, Return, Sort, SpinLock, Turns};
+use mend_changes::{Change, with_label};
+use std::alloc::{AllocError, Global};
+
+impl<'a> Scene<'a> {
+    /// Adds the replacements at or before the fault.
+    pub(crate) fn add_replaces(
+        &self,
+        alloc: Global,
+        out: &mut Candidates,
+    ) -> Result<(), AllocError> {
+        let mut list = Vec::new(alloc);
+        for at in 0..=self.last() {
+            let Some(instr) = self.instr(at) else {
+                continue;
+            };
+            if self.is_fresh(at) {
+                list.clear();
+                self.guess_words(at, instr, &mut list)?;
+                self.guess_registers(at, instr, &mut list)?;
+                self.add_guessed(at, instr, list.as_slice(), out)?;
+                self.add_retargets(at, instr, out)?;
+            }
+        }
+        Ok(())
+    }
+
+    /// Adds the replacements of an instruction that the rules take.
+    fn add_guessed(
+        &self,
+        at: u16,
+        instr: Instr,
+        list: &[Guess],
+        out: &mut Candidates,
+    ) -> Result<(), AllocError> {
+        let state = self.state(at).map(|state| Tracked::of(state));
+        for guess in list {
+            let taken = match &state {
+                Some(state) => self.subject.takes(state, &guess.instr),
+                None => true,
+            };
+            if taken && form_of(&guess.instr) != form_of(&instr) {
+                let cost = guess.extra.saturating_add(self.near(at));
+                let one = out.begin(Manner::Replace, cost, Some(guess.instr), Some(instr));
+                out.add(one, at, Change::Replace(guess.instr))?;
+            }
+        }
+        Ok(())
+    }
+
+    /// Guesses what may stand in place of an instruction.
+    fn guess_words(&self, at: u16, instr: Instr, list: &mut Vec<Guess>) -> Result<(), AllocError> {
+        let here = at == self.fault.at;
+        match instr {
+            Instr::Ret(form) => self.guess_returns(at, form, list),
+            Instr::Jump(_) => self.guess_leaving(at, list),
+            Instr::Acquire(lock) => {
+                self.guess_locks_for(instr, list)?;
+                if here {
+                    add_guess(list, Instr::Release(lock), 130)
+                } else {
+                    Ok(())
+                }
+            }
+            Instr::Release(_) => self.guess_locks_for(instr, list),
+            Instr::AcquireCancel if here => add_guess(list, Instr::ReleaseCancel, 130),
+            Instr::Complete(r, _) => self.guess_statuses(at, r, list),
+            Instr::Loop(turns) => self.guess_turns(turns.count(), list),
+            Instr::LoadPaged(r, cell) => {
+                let cost = if self.is_written_back(at, &instr) {
+                    110
+                } else {
+                    190
+                };
+                add_guess(list, Instr::Load(r, cell), cost)
+            }
+            Instr::StorePaged(cell, r) => {
+                let cost = if self.is_written_back(at, &instr) {
+                    110
+                } else {
+                    190
+                };
+                add_guess(list, Instr::Store(cell, r), cost)
+            }
+            Instr::Pass(r) | Instr::Call(r, _) => self.guess_forwards(r, list),
+            _ => self.guess_queues(instr, list),
+        }
+    }
+
+    /// Guesses other returns.
+    fn guess_returns(
+        &self,
+        at: u16,
+        form: Return,
+        list: &mut Vec<Guess>,
+    ) -> Result<(), AllocError> {
+        let Some(state) = self.state(at) else {
+            return Ok(());
+        };
+        match form {
+            Return::Stop => { add_guess(list, Instr::Ret(Return::Continue), 220) }
+            _ => self.add_returns(at, &state, 100, list),
+        }
+    }
+
+    /// Guesses a return in place of a jump to what another way ends with.
+    fn guess_leaving(&self, at: u16, list: &mut Vec<Guess>) -> Result<(), AllocError> {
+        let differ = self.fault.rule == Rule::StatesDiffer && !self.are_numbers;
+        match self.state(at) {
+            Some(state) if differ || self.fault.rule == Rule::DoubleCompletion => {
+                self.add_returns(at, &state, 150, list)
+            }
+            _ => Ok(()),
+        }
+    }
+
+    /// Guesses other locks.
+    fn guess_locks_for(&self, instr: Instr, list: &mut Vec<Guess>) -> Result<(), AllocError> {
+        let wanted = self.guard_wanted();
+        for lock in self.locks.as_slice() {
+            let right = wanted.is_some_and(|wanted| wanted.index() == lock.index());
+            let other = match instr {
+                Instr::Acquire(_) => Instr::Acquire(*lock),
+                _ => Instr::Release(*lock),
+            };
+            add_guess(list, other, if right { 110 } else { 140 })?;
+        }
+        Ok(())
+    }
+
+    /// The lock of the queue that the faulty instruction uses without it.
+    pub(crate) fn guard_wanted(&self) -> Option<SpinLock> {
+        if self.fault.rule != Rule::Guard {
+            return None;
+        }
+        let number = match self.bad {
+            Instr::Insert(_, q) | Instr::Remove(_, q, _) | Instr::Unlink(_, q) => q,
+            Instr::Arm(_, q) => q,
+            _ => return None,
+        };
+        let queue = self.driver()?.queues.as_slice().get(number as usize)?;
+        Some(queue.guard)
+    }
+
+    /// Guesses other statuses of a completion.
+    fn guess_statuses(
+        &self,
+        at: u16,
+        register: Register,
+        list: &mut Vec<Guess>,
+    ) -> Result<(), AllocError> {
+        let right = self.status_at(at);
+        let broken = self.fault.rule == Rule::MarkIrpPending && at == self.fault.at;
+        for status in self.statuses.as_slice() {
+            let cost = match broken {
+                true if *status == right => 100,
+                true => 140,
+                false => 250,
+            };
+            add_guess(list, Instr::Complete(register, *status), cost)?;
+        }
+        Ok(())
+    }
+
+    /// Guesses fewer turns.
+    fn guess_turns(&self, turns: u16, list: &mut Vec<Guess>) -> Result<(), AllocError> {
+        for fewer in [1_u16, 10, 100, 500] {
+            if let (true, Some(count)) = (fewer < turns, Turns::of(fewer)) {
+                let cost = match self.fault.rule {
+                    Rule::TooLong if fewer == 100 => 100,
+                    Rule::TooLong => 120,
+                    _ => 300,
+                };
+                add_guess(list, Instr::Loop(count), cost)?;
+            }
+        }
+        Ok(())
+    }
+
+    /// Whether the cell of a load is stored behind it, or that of a store was loaded before it.
+    fn is_written_back(&self, at: u16, instr: &Instr) -> bool {
+        let (first, end) = match *instr {
+            Instr::LoadPaged(..) => (at, at.saturating_add(5)),
+            _ => (at.saturating_sub(5), at),
+        };
+        let near = first..end.min(self.len());
+        near.into_iter().any(|place| match (*instr, self.instr(place)) {
+            (Instr::LoadPaged(r, c), Some(Instr::Store(other, s))) => {
+                c.index() == other.index() && r.index() == s.index()
+            }
+            (Instr::StorePaged(c, _), Some(Instr::Load(_, other))) => c.index() == other.index(),
+            _ => false,
+        })
+    }
+
+    /// Guesses other ways to send a packet down.
+    fn guess_forwards(&self, r: Register, list: &mut Vec<Guess>) -> Result<(), AllocError> {
+        add_guess(list, Instr::Call(r, None), 160)?;
+        add_guess(list, Instr::Pass(r), 160)?;
+        let Some(driver) = self.driver() else {
+            return Ok(());
+        };
+        for (number, routine) in driver.routines.as_slice().iter().enumerate() {
+            if matches!(routine.sort, Sort::Propagate | Sort::Hold) {
+                add_guess(list, Instr::Call(r, Some(number.min(255) as u8)), 150)?;
+            }
+        }
+        Ok(())
+    }
+
+    /// Guesses other queues.
+    fn guess_queues(&self, instr: Instr, list: &mut Vec<Guess>) -> Result<(), AllocError> {
+        if let Instr::Unlink(r, _) = instr {
+            add_guess(list, Instr::Dequeue(r), 150)?;
+        }
+        for q in 0..self.queues() {
+            match instr {
+                Instr::Insert(r, _) => add_guess(list, Instr::Insert(r, q), 160)?,
+                Instr::Remove(r, _, label) => add_guess(list, Instr::Remove(r, q, label), 160)?,
+                Instr::Unlink(r, _) => add_guess(list, Instr::Unlink(r, q), 160)?,
+                Instr::Arm(r, _) => add_guess(list, Instr::Arm(r, q), 160)?,
+                Instr::Dequeue(r) => add_guess(list, Instr::Unlink(r, q), 140)?,
+                _ => {}
+            }
+        }
+        Ok(())
+    }
+
+    /// Guesses other registers.
+    fn guess_registers(
+        &self,
+        at: u16,
+        instr: Instr,
+        list: &mut Vec<Guess>,
+    ) -> Result<(), AllocError> {
+        if at != self.fault.at && self.fault.rule != Rule::Dropped {
+            return Ok(());
+        }
+        let (one, other) = registers_of(&instr);
+        for register in registers() {
+            let used = self.code.iter().any(|other| names(other, register));
+            let cost = if used { 160 } else { 180 };
+            if used || register.index() < 4 {
+                if one.is_some() {
+                    add_guess(list, with_first(instr, register), cost)?;
+                }
+                if other.is_some() {
+                    add_guess(list, with_second(instr, register), cost)?;
+                }
+            }
+        }
+        Ok(())
+    }
+
+    /// Adds the other labels of a jump.
+    fn add_retargets(&self, at: u16, instr: Instr, out: &mut Candidates) -> Result<(), AllocError> {
+        let Some(old) = instr.label() else {
+            return Ok(());
+        };
+        let jumps = self
+            .code
+            .iter()
+            .filter(|other| other.label() == Some(old))
+            .count();
+        for label in at.saturating_add(1)..self.len() {
+            if label == old || !self.are_in_same_loops(label, at) {
+                continue;
+            }
+            let mut cost = self.near(at).saturating_add(200);
+            if self.is_dead(label) {
+                cost = cost.saturating_sub(if jumps > 1 { 120 } else { 60 });
+            } else if !self.is_target(label) {
+                cost = cost.saturating_add(40);
+            }
+            let one = out.begin(Manner::Retarget, cost, Some(instr), Some(instr));
+            out.add(one, at, Change::Replace(with_label(instr, label)))?;
+        }
+        Ok(())
+    }
+}

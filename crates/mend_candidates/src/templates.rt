@@ -1,0 +1,275 @@
+//! Several instructions that belong together, as a rule asks for them.
+
+use crate::candidate::Candidates;
+use crate::scene::{Scene, registers};
+use absstate::{Abs, Kind, Rule, Settled, Stage};
+use driver_set::{Instr, QueueName, Register, Return, Sort, SpinLock};
+use mend_changes::Landing;
+use model::status::Status;
+use std::alloc::{AllocError, Global};
+
+/// What a dispatch routine returns that keeps its packet.
+const PENDING: Instr = Instr::Ret(Return::WithStatus(Status::Pending));
+
+impl<'a> Scene<'a> {
+    /// Adds the templates before each position up to the fault.
+    pub(crate) fn add_templates(
+        &self,
+        alloc: Global,
+        out: &mut Candidates,
+    ) -> Result<(), AllocError> {
+        let mut lines = Vec::new(alloc);
+        for at in 0..=self.last() {
+            if let Some(state) = self.state(at) {
+                self.add_templates_at(at, Landing::Kept, &state, &mut lines, out)?;
+                if self.is_target(at) {
+                    self.add_templates_at(at, Landing::Taken, &state, &mut lines, out)?;
+                }
+            }
+            self.add_leaving(at, out)?;
+        }
+        Ok(())
+    }
+
+    /// Adds the templates before a position that is reached in a state.
+    fn add_templates_at(
+        &self,
+        at: u16,
+        landing: Landing,
+        state: &Abs,
+        lines: &mut Vec<Instr>,
+        out: &mut Candidates,
+    ) -> Result<(), AllocError> {
+        for register in registers() {
+            let kind = state.kinds[register.index()];
+            match kind {
+                Kind::View => self.add_carried(at, landing, state, register, out)?,
+                Kind::Queued(QueueName::Declared(q), Stage::Cancelling) => {
+                    self.add_unlinked(at, landing, state, (register, q), out)?;
+                }
+                Kind::Queued(QueueName::Declared(q), Stage::Listed) => {
+                    self.add_cancelable(at, landing, (register, q), out)?;
+                }
+                Kind::New => self.add_kept(at, landing, state, (register, true, lines), out)?,
+                Kind::Own => self.add_kept(at, landing, state, (register, false, lines), out)?,
+                _ => {}
+            }
+        }
+        self.add_next(at, landing, state, out)
+    }
+
+    /// Adds that the pending mark is carried up.
+    fn add_carried(
+        &self,
+        at: u16,
+        landing: Landing,
+        state: &Abs,
+        register: Register,
+        out: &mut Candidates,
+    ) -> Result<(), AllocError> {
+        if self.fault.rule != Rule::Completion || state.settled != Settled::Open {
+            return Ok(());
+        }
+        let (look, mark) = (Instr::IfPending(register, 2), Instr::Mark(register));
+        let near = self.near(at);
+        if matches!(self.instr(at), Some(Instr::Ret(_))) {
+            let lines = [look, Instr::Ret(Return::Continue), mark];
+            return out.add_template(near.saturating_add(120), at, landing, lines.as_slice());
+        }
+        let lines = [look, Instr::Jump(3), mark];
+        out.add_template(near.saturating_add(140), at, landing, lines.as_slice())
+    }
+
+    /// Adds that a packet that is cancelled is taken off its queue.
+    fn add_unlinked(
+        &self,
+        at: u16,
+        landing: Landing,
+        state: &Abs,
+        packet: (Register, u8),
+        out: &mut Candidates,
+    ) -> Result<(), AllocError> {
+        let (register, q) = packet;
+        let rules = [Rule::CancelState, Rule::Dropped];
+        match self.guard_of(q) {
+            Some(guard) if self.breaks(rules.as_slice()) && !state.locks[guard.index()] => {
+                let lines = [
+                    Instr::Acquire(guard),
+                    Instr::Unlink(register, q),
+                    Instr::Release(guard),
+                ];
+                let cost = self.near(at).saturating_add(120);
+                out.add_template(cost, at, landing, lines.as_slice())
+            }
+            _ => Ok(()),
+        }
+    }
+
+    /// Adds what a packet needs that is in a queue with a cancel routine.
+    fn add_cancelable(
+        &self,
+        at: u16,
+        landing: Landing,
+        packet: (Register, u8),
+        out: &mut Candidates,
+    ) -> Result<(), AllocError> {
+        let (register, q) = packet;
+        match self.guard_of(q) {
+            Some(guard)
+                if self.fault.rule == Rule::Guard && matches!(self.subject.sort, Sort::Dispatch) =>
+                {
+                    let lines = armed(register, q, guard, 0);
+                    let lines = lines.get(..9).unwrap_or_default();
+                    out.add_template(180, at, landing, lines)
+                }
+            _ => Ok(()),
+        }
+    }
+
+    /// Adds that a packet is kept in a queue. The list takes the lines.
+    fn add_kept(
+        &self,
+        at: u16,
+        landing: Landing,
+        state: &Abs,
+        packet: (Register, bool, &mut Vec<Instr>),
+        out: &mut Candidates,
+    ) -> Result<(), AllocError> {
+        let (register, new, lines) = packet;
+        let rules = [
+            Rule::Dropped,
+            Rule::MarkIrpPending,
+            Rule::Completion,
+            Rule::Guard,
+            Rule::DoubleCompletion,
+        ];
+        if !self.breaks(rules.as_slice()) {
+            return Ok(());
+        }
+        for q in 0..self.queues() {
+            let Some(guard) = self.guard_of(q) else {
+                continue;
+            };
+            lines.clear();
+            let held = state.locks[guard.index()];
+            if new {
+                lines.push(Instr::Mark(register))?;
+            }
+            if !held {
+                lines.push(Instr::Acquire(guard))?;
+            }
+            lines.push(Instr::Insert(register, q))?;
+            self.add_keeping(register, q, held, lines)?;
+            let cost = self.keeping_cost(at, guard, held, lines.len());
+            out.add_template(cost, at, landing, lines.as_slice())?;
+        }
+        Ok(())
+    }
+
+    /// Adds what follows the insertion of a packet into a queue.
+    fn add_keeping(
+        &self,
+        register: Register,
+        q: u8,
+        held: bool,
+        lines: &mut Vec<Instr>,
+    ) -> Result<(), AllocError> {
+        let Some(guard) = self.guard_of(q) else {
+            return Ok(());
+        };
+        if self
+            .subject
+            .set
+            .cancel_routine(self.subject.driver, q)
+            .is_some()
+        {
+            let first = u16::try_from(lines.len()).unwrap_or(0);
+            let all = armed(register, q, guard, first);
+            return lines.extend_from_slice(all.as_slice());
+        }
+        if !held {
+            lines.push(Instr::Release(guard))?;
+        }
+        Ok(())
+    }
+
+    /// What the keeping of a packet costs.
+    fn keeping_cost(&self, at: u16, guard: SpinLock, held: bool, lines: usize) -> u32 {
+        let long = u32::try_from(lines).unwrap_or(100).saturating_mul(12);
+        let cost = self.near(at).saturating_add(long).saturating_add(110);
+        match self.instr_before(at) {
+            Some(Instr::Release(lock)) if !held && lock.index() == guard.index() => {
+                cost.saturating_add(60)
+            }
+            _ => cost,
+        }
+    }
+
+    /// Adds that the next packet is started.
+    fn add_next(
+        &self,
+        at: u16,
+        landing: Landing,
+        state: &Abs,
+        out: &mut Candidates,
+    ) -> Result<(), AllocError> {
+        let waits = self
+            .driver()
+            .is_some_and(|driver| driver.startio_cancel.is_some());
+        let returns = matches!(self.bad, Instr::Ret(_));
+        if self.fault.rule != Rule::Token || !returns || !waits || state.cancel || !state.token {
+            return Ok(());
+        }
+        let lines = [Instr::AcquireCancel, Instr::Next, Instr::ReleaseCancel];
+        let cost = self.near(at).saturating_add(110);
+        out.add_template(cost, at, landing, lines.as_slice())
+    }
+
+    /// Adds that a packet is completed, and its status returned, before a label.
+    fn add_leaving(&self, at: u16, out: &mut Candidates) -> Result<(), AllocError> {
+        let rules = [Rule::StatesDiffer, Rule::Dropped];
+        let dispatch = matches!(self.subject.sort, Sort::Dispatch);
+        if !dispatch || !self.breaks(rules.as_slice()) || !self.is_target(at) {
+            return Ok(());
+        }
+        let Some(state) = self.reading.fall(at as usize) else {
+            return Ok(());
+        };
+        for register in registers() {
+            if state.kinds[register.index()] == Kind::New {
+                let lines = [
+                    Instr::Complete(register, Status::Success),
+                    Instr::Ret(Return::WithStatus(Status::Success)),
+                ];
+                let cost = self.near(at).saturating_add(180);
+                out.add_template(cost, at, Landing::Kept, lines.as_slice())?;
+            }
+        }
+        Ok(())
+    }
+
+    /// The lock that guards a queue.
+    fn guard_of(&self, q: u8) -> Option<SpinLock> {
+        self.subject.set.guard(self.subject.driver, q)
+    }
+}
+
+/// What follows the insertion of a packet into a queue with a cancel routine, behind so many lines:
+/// it is armed, and if it was cancelled before that, taken off and completed by the routine itself,
+/// unless its cancel routine was called.
+fn armed(register: Register, q: u8, guard: SpinLock, before: u16) -> [Instr; 10] {
+    let was = before.saturating_add(4);
+    let lost = before.saturating_add(9);
+    [
+        Instr::Arm(register, q),
+        Instr::IfCancel(register, was),
+        Instr::Release(guard),
+        PENDING,
+        Instr::Disarm(register, lost),
+        Instr::Unlink(register, q),
+        Instr::Release(guard),
+        Instr::Complete(register, Status::Cancelled),
+        PENDING,
+        Instr::Release(guard),
+    ]
+}

@@ -1,0 +1,207 @@
+//! What a search has tried: edits that lead on, by cost, and those after which a routine has no
+//! fault.
+
+use crate::pairs::Made;
+use driver_set::DriverSet;
+use mend_candidates::{Manner, Placed};
+use std::alloc::{AllocError, Global};
+use std::collections::{BTreeSet, BinaryHeap};
+
+/// Edits of a routine, at most.
+pub(crate) const MAX_EDITS: u8 = 4;
+
+/// Offers for a routine, at most.
+pub(crate) const MAX_OFFERS: usize = 3;
+
+/// What an offer may cost more than the first, in hundredths.
+const WINDOW: u32 = 100;
+
+/// Edits that were tried, and lead on from others.
+#[derive(Clone, Copy)]
+pub(crate) struct Node {
+    pub(crate) parent: Option<usize>,
+    pub(crate) edits: u8,
+    pub(crate) cost: u32,
+    pub(crate) made: Made,
+    /// Which of the sets it is of: 0 is the one that is mended.
+    pub(crate) set: usize,
+    /// Its own changes.
+    first: usize,
+    count: usize,
+}
+
+/// Edits after which a routine has no fault.
+#[derive(Clone, Copy)]
+pub(crate) struct Solution {
+    pub(crate) node: usize,
+    pub(crate) cost: u32,
+    /// What stands for its code.
+    key: u64,
+}
+
+/// What was tried.
+#[derive(Drop)]
+pub(crate) struct Ledger {
+    alloc: Global,
+    nodes: Vec<Node>,
+    changes: Vec<Placed>,
+    solutions: Vec<Solution>,
+    seen: BTreeSet<u64>,
+    /// The nodes that wait: of each the cost and the number, turned round, so that the least comes
+    /// first.
+    queue: BinaryHeap<u64>,
+    /// Sets with edited lines that were made since they were taken.
+    pub(crate) made: Vec<DriverSet>,
+    /// How many sets with edited lines there are.
+    sets: usize,
+    left: u64,
+}
+
+impl Ledger {
+    /// Begins with no edit, and so many tries.
+    pub(crate) fn begin(alloc: Global, tries: u64) -> Result<Ledger, AllocError> {
+        let mut ledger = Ledger {
+            alloc,
+            nodes: Vec::new(alloc),
+            changes: Vec::new(alloc),
+            solutions: Vec::new(alloc),
+            seen: BTreeSet::new(alloc),
+            queue: BinaryHeap::new(alloc),
+            made: Vec::new(alloc),
+            sets: 0,
+            left: tries,
+        };
+        let made = Made {
+            manner: Manner::Line,
+            new: None,
+            old: None,
+        };
+        let number = ledger.add(None, made, 0, 0, &[])?;
+        ledger.wait(number, 0)?;
+        Ok(ledger)
+    }
+
+    /// Whether there are tries left, of which one is used.
+    pub(crate) fn uses_try(&mut self) -> bool {
+        let some = self.left > 0;
+        self.left = self.left.saturating_sub(1);
+        some
+    }
+
+    /// The next node to be looked at, with its number: none where the offers are settled.
+    pub(crate) fn next(&mut self) -> Option<(usize, Node)> {
+        let key = !self.queue.pop()?;
+        let number = (key & 0xffff_ffff) as usize;
+        let node = self.nodes.get(number).copied()?;
+        let all = self.solutions.get(MAX_OFFERS - 1);
+        let settled = all.is_some_and(|last| last.cost <= node.cost);
+        let first = self.solutions.first();
+        let far = first.is_some_and(|first| first.cost.saturating_add(WINDOW) < node.cost);
+        if settled || far || self.left == 0 {
+            None
+        } else {
+            Some((number, node))
+        }
+    }
+
+    /// The node of a number.
+    pub(crate) fn node(&self, number: usize) -> Option<Node> {
+        self.nodes.get(number).copied()
+    }
+
+    /// The number that the next set will have which is kept.
+    pub(crate) fn next_set(&self) -> usize {
+        self.sets.saturating_add(1)
+    }
+
+    /// Keeps a set with edited lines.
+    pub(crate) fn keep(&mut self, set: DriverSet) -> Result<(), AllocError> {
+        self.made.push(set)?;
+        self.sets = self.sets.saturating_add(1);
+        Ok(())
+    }
+
+    /// Adds a node, and answers its number.
+    pub(crate) fn add(
+        &mut self,
+        parent: Option<usize>,
+        made: Made,
+        cost: u32,
+        set: usize,
+        changes: &[Placed],
+    ) -> Result<usize, AllocError> {
+        let before = parent.and_then(|number| self.nodes.get(number));
+        let edits = before.map_or(0, |node| node.edits.saturating_add(1));
+        let number = self.nodes.len();
+        let first = self.changes.len();
+        self.changes.extend_from_slice(changes)?;
+        self.nodes.push(Node {
+            parent,
+            edits,
+            cost,
+            made,
+            set,
+            first,
+            count: changes.len(),
+        })?;
+        Ok(number)
+    }
+
+    /// Lets a node wait.
+    pub(crate) fn wait(&mut self, number: usize, cost: u32) -> Result<(), AllocError> {
+        let key = u64::from(cost) << 32 | (number as u64 & 0xffff_ffff);
+        self.queue.push(!key)?;
+        Ok(())
+    }
+
+    /// Notes code, and answers whether it is new.
+    pub(crate) fn note(&mut self, key: u64) -> Result<bool, AllocError> {
+        Ok(self.seen.insert(key)?)
+    }
+
+    /// Whether code is known as a solution of a greater cost, which it is no more.
+    pub(crate) fn drops_dearer(&mut self, key: u64, cost: u32) -> bool {
+        let same = |solution: &Solution| solution.key == key && solution.cost > cost;
+        match self.solutions.iter().position(same) {
+            Some(place) => {
+                let _dearer = self.solutions.remove(place);
+                true
+            }
+            None => false,
+        }
+    }
+
+    /// Adds a solution behind those that cost no more.
+    pub(crate) fn solve(&mut self, node: usize, cost: u32, key: u64) -> Result<(), AllocError> {
+        let dearer = self.solutions.iter().position(|other| other.cost > cost);
+        let place = dearer.unwrap_or(self.solutions.len());
+        self.solutions.insert(place, Solution { node, cost, key })?;
+        Ok(())
+    }
+
+    /// The solutions, the best first.
+    pub(crate) fn solutions(&self) -> &[Solution] {
+        self.solutions.as_slice()
+    }
+
+    /// The nodes on the way to a node, from the first.
+    pub(crate) fn path(&self, number: usize) -> Result<Vec<Node>, AllocError> {
+        let mut path = Vec::new(self.alloc);
+        let mut next = Some(number);
+        for _ in 0..=MAX_EDITS {
+            let Some(node) = next.and_then(|number| self.nodes.get(number)) else {
+                break;
+            };
+            path.push(*node)?;
+            next = node.parent;
+        }
+        path.reverse();
+        Ok(path)
+    }
+
+    /// The changes of a node.
+    pub(crate) fn changes_of(&self, node: &Node) -> &[Placed] {
+        let end = node.first.saturating_add(node.count);
+        self.changes.get(node.first..end).unwrap_or_default()
+    }
+}

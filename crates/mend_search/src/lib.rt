@@ -1,0 +1,13 @@
+//! The search for mends of refused driver sets.
+#![tactic(auto)]
+
+mod draft;
+mod ledger;
+pub mod offers;
+mod pairs;
+mod search;
+mod spread;
+mod table;
+mod usual;
+
+pub use offers::{Ending, Mending, Offer, Offers, Standing, find_offers};

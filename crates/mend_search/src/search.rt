@@ -1,0 +1,473 @@
+//! The search: best first by cost, ties by the order in which candidates were made.
+
+use crate::draft::{Draft, first_changed, followed};
+use crate::ledger::{Ledger, MAX_EDITS, Node};
+use crate::pairs::{Made, rebate};
+use crate::usual::{Usual, empties, mismatches};
+use absstate::Rule;
+use driver_set::{DriverSet, Instr, Items};
+use mend_candidates::form::form_of;
+use mend_candidates::{Candidate, Candidates, Fault, Manner, Placed, Reading, Scene, Subject};
+use mend_changes::{Edit, edited};
+use std::alloc::{AllocError, Global};
+use verifier::check_routine;
+
+/// Solutions that are told, at most.
+const MAX_FOUND: usize = 6;
+
+/// Edits that may be offered, and what they cost.
+#[derive(Drop)]
+pub(crate) struct Found {
+    pub(crate) edits: Items<Edit>,
+    pub(crate) cost: u32,
+}
+
+/// The routine that is mended, by number, and what is usual in its set.
+#[derive(Drop)]
+struct Task {
+    alloc: Global,
+    driver: u8,
+    routine: u8,
+    usual: Usual,
+}
+
+/// The set that is mended, and those with edited lines.
+#[derive(Drop)]
+struct Sets<'a> {
+    base: &'a DriverSet,
+    edited: Vec<DriverSet>,
+}
+
+/// What is used again from candidate to candidate.
+#[derive(Drop)]
+struct Bench {
+    draft: Draft,
+    child: Draft,
+    reading: Reading,
+    next: Reading,
+    list: Candidates,
+}
+
+/// What stands at a node that is looked at, before its candidates are tried.
+#[derive(Clone, Copy)]
+struct Here {
+    number: usize,
+    node: Node,
+    fault: Fault,
+    strangeness: u32,
+    mismatches: u32,
+    empties: u32,
+}
+
+/// Mends of a routine of a set, by number, the best first. So many edits are tried, at most. Routines
+/// before it may have faults behind edits of lines.
+pub(crate) fn search(
+    alloc: Global,
+    set: &DriverSet,
+    driver: u8,
+    routine: u8,
+    tries: u64,
+) -> Result<Vec<Found>, AllocError> {
+    let task = Task {
+        alloc,
+        driver,
+        routine,
+        usual: Usual::of(alloc, set)?,
+    };
+    let mut sets = Sets {
+        base: set,
+        edited: Vec::new(alloc),
+    };
+    let mut bench = Bench {
+        draft: Draft::new(alloc),
+        child: Draft::new(alloc),
+        reading: Reading::new(alloc),
+        next: Reading::new(alloc),
+        list: Candidates::new(alloc),
+    };
+    let mut ledger = Ledger::begin(alloc, tries)?;
+    for _ in 0..tries {
+        let Some((number, node)) = ledger.next() else {
+            break;
+        };
+        if node.edits < MAX_EDITS && rebuild(&task, &sets, &ledger, number, &mut bench.draft)? {
+            expand(&task, &sets, &mut ledger, &mut bench, number)?;
+            sets.take(&mut ledger)?;
+        }
+    }
+    found_edits(&task, &ledger)
+}
+
+impl<'a> Sets<'a> {
+    /// The set of a number.
+    fn get(&self, number: usize) -> &DriverSet {
+        match number
+            .checked_sub(1)
+            .and_then(|place| self.edited.get(place))
+        {
+            Some(set) => set,
+            None => self.base,
+        }
+    }
+
+    /// Takes the sets that were made.
+    fn take(&mut self, ledger: &mut Ledger) -> Result<(), AllocError> {
+        self.edited.append(&mut ledger.made)?;
+        Ok(())
+    }
+}
+
+/// Makes the code of a node.
+fn rebuild(
+    task: &Task,
+    sets: &Sets,
+    ledger: &Ledger,
+    number: usize,
+    draft: &mut Draft,
+) -> Result<bool, AllocError> {
+    let Some(driver) = sets.base.drivers().get(task.driver as usize) else {
+        return Ok(false);
+    };
+    let Some(routine) = driver.routines.as_slice().get(task.routine as usize) else {
+        return Ok(false);
+    };
+    draft.take(routine.code.as_slice())?;
+    for node in ledger.path(number)?.as_slice() {
+        let changes = ledger.changes_of(node);
+        if !draft.apply(changes)? {
+            return Ok(false);
+        }
+        draft.touch(changes)?;
+    }
+    Ok(true)
+}
+
+/// Tries the candidates of a node.
+fn expand(
+    task: &Task,
+    sets: &Sets,
+    ledger: &mut Ledger,
+    bench: &mut Bench,
+    number: usize,
+) -> Result<(), AllocError> {
+    let Some(node) = ledger.node(number) else {
+        return Ok(());
+    };
+    let Some(subject) = Subject::of(sets.get(node.set), task.driver, task.routine) else {
+        return Ok(());
+    };
+    let code = bench.draft.code.as_slice();
+    bench.reading.read(&subject, code)?;
+    let Some(fault) = bench.reading.fault else {
+        return Ok(());
+    };
+    let here = Here {
+        number,
+        node,
+        fault,
+        strangeness: task.usual.strangeness(subject.sort, code),
+        mismatches: mismatches(code),
+        empties: empties(code),
+    };
+    bench.list.clear();
+    let touched = bench.draft.touched.as_slice();
+    if let Some(scene) = Scene::of(task.alloc, &subject, code, &bench.reading, touched)? {
+        scene.add_all(task.alloc, &mut bench.list)?;
+    }
+    for place in 0..bench.list.as_slice().len() {
+        if !ledger.uses_try() {
+            return Ok(());
+        }
+        try_candidate(task, &subject, &here, ledger, bench, place)?;
+    }
+    Ok(())
+}
+
+/// Tries a candidate, by its place in the list.
+fn try_candidate(
+    task: &Task,
+    subject: &Subject,
+    here: &Here,
+    ledger: &mut Ledger,
+    bench: &mut Bench,
+    place: usize,
+) -> Result<(), AllocError> {
+    let Some(candidate) = bench.list.as_slice().get(place).copied() else {
+        return Ok(());
+    };
+    let changes = bench.list.changes_of(&candidate);
+    if candidate.manner == Manner::Line {
+        let code = bench.draft.code.as_slice();
+        return try_line(task, subject, here, ledger, (&candidate, changes, code));
+    }
+    bench.child.take_code(bench.draft.code.as_slice())?;
+    if !bench.child.apply(changes)? {
+        return Ok(());
+    }
+    let code = bench.child.code.as_slice();
+    let known = known_before(here, &candidate, changes);
+    bench
+        .next
+        .read_behind(subject, code, &bench.reading, known)?;
+    let cost = cost_of(task, subject, here, ledger, &candidate, code)?;
+    let key = key_of(code, here.node.set);
+    match bench.next.fault {
+        Some(fault) => match cost_on(here, &candidate, changes, fault, cost) {
+            Some(cost) if ledger.note(key)? => {
+                let number = ledger.add(
+                    Some(here.number),
+                    made(&candidate),
+                    cost,
+                    here.node.set,
+                    changes,
+                )?;
+                ledger.wait(number, cost)
+            }
+            _ => Ok(()),
+        },
+        None => {
+            let new = ledger.note(key)?;
+            if new || ledger.drops_dearer(key, cost) {
+                let number = ledger.add(
+                    Some(here.number),
+                    made(&candidate),
+                    cost,
+                    here.node.set,
+                    changes,
+                )?;
+                ledger.solve(number, cost, key)?;
+            }
+            Ok(())
+        }
+    }
+}
+
+/// How many positions of a node's code are read alike behind a candidate: none where loops change.
+fn known_before(here: &Here, candidate: &Candidate, changes: &[Placed]) -> usize {
+    let loops = matches!(candidate.old, Some(Instr::Loop(_) | Instr::End));
+    if loops || candidate.manner == Manner::Block {
+        return 0;
+    }
+    first_changed(changes).min(here.fault.at) as usize
+}
+
+/// What is kept of a candidate for the costs of those behind it.
+fn made(candidate: &Candidate) -> Made {
+    Made {
+        manner: candidate.manner,
+        new: candidate.new,
+        old: candidate.old,
+    }
+}
+
+/// What a node costs that a candidate leads to, if it leads on: its fault is later, or at the same
+/// place with a greater rule. A deletion or replacement elsewhere may leave it as it is.
+fn cost_on(
+    here: &Here,
+    candidate: &Candidate,
+    changes: &[Placed],
+    fault: Fault,
+    cost: u32,
+) -> Option<u32> {
+    let old = here.fault;
+    let Some(place) = followed(changes, old.at) else {
+        let behind = followed(changes, old.at.saturating_add(1));
+        return match behind {
+            Some(behind) if fault.at < behind => None,
+            _ => Some(cost),
+        };
+    };
+    let greater = fault.rule.number() > old.rule.number();
+    if fault.at > place || fault.at == place && greater {
+        return Some(cost);
+    }
+    let apart = changes.iter().all(|placed| placed.at != old.at);
+    match candidate.manner {
+        Manner::Delete | Manner::Replace if fault.at == place && apart => {
+            Some(cost.saturating_add(30))
+        }
+        _ => None,
+    }
+}
+
+/// What a node costs that a candidate leads to, with all before it.
+fn cost_of(
+    task: &Task,
+    subject: &Subject,
+    here: &Here,
+    ledger: &Ledger,
+    candidate: &Candidate,
+    code: &[Instr],
+) -> Result<u32, AllocError> {
+    let strange = task.usual.strangeness(subject.sort, code);
+    let part = match candidate.manner {
+        Manner::Block | Manner::Template => 4,
+        _ => 10,
+    };
+    let more = strange
+        .saturating_sub(here.strangeness)
+        .saturating_mul(part)
+        / 10;
+    let less = here
+        .strangeness
+        .saturating_sub(strange)
+        .saturating_mul(part)
+        / 10;
+    let wrong = mismatches(code)
+        .saturating_sub(here.mismatches)
+        .saturating_mul(40);
+    let empty = empties(code)
+        .saturating_sub(here.empties)
+        .saturating_mul(50);
+    let rebate = rebate_on(here, ledger, candidate)?;
+    let alone = if here.node.edits > 0 && rebate == 0 {
+        30
+    } else {
+        0
+    };
+    let cost = candidate.cost.saturating_add(more).saturating_add(wrong);
+    let cost = cost.saturating_add(empty).saturating_add(alone);
+    let cost = cost
+        .saturating_sub(less.min(30))
+        .saturating_sub(rebate)
+        .max(15);
+    Ok(here.node.cost.saturating_add(cost))
+}
+
+/// What a candidate costs less behind the edits of a node.
+fn rebate_on(here: &Here, ledger: &Ledger, candidate: &Candidate) -> Result<u32, AllocError> {
+    if here.node.edits == 0 {
+        return Ok(0);
+    }
+    for node in ledger.path(here.number)?.as_slice() {
+        let less = rebate(&node.made, candidate);
+        if node.edits > 0 && less > 0 {
+            return Ok(less);
+        }
+    }
+    Ok(0)
+}
+
+/// A number for code of a set, which few others have.
+fn key_of(code: &[Instr], set: usize) -> u64 {
+    let mut key = set as u64;
+    for instr in code {
+        key = (key.rotate_left(5) ^ form_of(instr).mixed()).wrapping_mul(0x9e37_79b9_7f4a_7c15);
+    }
+    key
+}
+
+/// Tries an edit of lines. It costs more where another routine has a fault then.
+fn try_line(
+    task: &Task,
+    subject: &Subject,
+    here: &Here,
+    ledger: &mut Ledger,
+    line: (&Candidate, &[Placed], &[Instr]),
+) -> Result<(), AllocError> {
+    let (candidate, changes, code) = line;
+    let Some(set) = set_with(task, subject.set, changes)? else {
+        return Ok(());
+    };
+    let Some(edited) = Subject::of(&set, task.driver, task.routine) else {
+        return Ok(());
+    };
+    let mut reading = Reading::new(task.alloc);
+    reading.read(&edited, code)?;
+    let fault = reading.fault;
+    let cost = cost_of(task, subject, here, ledger, candidate, code)?;
+    let spoils = fault.is_none() && spoils_others(task, subject.set, &set)?;
+    let cost = if spoils {
+        cost.saturating_add(120)
+    } else {
+        cost
+    };
+    let number = ledger.next_set();
+    let next = ledger.add(Some(here.number), made(candidate), cost, number, changes)?;
+    match fault {
+        None => ledger.solve(next, cost, u64::MAX),
+        Some(fault) => match cost_on(here, candidate, changes, fault, cost) {
+            Some(cost) => {
+                ledger.keep(set)?;
+                ledger.wait(next, cost)
+            }
+            None => Ok(()),
+        },
+    }
+}
+
+/// A set with these changes of lines.
+fn set_with(
+    task: &Task,
+    set: &DriverSet,
+    changes: &[Placed],
+) -> Result<Option<DriverSet>, AllocError> {
+    let Ok(mut made) = set.copy(task.alloc) else {
+        return Err(AllocError);
+    };
+    for placed in changes {
+        let edit = edit_of(task, placed);
+        let Some(next) = edited(task.alloc, &made, &edit)? else {
+            return Ok(None);
+        };
+        made = next;
+    }
+    Ok(Some(made))
+}
+
+/// The edit that a change of the routine is.
+fn edit_of(task: &Task, placed: &Placed) -> Edit {
+    Edit {
+        driver: task.driver,
+        routine: task.routine,
+        at: placed.at,
+        change: placed.change,
+    }
+}
+
+/// Whether a routine but the one that is mended has a fault in a set that it hadn't in another.
+fn spoils_others(task: &Task, old: &DriverSet, new: &DriverSet) -> Result<bool, AllocError> {
+    for (d, driver) in new.drivers().iter().enumerate() {
+        for number in 0..driver.routines.as_slice().len() {
+            let place = (d.min(255) as u8, number.min(255) as u8);
+            let same = place.0 == task.driver && place.1 == task.routine;
+            if !same && !is_fine(task, new, place)? && is_fine(task, old, place)? {
+                return Ok(true);
+            }
+        }
+    }
+    Ok(false)
+}
+
+/// Whether a routine of a set has no fault.
+fn is_fine(task: &Task, set: &DriverSet, place: (u8, u8)) -> Result<bool, AllocError> {
+    let Some(driver) = set.drivers().get(place.0 as usize) else {
+        return Ok(true);
+    };
+    let Some(routine) = driver.routines.as_slice().get(place.1 as usize) else {
+        return Ok(true);
+    };
+    match check_routine(task.alloc, set, place.0, place.1, routine) {
+        Err(refusal) if refusal.rule == Rule::Memory => Err(AllocError),
+        Err(_) => Ok(false),
+        Ok(_certificate) => Ok(true),
+    }
+}
+
+/// The edits of the best solutions.
+fn found_edits(task: &Task, ledger: &Ledger) -> Result<Vec<Found>, AllocError> {
+    let mut found = Vec::new(task.alloc);
+    for solution in ledger.solutions().iter().take(MAX_FOUND) {
+        let mut edits = Vec::new(task.alloc);
+        for node in ledger.path(solution.node)?.as_slice() {
+            for placed in ledger.changes_of(node) {
+                edits.push(edit_of(task, placed))?;
+            }
+        }
+        found.push(Found {
+            edits: Items::of(edits),
+            cost: solution.cost,
+        })?;
+    }
+    Ok(found)
+}
