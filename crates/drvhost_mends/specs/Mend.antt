@@ -1,5 +1,5 @@
 -- What `mend` answers: offers of mends, each with a diff of the text that was checked.
-use Rattle.std.specs.Prelude.{ℕ, zero, suc, ◌≡◌, ◌+◌, ◌<◌, ◌++◌, ◌||◌, ◌&&◌, not, nat_eq, ◌⊎◌, Bool, true, false, List, [], ◌∷◌, Ok, Some, codes, decimal}
+use Rattle.std.specs.Prelude.{ℕ, zero, suc, ◌≡◌, ◌+◌, ◌<◌, ◌++◌, ◌||◌, ◌&&◌, not, nat_eq, ◌⊎◌, Bool, true, false, if◌then◌else◌, List, [], ◌∷◌, Ok, Some, codes, decimal}
 use Rattle.std.specs.List.{starts_with}
 use Rattle.asm_listing.specs.Listing.{listing}
 use Rattle.drvhost_devices.specs.Answer.{Answer, FileSays, IsOfFile, ended, is_image}
@@ -54,10 +54,14 @@ abbrev pub extent_text : Extent → List ℕ
 extent_text Whole = codes " of the whole: "
 extent_text Part = codes " of a part: "
 
+abbrev pub offer_head : Extent → ℕ → List ℕ
+offer_head extent number = codes "mend " ++ (decimal number ++ extent_text extent)
+
+abbrev pub diff_shown : List ℕ → List ℕ
+diff_shown diff = codes "\n--- set\n+++ mended\n" ++ diff
+
 abbrev pub offer_text : Extent → ℕ → List ℕ → List ℕ → List ℕ
-offer_text extent number words diff =
-    codes "mend " ++ (decimal number ++ (extent_text extent ++ (words
-    ++ (codes "\n--- set\n+++ mended\n" ++ diff))))
+offer_text extent number words diff = offer_head extent number ++ (words ++ diff_shown diff)
 
 pub record IsOffer (refusal : Refusal) (text : List ℕ) (extent : Extent) (number : ℕ)
     (written : List ℕ) : Type 0 where
@@ -81,9 +85,11 @@ AreOffers refusal text (suc count) whole written =
     × (whole ≡ before || is_whole extent) × (written ≡ earlier ++ last)
 
 -- offers, or that there is none
+abbrev pub none_told : Asked → List ℕ
+none_told asked = codes "no mend found in " ++ (decimal asked.tries ++ codes " tries\n")
+
 abbrev pub told : Asked → ℕ → List ℕ → List ℕ
-told asked zero offers = codes "no mend found in " ++ (decimal asked.tries ++ codes " tries\n")
-told asked (suc count) offers = offers
+told asked count offers = if nat_eq count 0 then none_told asked else offers
 
 -- the exit status is 0 where the whole is mended
 abbrev pub end_of : Bool → End

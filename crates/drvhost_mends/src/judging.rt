@@ -1,7 +1,6 @@
 //! What a diff of a text mends.
 
-ghost use Rattle.std.specs.Prelude.{◌≡◌, ◌⊎◌, ◌≢◌, IfOk, IfSome, true};
-ghost use Rattle.model.specs.Typable.{IsFirstFault};
+ghost use Rattle.std.specs.Prelude.{◌≡◌, ◌≢◌, IfOk, IfSome, OnOk, true};
 ghost use Rattle.drvhost_mends.specs.Mend.{IsLater, IsOf, Mends, is_whole};
 
 use drvhost_devices::fault::Fault;
@@ -58,15 +57,30 @@ fn judge_set(alloc: Global, set: DriverSet, refusal: &Refusal) -> Result<Option<
     match verify(alloc, set) {
         Ok(_accepted) => Ok(Some(Extent::Whole)),
         Err((_set, left)) => {
-            if left.rule == Rule::Memory {
-                return Err(AllocError);
-            }
-            if is_later(&left, refusal) {
-                Ok(Some(Extent::Part))
-            } else {
-                Ok(None)
-            }
+            verdict(&left)?;
+            Ok(extent_left(&left, refusal))
         }
+    }
+}
+
+/// Nothing, where a refusal is a verdict, and not one for want of memory.
+pub(crate) fn verdict(refusal: &Refusal) -> Result<(), AllocError>
+    ensures { OnOk result (refusal.now.rule ≢ Rule.Memory) }
+{
+    if refusal.rule == Rule::Memory {
+        return Err(AllocError);
+    }
+    Ok(())
+}
+
+/// How much is mended where this is left.
+fn extent_left(left: &Refusal, refusal: &Refusal) -> Option<Extent>
+    ensures { IfSome result (λ extent. (extent ≡ Extent.Part) × IsLater left.now refusal.now) }
+{
+    if is_later(left, refusal) {
+        Some(Extent::Part)
+    } else {
+        None
     }
 }
 

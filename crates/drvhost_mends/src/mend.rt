@@ -6,8 +6,9 @@ ghost use Rattle.drvhost_devices.specs.Answer.{ended, is_image};
 ghost use Rattle.drvhost_devices.specs.Device.{Bytes, CanCount, Says};
 ghost use Rattle.drvhost_devices.specs.Ends.{Answers, IsOfSupply};
 ghost use Rattle.drvhost_devices.specs.Fault.{Goes, reads_failed, writes_failed};
-ghost use Rattle.drvhost_mends.specs.Mend.{IsMend, IsMended, IsMendOf, end_of, nothing_told, text_of, told};
+ghost use Rattle.drvhost_mends.specs.Mend.{IsMend, IsMended, IsMendOf, end_of, none_told, nothing_told, text_of, told};
 
+use crate::judging::verdict;
 use crate::offering::{Offered, offer};
 use asm_listing::listing;
 use drvhost_devices::device::{Sink, Source};
@@ -153,18 +154,16 @@ fn reply_on_refused(
     ensures { IfOk result
         (λ reply. IsMended asked text.now set.now (ended reply.end reply.text.items)) }
 {
-    if refusal.rule == Rule::Memory {
-        return Err(AllocError);
-    }
+    verdict(refusal)?;
     let offered = offer(alloc, asked.tries, text, set, refusal)?;
     let mut line = Lines::new(alloc)?;
     line.refusal(refusal);
-    let mut text = Vec::new(alloc);
-    text.extend_from_slice(line.bytes())?;
-    add_told(alloc, &mut text, asked, &offered)?;
+    let mut written = Vec::new(alloc);
+    written.extend_from_slice(line.bytes())?;
+    add_told(alloc, &mut written, asked, &offered)?;
     Ok(Reply {
         end: end_of(offered.whole),
-        text,
+        text: written,
     })
 }
 
@@ -178,10 +177,17 @@ fn add_told(
     ensures { OnOk result (text.new.items
         ≡ text.old.items ++ told asked offered.now.count offered.now.text.items) }
 {
-    if offered.count > 0 {
-        text.extend_from_slice(offered.text.as_slice())?;
-        return Ok(());
+    if offered.count == 0 {
+        return add_none(alloc, text, asked);
     }
+    text.extend_from_slice(offered.text.as_slice())?;
+    Ok(())
+}
+
+/// Adds that there is none.
+fn add_none(alloc: Global, text: &mut Vec<u8>, asked: Asked) -> Result<(), AllocError>
+    ensures { OnOk result (text.new.items ≡ text.old.items ++ none_told asked) }
+{
     let mut none = String::new(alloc);
     write!(none, "no mend found in {} tries\n", asked.tries)?;
     text.extend_from_slice(none.as_bytes())?;

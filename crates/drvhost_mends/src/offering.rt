@@ -1,12 +1,12 @@
 //! Offers, each of which was judged by its diff.
 
-ghost use Rattle.std.specs.Prelude.{◌≡◌, ◌++◌, IfOk, OnOk, string_bytes};
+ghost use Rattle.std.specs.Prelude.{◌≡◌, ◌++◌, ◌||◌, IfOk, OnOk};
 ghost use Rattle.text.specs.Cut.{lines_of};
-ghost use Rattle.drvhost_mends.specs.Mend.{AreOffers, are_words, extent_text, offer_text};
+ghost use Rattle.drvhost_mends.specs.Mend.{AreOffers, are_words, diff_shown, extent_text, is_whole, offer_head, offer_text};
 
 use crate::choosing::choices;
 use crate::judging::{Extent, judge};
-use crate::proposing::{Proposal, propose};
+use crate::proposing::propose;
 use driver_set::DriverSet;
 use mend_search::offers::find_offers;
 use model::abs::Refusal;
@@ -47,20 +47,22 @@ pub(crate) fn offer(
     for choice in all {
         if offered.count < MOST {
             if let Some(proposal) = propose(alloc, text, set, &found, choice)? {
-                add_judged(alloc, &mut offered, text, refusal, &proposal)?;
+                let (words, diff) = (proposal.words.as_bytes(), proposal.diff.as_bytes());
+                add_judged(alloc, &mut offered, text, refusal, words, diff)?;
             }
         }
     }
     Ok(offered)
 }
 
-/// Adds what is proposed, if it mends something.
+/// Adds a diff with words on it, if it mends something.
 fn add_judged(
     alloc: Global,
     offered: &mut Offered,
     text: &[u8],
     refusal: &Refusal,
-    proposal: &Proposal,
+    words: &[u8],
+    diff: &[u8],
 ) -> Result<(), AllocError>
     requires { AreOffers refusal.now text.now offered.old.count offered.old.whole
         offered.old.text.items }
@@ -70,17 +72,24 @@ fn add_judged(
     if offered.count >= MOST {
         return Ok(());
     }
-    let Some(extent) = judge(alloc, text, refusal, proposal.diff.as_bytes())? else {
+    let Some(extent) = judge(alloc, text, refusal, diff)? else {
         return Ok(());
     };
-    if !are_words(proposal.words.as_bytes()) {
+    if !are_words(words) {
         return Ok(());
     }
     let number = offered.count + 1;
-    write_offer(alloc, &mut offered.text, extent, number, proposal)?;
+    write_offer(alloc, &mut offered.text, extent, number, words, diff)?;
     offered.count = number;
-    offered.whole = offered.whole || extent.is_whole();
+    offered.whole = either(offered.whole, extent);
     Ok(())
+}
+
+/// Whether an offer is of the whole, or one of those before it.
+fn either(whole: bool, extent: Extent) -> bool
+    ensures { result ≡ whole || is_whole extent }
+{
+    whole || extent.is_whole()
 }
 
 /// Adds an offer.
@@ -89,18 +98,39 @@ fn write_offer(
     text: &mut Vec<u8>,
     extent: Extent,
     number: u64,
-    proposal: &Proposal,
+    words: &[u8],
+    diff: &[u8],
 ) -> Result<(), AllocError>
-    ensures { OnOk result (text.new.items ≡ text.old.items ++ offer_text extent number
-        (string_bytes proposal.now.words) (string_bytes proposal.now.diff)) }
+    ensures { OnOk result (text.new.items
+        ≡ text.old.items ++ offer_text extent number words.now diff.now) }
+{
+    add_head(alloc, text, extent, number)?;
+    text.extend_from_slice(words)?;
+    add_diff(text, diff)
+}
+
+/// Adds the beginning of an offer.
+fn add_head(
+    alloc: Global,
+    text: &mut Vec<u8>,
+    extent: Extent,
+    number: u64,
+) -> Result<(), AllocError>
+    ensures { OnOk result (text.new.items ≡ text.old.items ++ offer_head extent number) }
 {
     let mut head = String::new(alloc);
     write!(head, "mend {number}")?;
     text.extend_from_slice(head.as_bytes())?;
     text.extend_from_slice(extent_text(extent))?;
-    text.extend_from_slice(proposal.words.as_bytes())?;
+    Ok(())
+}
+
+/// Adds a diff behind words.
+fn add_diff(text: &mut Vec<u8>, diff: &[u8]) -> Result<(), AllocError>
+    ensures { OnOk result (text.new.items ≡ text.old.items ++ diff_shown diff.now) }
+{
     text.extend_from_slice(b"\n--- set\n+++ mended\n")?;
-    text.extend_from_slice(proposal.diff.as_bytes())?;
+    text.extend_from_slice(diff)?;
     Ok(())
 }
 

@@ -1,6 +1,6 @@
 //! Which labels stand where behind edits: old ones are kept where that can be.
 
-use crate::rows::Row;
+use crate::rows::{How, Row};
 use driver_set::Instr;
 use std::alloc::{AllocError, Global};
 use text::add_bytes;
@@ -67,15 +67,11 @@ impl<'a> Labels<'a> {
         }
     }
 
-    /// A label goes with the first jump that led to it.
+    /// A label goes with the first jump that led to it, but not with one that is another now.
     fn follow_jumps(&mut self, olds: &[Instr], news: &[Instr], rows: &[Row]) {
         for (row, now) in rows.iter().zip(news.iter()) {
-            if let (Some(origin), Some(to)) = (row.origin, now.label()) {
-                let from = match olds.get(origin as usize) {
-                    Some(before) => before.label(),
-                    None => None,
-                };
-                if let Some(from) = from {
+            if row.how != How::Replaced {
+                if let (Some(from), Some(to)) = (label_before(olds, row), now.label()) {
                     self.put(from as usize, to as usize);
                 }
             }
@@ -156,4 +152,10 @@ impl<'a> Labels<'a> {
             None => false,
         })
     }
+}
+
+/// Where the jump led that an instruction was.
+fn label_before(olds: &[Instr], row: &Row) -> Option<u16> {
+    let before = olds.get(row.origin? as usize)?;
+    before.label()
 }

@@ -96,7 +96,7 @@ pub(crate) fn guessed(alloc: Global, instr: Instr) -> Result<Option<String>, All
             write!(prose, "the status {}", status_text(status))?;
         }
         Instr::Const(_, number) => write!(prose, "the number {number}")?,
-        Instr::Loop(turns) => write!(prose, "the {} turns", turns.count())?,
+        Instr::Loop(_) => prose.push_str("the number of turns")?,
         Instr::JumpIfZero(..) | Instr::JumpIfLess(..) => prose.push_str("the condition")?,
         _ => return Ok(None),
     }

@@ -38,21 +38,22 @@ pub(crate) fn instruction_text(
         if index > 0 {
             prose.push_str(" ")?;
         }
-        add_word(&mut prose, names, name_at(instr, index), label, word)?;
+        add_word(&mut prose, names, &instr, index, label, word)?;
         index = index.saturating_add(1);
     }
     Ok(prose)
 }
 
-/// Adds a word of an instruction, or the name that stands for it.
+/// Adds the word of an index of an instruction, or the name that stands for it.
 fn add_word(
     prose: &mut String,
     names: Names<'_, '_>,
-    named: Named,
+    instr: &Instr,
+    index: usize,
     label: Option<Label<'_>>,
     word: &[u8],
 ) -> Result<(), AllocError> {
-    match named {
+    match name_at(instr, index) {
         Named::Label => match label {
             Some(label) => add_label(prose, label),
             None => add_bytes(prose, word),
@@ -64,13 +65,13 @@ fn add_word(
 }
 
 /// What the word of an index names.
-fn name_at(instr: Instr, index: usize) -> Named {
+fn name_at(instr: &Instr, index: usize) -> Named {
     match (instr, index) {
         (Instr::Insert(_, queue), 2)
         | (Instr::Unlink(_, queue), 2)
         | (Instr::Arm(_, queue), 2)
-        | (Instr::Remove(_, queue, _), 2) => Named::Queue(queue),
-        (Instr::Call(_, Some(routine)), 2) => Named::Routine(routine),
+        | (Instr::Remove(_, queue, _), 2) => Named::Queue(*queue),
+        (Instr::Call(_, Some(routine)), 2) => Named::Routine(*routine),
         (Instr::Jump(_), 1)
         | (Instr::JumpIfZero(..), 2)
         | (Instr::Disarm(..), 2)

@@ -26,7 +26,7 @@ returns-in_err-write_bytes-clause-goes g c =
     rw (p.1, p.2, c.in_err-write_bytes.ensures.fault) (
       ended reply.end reply.text.items,
       right_on (IsMend c.args.asked bytes) (Bytes bytes) c.in_ok-set.set c.in_ok-set.ensures.set
-      (ended reply.end reply.text.items) c.in_ok-reply.ensures,
+          (ended reply.end reply.text.items) c.in_ok-reply.ensures,
       subst B c.as_slice.ensures.value c.in_err-write_bytes.ensures.written,
     )
 
@@ -38,6 +38,6 @@ returns-clause-goes g c =
     Adds (g.O.Sink.contents c.args.out.now) (g.O.Sink.contents c.write_bytes.new.sink) [] [] in (
       reply.text.items,
       right_on (IsMend c.args.asked bytes) (Bytes bytes) c.in_ok-set.set c.in_ok-set.ensures.set
-      (ended reply.end reply.text.items) c.in_ok-reply.ensures,
+          (ended reply.end reply.text.items) c.in_ok-reply.ensures,
       subst A c.as_slice.ensures.value (search rules),
     )
