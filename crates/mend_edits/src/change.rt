@@ -1,15 +1,14 @@
-//! Changes of a text that steps have made already.
-
-ghost use Rattle.std.specs.Prelude.{◌≤◌, length};
+//! Changes of a text, as steps.
 
 use crate::step::Step;
 use model::items::Items;
 use std::alloc::{AllocError, Global};
+use text::cut::Lines;
 
 /// Lines that are put in place of others.
 #[derive(Drop)]
 pub struct Change {
-    /// How many lines stand before the place.
+    /// How many lines of the text stand before the place.
     pub before: usize,
     /// How many lines from there on are taken out.
     pub taken: usize,
@@ -17,60 +16,54 @@ pub struct Change {
     pub lines: Vec<Items<u8>>,
 }
 
-/// The steps that make a text and then this change of it.
+/// The steps that make changes of a text, each of which begins where the one before it ends, or
+/// later. One that begins earlier is made where that one ends.
 ///
 /// # Errors
 ///
 /// When memory runs out.
-pub fn changed(alloc: Global, steps: &[Step], change: &Change) -> Result<Items<Step>, AllocError> {
-    let (before, after) = steps.split_at(place_of(steps, change.before));
-    let mut list = Vec::new(alloc);
-    for step in before {
-        list.push(step.copy(alloc)?)?;
+pub fn steps_of(alloc: Global, text: &[u8], changes: &[Change]) -> Result<Items<Step>, AllocError> {
+    let mut left = Lines::of(text);
+    let mut steps = Vec::new(alloc);
+    let mut passed: usize = 0;
+    for change in changes {
+        let kept = change.before.saturating_sub(passed);
+        keep(&mut steps, &mut left, kept)?;
+        delete(&mut steps, &mut left, change.taken)?;
+        add_lines(alloc, &mut steps, change.lines.as_slice())?;
+        passed = passed.saturating_add(kept).saturating_add(change.taken);
     }
-    for line in change.lines.as_slice() {
+    keep(&mut steps, &mut left, usize::MAX)?;
+    Ok(Items::of(steps))
+}
+
+/// Adds steps that keep so many lines, or all that are left.
+fn keep(steps: &mut Vec<Step>, left: &mut Lines<'_>, count: usize) -> Result<(), AllocError> {
+    for _ in 0..count {
+        if left.next().is_none() {
+            return Ok(());
+        }
+        steps.push(Step::Keep)?;
+    }
+    Ok(())
+}
+
+/// Adds steps that take out so many lines, or all that are left.
+fn delete(steps: &mut Vec<Step>, left: &mut Lines<'_>, count: usize) -> Result<(), AllocError> {
+    for _ in 0..count {
+        if left.next().is_none() {
+            return Ok(());
+        }
+        steps.push(Step::Delete)?;
+    }
+    Ok(())
+}
+
+/// Adds the steps that put lines in.
+fn add_lines(alloc: Global, steps: &mut Vec<Step>, lines: &[Items<u8>]) -> Result<(), AllocError> {
+    for line in lines {
         let line = Items::of(Vec::from_slice(alloc, line.as_slice())?);
-        list.push(Step::Insert(line))?;
-    }
-    add_without(alloc, &mut list, after, change.taken)?;
-    Ok(Items::of(list))
-}
-
-/// How many steps stand before the line before which so many others stand. Lines that are taken out
-/// before it are passed.
-fn place_of(steps: &[Step], before: usize) -> usize
-    ensures { result ≤ length steps.now }
-{
-    let mut left = before;
-    for (place, step) in steps.iter().enumerate() {
-        if !matches!(step, Step::Delete) {
-            if left == 0 {
-                return place;
-            }
-            left -= 1;
-        }
-    }
-    steps.len()
-}
-
-/// Adds steps, of which the first so many lines are taken out.
-fn add_without(
-    alloc: Global,
-    list: &mut Vec<Step>,
-    steps: &[Step],
-    taken: usize,
-) -> Result<(), AllocError> {
-    let mut left = taken;
-    for step in steps {
-        let goes = left > 0 && !matches!(step, Step::Delete);
-        if goes {
-            left -= 1;
-        }
-        match step {
-            Step::Keep if goes => list.push(Step::Delete)?,
-            Step::Insert(_) if goes => {}
-            step => list.push(step.copy(alloc)?)?,
-        }
+        steps.push(Step::Insert(line))?;
     }
     Ok(())
 }

@@ -2,11 +2,14 @@
 #![tactic(auto)]
 
 mod change;
+mod following;
+mod head;
 mod hunks;
 mod patching;
 mod step;
 
-pub use change::{Change, changed};
+pub use change::{Change, steps_of};
+pub use following::made_by;
 pub use hunks::diff;
 pub use patching::patch;
 pub use step::{Step, all_kept};

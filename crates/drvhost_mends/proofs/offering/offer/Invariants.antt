@@ -1,0 +1,9 @@
+use Rattle.drvhost_mends.specs.Mend.{AreOffers}
+use Rattle.drvhost_mends.proofs.offering.offer.Given as goal
+
+-- what was written are offers
+abbrev pub invariant-loop-choice : goal.invariant-loop-choice
+invariant-loop-choice l =
+    (goal.iterator-loop-choice).can_next l.choice-iterator
+    × (goal.iterator-loop-choice).is_finite l.choice-iterator
+    × AreOffers l.fn.refusal l.fn.text l.offered.count l.offered.whole l.offered.text.items

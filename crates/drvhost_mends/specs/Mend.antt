@@ -1,0 +1,122 @@
+-- What `mend` answers: offers of mends, each with a diff of the text that was checked.
+use Rattle.std.specs.Prelude.{ℕ, zero, suc, ◌≡◌, ◌+◌, ◌<◌, ◌++◌, ◌||◌, ◌&&◌, not, nat_eq, ◌⊎◌, Bool, true, false, if◌then◌else◌, List, [], ◌∷◌, Ok, Some, codes, decimal}
+use Rattle.std.specs.List.{starts_with}
+use Rattle.asm_listing.specs.Listing.{listing}
+use Rattle.drvhost_devices.specs.Answer.{Answer, FileSays, IsOfFile, ended, is_image}
+use Rattle.drvhost_devices.specs.declared.fault.End.{End}
+use Rattle.drvhost_devices.specs.declared.fault.End.TheVariants.{Complete, Stopped}
+use Rattle.drvhost_devices.specs.Device.{Holds, Supply}
+use Rattle.mend_edits.specs.Diff.{made_by}
+use Rattle.model.specs.declared.abs.Refusal.{Refusal}
+use Rattle.model.specs.Set.{Set}
+use Rattle.model.specs.Typable.{IsFirstFault, IsTypable}
+use Rattle.report.specs.Verdict.{refusal_line}
+use Rattle.text.specs.Cut.{lines_of}
+use Rattle.drvhost_mends.specs.declared.judging.Extent.{Extent}
+use Rattle.drvhost_mends.specs.declared.judging.Extent.TheVariants.{Whole, Part}
+use Rattle.drvhost_mends.specs.declared.mend.Asked.{Asked}
+
+-- the text that is mended: the file's own, or of an image the listing of its set
+abbrev pub text_of : Bool → List ℕ → Set → List ℕ
+text_of true bytes set = listing set
+text_of false bytes set = bytes
+
+-- what a diff makes of a text names a set
+abbrev pub Names : List ℕ → List ℕ → Set → Type 0
+Names text diff set =
+    (made : List ℕ) × (made_by diff text ≡ Some made) × FileSays made (Ok set)
+
+-- a refusal speaks of a later routine than another one
+abbrev pub IsLater : Refusal → Refusal → Type 0
+IsLater later refusal =
+    (refusal.driver < later.driver)
+    ⊎ ((later.driver ≡ refusal.driver) × (refusal.routine < later.routine))
+
+-- a set is accepted; or its first fault is in a later routine than the one that a refusal tells
+abbrev pub IsOf : Extent → Refusal → Set → Type 0
+IsOf Whole refusal set = IsTypable set
+IsOf Part refusal set = (left : Refusal) × IsFirstFault set left × IsLater left refusal
+
+-- a diff mends so much of a text: by the set that the text names then
+abbrev pub Mends : Extent → Refusal → List ℕ → List ℕ → Type 0
+Mends extent refusal text diff = (set : Set) × Names text diff set × IsOf extent refusal set
+
+-- words that can be told from a diff behind them: no line of theirs begins as the head of one does
+abbrev pub begins_diff : List ℕ → Bool
+begins_diff line = starts_with nat_eq line (codes "---")
+
+abbrev pub are_words : List (List ℕ) → Bool
+are_words [] = true
+are_words (line ∷ lines) = not (begins_diff line) && are_words lines
+
+-- an offer, by its number and what it mends, and the diff behind some words
+abbrev pub extent_text : Extent → List ℕ
+extent_text Whole = codes " of the whole: "
+extent_text Part = codes " of a part: "
+
+abbrev pub offer_head : Extent → ℕ → List ℕ
+offer_head extent number = codes "mend " ++ (decimal number ++ extent_text extent)
+
+abbrev pub diff_shown : List ℕ → List ℕ
+diff_shown diff = codes "\n--- set\n+++ mended\n" ++ diff
+
+abbrev pub offer_text : Extent → ℕ → List ℕ → List ℕ → List ℕ
+offer_text extent number words diff = offer_head extent number ++ (words ++ diff_shown diff)
+
+pub record IsOffer (refusal : Refusal) (text : List ℕ) (extent : Extent) (number : ℕ)
+    (written : List ℕ) : Type 0 where
+  pub words : List ℕ
+  pub worded : are_words (lines_of words) ≡ true
+  pub diff : List ℕ
+  pub mends : Mends extent refusal text diff
+  pub is : written ≡ offer_text extent number words diff
+
+-- so many offers, one behind another from number 1 on; one of them is of the whole, or none is
+abbrev pub is_whole : Extent → Bool
+is_whole Whole = true
+is_whole Part = false
+
+abbrev pub AreOffers : Refusal → List ℕ → ℕ → Bool → List ℕ → Type 0
+AreOffers refusal text zero whole written = (whole ≡ false) × (written ≡ [])
+AreOffers refusal text (suc count) whole written =
+    (before : Bool) × (earlier : List ℕ) × (extent : Extent) × (last : List ℕ)
+    × AreOffers refusal text count before earlier
+    × IsOffer refusal text extent (count + 1) last
+    × (whole ≡ before || is_whole extent) × (written ≡ earlier ++ last)
+
+-- offers, or that there is none
+abbrev pub none_told : Asked → List ℕ
+none_told asked = codes "no mend found in " ++ (decimal asked.tries ++ codes " tries\n")
+
+abbrev pub told : Asked → ℕ → List ℕ → List ℕ
+told asked count offers = if nat_eq count 0 then none_told asked else offers
+
+-- the exit status is 0 where the whole is mended
+abbrev pub end_of : Bool → End
+end_of true = Complete
+end_of false = Stopped
+
+-- a refused set: its first fault, and what mends it
+pub record IsMended (asked : Asked) (text : List ℕ) (set : Set) (answer : Answer) : Type 0 where
+  pub refusal : Refusal
+  pub first : IsFirstFault set refusal
+  pub count : ℕ
+  pub whole : Bool
+  pub offers : List ℕ
+  pub are : AreOffers refusal text count whole offers
+  pub is : answer ≡ ended (end_of whole) (refusal_line refusal ++ told asked count offers)
+
+-- an accepted set has nothing to mend
+abbrev pub nothing_told : List ℕ
+nothing_told = codes "accepted: nothing to mend\n"
+
+-- what is right for a set that the bytes of a file name
+abbrev pub IsMend : Asked → List ℕ → Set → Answer → Type 0
+IsMend asked bytes set answer =
+    (IsTypable set × (answer ≡ ended Complete nothing_told))
+    ⊎ IsMended asked (text_of (is_image bytes) bytes set) set answer
+
+-- what `mend` answers for what its source has
+abbrev pub IsMendOf : Asked → Supply → Answer → Type 0
+IsMendOf asked supply answer =
+    (bytes : List ℕ) × Holds supply bytes × IsOfFile (IsMend asked bytes) bytes answer

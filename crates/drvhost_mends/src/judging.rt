@@ -1,0 +1,93 @@
+//! What a diff of a text mends.
+
+ghost use Rattle.std.specs.Prelude.{◌≡◌, ◌≢◌, IfOk, IfSome, OnOk, true};
+ghost use Rattle.drvhost_mends.specs.Mend.{IsLater, IsOf, Mends, is_whole};
+
+use drvhost_devices::fault::Fault;
+use drvhost_devices::reading::set_of;
+use image::DriverSet;
+use mend_edits::made_by;
+use model::abs::{Refusal, Rule};
+use std::alloc::{AllocError, Global};
+use verifier::verify;
+
+/// How much of a text a diff mends.
+#[derive(Clone, Copy)]
+pub enum Extent {
+    /// All of it: the set that it names then is accepted.
+    Whole,
+    /// A part of it: the first fault of the set that it names then is in a later routine.
+    Part,
+}
+
+impl Extent {
+    /// Whether it is the whole.
+    pub fn is_whole(self) -> bool
+        ensures { result ≡ is_whole self }
+    {
+        matches!(self, Extent::Whole)
+    }
+}
+
+/// How much a diff of a text mends, by the set that the text names then, and why the set that it
+/// names without it is refused.
+pub(crate) fn judge(
+    alloc: Global,
+    text: &[u8],
+    refusal: &Refusal,
+    diff: &[u8],
+) -> Result<Option<Extent>, AllocError>
+    ensures { IfOk result
+        (λ judged. IfSome judged (λ extent. Mends extent refusal.now text.now diff.now)) }
+{
+    let Some(made) = made_by(alloc, diff, text)? else {
+        return Ok(None);
+    };
+    match set_of(alloc, made.as_slice()) {
+        Ok(set) => judge_set(alloc, set, refusal),
+        Err(Fault::Memory) => Err(AllocError),
+        Err(_) => Ok(None),
+    }
+}
+
+/// How much is mended where this set is made of one that is refused.
+fn judge_set(alloc: Global, set: DriverSet, refusal: &Refusal) -> Result<Option<Extent>, AllocError>
+    ensures { IfOk result (λ judged. IfSome judged (λ extent. IsOf extent refusal.now set)) }
+{
+    match verify(alloc, set) {
+        Ok(_accepted) => Ok(Some(Extent::Whole)),
+        Err((_set, left)) => {
+            verdict(&left)?;
+            Ok(extent_left(&left, refusal))
+        }
+    }
+}
+
+/// Nothing, where a refusal is a verdict, and not one for want of memory.
+pub(crate) fn verdict(refusal: &Refusal) -> Result<(), AllocError>
+    ensures { OnOk result (refusal.now.rule ≢ Rule.Memory) }
+{
+    if refusal.rule == Rule::Memory {
+        return Err(AllocError);
+    }
+    Ok(())
+}
+
+/// How much is mended where this is left.
+fn extent_left(left: &Refusal, refusal: &Refusal) -> Option<Extent>
+    ensures { IfSome result (λ extent. (extent ≡ Extent.Part) × IsLater left.now refusal.now) }
+{
+    if is_later(left, refusal) {
+        Some(Extent::Part)
+    } else {
+        None
+    }
+}
+
+/// Whether a refusal speaks of a later routine than another one.
+fn is_later(left: &Refusal, refusal: &Refusal) -> bool
+    ensures { result ≡ true → IsLater left.now refusal.now }
+{
+    left.driver > refusal.driver
+        || (left.driver == refusal.driver && left.routine > refusal.routine)
+}

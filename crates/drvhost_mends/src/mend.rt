@@ -1,0 +1,202 @@
+//! Mends of a driver set's text, offered as diffs.
+
+ghost use Rattle.std.specs.Prelude.{◌≡◌, ◌+◌, ◌++◌, ◌⊎◌, [], IfOk, OnOk, string_bytes};
+ghost use Rattle.model.specs.Typable.{IsFirstFault, at_start};
+ghost use Rattle.drvhost_devices.specs.Answer.{ended, is_image};
+ghost use Rattle.drvhost_devices.specs.Device.{Bytes, CanCount, Says};
+ghost use Rattle.drvhost_devices.specs.Ends.{Answers, IsOfSupply};
+ghost use Rattle.drvhost_devices.specs.Fault.{Goes, reads_failed, writes_failed};
+ghost use Rattle.drvhost_mends.specs.Mend.{IsMend, IsMended, IsMendOf, end_of, none_told, nothing_told, text_of, told};
+
+use crate::judging::verdict;
+use crate::offering::{Offered, offer};
+use asm_listing::listing;
+use drvhost_devices::device::{Sink, Source};
+use drvhost_devices::fault::{End, Fault, finish, no_memory};
+use drvhost_devices::reading::{begins_image, set_of};
+use drvhost_devices::transfer::{read_whole, write_bytes};
+use image::DriverSet;
+use model::abs::{Refusal, Rule};
+use report::lines::Lines;
+use std::alloc::{AllocError, Global};
+use verifier::verify;
+
+/// How often a mend is tried of each faulty routine where nothing is said of it.
+pub const USUAL_TRIES: u64 = 20_000;
+
+/// How often at most.
+pub const MAX_TRIES: u64 = 1_000_000;
+
+/// What is asked for.
+#[derive(Clone, Copy)]
+pub struct Asked {
+    /// How often a mend is tried of each faulty routine.
+    pub tries: u64,
+}
+
+/// Writes how the text of a driver set may be changed so that the set is accepted: up to three
+/// offers, each with a sentence for each change and a diff. Of an image its listing is mended. The
+/// answer is the exit status: 0 where the set is accepted already or the whole text is mended, 1
+/// where a part of it is or nothing, 2 where the set's text or its image is faulty or a read or a
+/// write failed, 3 where memory ran out. Faults are told on the error writer.
+pub fn mend<S: Source, O: Sink, E: Sink>(
+    alloc: Global,
+    asked: Asked,
+    set: &mut S,
+    out: &mut O,
+    err: &mut E,
+) -> u8
+    requires set { CanCount (S.failures set.old) }
+    requires out { CanCount (O.failures out.old) }
+    requires err { CanCount (E.failures err.old) }
+    ensures { Answers (IsMendOf asked (S.supply set.old))
+        (S.failures set.old) (S.failures set.new) (O.failures out.old) (O.failures out.new)
+        (O.contents out.old) (O.contents out.new)
+        (Says (E.failures err.old) (E.failures err.new) (E.contents err.old) (E.contents err.new))
+        result }
+{
+    match Lines::new(alloc) {
+        Ok(mut lines) => {
+            let end = mend_source(alloc, asked, set, out);
+            finish(end, &mut lines, err)
+        }
+        Err(AllocError) => no_memory(err),
+    }
+}
+
+/// Writes mends of the text that a source has.
+fn mend_source<S: Source, O: Sink>(
+    alloc: Global,
+    asked: Asked,
+    set: &mut S,
+    out: &mut O,
+) -> Result<End, Fault>
+    requires set { CanCount (S.failures set.old) }
+    requires out { CanCount (O.failures out.old) }
+    ensures goes { Goes (IsMendOf asked (S.supply set.old)) (O.contents out.old)
+        (O.contents out.new) [] [] result }
+    ensures reads { S.failures set.new ≡ S.failures set.old + reads_failed result }
+    ensures writes { O.failures out.new ≡ O.failures out.old + writes_failed result }
+{
+    let bytes = read_whole(alloc, set)?;
+    mend_bytes(alloc, asked, bytes.as_slice(), out)
+}
+
+/// Writes mends of the text that the bytes of a file are.
+fn mend_bytes<O: Sink>(alloc: Global, asked: Asked, bytes: &[u8], out: &mut O) -> Result<End, Fault>
+    requires out { CanCount (O.failures out.old) }
+    ensures goes { Goes (IsOfSupply (IsMend asked bytes.now) (Bytes bytes.now)) (O.contents out.old)
+        (O.contents out.new) [] [] result }
+    ensures reads { reads_failed result ≡ 0 }
+    ensures writes { O.failures out.new ≡ O.failures out.old + writes_failed result }
+{
+    let set = set_of(alloc, bytes)?;
+    let reply = reply_on(alloc, asked, bytes, set)?;
+    write_bytes(reply.text.as_slice(), out)?;
+    Ok(reply.end)
+}
+
+/// What is answered, and how the job ends.
+#[derive(Drop)]
+struct Reply {
+    end: End,
+    text: Vec<u8>,
+}
+
+/// What is answered on the set that the bytes of a file name.
+fn reply_on(alloc: Global, asked: Asked, bytes: &[u8], set: DriverSet) -> Result<Reply, AllocError>
+    ensures { IfOk result
+        (λ reply. IsMend asked bytes.now set (ended reply.end reply.text.items)) }
+{
+    match verify(alloc, set) {
+        Ok(_accepted) => nothing(alloc),
+        Err((set, refusal)) => {
+            let text = text_of(alloc, bytes, &set)?;
+            reply_on_refused(alloc, asked, text.as_slice(), &set, &refusal)
+        }
+    }
+}
+
+/// That a set is accepted already.
+fn nothing(alloc: Global) -> Result<Reply, AllocError>
+    ensures { IfOk result (λ reply. ended reply.end reply.text.items ≡ ended End.Complete nothing_told) }
+{
+    let mut text = Vec::new(alloc);
+    text.extend_from_slice(b"accepted: nothing to mend\n")?;
+    Ok(Reply {
+        end: End::Complete,
+        text,
+    })
+}
+
+/// The text that is mended: the file's own, or of an image the listing of its set.
+fn text_of(alloc: Global, bytes: &[u8], set: &DriverSet) -> Result<Vec<u8>, AllocError>
+    ensures { IfOk result
+        (λ text. text.items ≡ text_of (is_image bytes.now) bytes.now set.now) }
+{
+    if begins_image(bytes) {
+        return Ok(listing(alloc, set)?.into_bytes());
+    }
+    let mut text = Vec::new(alloc);
+    text.extend_from_slice(bytes)?;
+    Ok(text)
+}
+
+/// What is answered on a refused set.
+fn reply_on_refused(
+    alloc: Global,
+    asked: Asked,
+    text: &[u8],
+    set: &DriverSet,
+    refusal: &Refusal,
+) -> Result<Reply, AllocError>
+    requires { (refusal.now ≡ at_start Rule.Memory) ⊎ IsFirstFault set.now refusal.now }
+    ensures { IfOk result
+        (λ reply. IsMended asked text.now set.now (ended reply.end reply.text.items)) }
+{
+    verdict(refusal)?;
+    let offered = offer(alloc, asked.tries, text, set, refusal)?;
+    let mut line = Lines::new(alloc)?;
+    line.refusal(refusal);
+    let mut written = Vec::new(alloc);
+    written.extend_from_slice(line.bytes())?;
+    add_told(alloc, &mut written, asked, &offered)?;
+    Ok(Reply {
+        end: end_of(offered.whole),
+        text: written,
+    })
+}
+
+/// Adds offers, or that there is none.
+fn add_told(
+    alloc: Global,
+    text: &mut Vec<u8>,
+    asked: Asked,
+    offered: &Offered,
+) -> Result<(), AllocError>
+    ensures { OnOk result (text.new.items
+        ≡ text.old.items ++ told asked offered.now.count offered.now.text.items) }
+{
+    if offered.count == 0 {
+        return add_none(alloc, text, asked);
+    }
+    text.extend_from_slice(offered.text.as_slice())?;
+    Ok(())
+}
+
+/// Adds that there is none.
+fn add_none(alloc: Global, text: &mut Vec<u8>, asked: Asked) -> Result<(), AllocError>
+    ensures { OnOk result (text.new.items ≡ text.old.items ++ none_told asked) }
+{
+    let mut none = String::new(alloc);
+    write!(none, "no mend found in {} tries\n", asked.tries)?;
+    text.extend_from_slice(none.as_bytes())?;
+    Ok(())
+}
+
+/// How the job ends: rightly where the whole is mended.
+fn end_of(whole: bool) -> End
+    ensures { result ≡ end_of whole }
+{
+    if whole { End::Complete } else { End::Stopped }
+}
