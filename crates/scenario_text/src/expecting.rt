@@ -3,9 +3,9 @@
 ghost use Rattle.std.specs.Prelude.{◌≡◌};
 ghost use Rattle.scenario_text.specs.Expecting.{bug_line, device_line, device_state, expect_line, expecting, is_device_word, packet_line, packet_state, thread_line, thread_state, topped_as, topped_information, topped_line};
 
+use crate::names::Names;
 use crate::operands::{byte_of, device_of, number_of, packet_of, status_named};
 use crate::scenario::{DeviceState, Expectation, PacketState, ThreadState};
-use crate::names::Names;
 use interleave::schedule::ScheduleKind;
 use model::status::Status;
 use text::class::is;

@@ -52,12 +52,12 @@ impl<'a> Model for Names<'a> {
     ghost Value = { Named };
 
     ghost view = { λ n. record {
-        devices = n.devices.items;
-        instructions = n.instructions.items;
-        drivers = n.drivers;
-        routines = n.routines;
-        routine = n.routine;
-        positions = n.positions;
+      devices = n.devices.items;
+      instructions = n.instructions.items;
+      drivers = n.drivers;
+      routines = n.routines;
+      routine = n.routine;
+      positions = n.positions;
     } };
 }
 
@@ -180,11 +180,7 @@ fn place_on_line(instructions: &[Instruction<'_>], number: u64) -> Option<usize>
 }
 
 /// The place of the first instruction with this label in a routine of this name.
-fn place_labelled(
-    instructions: &[Instruction<'_>],
-    routine: &[u8],
-    label: &[u8],
-) -> Option<usize>
+fn place_labelled(instructions: &[Instruction<'_>], routine: &[u8], label: &[u8]) -> Option<usize>
     ensures { result ≡ position (has_label routine.now label.now) instructions.now }
 {
     instructions

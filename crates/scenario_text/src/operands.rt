@@ -67,11 +67,7 @@ fn device_named(devices: &[Piece<'_>], name: &[u8]) -> Option<u8>
     ensures { result ≡ device_named devices.now name.now }
 {
     let place = place_of(devices, name)?;
-    if place < 256 {
-        Some(place as u8)
-    } else {
-        None
-    }
+    if place < 256 { Some(place as u8) } else { None }
 }
 
 /// The place of the first of these that has this name.
@@ -127,11 +123,7 @@ pub(crate) fn spot_labelled(names: &Names<'_>, token: &[u8]) -> Result<Spot, Sch
 }
 
 /// The same, where the place of the colon is given.
-fn spot_parted(
-    names: &Names<'_>,
-    token: &[u8],
-    colon: Option<usize>,
-) -> Result<Spot, ScheduleKind>
+fn spot_parted(names: &Names<'_>, token: &[u8], colon: Option<usize>) -> Result<Spot, ScheduleKind>
     requires { IfSome colon (λ place. place < length token.now) }
     ensures { result ≡ spot_parted names.now token.now colon }
 {

@@ -30,7 +30,7 @@ pub fn parse_scenario(
 ) -> Result<Scenario, ScheduleFault>
     ensures listed { MatchResult result
         (λ s. scenario_in names.now text.now
-            ≡ Ok (record { threads = s.threads; steps = s.steps.items }))
+        ≡ Ok (record { threads = s.threads; steps = s.steps.items }))
         (IsFaultOf names.now text.now) }
     ensures some { IfOk result (λ s. 1 ≤ s.threads) }
     ensures few { IfOk result (λ s. s.threads ≤ MAX_THREADS) }
@@ -53,8 +53,8 @@ fn scenario_in(
 ) -> Result<Result<Scenario, ScheduleFault>, AllocError>
     ensures { IfOk result (λ r. MatchResult r
         (λ s. scenario_in names.now text.now
-            ≡ Ok (record { threads = s.threads; steps = s.steps.items })
-            × (1 ≤ s.threads) × (s.threads ≤ MAX_THREADS))
+        ≡ Ok (record { threads = s.threads; steps = s.steps.items })
+        × (1 ≤ s.threads) × (s.threads ≤ MAX_THREADS))
         (λ fault. scenario_in names.now text.now ≡ Err fault)) }
 {
     let mut left = Lines::of(text);
@@ -92,7 +92,7 @@ fn find_opening(names: &Names<'_>, left: &mut Lines<'_>) -> Result<Opening, Sche
     ensures threads { IfOk result (λ o. (1 ≤ o.threads) × (o.threads ≤ MAX_THREADS)) }
     ensures opens { MatchResult result (λ o. (o.line + length left.new < 2 ^ 63)
         × (opening names.now 1 left.old
-            ≡ with_threads o.threads (listing names.now nothing (o.line + 1) left.new)))
+        ≡ with_threads o.threads (listing names.now nothing (o.line + 1) left.new)))
         (λ fault. opening names.now 1 left.old ≡ Err fault) }
 {
     let mut line: u64 = 1;

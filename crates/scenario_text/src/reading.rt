@@ -4,11 +4,11 @@ ghost use Rattle.std.specs.Prelude.{◌≡◌};
 ghost use Rattle.scenario_text.specs.Line.{action_line, begins, cancel_line, cancels, clean_tokens, dpc_line, interrupt_line, issue_line, issues, line_of, may_line, request_line, run_line, saying, startio_line, starts, step_line, steps_line, steps_of, to_label, to_number, until_line};
 
 use crate::expecting::expect_line;
+use crate::names::Names;
 use crate::operands::{
     byte_of, device_of, major_from, number_of, packet_of, spot_labelled, spot_on_line,
 };
 use crate::scenario::Action;
-use crate::names::Names;
 use interleave::schedule::ScheduleKind;
 use text::class::{is, is_name};
 use text::cut::is_clean;
@@ -295,11 +295,7 @@ fn starts(names: &Names<'_>, thread: &[u8], device: &[u8]) -> Result<Action, Sch
 }
 
 /// `NAME = issue T DEVICE MAJOR ARGUMENT`, of which the name is given.
-fn issue_line(
-    names: &Names<'_>,
-    name: &[u8],
-    mut operands: Tokens,
-) -> Result<Action, ScheduleKind>
+fn issue_line(names: &Names<'_>, name: &[u8], mut operands: Tokens) -> Result<Action, ScheduleKind>
     ensures { result ≡ issue_line names.now name.now operands.entry }
 {
     match (operands.next(), operands.next()) {

@@ -78,20 +78,11 @@ pub enum Expectation {
     /// The bug check of this number has stopped it.
     Bug(u8),
     /// Of a packet.
-    Packet {
-        packet: usize,
-        state: PacketState,
-    },
+    Packet { packet: usize, state: PacketState },
     /// Of a thread.
-    Thread {
-        thread: u8,
-        state: ThreadState,
-    },
+    Thread { thread: u8, state: ThreadState },
     /// Of a device.
-    Device {
-        device: u8,
-        state: DeviceState,
-    },
+    Device { device: u8, state: DeviceState },
 }
 
 /// What may be expected of a packet.
