@@ -1,4 +1,4 @@
-//! What is told of words that the command line takes, and that name no task.
+//! What is told of words that the command line takes, and that name no job.
 
 use crate::naming::argument;
 use clap::{ArgMatches, Command};
@@ -15,7 +15,7 @@ const TELL_USAGE: &str = "drvhost tell [OPTIONS] <FILE> <SCHEDULE>";
 
 const TWO_LEVELS: &str = "the argument '--quiet' cannot be used with '--every'";
 
-/// What is told of words that the command line takes, and that name no task.
+/// What is told of words that the command line takes, and that name no job.
 pub(crate) fn unnamed(
     alloc: Global,
     program: &mut Command<'_>,
@@ -28,7 +28,7 @@ pub(crate) fn unnamed(
     }
 }
 
-/// What is told where a number has a sign, which the command line takes and no task does.
+/// What is told where a number has a sign, which the command line takes and no job does.
 fn unnumbered(program: &mut Command<'_>) -> Result<String, AllocError> {
     let mut text = program.render_usage()?;
     text.push_str("\n\nFor more information, try '--help'.\n")?;

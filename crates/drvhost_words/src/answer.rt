@@ -1,7 +1,7 @@
 //! What the program answers.
 
 ghost use Rattle.std.specs.Prelude.{◌≡◌, ◌+◌, ◌<◌, ◌^◌, ◌⊎◌, ℕ, List, Option, drop, map, string_bytes, true};
-ghost use Rattle.drvhost_words.specs.Program.{IsAnswerTo, IsAnswerToLost, IsDoneOf, IsJobOf, IsOfNamed, IsProgram, IsRunBy, Opens, OpensFor, OpensToTrace, IsQuietly, JobStores, JobTells, JobWarns, ProgramOpens, ProgramStores, ProgramTells, ProgramWarns, RewritesFile, WordsStore, WordsTell, WordsWarn, verification_of};
+ghost use Rattle.drvhost_words.specs.Program.{IsAnswerTo, IsAnswerToLost, IsDoneOf, IsJobOf, IsOfNamed, IsPage, IsProgram, IsRunBy, Opens, OpensFor, OpensToTrace, IsQuietly, JobStores, JobTells, JobWarns, ProgramOpens, ProgramStores, ProgramTells, ProgramWarns, RewritesFile, WordsStore, WordsTell, WordsWarn, verification_of};
 ghost use Rattle.drvhost_words.specs.Unread.{IsNamedUnread, IsOneOf, SaysAround, SaysMore};
 ghost use Rattle.drvhost_devices.specs.Device.{CanCount, Says};
 ghost use Rattle.drvhost_devices.specs.Ends.{Answers, HoldsRun, IsCheckOf, IsRewriteOf};
@@ -9,23 +9,24 @@ ghost use Rattle.drvhost_runs.specs.Readiness.{AreWarningsOf};
 ghost use Rattle.drvhost_runs.specs.Served.{IsHostOf};
 
 use crate::unread::{Names, tell_if_unread, tell_which_unread};
-use drvhost_commands::job::{AloneJob, Job, JobFault, Workers, refuse_unknown_words, refuse_words};
+use drvhost_commands::job::{
+    Job, JobFault, Page, Task, Way, Workers, refuse_unknown_words, refuse_words,
+};
 use drvhost_devices::device::{Sink, Source};
 use drvhost_devices::unopened::tell_unopened;
 use drvhost_devices::verification::Verification;
 use drvhost_files::files::{Files, Later, Pending};
 use drvhost_hunts::hunt::hunt;
-use drvhost_hunts::reach::Reach;
 use drvhost_runs::host::{Hosting, host};
 use drvhost_runs::trace::trace;
 use drvhost_sets::check::check;
-use drvhost_sets::explaining::{Extent, explain};
+use drvhost_sets::explaining::explain;
 use drvhost_sets::list::list;
 use drvhost_sets::rewriting::rewrite;
 use drvhost_sets::rule::{explain_lock_order, explain_rule};
 use drvhost_sets::version::version;
 use drvhost_views::draw::draw;
-use drvhost_views::tell::{Manner, Telling, tell};
+use drvhost_views::tell::{Telling, tell};
 use std::alloc::Global;
 use std::io::ErrorKind;
 use std::sync::Wait;
@@ -159,8 +160,14 @@ fn perform<F: Files, O: Sink, E: Sink, R: Threads + Wait + Sync>(
         (F.created files.old) (F.created files.new) result }
 {
     match *job {
-        Job::Alone(job) => perform_alone(alloc, job, files, out, err),
-        Job::Hunt { set, reach } => task_file(alloc, Task::Hunted(reach), set, files, out, err),
+        Job::Page(page) => write_page(alloc, page, out, err),
+        Job::Check { set } => check_file(alloc, set, files, out, err),
+        Job::Rewrite { set, output } => rewrite_file(alloc, set, output, files, err),
+        Job::OnSet { set, task } => task_file(alloc, task, set, files, out, err),
+        Job::OnRun { set, input, way } => {
+            let names = Names::of(set, input);
+            run_files(alloc, names, way, files, out, err)
+        }
         Job::Host {
             set,
             script,
@@ -172,70 +179,20 @@ fn perform<F: Files, O: Sink, E: Sink, R: Threads + Wait + Sync>(
     }
 }
 
-/// Does a job that waits for no other thread.
-fn perform_alone<F: Files, O: Sink, E: Sink>(
-    alloc: Global,
-    job: AloneJob<'_>,
-    files: &mut F,
-    out: &mut O,
-    err: &mut E,
-) -> u8
-    requires opened { F.opened files.old + 2 < 2 ^ 64 }
-    requires files { CanCount (F.failures files.old) }
-    requires created { F.created files.old + 1 < 2 ^ 64 }
-    requires unwritten { CanCount (F.unwritten files.old) }
+/// Writes a page.
+fn write_page<O: Sink, E: Sink>(alloc: Global, page: Page, out: &mut O, err: &mut E) -> u8
     requires out { CanCount (O.failures out.old) }
     requires err { CanCount (E.failures err.old) }
-    ensures answers { Answers (IsJobOf (F.supply files.old) (Job.Alone job.entry))
-        (F.failures files.old) (F.failures files.new)
-        (F.unwritten files.old + O.failures out.old) (F.unwritten files.new + O.failures out.new)
+    ensures { (reads : ℕ) → Answers (IsPage page)
+        reads reads (O.failures out.old) (O.failures out.new)
         (O.contents out.old) (O.contents out.new)
-        (SaysMore (JobTells (Job.Alone job.entry) (F.failures files.old) (F.failures files.new))
-        (E.failures err.old) (E.failures err.new) (E.contents err.old) (E.contents err.new))
+        (Says (E.failures err.old) (E.failures err.new) (E.contents err.old) (E.contents err.new))
         result }
-    ensures opened { (count : ℕ) × Opens (F.supply files.old) (Job.Alone job.entry) count
-        × (F.opened files.new ≡ F.opened files.old + count) }
-    ensures stores { JobStores (Job.Alone job.entry) (F.supply files.old) (F.supply files.new)
-        (F.created files.old) (F.created files.new) result }
 {
-    match job {
-        AloneJob::Check { set } => check_file(alloc, set, files, out, err),
-        AloneJob::Explain { set, extent } => {
-            task_file(alloc, Task::Explained(extent), set, files, out, err)
-        }
-        AloneJob::ExplainRule { rule } => explain_rule(alloc, rule, out, err),
-        AloneJob::ExplainLockOrder => explain_lock_order(alloc, out, err),
-        AloneJob::List { set } => task_file(alloc, Task::Listed, set, files, out, err),
-        AloneJob::Rewrite { set, output } => rewrite_file(alloc, set, output, files, err),
-        AloneJob::Version => version(out, err),
-        AloneJob::Trace {
-            set,
-            schedule,
-            verification,
-        } => {
-            let names = Names::of(set, schedule);
-            let way = Way::BySchedule(verification);
-            run_files(alloc, names, way, files, out, err)
-        }
-        AloneJob::Tell {
-            set,
-            schedule,
-            verification,
-            manner,
-        } => {
-            let names = Names::of(set, schedule);
-            let way = Way::InWords(verification, manner);
-            run_files(alloc, names, way, files, out, err)
-        }
-        AloneJob::Draw {
-            set,
-            schedule,
-            verification,
-        } => {
-            let names = Names::of(set, schedule);
-            let way = Way::AsPicture(verification);
-            run_files(alloc, names, way, files, out, err)
-        }
+    match page {
+        Page::Rule(rule) => explain_rule(alloc, rule, out, err),
+        Page::LockOrder => explain_lock_order(alloc, out, err),
+        Page::Version => version(out, err),
     }
 }
 
@@ -265,17 +222,6 @@ fn check_file<F: Files, O: Sink, E: Sink>(
     let status = check(alloc, &mut file, out, err);
     files.close(file);
     status
-}
-
-/// What is done with the set of a file that is named where it can't be read.
-#[derive(Clone, Copy)]
-pub(crate) enum Task {
-    /// The verdict on it is explained.
-    Explained(Extent),
-    /// Its listing is written.
-    Listed,
-    /// A run of it that ends amiss is looked for.
-    Hunted(Reach),
 }
 
 /// Does a task with the set of a file. One that can't be opened or read is named.
@@ -333,9 +279,9 @@ fn fulfil<S: Source, O: Sink, E: Sink>(
         result }
 {
     match task {
-        Task::Explained(extent) => explain(alloc, extent, set, out, err),
-        Task::Listed => list(alloc, set, out, err),
-        Task::Hunted(reach) => hunt(alloc, reach, set, out, err),
+        Task::Explain(extent) => explain(alloc, extent, set, out, err),
+        Task::List => list(alloc, set, out, err),
+        Task::Hunt(reach) => hunt(alloc, reach, set, out, err),
     }
 }
 
@@ -373,17 +319,6 @@ fn rewrite_file<F: Files, E: Sink>(
         files.keep(output, target);
     }
     status
-}
-
-/// How a set is run by an input.
-#[derive(Clone, Copy)]
-pub(crate) enum Way {
-    /// By the events of a schedule.
-    BySchedule(Verification),
-    /// By the events of a schedule, and it is told in words.
-    InWords(Verification, Manner),
-    /// By the events of a schedule, and it is drawn.
-    AsPicture(Verification),
 }
 
 /// Runs the set of a file by the input of another one, which is opened for a run alone. The one
@@ -450,15 +385,15 @@ fn run<S: Source, P: Source, O: Sink, E: Sink>(
         result }
 {
     match way {
-        Way::BySchedule(verification) => trace(alloc, set, input, verification, out, err),
-        Way::InWords(verification, manner) => {
+        Way::Trace(verification) => trace(alloc, set, input, verification, out, err),
+        Way::Tell(verification, manner) => {
             let telling = Telling {
                 verification,
                 manner,
             };
             tell(alloc, set, input, telling, out, err)
         }
-        Way::AsPicture(verification) => draw(alloc, set, input, verification, out, err),
+        Way::Draw(verification) => draw(alloc, set, input, verification, out, err),
     }
 }
 

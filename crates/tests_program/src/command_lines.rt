@@ -1,6 +1,6 @@
 //! What the words of a command line name.
 
-use drvhost_commands::job::{AloneJob, Job, JobFault, refuse_words};
+use drvhost_commands::job::{Job, JobFault, Page, Task, Way, refuse_words};
 use drvhost_devices::device::Writer;
 use drvhost_devices::verification::Verification;
 use drvhost_sets::explaining::Extent;
@@ -10,16 +10,24 @@ use std::alloc::Global;
 use std::test::Fail;
 
 #[test]
-fn tasks(rt: HostRuntime) -> Result<(), Fail> {
+fn jobs(rt: HostRuntime) -> Result<(), Fail> {
     let alloc = rt.alloc();
     let job = Job::of(alloc, &["check", "a.set"])?;
-    assert!(rt; matches!(job, Job::Alone(AloneJob::Check { set: "a.set" })));
+    assert!(rt; matches!(job, Job::Check { set: "a.set" }));
     let job = Job::of(alloc, &["list", "a.set"])?;
-    assert!(rt; matches!(job, Job::Alone(AloneJob::List { set: "a.set" })));
+    assert!(rt;
+        matches!(
+            job,
+            Job::OnSet {
+                set: "a.set",
+                task: Task::List
+            }
+        )
+    );
     for word in ["version", "--version", "-V"] {
         let words = [word];
         let job = Job::of(alloc, &words)?;
-        assert!(rt; matches!(job, Job::Alone(AloneJob::Version)), "{word}");
+        assert!(rt; matches!(job, Job::Page(Page::Version)), "{word}");
     }
     let job = Job::of(alloc, &["explain", "a.set"])?;
     assert!(rt; is_to_explain(&job, "a.set", Extent::First));
@@ -37,11 +45,11 @@ fn traces(rt: HostRuntime) -> Result<(), Fail> {
     assert!(rt;
         matches!(
             job,
-            Job::Alone(AloneJob::Trace {
+            Job::OnRun {
                 set: "a.set",
-                schedule: "b.schedule",
-                verification: Verification::Required
-            })
+                input: "b.schedule",
+                way: Way::Trace(Verification::Required)
+            }
         )
     );
     for words in [
@@ -52,11 +60,11 @@ fn traces(rt: HostRuntime) -> Result<(), Fail> {
         assert!(rt;
             matches!(
                 job,
-                Job::Alone(AloneJob::Trace {
+                Job::OnRun {
                     set: "a",
-                    schedule: "b",
-                    verification: Verification::Skipped
-                })
+                    input: "b",
+                    way: Way::Trace(Verification::Skipped)
+                }
             )
         );
     }
@@ -116,14 +124,11 @@ fn leniently(detail: Detail) -> Manner {
 /// Whether a job is to tell a run of the set of a file by the schedule of another one so.
 fn is_to_tell(job: &Job<'_>, run: Verification, told: Manner) -> bool {
     match *job {
-        Job::Alone(
-            AloneJob::Tell {
-                set,
-                schedule,
-                verification,
-                manner,
-            },
-        ) => set == "a" && schedule == "b" && verification == run && manner == told,
+        Job::OnRun {
+            set,
+            input,
+            way: Way::Tell(verification, manner),
+        } => set == "a" && input == "b" && verification == run && manner == told,
         _ => false,
     }
 }
@@ -131,13 +136,11 @@ fn is_to_tell(job: &Job<'_>, run: Verification, told: Manner) -> bool {
 /// Whether a job is to draw a run of the set of a file by the schedule of another one so.
 fn is_to_draw(job: &Job<'_>, run: Verification) -> bool {
     match *job {
-        Job::Alone(
-            AloneJob::Draw {
-                set,
-                schedule,
-                verification,
-            },
-        ) => set == "a" && schedule == "b" && verification == run,
+        Job::OnRun {
+            set,
+            input,
+            way: Way::Draw(verification),
+        } => set == "a" && input == "b" && verification == run,
         _ => false,
     }
 }
@@ -145,7 +148,10 @@ fn is_to_draw(job: &Job<'_>, run: Verification) -> bool {
 /// Whether a job is to explain the set of a file so.
 fn is_to_explain(job: &Job<'_>, file: &str, all: Extent) -> bool {
     match *job {
-        Job::Alone(AloneJob::Explain { set, extent }) => set == file && extent == all,
+        Job::OnSet {
+            set,
+            task: Task::Explain(extent),
+        } => set == file && extent == all,
         _ => false,
     }
 }
@@ -153,7 +159,7 @@ fn is_to_explain(job: &Job<'_>, file: &str, all: Extent) -> bool {
 /// Whether a job is to explain this rule.
 fn is_to_explain_rule(job: &Job<'_>, wanted: Rule) -> bool {
     match *job {
-        Job::Alone(AloneJob::ExplainRule { rule }) => rule == wanted,
+        Job::Page(Page::Rule(rule)) => rule == wanted,
         _ => false,
     }
 }
@@ -169,7 +175,7 @@ fn rules_by_their_words(rt: HostRuntime) -> Result<(), Fail> {
     let job = Job::of(alloc, &["explain", "--rule", "CancelState"])?;
     assert!(rt; is_to_explain_rule(&job, Rule::CancelState));
     let job = Job::of(alloc, &["explain", "--rule", "LockOrder"])?;
-    assert!(rt; matches!(job, Job::Alone(AloneJob::ExplainLockOrder)));
+    assert!(rt; matches!(job, Job::Page(Page::LockOrder)));
     for word in [
         "V0",
         "V21",
