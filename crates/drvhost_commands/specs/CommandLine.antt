@@ -1,104 +1,132 @@
--- The program's command line in the terms of `clap`, and which task its matches name.
-use Rattle.std.specs.Prelude.{◌≡◌, ◌≢◌, ◌⊎◌, ℕ, ℤ, List, [], ◌∷◌, Option, None, Some, true, false, codes, option_and_then, pos, string_bytes}
+-- The program's command line in the terms of `clap`, and which job its matches name.
+use Rattle.std.specs.Prelude.{◌≡◌, ◌⊎◌, ℕ, List, [], ◌∷◌, Option, None, Some, true, codes, option_and_then, pos, string_bytes}
 use Rattle.clap.specs.Words.{App, IsAmong, Row, Rule, Text, fault_of, first_of, new_app, new_rule, subcommand_of, with_rule, with_subcommand}
 use Rattle.clap.specs.declared.error.ErrorKind.TheVariants.{DisplayVersion}
 use Rattle.clap.specs.declared.builder.ArgAction.TheVariants.{Set, SetTrue}
-use Rattle.clap.specs.declared.builder.value_parser.ValueParser.TheVariants.{Signed}
+use Rattle.clap.specs.declared.builder.value_parser.ValueParser.{ValueParser}
+use Rattle.clap.specs.declared.builder.value_parser.ValueParser.TheVariants.{Signed, String as AnyText}
 use Rattle.hunt_search.specs.declared.search.Bounds.{Bounds}
 use Rattle.interleave.specs.Line.{number_within}
 use Rattle.model.specs.declared.abs.Rule.{Rule as VerdictRule}
 use Rattle.model.specs.declared.limits.TheConstants.{MAX_THREADS}
 use Rattle.report.specs.Rule.{IsRuleWord}
 use Rattle.drvhost_commands.specs.declared.job.Job.{Job}
-use Rattle.drvhost_commands.specs.declared.job.Job.TheVariants.{Alone, Hunt, Host}
-use Rattle.drvhost_commands.specs.declared.job.AloneJob.{AloneJob}
-use Rattle.drvhost_commands.specs.declared.job.AloneJob.TheVariants.{Check, Explain, ExplainRule, ExplainLockOrder, List as ListJob, Rewrite, Version, Trace, Tell, Draw}
+use Rattle.drvhost_commands.specs.declared.job.Job.TheVariants.{Page as OfPage, Check, Rewrite, OnSet, OnRun, Host}
+use Rattle.drvhost_commands.specs.declared.job.Page.{Page}
+use Rattle.drvhost_commands.specs.declared.job.Page.TheVariants.{Rule as PageOfRule, LockOrder, Version}
+use Rattle.drvhost_commands.specs.declared.job.Task.{Task}
+use Rattle.drvhost_commands.specs.declared.job.Task.TheVariants.{CheckJson, Explain, Mend, List as Listing, Hunt}
+use Rattle.drvhost_commands.specs.declared.job.Way.{Way}
+use Rattle.drvhost_commands.specs.declared.job.Way.TheVariants.{Trace, TraceJson, Tell, Draw}
 use Rattle.drvhost_commands.specs.declared.job.JobFault.{JobFault}
 use Rattle.drvhost_commands.specs.declared.job.JobFault.TheVariants.{Usage, Memory}
+use Rattle.drvhost_commands.specs.declared.naming.Format.{Format}
+use Rattle.drvhost_commands.specs.declared.naming.Format.TheVariants.{Plain, Json}
 use Rattle.drvhost_hunts.specs.declared.reach.TheConstants.{MAX_PACKETS, MAX_WORLDS, USUAL_PACKETS, USUAL_THREADS, USUAL_WORLDS}
-use Rattle.drvhost_sets.specs.declared.explaining.Extent.{Extent}
+use Rattle.drvhost_mends.specs.declared.mend.TheConstants.{MAX_TRIES, USUAL_TRIES}
 use Rattle.drvhost_sets.specs.declared.explaining.Extent.TheVariants.{First, Each}
 use Rattle.drvhost_views.specs.declared.tell.Detail.{Detail}
 use Rattle.drvhost_views.specs.declared.tell.Detail.TheVariants.{Every, Usual, Quiet}
 use Rattle.drvhost_views.specs.declared.tell.Manner.{Manner}
-use Rattle.drvhost_views.specs.declared.tell.Strictness.{Strictness}
 use Rattle.drvhost_views.specs.declared.tell.Strictness.TheVariants.{Lenient, Strict}
 use Rattle.drvhost_devices.specs.declared.verification.Verification.{Verification}
 use Rattle.drvhost_devices.specs.declared.verification.Verification.TheVariants.{Required, Skipped}
 
+-- an argument with a value
+abbrev pub value_argument : Text → Rule
+value_argument id = record (new_rule id) { action = Some Set }
+
+-- an argument that has to be there
+abbrev pub required : Rule → Rule
+required rule = record rule { required = true }
+
 -- the name of a file, which has to be there
 abbrev pub file_argument : Text → Rule
-file_argument id = record (new_rule id) { required = true; action = Some Set }
+file_argument id = required (value_argument id)
 
 -- `--NAME`
 abbrev pub flag : Text → Rule
 flag name = record (new_rule name) { long = Some name; action = Some SetTrue }
 
--- `NAME FILE`, for the driver set of a file
-abbrev pub set_command : Text → App
-set_command name = with_rule (new_app name) (file_argument (codes "FILE"))
+-- `--NAME VALUE`, the value by its own name
+abbrev pub value_option : Text → Text → ValueParser → Rule
+value_option id name parser =
+    record (value_argument id) { long = Some name; parser = Some parser }
 
--- `NAME FILE SCHEDULE [--unchecked]`, which runs it by a schedule
-abbrev pub schedule_command : Text → App
-schedule_command name =
-    with_rule (with_rule (set_command name) (file_argument (codes "SCHEDULE")))
-    (flag (codes "unchecked"))
+-- `--NAME N`, a number from 1 up to the most
+abbrev pub number_option : Text → ℕ → Rule
+number_option name most = value_option name name (Signed (pos 1) (pos most))
 
--- `--NAME VALUE`
-abbrev pub value_option : Text → Text → Rule
-value_option id name = record (new_rule id) { long = Some name; action = Some Set }
+-- with all of these, one after another
+abbrev pub with_all : {B : Type 0} → (App → B → App) → App → List B → App
+with_all step app [] = app
+with_all step app (one ∷ others) = with_all step (step app one) others
 
--- `explain [FILE] [--all] [--rule RULE]`, of which `NamesTask` says what goes with what
+-- a command with these arguments
+abbrev pub command : Text → List Rule → App
+command name rules = with_all with_rule (new_app name) rules
+
+-- `NAME FILE ..`, for the driver set of a file
+abbrev pub set_command : Text → List Rule → App
+set_command name rules = command name (file_argument (codes "FILE") ∷ rules)
+
+-- `NAME FILE SCHEDULE [--unchecked] ..`, which runs it by a schedule
+abbrev pub schedule_command : Text → List Rule → App
+schedule_command name rules =
+    set_command name (file_argument (codes "SCHEDULE") ∷ flag (codes "unchecked") ∷ rules)
+
+-- `--format FORMAT`
+abbrev pub format_option : Rule
+format_option = value_option (codes "format") (codes "format") AnyText
+
+-- `explain [FILE] [--all] [--rule RULE]`, of which `NamesBy` says what goes with what
 abbrev pub explain_command : App
 explain_command =
-    with_rule
-    (with_rule
-    (with_rule (new_app (codes "explain"))
-    (record (file_argument (codes "FILE")) { required = false }))
-    (flag (codes "all")))
-    (value_option (codes "RULE") (codes "rule"))
+    command (codes "explain")
+    (value_argument (codes "FILE") ∷ flag (codes "all")
+    ∷ value_option (codes "RULE") (codes "rule") AnyText ∷ [])
 
--- `rewrite FILE OUT`
-abbrev pub rewrite_command : App
-rewrite_command = with_rule (set_command (codes "rewrite")) (file_argument (codes "OUT"))
-
--- `version`
-abbrev pub version_command : App
-version_command = new_app (codes "version")
-
--- `tell FILE SCHEDULE [--unchecked] [--quiet] [--every] [--strict]`, of which `NamesTask` says that
+-- `tell FILE SCHEDULE [--unchecked] [--quiet] [--every] [--strict]`, of which `NamesBy` says that
 -- the second and the third don't go together
 abbrev pub tell_command : App
 tell_command =
-    with_rule
-    (with_rule
-    (with_rule (schedule_command (codes "tell")) (flag (codes "quiet")))
-    (flag (codes "every")))
-    (flag (codes "strict"))
-
--- `--NAME N`, a number from 1 up to the most
-abbrev pub number_option : Text → ℤ → Rule
-number_option name most =
-    record (value_option name name) { parser = Some (Signed (pos 1) most) }
-
--- `--workers N`, which has to be there
-abbrev pub workers_option : Rule
-workers_option = record (number_option (codes "workers") (pos MAX_THREADS)) { required = true }
+    schedule_command (codes "tell")
+    (flag (codes "quiet") ∷ flag (codes "every") ∷ flag (codes "strict") ∷ [])
 
 -- `hunt FILE [--threads N] [--packets N] [--states N]`
 abbrev pub hunt_command : App
 hunt_command =
-    with_rule
-    (with_rule
-    (with_rule (set_command (codes "hunt")) (number_option (codes "threads") (pos MAX_THREADS)))
-    (number_option (codes "packets") (pos MAX_PACKETS)))
-    (number_option (codes "states") (pos MAX_WORLDS))
+    set_command (codes "hunt")
+    (number_option (codes "threads") MAX_THREADS
+    ∷ number_option (codes "packets") MAX_PACKETS
+    ∷ number_option (codes "states") MAX_WORLDS ∷ [])
 
 -- `host FILE SCRIPT --workers N`
 abbrev pub host_command : App
 host_command =
-    with_rule (with_rule (set_command (codes "host")) (file_argument (codes "SCRIPT")))
-    workers_option
+    set_command (codes "host")
+    (file_argument (codes "SCRIPT")
+    ∷ required (number_option (codes "workers") MAX_THREADS) ∷ [])
+
+-- `mend FILE [--tries N]`
+abbrev pub mend_command : App
+mend_command = set_command (codes "mend") (number_option (codes "tries") MAX_TRIES ∷ [])
+
+-- all commands, in the order of the texts of help
+abbrev pub commands : List App
+commands =
+    set_command (codes "check") (format_option ∷ [])
+    ∷ explain_command
+    ∷ mend_command
+    ∷ schedule_command (codes "trace") (format_option ∷ [])
+    ∷ tell_command
+    ∷ schedule_command (codes "draw") []
+    ∷ hunt_command
+    ∷ host_command
+    ∷ set_command (codes "list") []
+    ∷ set_command (codes "rewrite") (file_argument (codes "OUT") ∷ [])
+    ∷ command (codes "version") []
+    ∷ []
 
 -- the program, whose own name isn't among the words
 abbrev pub named_program : App
@@ -111,49 +139,26 @@ bare_program =
           { has_version = true; no_binary_name = true; subcommand_required = true };
     }
 
--- with the subcommands that run nothing, with those that run a set by a schedule, with all that
--- start no thread, with all that judge a set or run it, with all that read files alone, with all that
--- name files, and with all
-abbrev pub unrun_program : App
-unrun_program =
-    with_subcommand (with_subcommand bare_program (set_command (codes "check")).top)
-    explain_command.top
-
-abbrev pub running_program : App
-running_program =
-    with_subcommand
-    (with_subcommand (with_subcommand unrun_program (schedule_command (codes "trace")).top)
-    tell_command.top)
-    (schedule_command (codes "draw")).top
-
-abbrev pub unthreaded_program : App
-unthreaded_program = with_subcommand running_program hunt_command.top
-
-abbrev pub judging_program : App
-judging_program = with_subcommand unthreaded_program host_command.top
-
-abbrev pub reading_program : App
-reading_program = with_subcommand judging_program (set_command (codes "list")).top
-
-abbrev pub program_of_files : App
-program_of_files = with_subcommand reading_program rewrite_command.top
+-- with one command more, and with all
+abbrev pub with_command : App → App → App
+with_command program one = with_subcommand program one.top
 
 abbrev pub program : App
-program = with_subcommand program_of_files version_command.top
-
--- what the flag's value says
-pub record IsFlag (value : Option Text) (verification : Verification) : Type 0 where
-  pub set : value ≡ Some (codes "true") → verification ≡ Skipped
-  pub other : value ≢ Some (codes "true") → verification ≡ Required
-
--- of which faults words are asked for, by the value of `--all`
-pub record IsExtent (value : Option Text) (extent : Extent) : Type 0 where
-  pub set : value ≡ Some (codes "true") → extent ≡ Each
-  pub other : value ≢ Some (codes "true") → extent ≡ First
+program = with_all with_command bare_program commands
 
 -- a flag with this value is given
 abbrev pub IsGiven : Option Text → Type 0
 IsGiven value = value ≡ Some (codes "true")
+
+-- by the value of a flag, this is chosen where it is given, and else the other
+pub record IsChosen {A : Type 0} (value : Option Text) (given other chosen : A) : Type 0 where
+  pub with_flag : IsGiven value → chosen ≡ given
+  pub without : (IsGiven value → ⊥) → chosen ≡ other
+
+-- by the value of `--unchecked`: whether a set has to be accepted before it runs
+abbrev pub IsVerified : List Row → Verification → Type 0
+IsVerified rows verification =
+    IsChosen (first_of (codes "unchecked") rows) Skipped Required verification
 
 -- how much is told, by the values of `--quiet` and `--every`, of which one at most is given
 abbrev pub IsDetail : Option Text → Option Text → Detail → Type 0
@@ -161,15 +166,10 @@ IsDetail quiet every Every = (IsGiven quiet → ⊥) × IsGiven every
 IsDetail quiet every Usual = (IsGiven quiet → ⊥) × (IsGiven every → ⊥)
 IsDetail quiet every Quiet = IsGiven quiet × (IsGiven every → ⊥)
 
--- how strictly it is answered, by the value of `--strict`
-pub record IsStrictness (value : Option Text) (strictness : Strictness) : Type 0 where
-  pub set : value ≡ Some (codes "true") → strictness ≡ Strict
-  pub other : value ≢ Some (codes "true") → strictness ≡ Lenient
-
--- how a run is told
+-- how a run is told, by these and by `--strict`
 pub record IsManner (rows : List Row) (manner : Manner) : Type 0 where
   pub detail : IsDetail (first_of (codes "quiet") rows) (first_of (codes "every") rows) manner.detail
-  pub strictness : IsStrictness (first_of (codes "strict") rows) manner.strictness
+  pub strictness : IsChosen (first_of (codes "strict") rows) Strict Lenient manner.strictness
 
 -- a rule is asked for, by the value of `--rule`: its number or its name
 abbrev pub IsRuleAsked : Option Text → VerdictRule → Type 0
@@ -191,60 +191,82 @@ pub record IsReach (rows : List Row) (reach : Bounds) : Type 0 where
   pub worlds : number_asked USUAL_WORLDS MAX_WORLDS (first_of (codes "states") rows)
       ≡ Some reach.worlds
 
--- a subcommand with its matches names a task that waits for no other thread; a file is explained,
--- or a rule or the warning on the order of locks, and that without `--all`
-abbrev pub NamesAlone : Text × List Row → AloneJob → Type 0
-NamesAlone found (Check set) = (found.0 ≡ codes "check")
-    × (first_of (codes "FILE") found.1 ≡ Some set.now)
-NamesAlone found (Explain set extent) = (found.0 ≡ codes "explain")
-    × (first_of (codes "FILE") found.1 ≡ Some set.now) × (first_of (codes "RULE") found.1 ≡ None)
-    × IsExtent (first_of (codes "all") found.1) extent
-NamesAlone found (ExplainRule rule) = (found.0 ≡ codes "explain")
+-- how an answer is written, by the value of `--format`
+abbrev pub IsFormat : Option Text → Format → Type 0
+IsFormat value Plain = (value ≡ None) ⊎ (value ≡ Some (codes "text"))
+IsFormat value Json = value ≡ Some (codes "json")
+
+-- a command with its matches names a page; where it explains one there is no file and no `--all`
+abbrev pub NamesPage : Text × List Row → Page → Type 0
+NamesPage found (PageOfRule rule) = (found.0 ≡ codes "explain")
     × (first_of (codes "FILE") found.1 ≡ None)
     × IsRuleAsked (first_of (codes "RULE") found.1) rule
-    × IsExtent (first_of (codes "all") found.1) First
-NamesAlone found ExplainLockOrder = (found.0 ≡ codes "explain")
+    × IsChosen (first_of (codes "all") found.1) Each First First
+NamesPage found LockOrder = (found.0 ≡ codes "explain")
     × (first_of (codes "FILE") found.1 ≡ None)
     × (first_of (codes "RULE") found.1 ≡ Some (codes "LockOrder"))
-    × IsExtent (first_of (codes "all") found.1) First
-NamesAlone found (ListJob set) = (found.0 ≡ codes "list")
-    × (first_of (codes "FILE") found.1 ≡ Some set.now)
-NamesAlone found (Rewrite set output) =
+    × IsChosen (first_of (codes "all") found.1) Each First First
+NamesPage found Version = found.0 ≡ codes "version"
+
+-- a task with a set
+abbrev pub NamesTask : Text × List Row → Task → Type 0
+NamesTask found CheckJson =
+    (found.0 ≡ codes "check") × IsFormat (first_of (codes "format") found.1) Json
+NamesTask found (Explain extent) = (found.0 ≡ codes "explain")
+    × (first_of (codes "RULE") found.1 ≡ None)
+    × IsChosen (first_of (codes "all") found.1) Each First extent
+NamesTask found (Mend tries) = (found.0 ≡ codes "mend")
+    × (number_asked USUAL_TRIES MAX_TRIES (first_of (codes "tries") found.1) ≡ Some tries)
+NamesTask found Listing = found.0 ≡ codes "list"
+NamesTask found (Hunt reach) = (found.0 ≡ codes "hunt") × IsReach found.1 reach
+
+abbrev pub NamesSet : Text × List Row → List ℕ → Task → Type 0
+NamesSet found set task = (first_of (codes "FILE") found.1 ≡ Some set) × NamesTask found task
+
+-- a way to run a set by an input
+abbrev pub NamesWay : Text × List Row → Way → Type 0
+NamesWay found (Trace verification) =
+    (found.0 ≡ codes "trace") × IsVerified found.1 verification
+    × IsFormat (first_of (codes "format") found.1) Plain
+NamesWay found (TraceJson verification) =
+    (found.0 ≡ codes "trace") × IsVerified found.1 verification
+    × IsFormat (first_of (codes "format") found.1) Json
+NamesWay found (Tell verification manner) =
+    (found.0 ≡ codes "tell") × IsVerified found.1 verification × IsManner found.1 manner
+NamesWay found (Draw verification) = (found.0 ≡ codes "draw") × IsVerified found.1 verification
+
+abbrev pub NamesRun : Text × List Row → List ℕ → List ℕ → Way → Type 0
+NamesRun found set input way = (first_of (codes "FILE") found.1 ≡ Some set)
+    × (first_of (codes "SCHEDULE") found.1 ≡ Some input) × NamesWay found way
+
+-- a job that is neither of these, nor a page
+abbrev pub NamesFiles : Text × List Row → Job → Type 0
+NamesFiles found (Check set) =
+    (found.0 ≡ codes "check") × (first_of (codes "FILE") found.1 ≡ Some set.now)
+    × IsFormat (first_of (codes "format") found.1) Plain
+NamesFiles found (Rewrite set output) =
     (found.0 ≡ codes "rewrite") × (first_of (codes "FILE") found.1 ≡ Some set.now)
     × (first_of (codes "OUT") found.1 ≡ Some output.now)
-NamesAlone found Version = found.0 ≡ codes "version"
-NamesAlone found (Trace set schedule verification) =
-    (found.0 ≡ codes "trace") × (first_of (codes "FILE") found.1 ≡ Some set.now)
-    × (first_of (codes "SCHEDULE") found.1 ≡ Some schedule.now)
-    × IsFlag (first_of (codes "unchecked") found.1) verification
-NamesAlone found (Tell set schedule verification manner) =
-    (found.0 ≡ codes "tell") × (first_of (codes "FILE") found.1 ≡ Some set.now)
-    × (first_of (codes "SCHEDULE") found.1 ≡ Some schedule.now)
-    × IsFlag (first_of (codes "unchecked") found.1) verification
-    × IsManner found.1 manner
-NamesAlone found (Draw set schedule verification) =
-    (found.0 ≡ codes "draw") × (first_of (codes "FILE") found.1 ≡ Some set.now)
-    × (first_of (codes "SCHEDULE") found.1 ≡ Some schedule.now)
-    × IsFlag (first_of (codes "unchecked") found.1) verification
-
--- or any task
-abbrev pub NamesTask : Text × List Row → Job → Type 0
-NamesTask found (Alone job) = NamesAlone found job
-NamesTask found (Hunt set reach) =
-    (found.0 ≡ codes "hunt") × (first_of (codes "FILE") found.1 ≡ Some set.now)
-    × IsReach found.1 reach
-NamesTask found (Host set script workers) =
+NamesFiles found (Host set script workers) =
     (found.0 ≡ codes "host") × (first_of (codes "FILE") found.1 ≡ Some set.now)
     × (first_of (codes "SCRIPT") found.1 ≡ Some script.now)
     × (option_and_then (number_within 1 MAX_THREADS) (first_of (codes "workers") found.1)
     ≡ Some workers)
+NamesFiles found _ = ⊥
 
--- the matches name a task
+-- any job
+abbrev pub NamesBy : Text × List Row → Job → Type 0
+NamesBy found (OfPage page) = NamesPage found page
+NamesBy found (OnSet set task) = NamesSet found set.now task
+NamesBy found (OnRun set input way) = NamesRun found set.now input.now way
+NamesBy found job = NamesFiles found job
+
+-- the matches name a job
 abbrev pub Names : Option (Text × List Row) → Job → Type 0
 Names None job = ⊥
-Names (Some found) job = NamesTask found job
+Names (Some found) job = NamesBy found job
 
--- the command line takes words, and their matches name a task
+-- the command line takes words, and their matches name a job
 pub record IsTakenAs (words : List Text) (job : Job) : Type 0 where
   pub taken : fault_of program words ≡ []
   pub named : Names (subcommand_of program words) job
@@ -253,15 +275,15 @@ pub record IsTakenAs (words : List Text) (job : Job) : Type 0 where
 abbrev pub AsksVersion : List Text → Type 0
 AsksVersion words = IsAmong DisplayVersion (fault_of program words)
 
--- words name a task
+-- words name a job
 abbrev pub NamesJob : List Text → Job → Type 0
-NamesJob words job = IsTakenAs words job ⊎ ((job ≡ Alone Version) × AsksVersion words)
+NamesJob words job = IsTakenAs words job ⊎ ((job ≡ OfPage Version) × AsksVersion words)
 
 -- how the program is used, where its words can't be had
 abbrev pub usage : List ℕ
 usage = codes "Usage: drvhost <COMMAND>"
 
--- the exit status for words that name no task, and what is told of them
+-- the exit status for words that name no job, and what is told of them
 abbrev pub job_fault_status : JobFault → ℕ
 job_fault_status (Usage text) = 2
 job_fault_status Memory = 3

@@ -1,14 +1,17 @@
-//! The program's command line in `clap`.
+//! The program's command line in `clap`: a table of its commands, and what makes them of it.
 
-ghost use Rattle.std.specs.Prelude.{◌≡◌, false, IfOk};
-ghost use Rattle.clap.specs.Words.{app_of, rule_of};
+ghost use Rattle.std.specs.Prelude.{◌≡◌, false, map, IfOk};
+ghost use Rattle.clap.specs.Words.{app_of, new_app, with_rule};
 ghost use Rattle.clap.specs.declared.builder.command.Command.TheViews.{out-Command as fields_of};
-ghost use Rattle.drvhost_commands.specs.CommandLine.{explain_command, file_argument, flag, host_command, hunt_command, judging_program, number_option, program, program_of_files, reading_program, rewrite_command, running_program, schedule_command, set_command, tell_command, unrun_program, unthreaded_program, value_option, version_command, workers_option};
+ghost use Rattle.drvhost_commands.specs.CommandLine.{bare_program, program, with_all, with_command};
+ghost use Rattle.drvhost_commands.specs.Table.{command_for, rule_for};
 
+use crate::arguments::{Argument, arg_of};
 use crate::usage::EXPLAIN_USAGE;
+use clap::Command;
 use clap::builder::ValueParser;
-use clap::{Arg, ArgAction, Command};
 use drvhost_hunts::reach::{MAX_PACKETS, MAX_WORLDS};
+use drvhost_mends::mend::MAX_TRIES;
 use model::limits::MAX_THREADS;
 use std::alloc::{AllocError, Global};
 
@@ -18,259 +21,237 @@ const NAME: &str = "drvhost";
 /// The program's version, in the texts of usage and help.
 const VERSION: &str = "1.0.0";
 
-/// What the file of a driver set is, in the texts of help.
-const SET: &str = "The text or the image of the driver set";
+/// What two commands do, in lines that are too long for the table.
+const HUNT: &str =
+    "Looks for a shortest run of a driver set that ends amiss, and writes it as a schedule";
 
-/// What the numbers of a hunt are.
-const THREADS: &str = "Threads of the runs, 1 to 64; 2 where none is given";
+const HOST: &str =
+    "Has workers serve a script over one locked core, and writes what came of each command";
 
-const PACKETS: &str = "Packets that live at once, 1 to 4096; 2 where none is given";
+/// A command: its name, what it does and how it is used in the texts of help, and its arguments.
+#[derive(Clone, Copy)]
+pub(crate) struct Entry<'a> {
+    name: &'a str,
+    about: &'a str,
+    usage: Option<&'a str>,
+    arguments: &'a [Argument<'a>],
+}
 
-const STATES: &str = "Worlds that are kept; 1000000 where none is given";
+const SET: Argument<'static> = Argument::File("FILE", "The text or the image of the driver set");
+
+const SCHEDULE: Argument<'static> = Argument::File("SCHEDULE", "The threads and the events");
+
+const UNCHECKED: Argument<'static> = Argument::Flag(
+    "unchecked",
+    "Runs the set whether or not it is accepted",
+);
+
+const FORMAT: Argument<'static> = Argument::Value(
+    "format",
+    "format",
+    ValueParser::String,
+    "How the answer is written, text or json; text where none is given",
+);
+
+/// All commands, in the order of the texts of help.
+const COMMANDS: [Entry<'static>; 11] = [
+    Entry {
+        name: "check",
+        about: "Accepts or refuses a driver set",
+        usage: None,
+        arguments: &[SET, FORMAT],
+    },
+    Entry {
+        name: "explain",
+        about: "Accepts or refuses a driver set, and says in words why; or says a rule in words",
+        usage: Some(EXPLAIN_USAGE),
+        arguments: &[
+            Argument::AnyFile("FILE", "The text or the image of the driver set"),
+            Argument::Flag("all", "Explains the first fault of each routine"),
+            Argument::Value(
+                "RULE",
+                "rule",
+                ValueParser::String,
+                "Says this rule in words, V1 to V20 or by its name, or LockOrder, with an example",
+            ),
+        ],
+    },
+    Entry {
+        name: "mend",
+        about: "Looks for mends of a refused driver set, and writes them as diffs",
+        usage: None,
+        arguments: &[
+            SET,
+            Argument::Value(
+                "tries",
+                "tries",
+                ValueParser::Signed(1, MAX_TRIES as i64),
+                "Tries for each faulty routine, 1 to 1000000; 20000 where none is given",
+            ),
+        ],
+    },
+    Entry {
+        name: "trace",
+        about: "Runs a driver set by a schedule, and writes a line for each event",
+        usage: None,
+        arguments: &[SET, SCHEDULE, UNCHECKED, FORMAT],
+    },
+    Entry {
+        name: "tell",
+        about: "Runs a driver set by a schedule, and tells in words what happens and what is left",
+        usage: None,
+        arguments: &[
+            SET,
+            SCHEDULE,
+            UNCHECKED,
+            Argument::Flag(
+                "quiet",
+                "Leaves out every event that only steps or finds nothing to do",
+            ),
+            Argument::Flag("every", "Leaves out no event"),
+            Argument::Flag("strict", "Answers 1 also where an event was refused"),
+        ],
+    },
+    Entry {
+        name: "draw",
+        about: "Runs a driver set by a schedule, and writes the run as an SVG picture",
+        usage: None,
+        arguments: &[SET, SCHEDULE, UNCHECKED],
+    },
+    Entry {
+        name: "hunt",
+        about: HUNT,
+        usage: None,
+        arguments: &[
+            SET,
+            Argument::Value(
+                "threads",
+                "threads",
+                ValueParser::Signed(1, MAX_THREADS as i64),
+                "Threads of the runs, 1 to 64; 2 where none is given",
+            ),
+            Argument::Value(
+                "packets",
+                "packets",
+                ValueParser::Signed(1, MAX_PACKETS as i64),
+                "Packets that live at once, 1 to 4096; 2 where none is given",
+            ),
+            Argument::Value(
+                "states",
+                "states",
+                ValueParser::Signed(1, MAX_WORLDS as i64),
+                "Worlds that are kept; 1000000 where none is given",
+            ),
+        ],
+    },
+    Entry {
+        name: "host",
+        about: HOST,
+        usage: None,
+        arguments: &[
+            SET,
+            Argument::File("SCRIPT", "The requests, cancels and interrupts"),
+            Argument::WantedValue(
+                "workers",
+                "workers",
+                ValueParser::Signed(1, MAX_THREADS as i64),
+                "How many workers serve it, 1 to 64",
+            ),
+        ],
+    },
+    Entry {
+        name: "list",
+        about: "Writes a driver set as a text",
+        usage: None,
+        arguments: &[SET],
+    },
+    Entry {
+        name: "rewrite",
+        about: "Writes a driver set as an image",
+        usage: None,
+        arguments: &[SET, Argument::File("OUT", "The file for the image")],
+    },
+    Entry {
+        name: "version",
+        about: "Writes the program's name and its version",
+        usage: None,
+        arguments: &[],
+    },
+];
 
 /// The program's command line.
 pub(crate) fn program<'a>(alloc: Global) -> Result<Command<'a>, AllocError>
     ensures { IfOk result (λ command. app_of command ≡ program) }
 {
-    let version = version_command(alloc);
-    let program = program_of_files(alloc)?;
-    program.subcommand(version)
+    let bare = bare_program(alloc)?;
+    with_commands(alloc, bare, &COMMANDS)
 }
 
-/// The part of it whose words name files.
-fn program_of_files<'a>(alloc: Global) -> Result<Command<'a>, AllocError>
-    ensures { IfOk result (λ command. app_of command ≡ program_of_files) }
+/// The program without its commands.
+fn bare_program<'a>(alloc: Global) -> Result<Command<'a>, AllocError>
+    ensures { IfOk result (λ command. app_of command ≡ bare_program) }
 {
-    let rewrite = rewrite_command(alloc)?;
-    let program = reading_program(alloc)?;
-    program.subcommand(rewrite)
+    let program = Command::new(alloc, NAME).bin_name(NAME)?;
+    Ok(
+        program
+            .version(VERSION)
+            .no_binary_name(true)
+            .subcommand_required(true),
+    )
 }
 
-/// The part of that which writes none.
-fn reading_program<'a>(alloc: Global) -> Result<Command<'a>, AllocError>
-    ensures { IfOk result (λ command. app_of command ≡ reading_program) }
-{
-    let list = set_command(alloc, "list", "Writes a driver set as a text")?;
-    let program = judging_program(alloc)?;
-    program.subcommand(list)
-}
-
-/// The part of it that judges sets, and runs them.
-fn judging_program<'a>(alloc: Global) -> Result<Command<'a>, AllocError>
-    ensures { IfOk result (λ command. app_of command ≡ judging_program) }
-{
-    let host = host_command(alloc)?;
-    let program = unthreaded_program(alloc)?;
-    program.subcommand(host)
-}
-
-/// The part of that which starts no thread.
-fn unthreaded_program<'a>(alloc: Global) -> Result<Command<'a>, AllocError>
-    ensures { IfOk result (λ command. app_of command ≡ unthreaded_program) }
-{
-    let hunt = hunt_command(alloc)?;
-    let program = running_program(alloc)?;
-    program.subcommand(hunt)
-}
-
-/// The part of that which runs a set by a schedule, or not at all.
-fn running_program<'a>(alloc: Global) -> Result<Command<'a>, AllocError>
-    ensures { IfOk result (λ command. app_of command ≡ running_program) }
-{
-    let trace = schedule_command(
-        alloc,
-        "trace",
-        "Runs a driver set by a schedule, and writes a line for each event",
-    )?;
-    let tell = tell_command(alloc)?;
-    let draw = schedule_command(
-        alloc,
-        "draw",
-        "Runs a driver set by a schedule, and writes the run as an SVG picture",
-    )?;
-    let program = unrun_program(alloc)?;
-    program
-        .subcommand(trace)?
-        .subcommand(tell)?
-        .subcommand(draw)
-}
-
-/// The part of that which runs nothing.
-fn unrun_program<'a>(alloc: Global) -> Result<Command<'a>, AllocError>
-    ensures { IfOk result (λ command. app_of command ≡ unrun_program) }
-{
-    let check = set_command(alloc, "check", "Accepts or refuses a driver set")?;
-    let explain = explain_command(alloc)?;
-    let program = Command::new(alloc, NAME)
-        .bin_name(NAME)?
-        .version(VERSION)
-        .no_binary_name(true)
-        .subcommand_required(true);
-    program.subcommand(check)?.subcommand(explain)
-}
-
-/// A command for the driver set of a file.
-fn set_command<'a>(alloc: Global, name: &'a str, about: &'a str) -> Result<Command<'a>, AllocError>
-    ensures app { IfOk result (λ command. app_of command ≡ set_command name.entry.now) }
-    ensures local { IfOk result (λ command. (fields_of command).has_globals ≡ false) }
-{
-    let set = file(alloc, "FILE", SET);
-    let command = Command::new(alloc, name).about(about);
-    command.arg(set)
-}
-
-/// A command that runs it by a schedule.
-fn schedule_command<'a>(
+/// A program with more commands.
+fn with_commands<'a>(
     alloc: Global,
-    name: &'a str,
-    about: &'a str,
+    program: Command<'a>,
+    entries: &[Entry<'a>],
 ) -> Result<Command<'a>, AllocError>
-    ensures app { IfOk result (λ command. app_of command ≡ schedule_command name.entry.now) }
-    ensures local { IfOk result (λ command. (fields_of command).has_globals ≡ false) }
+    ensures { IfOk result (λ more.
+        app_of more
+        ≡ with_all with_command (app_of program.entry) (map command_for entries.now)) }
 {
-    let schedule = file(alloc, "SCHEDULE", "The threads and the events");
-    let unchecked = flag(
-        alloc,
-        "unchecked",
-        "Runs the set whether or not it is accepted",
-    );
-    let command = set_command(alloc, name, about)?;
-    command.arg(schedule)?.arg(unchecked)
+    let mut program = program;
+    for entry in entries {
+        program = program.subcommand(command_of(alloc, entry)?)?;
+    }
+    Ok(program)
 }
 
-fn explain_command<'a>(alloc: Global) -> Result<Command<'a>, AllocError>
-    ensures app { IfOk result (λ command. app_of command ≡ explain_command) }
+/// A command.
+fn command_of<'a>(alloc: Global, entry: &Entry<'a>) -> Result<Command<'a>, AllocError>
+    ensures app { IfOk result (λ command. app_of command ≡ command_for entry.now) }
     ensures local { IfOk result (λ command. (fields_of command).has_globals ≡ false) }
 {
-    let set = file(alloc, "FILE", SET).required(false);
-    let all = flag(alloc, "all", "Explains the first fault of each routine");
-    let rule = value_option(
-        alloc,
-        "RULE",
-        "rule",
-        "Says this rule in words, V1 to V20 or by its name, or LockOrder, with an example",
-    );
-    let command = Command::new(alloc, "explain")
-        .about("Accepts or refuses a driver set, and says in words why; or says a rule in words")
-        .override_usage(EXPLAIN_USAGE);
-    command.arg(set)?.arg(all)?.arg(rule)
+    with_arguments(alloc, bare_command(alloc, entry), entry.arguments)
 }
 
-fn rewrite_command<'a>(alloc: Global) -> Result<Command<'a>, AllocError>
-    ensures app { IfOk result (λ command. app_of command ≡ rewrite_command) }
-    ensures local { IfOk result (λ command. (fields_of command).has_globals ≡ false) }
-{
-    let output = file(alloc, "OUT", "The file for the image");
-    let command = set_command(alloc, "rewrite", "Writes a driver set as an image")?;
-    command.arg(output)
-}
-
-fn version_command<'a>(alloc: Global) -> Command<'a>
-    ensures app { app_of result ≡ version_command }
+/// A command without its arguments.
+fn bare_command<'a>(alloc: Global, entry: &Entry<'a>) -> Command<'a>
+    ensures app { app_of result ≡ new_app entry.now.name.now }
     ensures local { (fields_of result).has_globals ≡ false }
 {
-    Command::new(alloc, "version").about("Writes the program's name and its version")
+    let command = Command::new(alloc, entry.name).about(entry.about);
+    match entry.usage {
+        Some(usage) => command.override_usage(usage),
+        None => command,
+    }
 }
 
-fn tell_command<'a>(alloc: Global) -> Result<Command<'a>, AllocError>
-    ensures app { IfOk result (λ command. app_of command ≡ tell_command) }
-    ensures local { IfOk result (λ command. (fields_of command).has_globals ≡ false) }
+/// A command with more arguments.
+fn with_arguments<'a>(
+    alloc: Global,
+    command: Command<'a>,
+    arguments: &[Argument<'a>],
+) -> Result<Command<'a>, AllocError>
+    requires local { (fields_of command).has_globals ≡ false }
+    ensures app { IfOk result (λ more.
+        app_of more
+        ≡ with_all with_rule (app_of command.entry) (map rule_for arguments.now)) }
+    ensures local { IfOk result (λ more. (fields_of more).has_globals ≡ false) }
 {
-    let quiet = flag(
-        alloc,
-        "quiet",
-        "Leaves out every event that only steps or finds nothing to do",
-    );
-    let every = flag(alloc, "every", "Leaves out no event");
-    let strict = flag(alloc, "strict", "Answers 1 also where an event was refused");
-    let command = schedule_command(
-        alloc,
-        "tell",
-        "Runs a driver set by a schedule, and tells in words what happens and what is left",
-    )?;
-    command.arg(quiet)?.arg(every)?.arg(strict)
-}
-
-fn hunt_command<'a>(alloc: Global) -> Result<Command<'a>, AllocError>
-    ensures app { IfOk result (λ command. app_of command ≡ hunt_command) }
-    ensures local { IfOk result (λ command. (fields_of command).has_globals ≡ false) }
-{
-    let threads = number_option(alloc, "threads", THREADS, MAX_THREADS as i64);
-    let packets = number_option(alloc, "packets", PACKETS, MAX_PACKETS as i64);
-    let states = number_option(alloc, "states", STATES, MAX_WORLDS as i64);
-    let command = set_command(
-        alloc,
-        "hunt",
-        "Looks for a shortest run of a driver set that ends amiss, and writes it as a schedule",
-    )?;
-    command.arg(threads)?.arg(packets)?.arg(states)
-}
-
-fn host_command<'a>(alloc: Global) -> Result<Command<'a>, AllocError>
-    ensures app { IfOk result (λ command. app_of command ≡ host_command) }
-    ensures local { IfOk result (λ command. (fields_of command).has_globals ≡ false) }
-{
-    let script = file(alloc, "SCRIPT", "The requests, cancels and interrupts");
-    let workers = workers_option(alloc);
-    let command = set_command(
-        alloc,
-        "host",
-        "Has workers serve a script over one locked core, and writes what came of each command",
-    )?;
-    command.arg(script)?.arg(workers)
-}
-
-/// A required argument: the name of a file.
-fn file<'a>(alloc: Global, id: &'a str, help: &'a str) -> Arg<'a>
-    ensures rule { rule_of result ≡ file_argument id.entry.now }
-    ensures local { result.global ≡ false }
-{
-    Arg::new(alloc, id)
-        .required(true)
-        .action(ArgAction::Set)
-        .help(help)
-}
-
-/// A flag of a name, two dashes before it.
-fn flag<'a>(alloc: Global, name: &'a str, help: &'a str) -> Arg<'a>
-    ensures rule { rule_of result ≡ flag name.entry.now }
-    ensures local { result.global ≡ false }
-{
-    Arg::new(alloc, name)
-        .long(name)
-        .action(ArgAction::SetTrue)
-        .help(help)
-}
-
-/// An option of a name, two dashes before it, with a value.
-fn value_option<'a>(alloc: Global, id: &'a str, name: &'a str, help: &'a str) -> Arg<'a>
-    ensures rule { rule_of result ≡ value_option id.entry.now name.entry.now }
-    ensures local { result.global ≡ false }
-{
-    Arg::new(alloc, id)
-        .long(name)
-        .action(ArgAction::Set)
-        .help(help)
-}
-
-/// `--workers N`.
-fn workers_option<'a>(alloc: Global) -> Arg<'a>
-    ensures rule { rule_of result ≡ workers_option }
-    ensures local { result.global ≡ false }
-{
-    number_option(
-        alloc,
-        "workers",
-        "How many workers serve it, 1 to 64",
-        MAX_THREADS as i64,
-    )
-    .required(true)
-}
-
-/// `--NAME N`, a number from 1 up to the most.
-fn number_option<'a>(alloc: Global, name: &'a str, help: &'a str, most: i64) -> Arg<'a>
-    ensures rule { rule_of result ≡ number_option name.entry.now most }
-    ensures local { result.global ≡ false }
-{
-    value_option(alloc, name, name, help).value_parser(ValueParser::Signed(1, most))
+    let mut command = command;
+    for argument in arguments {
+        command = command.arg(arg_of(alloc, *argument))?;
+    }
+    Ok(command)
 }

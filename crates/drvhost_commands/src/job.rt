@@ -1,4 +1,4 @@
-//! The tasks of the program, and which of them a command line names.
+//! What the program can be asked for, and what of it a command line asks for.
 
 ghost use Rattle.std.specs.Prelude.{◌≡◌, ◌≤◌, map, IfErr, IfOk, true};
 ghost use Rattle.clap.specs.Words.{kind_of, subcommand_of, takes};
@@ -30,15 +30,30 @@ use thiserror::Error;
 /// How the program is used, where there is nothing better to say.
 const USAGE: &str = "Usage: drvhost <COMMAND>";
 
-/// A task for the program, with the names of its files.
+/// What the program is to do, with the names of its files.
 #[derive(Clone, Copy)]
 pub enum Job<'a> {
-    /// One that waits for no other thread.
-    Alone(AloneJob<'a>),
-    /// `hunt FILE [--threads N] [--packets N] [--states N]`
-    Hunt {
+    /// A page that stands in the program.
+    Page(Page),
+    /// `check FILE`, as text
+    Check {
         set: &'a str,
-        reach: Reach,
+    },
+    /// `rewrite FILE OUT`
+    Rewrite {
+        set: &'a str,
+        output: &'a str,
+    },
+    /// A task with the driver set of a file.
+    OnSet {
+        set: &'a str,
+        task: Task,
+    },
+    /// A run of the driver set of a file by the input of another one.
+    OnRun {
+        set: &'a str,
+        input: &'a str,
+        way: Way,
     },
     /// `host FILE SCRIPT --workers N`
     Host {
@@ -48,54 +63,43 @@ pub enum Job<'a> {
     },
 }
 
-/// A task that the program does on its own thread.
+/// A page that stands in the program.
 #[derive(Clone, Copy)]
-pub enum AloneJob<'a> {
-    /// `check FILE`
-    Check {
-        set: &'a str,
-    },
-    /// `explain FILE [--all]`
-    Explain {
-        set: &'a str,
-        extent: Extent,
-    },
+pub enum Page {
     /// `explain --rule RULE`
-    ExplainRule {
-        rule: Rule,
-    },
+    Rule(Rule),
     /// `explain --rule LockOrder`
-    ExplainLockOrder,
-    /// `list FILE`
-    List {
-        set: &'a str,
-    },
-    /// `rewrite FILE OUT`
-    Rewrite {
-        set: &'a str,
-        output: &'a str,
-    },
+    LockOrder,
     /// `version`, or `--version`
     Version,
-    /// `trace FILE SCHEDULE [--unchecked]`
-    Trace {
-        set: &'a str,
-        schedule: &'a str,
-        verification: Verification,
-    },
+}
+
+/// What is done with a driver set alone.
+#[derive(Clone, Copy)]
+pub enum Task {
+    /// `check FILE --format json`
+    CheckJson,
+    /// `explain FILE [--all]`
+    Explain(Extent),
+    /// `mend FILE [--tries N]`
+    Mend(u64),
+    /// `list FILE`
+    List,
+    /// `hunt FILE [--threads N] [--packets N] [--states N]`
+    Hunt(Reach),
+}
+
+/// How a driver set is run by an input.
+#[derive(Clone, Copy)]
+pub enum Way {
+    /// `trace FILE SCHEDULE [--unchecked]`, as text
+    Trace(Verification),
+    /// `trace FILE SCHEDULE [--unchecked] --format json`
+    TraceJson(Verification),
     /// `tell FILE SCHEDULE [--unchecked] [--quiet | --every] [--strict]`
-    Tell {
-        set: &'a str,
-        schedule: &'a str,
-        verification: Verification,
-        manner: Manner,
-    },
+    Tell(Verification, Manner),
     /// `draw FILE SCHEDULE [--unchecked]`
-    Draw {
-        set: &'a str,
-        schedule: &'a str,
-        verification: Verification,
-    },
+    Draw(Verification),
 }
 
 /// How many workers serve the commands of a script, 1 to `MAX_THREADS`.
@@ -136,7 +140,7 @@ impl Workers {
     }
 }
 
-/// Why there is no task.
+/// Why there is no job.
 #[derive(Debug, Drop, Error)]
 pub enum JobFault {
     /// The words name none, or ask for help: the text for the user.
@@ -181,7 +185,7 @@ impl JobFault {
 }
 
 impl<'a> Job<'a> {
-    /// The task that the words of a command line name, without the program's own name.
+    /// The job that the words of a command line name, without the program's own name.
     ///
     /// # Errors
     ///
@@ -199,15 +203,13 @@ impl<'a> Job<'a> {
                 Some(job) => Ok(job),
                 None => Err(JobFault::Usage(unnamed(alloc, &mut program, &matches)?)),
             },
-            Err(error) if error.kind() == ErrorKind::DisplayVersion => {
-                Ok(Job::Alone(AloneJob::Version))
-            }
+            Err(error) if error.kind() == ErrorKind::DisplayVersion => Ok(Job::Page(Page::Version)),
             Err(error) => Err(refused(alloc, &error)),
         }
     }
 }
 
-/// Answers words that name no task: writes the text for the user, which isn't empty, and gives the
+/// Answers words that name no job: writes the text for the user, which isn't empty, and gives the
 /// exit status, 2 for a wrong command line and 3 where memory ran out.
 pub fn refuse_words<E: Sink>(fault: &JobFault, err: &mut E) -> u8
     requires { CanCount (E.failures err.old) }

@@ -1,6 +1,7 @@
-//! The program's command line: which task its words name, and what is told of words that name none.
+//! The program's command line: which job its words name, and what is told of words that name none.
 #![tactic(auto)]
 
+mod arguments;
 mod commands;
 pub mod job;
 mod naming;

@@ -1,15 +1,16 @@
-//! Which task the matches of a command line name.
+//! Which job the matches of a command line name.
 
-ghost use Rattle.std.specs.Prelude.{◌≡◌, ◌≤◌, codes, false, option_map, IfNone, IfSome, IsTrue, None, Some};
+ghost use Rattle.std.specs.Prelude.{◌≡◌, ◌≤◌, codes, false, option_map, IfNone, IfSome, IsTrue, ℕ, List};
 ghost use Rattle.clap.specs.Words.{first_of, found_of, rows_of, subcommand_rows_of};
-ghost use Rattle.drvhost_commands.specs.CommandLine.{IsDetail, IsExtent, IsFlag, IsGiven, IsManner, IsReach, IsStrictness, Names, NamesAlone, NamesTask, number_asked};
+ghost use Rattle.drvhost_commands.specs.CommandLine.{IsChosen, IsDetail, IsFormat, IsGiven, IsManner, IsReach, Names, NamesBy, NamesFiles, NamesPage, NamesRun, NamesSet, NamesTask, NamesWay, number_asked};
 
-use crate::job::{AloneJob, Job, Workers};
+use crate::job::{Job, Page, Task, Way, Workers};
 use clap::ArgMatches;
 use drvhost_devices::verification::Verification;
 use drvhost_hunts::reach::{
     MAX_PACKETS, MAX_WORLDS, Reach, USUAL_PACKETS, USUAL_THREADS, USUAL_WORLDS,
 };
+use drvhost_mends::mend::{MAX_TRIES, USUAL_TRIES};
 use drvhost_sets::explaining::Extent;
 use drvhost_views::tell::{Detail, Manner, Strictness};
 use hunt_search::search::Bounds;
@@ -17,169 +18,221 @@ use interleave::read::number_within;
 use model::limits::MAX_THREADS;
 use report::rule::rule_named;
 
-/// The task that a parsed command line names.
+/// The job that a parsed command line names.
 pub(crate) fn named<'a>(matches: &ArgMatches<'a>) -> Option<Job<'a>>
     ensures some { IfSome result (Names (subcommand_rows_of matches.now)) }
     ensures none { IfNone result ((job : Job) → Names (subcommand_rows_of matches.now) job → ⊥) }
 {
     let (command, inner) = matches.subcommand()?;
-    if command == "host" {
-        return host_named(inner);
-    }
-    if command == "hunt" {
-        return hunt_named(inner);
-    }
-    Some(Job::Alone(alone_named(command, inner)?))
+    job_named(command, inner)
 }
 
-/// The one of the others that a command and its matches name.
-fn alone_named<'a>(command: &str, matches: &ArgMatches<'a>) -> Option<AloneJob<'a>>
-    ensures some { IfSome result (NamesAlone (command.now, rows_of (found_of matches.now))) }
+/// The one that a command and its matches name.
+fn job_named<'a>(command: &str, matches: &ArgMatches<'a>) -> Option<Job<'a>>
+    ensures some { IfSome result (NamesBy (command.now, rows_of (found_of matches.now))) }
     ensures none { IfNone result
-        ((job : AloneJob) → NamesAlone (command.now, rows_of (found_of matches.now)) job → ⊥) }
+        ((job : Job) → NamesBy (command.now, rows_of (found_of matches.now)) job → ⊥) }
+{
+    if let Some(page) = page_named(command, matches) {
+        return Some(Job::Page(page));
+    }
+    if let Some(job) = set_named(command, matches) {
+        return Some(job);
+    }
+    if let Some(job) = run_named(command, matches) {
+        return Some(job);
+    }
+    file_named(command, matches)
+}
+
+/// The page that they name.
+fn page_named(command: &str, matches: &ArgMatches<'_>) -> Option<Page>
+    ensures some { IfSome result (NamesPage (command.now, rows_of (found_of matches.now))) }
+    ensures none { IfNone result
+        ((page : Page) → NamesPage (command.now, rows_of (found_of matches.now)) page → ⊥) }
 {
     match command {
-        "check" => check_named(matches),
-        "explain" => explain_named(matches),
-        "trace" => trace_named(matches),
-        "tell" => tell_named(matches),
-        "draw" => draw_named(matches),
-        "list" => list_named(matches),
-        "rewrite" => rewrite_named(matches),
-        "version" => Some(AloneJob::Version),
+        "explain" => page_to_explain(matches),
+        "version" => Some(Page::Version),
         _ => None,
     }
 }
 
-fn check_named<'a>(matches: &ArgMatches<'a>) -> Option<AloneJob<'a>>
-    ensures some { IfSome result (NamesAlone (codes "check", rows_of (found_of matches.now))) }
+/// The page of a rule, or of the warning on the order of locks, if no set is to be explained beside
+/// it.
+fn page_to_explain(matches: &ArgMatches<'_>) -> Option<Page>
+    ensures some { IfSome result (NamesPage (codes "explain", rows_of (found_of matches.now))) }
     ensures none { IfNone result
-        ((job : AloneJob) → NamesAlone (codes "check", rows_of (found_of matches.now)) job → ⊥) }
+        ((page : Page) → NamesPage (codes "explain", rows_of (found_of matches.now)) page → ⊥) }
 {
-    let set = argument(matches, "FILE")?;
-    Some(AloneJob::Check { set })
-}
-
-fn explain_named<'a>(matches: &ArgMatches<'a>) -> Option<AloneJob<'a>>
-    ensures some { IfSome result (NamesAlone (codes "explain", rows_of (found_of matches.now))) }
-    ensures none { IfNone result
-        ((job : AloneJob) → NamesAlone (codes "explain", rows_of (found_of matches.now)) job → ⊥) }
-{
-    match argument(matches, "RULE") {
-        Some(word) => rule_to_explain(matches, word),
-        None => set_to_explain(matches),
-    }
-}
-
-/// The rule of a word, or the warning on the order of locks, if no set is to be explained beside it.
-fn rule_to_explain<'a>(matches: &ArgMatches<'a>, word: &str) -> Option<AloneJob<'a>>
-    requires { first_of (codes "RULE") (rows_of (found_of matches.now)) ≡ Some word.now }
-    ensures some { IfSome result (NamesAlone (codes "explain", rows_of (found_of matches.now))) }
-    ensures none { IfNone result
-        ((job : AloneJob) → NamesAlone (codes "explain", rows_of (found_of matches.now)) job → ⊥) }
-{
+    let word = argument(matches, "RULE")?;
     match (argument(matches, "FILE"), extent_asked(matches)) {
-        (None, Extent::First) if word == "LockOrder" => Some(AloneJob::ExplainLockOrder),
+        (None, Extent::First) if word == "LockOrder" => Some(Page::LockOrder),
         (None, Extent::First) => {
             let rule = rule_named(word)?;
-            Some(AloneJob::ExplainRule { rule })
+            Some(Page::Rule(rule))
         }
         _ => None,
     }
 }
 
-/// The set that is to be explained, where no rule is.
-fn set_to_explain<'a>(matches: &ArgMatches<'a>) -> Option<AloneJob<'a>>
-    requires { first_of (codes "RULE") (rows_of (found_of matches.now)) ≡ None }
-    ensures some { IfSome result (NamesAlone (codes "explain", rows_of (found_of matches.now))) }
-    ensures none { IfNone result
-        ((job : AloneJob) → NamesAlone (codes "explain", rows_of (found_of matches.now)) job → ⊥) }
+/// The task that they name with the set of a file.
+fn set_named<'a>(command: &str, matches: &ArgMatches<'a>) -> Option<Job<'a>>
+    ensures some { IfSome result (NamesBy (command.now, rows_of (found_of matches.now))) }
+    ensures none { IfNone result ((set : List ℕ) (task : Task)
+        → NamesSet (command.now, rows_of (found_of matches.now)) set task → ⊥) }
 {
+    let task = task_named(command, matches)?;
     let set = argument(matches, "FILE")?;
-    let extent = extent_asked(matches);
-    Some(AloneJob::Explain { set, extent })
+    Some(Job::OnSet { set, task })
 }
 
-fn list_named<'a>(matches: &ArgMatches<'a>) -> Option<AloneJob<'a>>
-    ensures some { IfSome result (NamesAlone (codes "list", rows_of (found_of matches.now))) }
+/// What is to be done with a set.
+fn task_named(command: &str, matches: &ArgMatches<'_>) -> Option<Task>
+    ensures some { IfSome result (NamesTask (command.now, rows_of (found_of matches.now))) }
     ensures none { IfNone result
-        ((job : AloneJob) → NamesAlone (codes "list", rows_of (found_of matches.now)) job → ⊥) }
+        ((task : Task) → NamesTask (command.now, rows_of (found_of matches.now)) task → ⊥) }
 {
-    let set = argument(matches, "FILE")?;
-    Some(AloneJob::List { set })
+    match command {
+        "check" => set_to_check(matches),
+        "explain" => set_to_explain(matches),
+        "mend" => set_to_mend(matches),
+        "list" => Some(Task::List),
+        "hunt" => set_to_hunt(matches),
+        _ => None,
+    }
 }
 
-fn rewrite_named<'a>(matches: &ArgMatches<'a>) -> Option<AloneJob<'a>>
-    ensures some { IfSome result (NamesAlone (codes "rewrite", rows_of (found_of matches.now))) }
+/// A set is to be checked, and that not answered as text.
+fn set_to_check(matches: &ArgMatches<'_>) -> Option<Task>
+    ensures some { IfSome result (NamesTask (codes "check", rows_of (found_of matches.now))) }
     ensures none { IfNone result
-        ((job : AloneJob) → NamesAlone (codes "rewrite", rows_of (found_of matches.now)) job → ⊥) }
+        ((task : Task) → NamesTask (codes "check", rows_of (found_of matches.now)) task → ⊥) }
+{
+    match format_asked(matches)? {
+        Format::Plain => None,
+        Format::Json => Some(Task::CheckJson),
+    }
+}
+
+/// A set is to be explained, where no rule is.
+fn set_to_explain(matches: &ArgMatches<'_>) -> Option<Task>
+    ensures some { IfSome result (NamesTask (codes "explain", rows_of (found_of matches.now))) }
+    ensures none { IfNone result
+        ((task : Task) → NamesTask (codes "explain", rows_of (found_of matches.now)) task → ⊥) }
+{
+    match argument(matches, "RULE") {
+        Some(_) => None,
+        None => Some(Task::Explain(extent_asked(matches))),
+    }
+}
+
+fn set_to_mend(matches: &ArgMatches<'_>) -> Option<Task>
+    ensures some { IfSome result (NamesTask (codes "mend", rows_of (found_of matches.now))) }
+    ensures none { IfNone result
+        ((task : Task) → NamesTask (codes "mend", rows_of (found_of matches.now)) task → ⊥) }
+{
+    let tries = number_asked(matches, "tries", USUAL_TRIES, MAX_TRIES)?;
+    Some(Task::Mend(tries))
+}
+
+fn set_to_hunt(matches: &ArgMatches<'_>) -> Option<Task>
+    ensures some { IfSome result (NamesTask (codes "hunt", rows_of (found_of matches.now))) }
+    ensures none { IfNone result
+        ((task : Task) → NamesTask (codes "hunt", rows_of (found_of matches.now)) task → ⊥) }
+{
+    let reach = reach_asked(matches)?;
+    Some(Task::Hunt(reach))
+}
+
+/// The run that they name, of the set of a file by the input of another one.
+fn run_named<'a>(command: &str, matches: &ArgMatches<'a>) -> Option<Job<'a>>
+    ensures some { IfSome result (NamesBy (command.now, rows_of (found_of matches.now))) }
+    ensures none { IfNone result ((set input : List ℕ) (way : Way)
+        → NamesRun (command.now, rows_of (found_of matches.now)) set input way → ⊥) }
+{
+    let way = way_named(command, matches)?;
+    let set = argument(matches, "FILE")?;
+    let input = argument(matches, "SCHEDULE")?;
+    Some(Job::OnRun { set, input, way })
+}
+
+/// How it is to be run.
+fn way_named(command: &str, matches: &ArgMatches<'_>) -> Option<Way>
+    ensures some { IfSome result (NamesWay (command.now, rows_of (found_of matches.now))) }
+    ensures none { IfNone result
+        ((way : Way) → NamesWay (command.now, rows_of (found_of matches.now)) way → ⊥) }
+{
+    match command {
+        "trace" => run_to_trace(matches),
+        "tell" => run_to_tell(matches),
+        "draw" => Some(Way::Draw(verification_asked(matches))),
+        _ => None,
+    }
+}
+
+fn run_to_trace(matches: &ArgMatches<'_>) -> Option<Way>
+    ensures some { IfSome result (NamesWay (codes "trace", rows_of (found_of matches.now))) }
+    ensures none { IfNone result
+        ((way : Way) → NamesWay (codes "trace", rows_of (found_of matches.now)) way → ⊥) }
+{
+    let format = format_asked(matches)?;
+    let verification = verification_asked(matches);
+    match format {
+        Format::Plain => Some(Way::Trace(verification)),
+        Format::Json => Some(Way::TraceJson(verification)),
+    }
+}
+
+fn run_to_tell(matches: &ArgMatches<'_>) -> Option<Way>
+    ensures some { IfSome result (NamesWay (codes "tell", rows_of (found_of matches.now))) }
+    ensures none { IfNone result
+        ((way : Way) → NamesWay (codes "tell", rows_of (found_of matches.now)) way → ⊥) }
+{
+    let manner = manner_asked(matches)?;
+    Some(Way::Tell(verification_asked(matches), manner))
+}
+
+/// What they name beside these with files.
+fn file_named<'a>(command: &str, matches: &ArgMatches<'a>) -> Option<Job<'a>>
+    ensures some { IfSome result (NamesBy (command.now, rows_of (found_of matches.now))) }
+    ensures none { IfNone result
+        ((job : Job) → NamesFiles (command.now, rows_of (found_of matches.now)) job → ⊥) }
+{
+    match command {
+        "check" => check_named(matches),
+        "rewrite" => rewrite_named(matches),
+        "host" => host_named(matches),
+        _ => None,
+    }
+}
+
+fn check_named<'a>(matches: &ArgMatches<'a>) -> Option<Job<'a>>
+    ensures some { IfSome result (NamesBy (codes "check", rows_of (found_of matches.now))) }
+    ensures none { IfNone result
+        ((job : Job) → NamesFiles (codes "check", rows_of (found_of matches.now)) job → ⊥) }
+{
+    let set = argument(matches, "FILE")?;
+    match format_asked(matches)? {
+        Format::Plain => Some(Job::Check { set }),
+        Format::Json => None,
+    }
+}
+
+fn rewrite_named<'a>(matches: &ArgMatches<'a>) -> Option<Job<'a>>
+    ensures some { IfSome result (NamesBy (codes "rewrite", rows_of (found_of matches.now))) }
+    ensures none { IfNone result
+        ((job : Job) → NamesFiles (codes "rewrite", rows_of (found_of matches.now)) job → ⊥) }
 {
     let set = argument(matches, "FILE")?;
     let output = argument(matches, "OUT")?;
-    Some(AloneJob::Rewrite { set, output })
-}
-
-fn trace_named<'a>(matches: &ArgMatches<'a>) -> Option<AloneJob<'a>>
-    ensures some { IfSome result (NamesAlone (codes "trace", rows_of (found_of matches.now))) }
-    ensures none { IfNone result
-        ((job : AloneJob) → NamesAlone (codes "trace", rows_of (found_of matches.now)) job → ⊥) }
-{
-    let set = argument(matches, "FILE")?;
-    let schedule = argument(matches, "SCHEDULE")?;
-    let verification = flagged(matches);
-    Some(AloneJob::Trace {
-        set,
-        schedule,
-        verification,
-    })
-}
-
-fn tell_named<'a>(matches: &ArgMatches<'a>) -> Option<AloneJob<'a>>
-    ensures some { IfSome result (NamesAlone (codes "tell", rows_of (found_of matches.now))) }
-    ensures none { IfNone result
-        ((job : AloneJob) → NamesAlone (codes "tell", rows_of (found_of matches.now)) job → ⊥) }
-{
-    let set = argument(matches, "FILE")?;
-    let schedule = argument(matches, "SCHEDULE")?;
-    let verification = flagged(matches);
-    let manner = manner_asked(matches)?;
-    Some(AloneJob::Tell {
-        set,
-        schedule,
-        verification,
-        manner,
-    })
-}
-
-fn draw_named<'a>(matches: &ArgMatches<'a>) -> Option<AloneJob<'a>>
-    ensures some { IfSome result (NamesAlone (codes "draw", rows_of (found_of matches.now))) }
-    ensures none { IfNone result
-        ((job : AloneJob) → NamesAlone (codes "draw", rows_of (found_of matches.now)) job → ⊥) }
-{
-    let set = argument(matches, "FILE")?;
-    let schedule = argument(matches, "SCHEDULE")?;
-    let verification = flagged(matches);
-    Some(AloneJob::Draw {
-        set,
-        schedule,
-        verification,
-    })
-}
-
-fn hunt_named<'a>(matches: &ArgMatches<'a>) -> Option<Job<'a>>
-    ensures some { IfSome result (NamesTask (codes "hunt", rows_of (found_of matches.now))) }
-    ensures none { IfNone result
-        ((job : Job) → NamesTask (codes "hunt", rows_of (found_of matches.now)) job → ⊥) }
-{
-    let set = argument(matches, "FILE")?;
-    let reach = reach_asked(matches)?;
-    Some(Job::Hunt { set, reach })
+    Some(Job::Rewrite { set, output })
 }
 
 fn host_named<'a>(matches: &ArgMatches<'a>) -> Option<Job<'a>>
-    ensures some { IfSome result (NamesTask (codes "host", rows_of (found_of matches.now))) }
+    ensures some { IfSome result (NamesBy (codes "host", rows_of (found_of matches.now))) }
     ensures none { IfNone result
-        ((job : Job) → NamesTask (codes "host", rows_of (found_of matches.now)) job → ⊥) }
+        ((job : Job) → NamesFiles (codes "host", rows_of (found_of matches.now)) job → ⊥) }
 {
     let set = argument(matches, "FILE")?;
     let script = argument(matches, "SCRIPT")?;
@@ -229,13 +282,39 @@ pub(crate) fn argument<'a>(matches: &ArgMatches<'a>, id: &str) -> Option<&'a str
     matches.get_str(id)
 }
 
+/// How an answer is written.
+#[derive(Clone, Copy)]
+pub(crate) enum Format {
+    Plain,
+    Json,
+}
+
+/// How it is to be written, if there is such a format.
+fn format_asked(matches: &ArgMatches<'_>) -> Option<Format>
+    ensures some { IfSome result
+        (IsFormat (first_of (codes "format") (rows_of (found_of matches.now)))) }
+    ensures none { IfNone result
+        (IsFormat (first_of (codes "format") (rows_of (found_of matches.now))) Format.Plain → ⊥) }
+    ensures neither { IfNone result
+        (IsFormat (first_of (codes "format") (rows_of (found_of matches.now))) Format.Json → ⊥) }
+{
+    match argument(matches, "format") {
+        None => Some(Format::Plain),
+        Some("text") => Some(Format::Plain),
+        Some("json") => Some(Format::Json),
+        Some(_) => None,
+    }
+}
+
 /// Of which faults words are asked for.
 fn extent_asked(matches: &ArgMatches<'_>) -> Extent
-    ensures { IsExtent (first_of (codes "all") (rows_of (found_of matches.now))) result }
+    ensures { IsChosen (first_of (codes "all") (rows_of (found_of matches.now)))
+        Extent.Each Extent.First result }
 {
-    match argument(matches, "all") {
-        Some("true") => Extent::Each,
-        _ => Extent::First,
+    if is_given(matches, "all") {
+        Extent::Each
+    } else {
+        Extent::First
     }
 }
 
@@ -286,20 +365,24 @@ fn is_given(matches: &ArgMatches<'_>, id: &str) -> bool
 
 /// How strictly it is to be answered.
 fn strictness_asked(matches: &ArgMatches<'_>) -> Strictness
-    ensures { IsStrictness (first_of (codes "strict") (rows_of (found_of matches.now))) result }
+    ensures { IsChosen (first_of (codes "strict") (rows_of (found_of matches.now)))
+        Strictness.Strict Strictness.Lenient result }
 {
-    match argument(matches, "strict") {
-        Some("true") => Strictness::Strict,
-        _ => Strictness::Lenient,
+    if is_given(matches, "strict") {
+        Strictness::Strict
+    } else {
+        Strictness::Lenient
     }
 }
 
-/// Whether the flag is given.
-fn flagged(matches: &ArgMatches<'_>) -> Verification
-    ensures { IsFlag (first_of (codes "unchecked") (rows_of (found_of matches.now))) result }
+/// Whether the set of a run has to be accepted.
+fn verification_asked(matches: &ArgMatches<'_>) -> Verification
+    ensures { IsChosen (first_of (codes "unchecked") (rows_of (found_of matches.now)))
+        Verification.Skipped Verification.Required result }
 {
-    match argument(matches, "unchecked") {
-        Some("true") => Verification::Skipped,
-        _ => Verification::Required,
+    if is_given(matches, "unchecked") {
+        Verification::Skipped
+    } else {
+        Verification::Required
     }
 }

@@ -1,28 +1,23 @@
 -- What is right for files is right for what is known of them, and how words are answered.
 use Rattle.std.proofs.Common.{◌≡◌, ◌≢◌, ◌∙◌, ◌⊎◌, ap, ℕ, ◌+◌, List, [], ◌++◌, ◌∷◌, Option, None, true, string_bytes, append-nil, arith, inl, inr, refl, subst, sym}
+use Rattle.std.specs.Borrow.{Bor}
 use Rattle.std.proofs.KnownBytes.{Appends-nil, Keeps-refl}
 use Rattle.clap.specs.Words.{Text, subcommand_of, takes}
 use Rattle.drvhost_devices.specs.Answer.{Answer}
 use Rattle.drvhost_devices.specs.Device.{Bytes, Closed, Holds, IsSuppliedAs, MayBeClosed, Says, Supply, Unknown}
-use Rattle.drvhost_devices.specs.Ends.{Answers, Ends, HoldsRun, IsCheckOf, IsListOf, IsRewriteOf, IsTraceOf, OutOfMemory, ReadFailed, Rightly, WriteFailed}
-use Rattle.hunt_search.specs.declared.search.Bounds.{Bounds}
-use Rattle.drvhost_hunts.specs.Hunt.{IsHuntOf}
-use Rattle.drvhost_sets.specs.declared.explaining.Extent.{Extent}
-use Rattle.drvhost_sets.specs.Explained.{IsExplainedOf}
+use Rattle.drvhost_devices.specs.Ends.{Answers, Ends, HoldsRun, IsCheckOf, IsRewriteOf, OutOfMemory, ReadFailed, Rightly, WriteFailed}
 use Rattle.drvhost_runs.specs.Readiness.{AreWarningsOf, SaysWarned}
 use Rattle.drvhost_runs.specs.Served.{IsHostOf}
-use Rattle.drvhost_views.specs.Told.{IsDrawOf, IsTellOf}
-use Rattle.drvhost_views.specs.declared.tell.Manner.{Manner}
 use Rattle.drvhost_devices.specs.declared.verification.Verification.{Verification}
 use Rattle.drvhost_commands.specs.declared.job.Job.{Job}
+use Rattle.drvhost_commands.specs.declared.job.Task.{Task}
+use Rattle.drvhost_commands.specs.declared.job.Task.TheVariants.{CheckJson, Explain, Mend, List as Listing, Hunt}
+use Rattle.drvhost_commands.specs.declared.job.Way.{Way}
+use Rattle.drvhost_commands.specs.declared.job.Way.TheVariants.{Trace, TraceJson, Tell, Draw}
 use Rattle.drvhost_commands.specs.declared.job.JobFault.{JobFault}
 use Rattle.drvhost_commands.specs.declared.job.JobFault.TheVariants.{Memory, Usage}
 use Rattle.drvhost_commands.specs.CommandLine.{Names, NamesJob, job_fault_status, job_fault_told, program, text_told}
 use Rattle.drvhost_files.specs.Files.{supply_of}
-use Rattle.drvhost_words.specs.declared.answer.Task.{Task}
-use Rattle.drvhost_words.specs.declared.answer.Task.TheVariants.{Explained, Listed, Hunted}
-use Rattle.drvhost_words.specs.declared.answer.Way.{Way}
-use Rattle.drvhost_words.specs.declared.answer.Way.TheVariants.{BySchedule, InWords, AsPicture}
 use Rattle.drvhost_words.specs.Program.{IsAnswerTo, IsDoneOf, IsQuietly, IsRunBy, JobTells, JobWarns, WordsTell, WordsWarn}
 use Rattle.drvhost_words.specs.Unread.{IsNamedUnread, SaysAround, SaysMore, SaysUnread}
 
@@ -204,54 +199,23 @@ pub check_known : (known supply : Supply) → IsSuppliedAs known supply → (ans
 check_known known supply h answer (bytes, holds, right) =
     (bytes, holds_known known supply bytes h holds, right)
 
-explain_known : (extent : Extent) (known supply : Supply) → IsSuppliedAs known supply
-    → (answer : Answer) → IsExplainedOf extent supply answer → IsExplainedOf extent known answer
-explain_known extent known supply h answer (bytes, holds, right) =
+pub task_known : (task : Task) (name : List ℕ) (known supply : Supply) → IsSuppliedAs known supply
+    → (answer : Answer) → IsDoneOf task name supply answer → IsDoneOf task name known answer
+task_known CheckJson name known supply h answer (bytes, holds, right) =
     (bytes, holds_known known supply bytes h holds, right)
-
-list_known : (known supply : Supply) → IsSuppliedAs known supply → (answer : Answer)
-    → IsListOf supply answer → IsListOf known answer
-list_known known supply h answer (bytes, holds, right) =
+task_known (Explain extent) name known supply h answer (bytes, holds, right) =
     (bytes, holds_known known supply bytes h holds, right)
-
-hunt_known : (reach : Bounds) (known supply : Supply) → IsSuppliedAs known supply
-    → (answer : Answer) → IsHuntOf reach supply answer → IsHuntOf reach known answer
-hunt_known reach known supply h answer (bytes, holds, right) =
+task_known (Mend tries) name known supply h answer (bytes, holds, right) =
     (bytes, holds_known known supply bytes h holds, right)
-
-pub task_known : (task : Task) (known supply : Supply) → IsSuppliedAs known supply
-    → (answer : Answer) → IsDoneOf task supply answer → IsDoneOf task known answer
-task_known (Explained extent) known supply h answer right =
-    explain_known extent known supply h answer right
-task_known Listed known supply h answer right = list_known known supply h answer right
-task_known (Hunted reach) known supply h answer right =
-    hunt_known reach known supply h answer right
+task_known Listing name known supply h answer (bytes, holds, right) =
+    (bytes, holds_known known supply bytes h holds, right)
+task_known (Hunt reach) name known supply h answer (bytes, holds, right) =
+    (bytes, holds_known known supply bytes h holds, right)
 
 pub rewrite_known : (known supply : Supply) → IsSuppliedAs known supply → (answer : Answer)
     → IsRewriteOf supply answer → IsRewriteOf known answer
 rewrite_known known supply h answer (bytes, holds, right) =
     (bytes, holds_known known supply bytes h holds, right)
-
-trace_known : (v : Verification) (known supply schedule other : Supply)
-    → IsSuppliedAs known supply → other ≡ schedule → (answer : Answer)
-    → IsTraceOf v supply other answer → IsTraceOf v known schedule answer
-trace_known v known supply schedule other h e answer (bytes, holds, right) =
-    let P : Supply → Type 0 = λ s. IsTraceOf v known s answer in
-    subst P e (bytes, holds_known known supply bytes h holds, right)
-
-tell_known : (v : Verification) (d : Manner) (known supply schedule other : Supply)
-    → IsSuppliedAs known supply → other ≡ schedule → (answer : Answer)
-    → IsTellOf v d supply other answer → IsTellOf v d known schedule answer
-tell_known v d known supply schedule other h e answer (bytes, holds, right) =
-    let P : Supply → Type 0 = λ s. IsTellOf v d known s answer in
-    subst P e (bytes, holds_known known supply bytes h holds, right)
-
-draw_known : (v : Verification) (known supply schedule other : Supply)
-    → IsSuppliedAs known supply → other ≡ schedule → (answer : Answer)
-    → IsDrawOf v supply other answer → IsDrawOf v known schedule answer
-draw_known v known supply schedule other h e answer (bytes, holds, right) =
-    let P : Supply → Type 0 = λ s. IsDrawOf v known s answer in
-    subst P e (bytes, holds_known known supply bytes h holds, right)
 
 pub host_known : (workers : ℕ) (known supply script other : Supply)
     → IsSuppliedAs known supply → other ≡ script → (answer : Answer)
@@ -268,15 +232,24 @@ warnings_known known supply h status warnings (inl (bytes, holds, warns)) =
     inl (bytes, holds_known known supply bytes h holds, warns)
 warnings_known known supply h status warnings (inr none) = inr none
 
-pub way_known : (way : Way) (known supply input other : Supply)
+way_held : (way : Way) (n o : Bor (List ℕ)) (known supply input : Supply)
+    → IsSuppliedAs known supply → (answer : Answer) → IsRunBy way n o supply input answer
+    → IsRunBy way n o known input answer
+way_held (TraceJson v) n o known supply input h answer (bytes, holds, right) =
+    (bytes, holds_known known supply bytes h holds, right)
+way_held (Trace v) n o known supply input h answer (bytes, holds, right) =
+    (bytes, holds_known known supply bytes h holds, right)
+way_held (Tell v d) n o known supply input h answer (bytes, holds, right) =
+    (bytes, holds_known known supply bytes h holds, right)
+way_held (Draw v) n o known supply input h answer (bytes, holds, right) =
+    (bytes, holds_known known supply bytes h holds, right)
+
+pub way_known : (way : Way) (n o : Bor (List ℕ)) (known supply input other : Supply)
     → IsSuppliedAs known supply → other ≡ input → (answer : Answer)
-    → IsRunBy way supply other answer → IsRunBy way known input answer
-way_known (BySchedule v) known supply input other h e answer right =
-    trace_known v known supply input other h e answer right
-way_known (InWords v d) known supply input other h e answer right =
-    tell_known v d known supply input other h e answer right
-way_known (AsPicture v) known supply input other h e answer right =
-    draw_known v known supply input other h e answer right
+    → IsRunBy way n o supply other answer → IsRunBy way n o known input answer
+way_known way n o known supply input other h e answer right =
+    let P : Supply → Type 0 = λ s. IsRunBy way n o known s answer in
+    subst P e (way_held way n o known supply other h answer right)
 
 pub run_known : {A : Type 0} (v : Verification) (known supply : Supply)
     → IsSuppliedAs known supply → A ⊎ HoldsRun v supply → (A → ⊥) → HoldsRun v known

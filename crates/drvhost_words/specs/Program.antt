@@ -1,6 +1,7 @@
 -- What the program answers for the words of its command line, what it tells before and behind that,
 -- which files it opens, and what it writes to one.
-use Rattle.std.specs.Prelude.{ℕ, ◌≡◌, ◌≢◌, ◌+◌, ◌++◌, ◌⊎◌, List, [], map, true, Result, Ok, Err, String, drop, string_bytes}
+use Rattle.std.specs.Prelude.{ℕ, ◌≡◌, ◌≢◌, ◌+◌, ◌++◌, ◌⊎◌, Bool, List, [], false, map, true, Result, Ok, Err, String, drop, string_bytes}
+use Rattle.std.specs.Borrow.{Bor}
 use Rattle.std.specs.Global.{Global, Vec}
 use Rattle.std.specs.declared.io.ErrorKind.{ErrorKind}
 use Rattle.std.specs.declared.io.ErrorKind.TheVariants.{OutOfMemory}
@@ -10,45 +11,74 @@ use Rattle.drvhost_devices.specs.Device.{MayBeClosed, Supply}
 use Rattle.drvhost_devices.specs.declared.verification.Verification.{Verification}
 use Rattle.drvhost_devices.specs.declared.verification.Verification.TheVariants.{Required}
 use Rattle.drvhost_devices.specs.Ends.{HoldsRun, IsCheckOf, IsListOf, IsRewriteOf, IsTraceOf}
+use Rattle.drvhost_formats.specs.Check.{IsCheckJsonOf}
+use Rattle.drvhost_formats.specs.Told.{IsUnopenedJson}
+use Rattle.drvhost_formats.specs.Trace.{IsTraceJsonOf}
 use Rattle.drvhost_hunts.specs.Hunt.{IsHuntOf}
+use Rattle.drvhost_mends.specs.Mend.{IsMendOf}
 use Rattle.drvhost_sets.specs.Explained.{IsExplainedOf, IsLockOrderExplained}
 use Rattle.drvhost_runs.specs.Readiness.{AreWarningsOf}
 use Rattle.drvhost_runs.specs.Served.{IsHostOf}
 use Rattle.drvhost_views.specs.Told.{IsDrawOf, IsTellOf}
-use Rattle.drvhost_words.specs.declared.answer.Task.{Task}
-use Rattle.drvhost_words.specs.declared.answer.Task.TheVariants.{Explained, Listed, Hunted}
-use Rattle.drvhost_words.specs.declared.answer.Way.{Way}
-use Rattle.drvhost_words.specs.declared.answer.Way.TheVariants.{BySchedule, InWords, AsPicture}
 use Rattle.drvhost_commands.specs.declared.job.Job.{Job}
-use Rattle.drvhost_commands.specs.declared.job.Job.TheVariants.{Alone, Hunt, Host}
-use Rattle.drvhost_commands.specs.declared.job.AloneJob.TheVariants.{Check, Explain, ExplainRule, ExplainLockOrder, List as ListJob, Rewrite, Version, Trace, Tell, Draw}
+use Rattle.drvhost_commands.specs.declared.job.Job.TheVariants.{Page as OfPage, Check, Rewrite, OnSet, OnRun, Host}
+use Rattle.drvhost_commands.specs.declared.job.Page.{Page}
+use Rattle.drvhost_commands.specs.declared.job.Page.TheVariants.{Rule, LockOrder, Version}
+use Rattle.drvhost_commands.specs.declared.job.Task.{Task}
+use Rattle.drvhost_commands.specs.declared.job.Task.TheVariants.{CheckJson, Explain, Mend, List as Listing, Hunt}
+use Rattle.drvhost_commands.specs.declared.job.Way.{Way}
+use Rattle.drvhost_commands.specs.declared.job.Way.TheVariants.{Trace, TraceJson, Tell, Draw}
 use Rattle.drvhost_commands.specs.CommandLine.{Names, NamesJob, program, usage}
 use Rattle.drvhost_files.specs.Files.{Has}
 use Rattle.drvhost_words.specs.Unread.{IsNamedUnread, IsOneOf}
 
--- what a run of a set by an input answers, where these are what their files have
-abbrev pub IsRunBy : Way → Supply → Supply → Answer → Type 0
-IsRunBy (BySchedule verification) set schedule answer = IsTraceOf verification set schedule answer
-IsRunBy (InWords verification manner) set schedule answer =
-    IsTellOf verification manner set schedule answer
-IsRunBy (AsPicture verification) set schedule answer = IsDrawOf verification set schedule answer
+-- what a run of a set by an input answers, by the names of their files and what these have
+abbrev pub IsRunBy : Way → Bor (List ℕ) → Bor (List ℕ) → Supply → Supply → Answer → Type 0
+IsRunBy (Trace verification) name other = IsTraceOf verification
+IsRunBy (TraceJson verification) name other =
+    IsTraceJsonOf (record { set = name; schedule = other; verification = verification })
+IsRunBy (Tell verification manner) name other = IsTellOf verification manner
+IsRunBy (Draw verification) name other = IsDrawOf verification
 
 -- whether the set has to be accepted
 abbrev pub verification_of : Way → Verification
-verification_of (BySchedule verification) = verification
-verification_of (InWords verification manner) = verification
-verification_of (AsPicture verification) = verification
+verification_of (Trace verification) = verification
+verification_of (TraceJson verification) = verification
+verification_of (Tell verification manner) = verification
+verification_of (Draw verification) = verification
 
--- what a task with a set answers, where this is what its file has
-abbrev pub IsDoneOf : Task → Supply → Answer → Type 0
-IsDoneOf (Explained extent) = IsExplainedOf extent
-IsDoneOf Listed = IsListOf
-IsDoneOf (Hunted reach) = IsHuntOf reach
+-- what a task with a set answers, by the name of its file and what this has
+abbrev pub IsDoneOf : Task → List ℕ → Supply → Answer → Type 0
+IsDoneOf CheckJson name = IsCheckJsonOf name
+IsDoneOf (Explain extent) name = IsExplainedOf extent
+IsDoneOf (Mend tries) name = IsMendOf (record { tries = tries })
+IsDoneOf Listing name = IsListOf
+IsDoneOf (Hunt reach) name = IsHuntOf reach
 
--- what is right for what the file of a name has, or where it can't be opened: its name is told
-abbrev pub IsOfNamed : (Supply → Answer → Type 0) → (List ℕ → Supply) → List ℕ → Answer → Type 0
-IsOfNamed Right supply name answer =
-    Right (supply name) answer ⊎ (MayBeClosed (supply name) × IsUnopened name answer)
+-- a page that stands in the program
+abbrev pub IsPage : Page → Answer → Type 0
+IsPage (Rule rule) = IsRuleExplained rule
+IsPage LockOrder = IsLockOrderExplained
+IsPage Version = IsVersion
+
+-- whether all that it answers is JSON
+abbrev pub is_in_json : Task → Bool
+is_in_json CheckJson = true
+is_in_json task = false
+
+-- what it answers where the file of a name can't be opened
+abbrev pub IsUnopenedAs : Bool → List ℕ → Answer → Type 0
+IsUnopenedAs true = IsUnopenedJson
+IsUnopenedAs false = IsUnopened
+
+abbrev pub IsUnopenedBy : Task → List ℕ → Answer → Type 0
+IsUnopenedBy task = IsUnopenedAs (is_in_json task)
+
+-- what is right for a task with the set of the file of a name
+abbrev pub IsOfTask : Task → (List ℕ → Supply) → List ℕ → Answer → Type 0
+IsOfTask task supply name answer =
+    IsDoneOf task name (supply name) answer
+    ⊎ (MayBeClosed (supply name) × IsUnopenedBy task name answer)
 
 -- what is right where the output goes to a file: the same, with nothing on the standard output
 abbrev pub IsQuietly : (Answer → Type 0) → Answer → Type 0
@@ -57,20 +87,12 @@ IsQuietly Right answer =
 
 -- what is right for a job, where the files of these names have this to give
 abbrev pub IsJobOf : (List ℕ → Supply) → Job → Answer → Type 0
-IsJobOf supply (Alone (Check set)) answer = IsCheckOf (supply set.now) answer
-IsJobOf supply (Alone (Explain set extent)) answer = IsOfNamed (IsExplainedOf extent) supply set.now answer
-IsJobOf supply (Alone (ExplainRule rule)) answer = IsRuleExplained rule answer
-IsJobOf supply (Alone ExplainLockOrder) answer = IsLockOrderExplained answer
-IsJobOf supply (Alone (ListJob set)) answer = IsOfNamed IsListOf supply set.now answer
-IsJobOf supply (Alone (Rewrite set output)) answer = IsQuietly (IsRewriteOf (supply set.now)) answer
-IsJobOf supply (Alone Version) answer = IsVersion answer
-IsJobOf supply (Alone (Trace set schedule verification)) answer =
-    IsTraceOf verification (supply set.now) (supply schedule.now) answer
-IsJobOf supply (Alone (Tell set schedule verification manner)) answer =
-    IsTellOf verification manner (supply set.now) (supply schedule.now) answer
-IsJobOf supply (Alone (Draw set schedule verification)) answer =
-    IsDrawOf verification (supply set.now) (supply schedule.now) answer
-IsJobOf supply (Hunt set reach) answer = IsOfNamed (IsHuntOf reach) supply set.now answer
+IsJobOf supply (OfPage page) answer = IsPage page answer
+IsJobOf supply (Check set) answer = IsCheckOf (supply set.now) answer
+IsJobOf supply (Rewrite set output) answer = IsQuietly (IsRewriteOf (supply set.now)) answer
+IsJobOf supply (OnSet set task) answer = IsOfTask task supply set.now answer
+IsJobOf supply (OnRun set input way) answer =
+    IsRunBy way set input (supply set.now) (supply input.now) answer
 IsJobOf supply (Host set script workers) answer =
     IsHostOf workers (supply set.now) (supply script.now) answer
 
@@ -81,25 +103,13 @@ arguments words = map string_bytes (drop 1 words.items)
 -- what is told behind the answer of a job, for so many reads that had failed before it, and that
 -- have after it: the name of the file that can't be read, but for `check` and `rewrite`
 abbrev pub JobTells : Job → ℕ → ℕ → List ℕ → Type 0
-JobTells (Alone (Check set)) before after text = text ≡ []
-JobTells (Alone (Explain set extent)) before after text =
+JobTells (OnSet set task) before after text =
     IsNamedUnread (λ name. name ≡ set.now) before after text
-JobTells (Alone (ExplainRule rule)) before after text = text ≡ []
-JobTells (Alone ExplainLockOrder) before after text = text ≡ []
-JobTells (Alone (ListJob set)) before after text =
-    IsNamedUnread (λ name. name ≡ set.now) before after text
-JobTells (Alone (Rewrite set output)) before after text = text ≡ []
-JobTells (Alone Version) before after text = text ≡ []
-JobTells (Alone (Trace set schedule verification)) before after text =
-    IsNamedUnread (IsOneOf set.now schedule.now) before after text
-JobTells (Alone (Tell set schedule verification manner)) before after text =
-    IsNamedUnread (IsOneOf set.now schedule.now) before after text
-JobTells (Alone (Draw set schedule verification)) before after text =
-    IsNamedUnread (IsOneOf set.now schedule.now) before after text
-JobTells (Hunt set reach) before after text =
-    IsNamedUnread (λ name. name ≡ set.now) before after text
+JobTells (OnRun set input way) before after text =
+    IsNamedUnread (IsOneOf set.now input.now) before after text
 JobTells (Host set script workers) before after text =
     IsNamedUnread (IsOneOf set.now script.now) before after text
+JobTells job before after text = text ≡ []
 
 -- what is told behind the answer to words: nothing where they name no job, and no read failed; or
 -- what is behind that of a job that they name
@@ -115,10 +125,9 @@ ProgramTells (Err kind) before after text = text ≡ []
 -- what is told before the answer of a job, by its exit status: of a set that workers serve, its
 -- warnings
 abbrev pub JobWarns : (List ℕ → Supply) → Job → ℕ → List ℕ → Type 0
-JobWarns supply (Alone job) status warnings = warnings ≡ []
-JobWarns supply (Hunt set reach) status warnings = warnings ≡ []
 JobWarns supply (Host set script workers) status warnings =
     AreWarningsOf (supply set.now) status warnings
+JobWarns supply job status warnings = warnings ≡ []
 
 -- and before the answer to words: nothing where they name no job
 abbrev pub WordsWarn : (List ℕ → Supply) → List Text → ℕ → List ℕ → Type 0
@@ -138,21 +147,11 @@ OpensToTrace verification set count =
 
 -- how many files a job opens to read them
 abbrev pub Opens : (List ℕ → Supply) → Job → ℕ → Type 0
-Opens supply (Alone (Check set)) count = count ≡ 1
-Opens supply (Alone (Explain set extent)) count = count ≡ 1
-Opens supply (Alone (ExplainRule rule)) count = count ≡ 0
-Opens supply (Alone ExplainLockOrder) count = count ≡ 0
-Opens supply (Alone (ListJob set)) count = count ≡ 1
-Opens supply (Alone (Rewrite set output)) count = count ≡ 1
-Opens supply (Alone Version) count = count ≡ 0
-Opens supply (Alone (Trace set schedule verification)) count =
-    OpensToTrace verification (supply set.now) count
-Opens supply (Alone (Tell set schedule verification manner)) count =
-    OpensToTrace verification (supply set.now) count
-Opens supply (Alone (Draw set schedule verification)) count =
-    OpensToTrace verification (supply set.now) count
-Opens supply (Hunt set reach) count = count ≡ 1
+Opens supply (OfPage page) count = count ≡ 0
+Opens supply (OnRun set input way) count =
+    OpensToTrace (verification_of way) (supply set.now) count
 Opens supply (Host set script workers) count = OpensToTrace Required (supply set.now) count
+Opens supply job count = count ≡ 1
 
 -- words that name no job are answered with a text on how the program is used
 pub record IsUsage (words : List Text) (answer : Answer) : Type 0 where
@@ -216,22 +215,9 @@ pub record RewritesFile (set : Supply) (name : List ℕ) (before after : List �
 
 -- what a job does to the files
 abbrev pub JobStores : Job → (List ℕ → Supply) → (List ℕ → Supply) → ℕ → ℕ → ℕ → Type 0
-JobStores (Alone (Rewrite set output)) before after old new status =
+JobStores (Rewrite set output) before after old new status =
     RewritesFile (before set.now) output.now before after old new status
-JobStores (Alone (Check set)) before after old new status = LeavesFiles before after old new
-JobStores (Alone (Explain set extent)) before after old new status = LeavesFiles before after old new
-JobStores (Alone (ExplainRule rule)) before after old new status = LeavesFiles before after old new
-JobStores (Alone ExplainLockOrder) before after old new status = LeavesFiles before after old new
-JobStores (Alone (ListJob set)) before after old new status = LeavesFiles before after old new
-JobStores (Alone Version) before after old new status = LeavesFiles before after old new
-JobStores (Alone (Trace set schedule verification)) before after old new status =
-    LeavesFiles before after old new
-JobStores (Alone (Tell set schedule verification manner)) before after old new status =
-    LeavesFiles before after old new
-JobStores (Alone (Draw set schedule verification)) before after old new status =
-    LeavesFiles before after old new
-JobStores (Hunt set reach) before after old new status = LeavesFiles before after old new
-JobStores (Host set script workers) before after old new status = LeavesFiles before after old new
+JobStores job before after old new status = LeavesFiles before after old new
 
 -- what the program does to the files for these words: nothing where it names no job, and then it
 -- doesn't succeed, or what that job does

@@ -1,7 +1,7 @@
 //! What the program answers.
 
 ghost use Rattle.std.specs.Prelude.{◌≡◌, ◌+◌, ◌<◌, ◌^◌, ◌⊎◌, ℕ, List, Option, drop, map, string_bytes, true};
-ghost use Rattle.drvhost_words.specs.Program.{IsAnswerTo, IsAnswerToLost, IsDoneOf, IsJobOf, IsOfNamed, IsProgram, IsRunBy, Opens, OpensFor, OpensToTrace, IsQuietly, JobStores, JobTells, JobWarns, ProgramOpens, ProgramStores, ProgramTells, ProgramWarns, RewritesFile, WordsStore, WordsTell, WordsWarn, verification_of};
+ghost use Rattle.drvhost_words.specs.Program.{IsAnswerTo, IsAnswerToLost, IsDoneOf, IsJobOf, IsOfTask, IsPage, IsProgram, IsRunBy, IsUnopenedBy, Opens, OpensFor, OpensToTrace, IsQuietly, JobStores, JobTells, JobWarns, ProgramOpens, ProgramStores, ProgramTells, ProgramWarns, RewritesFile, WordsStore, WordsTell, WordsWarn, is_in_json, verification_of};
 ghost use Rattle.drvhost_words.specs.Unread.{IsNamedUnread, IsOneOf, SaysAround, SaysMore};
 ghost use Rattle.drvhost_devices.specs.Device.{CanCount, Says};
 ghost use Rattle.drvhost_devices.specs.Ends.{Answers, HoldsRun, IsCheckOf, IsRewriteOf};
@@ -9,23 +9,28 @@ ghost use Rattle.drvhost_runs.specs.Readiness.{AreWarningsOf};
 ghost use Rattle.drvhost_runs.specs.Served.{IsHostOf};
 
 use crate::unread::{Names, tell_if_unread, tell_which_unread};
-use drvhost_commands::job::{AloneJob, Job, JobFault, Workers, refuse_unknown_words, refuse_words};
+use drvhost_commands::job::{
+    Job, JobFault, Page, Task, Way, Workers, refuse_unknown_words, refuse_words,
+};
 use drvhost_devices::device::{Sink, Source};
 use drvhost_devices::unopened::tell_unopened;
 use drvhost_devices::verification::Verification;
 use drvhost_files::files::{Files, Later, Pending};
+use drvhost_formats::check::check_json;
+use drvhost_formats::trace::{Asked, trace_json};
+use drvhost_formats::unopened::unopened_json;
 use drvhost_hunts::hunt::hunt;
-use drvhost_hunts::reach::Reach;
+use drvhost_mends::mend::{self, mend};
 use drvhost_runs::host::{Hosting, host};
 use drvhost_runs::trace::trace;
 use drvhost_sets::check::check;
-use drvhost_sets::explaining::{Extent, explain};
+use drvhost_sets::explaining::explain;
 use drvhost_sets::list::list;
 use drvhost_sets::rewriting::rewrite;
 use drvhost_sets::rule::{explain_lock_order, explain_rule};
 use drvhost_sets::version::version;
 use drvhost_views::draw::draw;
-use drvhost_views::tell::{Manner, Telling, tell};
+use drvhost_views::tell::{Telling, tell};
 use std::alloc::Global;
 use std::io::ErrorKind;
 use std::sync::Wait;
@@ -159,8 +164,14 @@ fn perform<F: Files, O: Sink, E: Sink, R: Threads + Wait + Sync>(
         (F.created files.old) (F.created files.new) result }
 {
     match *job {
-        Job::Alone(job) => perform_alone(alloc, job, files, out, err),
-        Job::Hunt { set, reach } => task_file(alloc, Task::Hunted(reach), set, files, out, err),
+        Job::Page(page) => write_page(alloc, page, out, err),
+        Job::Check { set } => check_file(alloc, set, files, out, err),
+        Job::Rewrite { set, output } => rewrite_file(alloc, set, output, files, err),
+        Job::OnSet { set, task } => task_file(alloc, task, set, files, out, err),
+        Job::OnRun { set, input, way } => {
+            let names = Names::of(set, input);
+            run_files(alloc, Running { names, way }, files, out, err)
+        }
         Job::Host {
             set,
             script,
@@ -172,70 +183,20 @@ fn perform<F: Files, O: Sink, E: Sink, R: Threads + Wait + Sync>(
     }
 }
 
-/// Does a job that waits for no other thread.
-fn perform_alone<F: Files, O: Sink, E: Sink>(
-    alloc: Global,
-    job: AloneJob<'_>,
-    files: &mut F,
-    out: &mut O,
-    err: &mut E,
-) -> u8
-    requires opened { F.opened files.old + 2 < 2 ^ 64 }
-    requires files { CanCount (F.failures files.old) }
-    requires created { F.created files.old + 1 < 2 ^ 64 }
-    requires unwritten { CanCount (F.unwritten files.old) }
+/// Writes a page.
+fn write_page<O: Sink, E: Sink>(alloc: Global, page: Page, out: &mut O, err: &mut E) -> u8
     requires out { CanCount (O.failures out.old) }
     requires err { CanCount (E.failures err.old) }
-    ensures answers { Answers (IsJobOf (F.supply files.old) (Job.Alone job.entry))
-        (F.failures files.old) (F.failures files.new)
-        (F.unwritten files.old + O.failures out.old) (F.unwritten files.new + O.failures out.new)
+    ensures { (reads : ℕ) → Answers (IsPage page)
+        reads reads (O.failures out.old) (O.failures out.new)
         (O.contents out.old) (O.contents out.new)
-        (SaysMore (JobTells (Job.Alone job.entry) (F.failures files.old) (F.failures files.new))
-        (E.failures err.old) (E.failures err.new) (E.contents err.old) (E.contents err.new))
+        (Says (E.failures err.old) (E.failures err.new) (E.contents err.old) (E.contents err.new))
         result }
-    ensures opened { (count : ℕ) × Opens (F.supply files.old) (Job.Alone job.entry) count
-        × (F.opened files.new ≡ F.opened files.old + count) }
-    ensures stores { JobStores (Job.Alone job.entry) (F.supply files.old) (F.supply files.new)
-        (F.created files.old) (F.created files.new) result }
 {
-    match job {
-        AloneJob::Check { set } => check_file(alloc, set, files, out, err),
-        AloneJob::Explain { set, extent } => {
-            task_file(alloc, Task::Explained(extent), set, files, out, err)
-        }
-        AloneJob::ExplainRule { rule } => explain_rule(alloc, rule, out, err),
-        AloneJob::ExplainLockOrder => explain_lock_order(alloc, out, err),
-        AloneJob::List { set } => task_file(alloc, Task::Listed, set, files, out, err),
-        AloneJob::Rewrite { set, output } => rewrite_file(alloc, set, output, files, err),
-        AloneJob::Version => version(out, err),
-        AloneJob::Trace {
-            set,
-            schedule,
-            verification,
-        } => {
-            let names = Names::of(set, schedule);
-            let way = Way::BySchedule(verification);
-            run_files(alloc, names, way, files, out, err)
-        }
-        AloneJob::Tell {
-            set,
-            schedule,
-            verification,
-            manner,
-        } => {
-            let names = Names::of(set, schedule);
-            let way = Way::InWords(verification, manner);
-            run_files(alloc, names, way, files, out, err)
-        }
-        AloneJob::Draw {
-            set,
-            schedule,
-            verification,
-        } => {
-            let names = Names::of(set, schedule);
-            let way = Way::AsPicture(verification);
-            run_files(alloc, names, way, files, out, err)
-        }
+    match page {
+        Page::Rule(rule) => explain_rule(alloc, rule, out, err),
+        Page::LockOrder => explain_lock_order(alloc, out, err),
+        Page::Version => version(out, err),
     }
 }
 
@@ -267,17 +228,6 @@ fn check_file<F: Files, O: Sink, E: Sink>(
     status
 }
 
-/// What is done with the set of a file that is named where it can't be read.
-#[derive(Clone, Copy)]
-pub(crate) enum Task {
-    /// The verdict on it is explained.
-    Explained(Extent),
-    /// Its listing is written.
-    Listed,
-    /// A run of it that ends amiss is looked for.
-    Hunted(Reach),
-}
-
 /// Does a task with the set of a file. One that can't be opened or read is named.
 fn task_file<F: Files, O: Sink, E: Sink>(
     alloc: Global,
@@ -291,7 +241,7 @@ fn task_file<F: Files, O: Sink, E: Sink>(
     requires files { CanCount (F.failures files.old) }
     requires out { CanCount (O.failures out.old) }
     requires err { CanCount (E.failures err.old) }
-    ensures answers { Answers (IsOfNamed (IsDoneOf task) (F.supply files.old) set.now)
+    ensures answers { Answers (IsOfTask task (F.supply files.old) set.now)
         (F.failures files.old) (F.failures files.new) (O.failures out.old) (O.failures out.new)
         (O.contents out.old) (O.contents out.new)
         (SaysMore (IsNamedUnread (λ name. name ≡ set.now)
@@ -307,18 +257,48 @@ fn task_file<F: Files, O: Sink, E: Sink>(
     let mut file = files.open(set);
     if files.is_closed(&file) {
         files.close(file);
-        return tell_unopened(set, err);
+        return refuse_unopened(alloc, task, set, out, err);
     }
-    let status = fulfil(alloc, task, &mut file, out, err);
+    let status = fulfil(alloc, task, set, &mut file, out, err);
     tell_if_unread(set, &file, failures, err);
     files.close(file);
     status
 }
 
-/// Does a task with the set of a source.
+/// Tells that the file of the set of a task can't be opened.
+fn refuse_unopened<O: Sink, E: Sink>(
+    alloc: Global,
+    task: Task,
+    name: &str,
+    out: &mut O,
+    err: &mut E,
+) -> u8
+    requires out { CanCount (O.failures out.old) }
+    requires err { CanCount (E.failures err.old) }
+    ensures { (reads : ℕ) → Answers (IsUnopenedBy task name.now)
+        reads reads (O.failures out.old) (O.failures out.new)
+        (O.contents out.old) (O.contents out.new)
+        (Says (E.failures err.old) (E.failures err.new) (E.contents err.old) (E.contents err.new))
+        result }
+{
+    if is_in_json(task) {
+        return unopened_json(alloc, name, out, err);
+    }
+    tell_unopened(name, err)
+}
+
+/// Whether all that a task answers is JSON.
+fn is_in_json(task: Task) -> bool
+    ensures { result ≡ is_in_json task }
+{
+    matches!(task, Task::CheckJson)
+}
+
+/// Does a task with the set of a source, whose file has this name.
 fn fulfil<S: Source, O: Sink, E: Sink>(
     alloc: Global,
     task: Task,
+    name: &str,
     set: &mut S,
     out: &mut O,
     err: &mut E,
@@ -326,16 +306,18 @@ fn fulfil<S: Source, O: Sink, E: Sink>(
     requires set { CanCount (S.failures set.old) }
     requires out { CanCount (O.failures out.old) }
     requires err { CanCount (E.failures err.old) }
-    ensures { Answers (IsDoneOf task (S.supply set.old))
+    ensures { Answers (IsDoneOf task name.now (S.supply set.old))
         (S.failures set.old) (S.failures set.new) (O.failures out.old) (O.failures out.new)
         (O.contents out.old) (O.contents out.new)
         (Says (E.failures err.old) (E.failures err.new) (E.contents err.old) (E.contents err.new))
         result }
 {
     match task {
-        Task::Explained(extent) => explain(alloc, extent, set, out, err),
-        Task::Listed => list(alloc, set, out, err),
-        Task::Hunted(reach) => hunt(alloc, reach, set, out, err),
+        Task::CheckJson => check_json(alloc, name, set, out, err),
+        Task::Explain(extent) => explain(alloc, extent, set, out, err),
+        Task::Mend(tries) => mend(alloc, mend::Asked { tries }, set, out, err),
+        Task::List => list(alloc, set, out, err),
+        Task::Hunt(reach) => hunt(alloc, reach, set, out, err),
     }
 }
 
@@ -375,23 +357,18 @@ fn rewrite_file<F: Files, E: Sink>(
     status
 }
 
-/// How a set is run by an input.
+/// A set that is run by the input of another file.
 #[derive(Clone, Copy)]
-pub(crate) enum Way {
-    /// By the events of a schedule.
-    BySchedule(Verification),
-    /// By the events of a schedule, and it is told in words.
-    InWords(Verification, Manner),
-    /// By the events of a schedule, and it is drawn.
-    AsPicture(Verification),
+struct Running<'n> {
+    names: Names<'n>,
+    way: Way,
 }
 
 /// Runs the set of a file by the input of another one, which is opened for a run alone. The one
 /// that can't be read is named.
 fn run_files<F: Files, O: Sink, E: Sink>(
     alloc: Global,
-    names: Names<'_>,
-    way: Way,
+    running: Running<'_>,
     files: &mut F,
     out: &mut O,
     err: &mut E,
@@ -400,25 +377,29 @@ fn run_files<F: Files, O: Sink, E: Sink>(
     requires files { CanCount (F.failures files.old) }
     requires out { CanCount (O.failures out.old) }
     requires err { CanCount (E.failures err.old) }
-    ensures answers { Answers (IsRunBy way (F.supply files.old names.entry.set.now)
-        (F.supply files.old names.entry.input.now))
+    ensures answers { Answers (IsRunBy running.entry.way
+        running.entry.names.set running.entry.names.input
+        (F.supply files.old running.entry.names.set.now)
+        (F.supply files.old running.entry.names.input.now))
         (F.failures files.old) (F.failures files.new) (O.failures out.old) (O.failures out.new)
         (O.contents out.old) (O.contents out.new)
-        (SaysMore (IsNamedUnread (IsOneOf names.entry.set.now names.entry.input.now)
+        (SaysMore (IsNamedUnread (IsOneOf running.entry.names.set.now running.entry.names.input.now)
         (F.failures files.old) (F.failures files.new))
         (E.failures err.old) (E.failures err.new) (E.contents err.old) (E.contents err.new))
         result }
     ensures opened { (count : ℕ)
-        × OpensToTrace (verification_of way) (F.supply files.old names.entry.set.now) count
+        × OpensToTrace (verification_of running.entry.way)
+        (F.supply files.old running.entry.names.set.now) count
         × (F.opened files.new ≡ F.opened files.old + count) }
     ensures supply { F.supply files.new ≡ F.supply files.old }
     ensures created { F.created files.new ≡ F.created files.old }
     ensures unwritten { F.unwritten files.new ≡ F.unwritten files.old }
 {
+    let names = running.names;
     let failures = err.failures();
     let mut file = files.open(names.set);
     let mut later = Later::new(files, names.input);
-    let status = run(alloc, &mut file, &mut later, way, out, err);
+    let status = run(alloc, running, &mut file, &mut later, out, err);
     tell_which_unread(names, &file, &later, failures, err);
     let inputs = later.into_file();
     files.close(file);
@@ -431,9 +412,9 @@ fn run_files<F: Files, O: Sink, E: Sink>(
 /// Runs the set of a source by the input of another one.
 fn run<S: Source, P: Source, O: Sink, E: Sink>(
     alloc: Global,
+    running: Running<'_>,
     set: &mut S,
     input: &mut P,
-    way: Way,
     out: &mut O,
     err: &mut E,
 ) -> u8
@@ -442,23 +423,33 @@ fn run<S: Source, P: Source, O: Sink, E: Sink>(
     requires out { CanCount (O.failures out.old) }
     requires err { CanCount (E.failures err.old) }
     ensures unread { (input.new ≡ input.old)
-        ⊎ HoldsRun (verification_of way) (S.supply set.old) }
-    ensures answers { Answers (IsRunBy way (S.supply set.old) (P.supply input.old))
+        ⊎ HoldsRun (verification_of running.entry.way) (S.supply set.old) }
+    ensures answers { Answers (IsRunBy running.entry.way
+        running.entry.names.set running.entry.names.input
+        (S.supply set.old) (P.supply input.old))
         (S.failures set.old + P.failures input.old) (S.failures set.new + P.failures input.new)
         (O.failures out.old) (O.failures out.new) (O.contents out.old) (O.contents out.new)
         (Says (E.failures err.old) (E.failures err.new) (E.contents err.old) (E.contents err.new))
         result }
 {
-    match way {
-        Way::BySchedule(verification) => trace(alloc, set, input, verification, out, err),
-        Way::InWords(verification, manner) => {
+    match running.way {
+        Way::Trace(verification) => trace(alloc, set, input, verification, out, err),
+        Way::TraceJson(verification) => {
+            let asked = Asked {
+                set: running.names.set,
+                schedule: running.names.input,
+                verification,
+            };
+            trace_json(alloc, asked, set, input, out, err)
+        }
+        Way::Tell(verification, manner) => {
             let telling = Telling {
                 verification,
                 manner,
             };
             tell(alloc, set, input, telling, out, err)
         }
-        Way::AsPicture(verification) => draw(alloc, set, input, verification, out, err),
+        Way::Draw(verification) => draw(alloc, set, input, verification, out, err),
     }
 }
 

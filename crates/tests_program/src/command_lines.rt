@@ -1,6 +1,6 @@
 //! What the words of a command line name.
 
-use drvhost_commands::job::{AloneJob, Job, JobFault, refuse_words};
+use drvhost_commands::job::{Job, JobFault, Page, Task, Way, refuse_words};
 use drvhost_devices::device::Writer;
 use drvhost_devices::verification::Verification;
 use drvhost_sets::explaining::Extent;
@@ -10,16 +10,31 @@ use std::alloc::Global;
 use std::test::Fail;
 
 #[test]
-fn tasks(rt: HostRuntime) -> Result<(), Fail> {
+fn jobs(rt: HostRuntime) -> Result<(), Fail> {
     let alloc = rt.alloc();
     let job = Job::of(alloc, &["check", "a.set"])?;
-    assert!(rt; matches!(job, Job::Alone(AloneJob::Check { set: "a.set" })));
+    assert!(rt; matches!(job, Job::Check { set: "a.set" }));
     let job = Job::of(alloc, &["list", "a.set"])?;
-    assert!(rt; matches!(job, Job::Alone(AloneJob::List { set: "a.set" })));
+    assert!(rt;
+        matches!(
+            job,
+            Job::OnSet {
+                set: "a.set",
+                task: Task::List
+            }
+        )
+    );
+    for words in [
+        ["check", "a", "--format", "json"],
+        ["check", "--format", "json", "a"],
+    ] {
+        let job = Job::of(alloc, &words)?;
+        assert!(rt; is_to_check_in_json(&job, "a"));
+    }
     for word in ["version", "--version", "-V"] {
         let words = [word];
         let job = Job::of(alloc, &words)?;
-        assert!(rt; matches!(job, Job::Alone(AloneJob::Version)), "{word}");
+        assert!(rt; matches!(job, Job::Page(Page::Version)), "{word}");
     }
     let job = Job::of(alloc, &["explain", "a.set"])?;
     assert!(rt; is_to_explain(&job, "a.set", Extent::First));
@@ -37,11 +52,11 @@ fn traces(rt: HostRuntime) -> Result<(), Fail> {
     assert!(rt;
         matches!(
             job,
-            Job::Alone(AloneJob::Trace {
+            Job::OnRun {
                 set: "a.set",
-                schedule: "b.schedule",
-                verification: Verification::Required
-            })
+                input: "b.schedule",
+                way: Way::Trace(Verification::Required)
+            }
         )
     );
     for words in [
@@ -52,11 +67,11 @@ fn traces(rt: HostRuntime) -> Result<(), Fail> {
         assert!(rt;
             matches!(
                 job,
-                Job::Alone(AloneJob::Trace {
+                Job::OnRun {
                     set: "a",
-                    schedule: "b",
-                    verification: Verification::Skipped
-                })
+                    input: "b",
+                    way: Way::Trace(Verification::Skipped)
+                }
             )
         );
     }
@@ -105,6 +120,34 @@ fn hunts(rt: HostRuntime) {
     }
 }
 
+/// Numbers of tries that are none of a mend's.
+#[test]
+fn mends(rt: HostRuntime) -> Result<(), Fail> {
+    let alloc = rt.alloc();
+    let job = Job::of(alloc, &["mend", "a", "--tries", "7"])?;
+    assert!(rt; is_to_mend(&job, 7));
+    let job = Job::of(alloc, &["mend", "a"])?;
+    assert!(rt; is_to_mend(&job, 20_000));
+    for number in ["0", "1000001", "+5", "many"] {
+        assert!(rt;
+            is_refused(alloc, &["mend", "a", "--tries", number]),
+            "{number}"
+        );
+    }
+    Ok(())
+}
+
+/// Whether a job is to mend the set of a file by so many tries.
+fn is_to_mend(job: &Job<'_>, wanted: u64) -> bool {
+    match *job {
+        Job::OnSet {
+            set,
+            task: Task::Mend(tries),
+        } => set == "a" && tries == wanted,
+        _ => false,
+    }
+}
+
 /// A run that is told so, and not strictly.
 fn leniently(detail: Detail) -> Manner {
     Manner {
@@ -116,14 +159,11 @@ fn leniently(detail: Detail) -> Manner {
 /// Whether a job is to tell a run of the set of a file by the schedule of another one so.
 fn is_to_tell(job: &Job<'_>, run: Verification, told: Manner) -> bool {
     match *job {
-        Job::Alone(
-            AloneJob::Tell {
-                set,
-                schedule,
-                verification,
-                manner,
-            },
-        ) => set == "a" && schedule == "b" && verification == run && manner == told,
+        Job::OnRun {
+            set,
+            input,
+            way: Way::Tell(verification, manner),
+        } => set == "a" && input == "b" && verification == run && manner == told,
         _ => false,
     }
 }
@@ -131,13 +171,22 @@ fn is_to_tell(job: &Job<'_>, run: Verification, told: Manner) -> bool {
 /// Whether a job is to draw a run of the set of a file by the schedule of another one so.
 fn is_to_draw(job: &Job<'_>, run: Verification) -> bool {
     match *job {
-        Job::Alone(
-            AloneJob::Draw {
-                set,
-                schedule,
-                verification,
-            },
-        ) => set == "a" && schedule == "b" && verification == run,
+        Job::OnRun {
+            set,
+            input,
+            way: Way::Draw(verification),
+        } => set == "a" && input == "b" && verification == run,
+        _ => false,
+    }
+}
+
+/// Whether a job is to check the set of a file, and to answer in JSON.
+fn is_to_check_in_json(job: &Job<'_>, file: &str) -> bool {
+    match *job {
+        Job::OnSet {
+            set,
+            task: Task::CheckJson,
+        } => set == file,
         _ => false,
     }
 }
@@ -145,7 +194,10 @@ fn is_to_draw(job: &Job<'_>, run: Verification) -> bool {
 /// Whether a job is to explain the set of a file so.
 fn is_to_explain(job: &Job<'_>, file: &str, all: Extent) -> bool {
     match *job {
-        Job::Alone(AloneJob::Explain { set, extent }) => set == file && extent == all,
+        Job::OnSet {
+            set,
+            task: Task::Explain(extent),
+        } => set == file && extent == all,
         _ => false,
     }
 }
@@ -153,7 +205,7 @@ fn is_to_explain(job: &Job<'_>, file: &str, all: Extent) -> bool {
 /// Whether a job is to explain this rule.
 fn is_to_explain_rule(job: &Job<'_>, wanted: Rule) -> bool {
     match *job {
-        Job::Alone(AloneJob::ExplainRule { rule }) => rule == wanted,
+        Job::Page(Page::Rule(rule)) => rule == wanted,
         _ => false,
     }
 }
@@ -169,7 +221,7 @@ fn rules_by_their_words(rt: HostRuntime) -> Result<(), Fail> {
     let job = Job::of(alloc, &["explain", "--rule", "CancelState"])?;
     assert!(rt; is_to_explain_rule(&job, Rule::CancelState));
     let job = Job::of(alloc, &["explain", "--rule", "LockOrder"])?;
-    assert!(rt; matches!(job, Job::Alone(AloneJob::ExplainLockOrder)));
+    assert!(rt; matches!(job, Job::Page(Page::LockOrder)));
     for word in [
         "V0",
         "V21",
@@ -218,6 +270,11 @@ fn wrong_words(rt: HostRuntime) {
         &["explain", "--rule", "V1", "--rule", "V2"],
         &["explain", "a", "--all", "--all"],
         &["check", "a", "--all"],
+        &["check", "a", "--format"],
+        &["check", "a", "--format", "xml"],
+        &["check", "a", "--format", "JSON"],
+        &["check", "a", "--format", ""],
+        &["list", "a", "--format", "json"],
         &["list", "--rule", "V1"],
     ] {
         assert!(rt; is_refused(alloc, words), "{}", words[1]);

@@ -1,10 +1,16 @@
 use Rattle.drvhost_words.proofs.answer.fulfil.Goals as goal
 
-pub returns-in-Explained : goal.returns-in-Explained
-returns-in-Explained g c = rw c.in-Explained.is c.explain.ensures
+pub returns-in-CheckJson : goal.returns-in-CheckJson
+returns-in-CheckJson g c = rw c.in-CheckJson.is c.check_json.ensures
 
-pub returns-in-Listed : goal.returns-in-Listed
-returns-in-Listed g c = rw c.in-Listed.is c.list.ensures
+pub returns-in-Explain : goal.returns-in-Explain
+returns-in-Explain g c = rw c.in-Explain.is c.explain.ensures
 
-pub returns-in-Hunted : goal.returns-in-Hunted
-returns-in-Hunted g c = rw c.in-Hunted.is c.hunt.ensures
+pub returns-in-Mend : goal.returns-in-Mend
+returns-in-Mend g c = rw c.in-Mend.is c.mend.ensures
+
+pub returns-in-List : goal.returns-in-List
+returns-in-List g c = rw c.in-List.is c.list.ensures
+
+pub returns-in-Hunt : goal.returns-in-Hunt
+returns-in-Hunt g c = rw c.in-Hunt.is c.hunt.ensures

@@ -1,10 +1,13 @@
 use Rattle.drvhost_words.proofs.answer.run.Goals as goal
 
-pub returns-in-BySchedule : goal.returns-in-BySchedule
-returns-in-BySchedule g c = rw c.in-BySchedule.is c.trace.ensures
+pub returns-in-Trace : goal.returns-in-Trace
+returns-in-Trace g c = rw c.in-Trace.is c.trace.ensures
 
-pub returns-in-InWords : goal.returns-in-InWords
-returns-in-InWords g c = rw c.in-InWords.is c.tell.ensures
+pub returns-in-TraceJson : goal.returns-in-TraceJson
+returns-in-TraceJson g c = rw c.in-TraceJson.is c.trace_json.ensures
 
-pub returns-in-AsPicture : goal.returns-in-AsPicture
-returns-in-AsPicture g c = rw c.in-AsPicture.is c.draw.ensures
+pub returns-in-Tell : goal.returns-in-Tell
+returns-in-Tell g c = rw c.in-Tell.is c.tell.ensures
+
+pub returns-in-Draw : goal.returns-in-Draw
+returns-in-Draw g c = rw c.in-Draw.is c.draw.ensures
