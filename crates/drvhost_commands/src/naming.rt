@@ -12,7 +12,7 @@ use drvhost_hunts::reach::{
 };
 use drvhost_sets::explaining::Extent;
 use drvhost_views::tell::{Detail, Manner, Strictness};
-use hunt_search::search::Bounds;
+use hunt_search::search::{Bounds, Goal};
 use interleave::read::number_within;
 use model::limits::MAX_THREADS;
 use report::rule::rule_named;
@@ -204,6 +204,9 @@ fn reach_asked(matches: &ArgMatches<'_>) -> Option<Reach>
         threads: threads as u8,
         packets: packets as usize,
         worlds: worlds as usize,
+        events: None,
+        argument: None,
+        goal: Goal::Amiss,
     }))
 }
 

@@ -16,7 +16,8 @@ use image::DriverSet;
 use std::alloc::Global;
 
 /// Writes a shortest run of a driver set, accepted or refused, that ends amiss, as a schedule whose
-/// first line tells how; or that there is none within reach. The answer is the exit status: 0 none,
+/// first line tells how; where that is asked for, one that is stuck; or that there is none within
+/// reach. The answer is the exit status: 0 none,
 /// 1 found, 2 where the set's text or its image is faulty or a read or a write failed, 3 where
 /// memory ran out. Faults are told on the error writer.
 pub fn hunt<S: Source, O: Sink, E: Sink>(
@@ -52,22 +53,23 @@ impl Job for Hunting {
     fn perform<O: Sink>(
         &mut self,
         alloc: Global,
-        _bytes: &[u8],
+        bytes: &[u8],
         set: DriverSet,
         _notes: &mut Notes,
         out: &mut O,
     ) -> Result<End, Fault> {
-        write_hunt(alloc, self.reach, &set, out)
+        write_hunt(alloc, self.reach, &set, bytes, out)
     }
 
     ghost stays_kept = { λ _. (tt, tt) };
 }
 
-/// Hunts through the runs of a set, and writes what comes of it.
+/// Hunts through the runs of a set that was read from these bytes, and writes what comes of it.
 fn write_hunt<O: Sink>(
     alloc: Global,
     reach: Reach,
     set: &DriverSet,
+    source: &[u8],
     out: &mut O,
 ) -> Result<End, Fault>
     requires { CanCount (O.failures out.old) }
@@ -76,7 +78,7 @@ fn write_hunt<O: Sink>(
     ensures reads { reads_failed result ≡ 0 }
     ensures writes { O.failures out.new ≡ O.failures out.old + writes_failed result }
 {
-    let told = tell_hunt(alloc, set, reach.bounds())?;
+    let told = tell_hunt(alloc, set, reach.bounds(), source)?;
     write_bytes(text_told(&told), out)?;
     Ok(end_told(&told))
 }

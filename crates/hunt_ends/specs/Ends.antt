@@ -1,9 +1,13 @@
 -- How a run ends amiss: at a bug check or a wrong operand, or in a world in which an audit finds a
 -- packet that no place names, a lock that an idle thread owns, a thread that waits in a ring, or a use
 -- of a stack location that was returned from otherwise than it was marked.
-use Rattle.std.specs.Prelude.{ℕ, ◌≡◌, ◌++◌, List, [], ◌∷◌, length, Option, None, Some}
+use Rattle.std.specs.Prelude.{ℕ, ◌≡◌, ◌++◌, ◌×◌, List, [], ◌∷◌, length, Option, None, Some, false, true}
 use Rattle.hunt_ends.specs.declared.amiss.Amiss.{Amiss}
 use Rattle.hunt_ends.specs.declared.amiss.Amiss.TheVariants.{Stopped, Lost, Left, Ringed, Disagrees}
+use Rattle.hunt_ends.specs.declared.ending.Ending.{Ending}
+use Rattle.hunt_ends.specs.declared.ending.Ending.TheVariants.{Fails, Stuck}
+use Rattle.hunt_ends.specs.declared.standing.Standing.{Standing}
+use Rattle.hunt_ends.specs.Rest.{IsStanding, is_rest}
 use Rattle.model.specs.declared.event.Event.{Event}
 use Rattle.model.specs.declared.event.Reply.{Reply}
 use Rattle.model.specs.declared.event.Reply.TheVariants.{Started, Stepped, Finished, Topped, Waited, Idle, Refused, Bug, Wrong}
@@ -54,6 +58,24 @@ abbrev pub amiss_after : Set → ℕ → List Event → Event → Option Amiss
 amiss_after set threads before e =
     or_amiss (stops_with (reply_to set threads before e))
     (amiss_in set (run set threads (before ++ e ∷ [])))
+
+-- nothing is amiss behind the last event of a run, and of the world there this isn't at rest
+pub record EndsFine (set : Set) (threads : ℕ) (before : List Event) (last : Event) (standing : Standing)
+    : Type 0 where
+  pub fine : amiss_after set threads before last ≡ None
+  pub shows : IsStanding (run set threads (before ++ last ∷ [])).world standing
+
+-- so a run ends: with what is amiss, or where nothing is amiss, with what isn't at rest
+abbrev pub EndsWith : Set → ℕ → List Event → Event → Ending → Type 0
+EndsWith set threads before last (Fails amiss) = amiss_after set threads before last ≡ Some amiss
+EndsWith set threads before last (Stuck standing) =
+    EndsFine set threads before last standing × (is_rest standing ≡ false)
+
+-- or it is at rest, and nothing is amiss
+abbrev pub EndsSo : Set → ℕ → List Event → Event → Option Ending → Type 0
+EndsSo set threads before last (Some ending) = EndsWith set threads before last ending
+EndsSo set threads before last None =
+    (standing : Standing) × EndsFine set threads before last standing × (is_rest standing ≡ true)
 
 -- a machine, and a ledger of its run
 pub record Rehearsed : Type 0 where
