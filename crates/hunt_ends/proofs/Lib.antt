@@ -1,2 +1,2 @@
-pub mod Ending
+pub mod Finishing
 pub mod Rehearsing

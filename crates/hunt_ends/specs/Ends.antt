@@ -1,7 +1,7 @@
 -- How a run ends amiss: at a bug check or a wrong operand, or in a world in which an audit finds a
 -- packet that no place names, a lock that an idle thread owns, a thread that waits in a ring, or a use
 -- of a stack location that was returned from otherwise than it was marked.
-use Rattle.std.specs.Prelude.{ℕ, ◌≡◌, ◌++◌, ◌×◌, List, [], ◌∷◌, length, Option, None, Some, false, true}
+use Rattle.std.specs.Prelude.{ℕ, ◌≡◌, ◌++◌, List, [], ◌∷◌, length, Option, None, Some, false, true}
 use Rattle.hunt_ends.specs.declared.amiss.Amiss.{Amiss}
 use Rattle.hunt_ends.specs.declared.amiss.Amiss.TheVariants.{Stopped, Lost, Left, Ringed, Disagrees}
 use Rattle.hunt_ends.specs.declared.ending.Ending.{Ending}
@@ -15,6 +15,7 @@ use Rattle.model.specs.Machine.{Machine, ShowsWhole, reply_to}
 use Rattle.model.specs.Run.{Run, run}
 use Rattle.model.specs.Set.{Set}
 use Rattle.model.specs.Trace.{Serving}
+use Rattle.model.specs.World.{World}
 use Rattle.tell_audit.specs.declared.left.LeftLock.{LeftLock}
 use Rattle.tell_audit.specs.Findings.{ringed_threads}
 use Rattle.tell_audit.specs.Left.{left_locks}
@@ -59,23 +60,24 @@ amiss_after set threads before e =
     or_amiss (stops_with (reply_to set threads before e))
     (amiss_in set (run set threads (before ++ e ∷ [])))
 
--- nothing is amiss behind the last event of a run, and of the world there this isn't at rest
-pub record EndsFine (set : Set) (threads : ℕ) (before : List Event) (last : Event) (standing : Standing)
-    : Type 0 where
-  pub fine : amiss_after set threads before last ≡ None
-  pub shows : IsStanding (run set threads (before ++ last ∷ [])).world standing
+-- nothing is amiss, and this isn't at rest in a world
+pub record StandsFine (amiss : Option Amiss) (w : World) (standing : Standing) : Type 0 where
+  pub fine : amiss ≡ None
+  pub shows : IsStanding w standing
 
--- so a run ends: with what is amiss, or where nothing is amiss, with what isn't at rest
-abbrev pub EndsWith : Set → ℕ → List Event → Event → Ending → Type 0
-EndsWith set threads before last (Fails amiss) = amiss_after set threads before last ≡ Some amiss
-EndsWith set threads before last (Stuck standing) =
-    EndsFine set threads before last standing × (is_rest standing ≡ false)
+-- so a run has ended in a world, where this is amiss: with that, or with nothing amiss and something
+-- that isn't at rest, or at rest
+abbrev pub EndsAs : Option Amiss → World → Option Ending → Type 0
+EndsAs amiss w (Some (Fails found)) = amiss ≡ Some found
+EndsAs amiss w (Some (Stuck standing)) =
+    StandsFine amiss w standing × (is_rest standing ≡ false)
+EndsAs amiss w None =
+    (standing : Standing) × StandsFine amiss w standing × (is_rest standing ≡ true)
 
--- or it is at rest, and nothing is amiss
+-- so the run of these events and a last one ends
 abbrev pub EndsSo : Set → ℕ → List Event → Event → Option Ending → Type 0
-EndsSo set threads before last (Some ending) = EndsWith set threads before last ending
-EndsSo set threads before last None =
-    (standing : Standing) × EndsFine set threads before last standing × (is_rest standing ≡ true)
+EndsSo set threads before last =
+    EndsAs (amiss_after set threads before last) (run set threads (before ++ last ∷ [])).world
 
 -- a machine, and a ledger of its run
 pub record Rehearsed : Type 0 where

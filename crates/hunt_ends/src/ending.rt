@@ -1,12 +1,13 @@
 //! How runs end: with something amiss, or in a world that isn't at rest.
 
-ghost use Rattle.std.specs.Prelude.{◌≤◌, IfOk};
-ghost use Rattle.hunt_ends.specs.Ends.{EndsSo};
+ghost use Rattle.std.specs.Prelude.{◌≤◌, IfOk, None};
+ghost use Rattle.hunt_ends.specs.Ends.{EndsAs, EndsSo};
 ghost use Rattle.model.specs.declared.limits.TheConstants.{MAX_THREADS};
 
 use crate::amiss::Amiss;
 use crate::rehearsal::rehearse;
 use crate::standing::Standing;
+use checked::Checked;
 use driver_set::DriverSet;
 use model::event::Event;
 use std::alloc::{AllocError, Global};
@@ -38,10 +39,28 @@ pub fn ending_of(
     ensures { IfOk result (EndsSo set.now threads before.now last.now) }
 {
     let ended = rehearse(alloc, set, threads, before, last)?;
-    if let Some(amiss) = ended.amiss {
-        return Ok(Some(Ending::Fails(amiss)));
+    ending_at(alloc, ended.amiss, ended.run.machine())
+}
+
+/// How a run has ended where a machine stands and this is amiss.
+fn ending_at(
+    alloc: Global,
+    amiss: Option<Amiss>,
+    machine: &Checked,
+) -> Result<Option<Ending>, AllocError>
+    ensures { IfOk result (EndsAs amiss machine.now.world) }
+{
+    match amiss {
+        Some(amiss) => Ok(Some(Ending::Fails(amiss))),
+        None => standing_at(alloc, machine),
     }
-    let standing = Standing::of(alloc, ended.run.machine())?;
+}
+
+/// How a run has ended where a machine stands and nothing is amiss.
+fn standing_at(alloc: Global, machine: &Checked) -> Result<Option<Ending>, AllocError>
+    ensures { IfOk result (EndsAs None machine.now.world) }
+{
+    let standing = Standing::of(alloc, machine)?;
     if standing.is_rest() {
         return Ok(None);
     }

@@ -164,9 +164,8 @@ fn driver_asks(set: &DriverSet, reaching: &Reaching, driver: u8, major: Major) -
 /// Whether a routine may be handed packets that it doesn't serve, or finds such.
 fn meets_others(routine: &Routine) -> bool {
     !matches!(routine.sort, Sort::Dispatch)
-        || routine
-            .code
-            .as_slice()
-            .iter()
-            .any(|instr| matches!(instr, Instr::Remove(_, _, _) | Instr::Take(_, _)))
+        || routine.code.as_slice().iter().any(|instr| matches!(
+            instr,
+            Instr::Remove(_, _, _) | Instr::Take(_, _)
+        ))
 }

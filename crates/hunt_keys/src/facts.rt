@@ -38,11 +38,7 @@ impl Facts {
     /// # Errors
     ///
     /// When memory runs out.
-    pub fn of(
-        alloc: Global,
-        set: &DriverSet,
-        further: Option<u64>,
-    ) -> Result<Facts, AllocError> {
+    pub fn of(alloc: Global, set: &DriverSet, further: Option<u64>) -> Result<Facts, AllocError> {
         let reaching = Reaching::of(alloc, set)?;
         Ok(Facts {
             majors: served_majors(alloc, set.drivers())?,

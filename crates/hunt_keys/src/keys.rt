@@ -28,11 +28,7 @@ use std::alloc::AllocError;
 /// # Errors
 ///
 /// When memory runs out.
-pub fn write_key(
-    writer: &mut Writer,
-    machine: &Checked,
-    facts: &Facts,
-) -> Result<(), AllocError> {
+pub fn write_key(writer: &mut Writer, machine: &Checked, facts: &Facts) -> Result<(), AllocError> {
     writer.begin(machine)?;
     add_world(writer, machine, facts);
     writer.finish()

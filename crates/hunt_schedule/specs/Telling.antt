@@ -1,10 +1,10 @@
 -- What is told of a hunt: a text that lists a schedule, and tells first how its run ends; that there
 -- is such a run, and its schedule isn't told; or that there is none. Of a run that is stuck it is told
 -- what isn't at rest at its end; that nothing comes to rest from there is the search's word.
-use Rattle.std.specs.Prelude.{ℕ, ◌≡◌, ◌≤◌, ◌×◌, ◌++◌, ◌∷◌, List, [], Option, None, Some, length, ⊤, codes, decimal, nat_eq, true}
+use Rattle.std.specs.Prelude.{ℕ, ◌≡◌, ◌≤◌, ◌++◌, ◌∷◌, List, [], Option, None, Some, length, ⊤, codes, decimal, nat_eq, true}
 use Rattle.std.specs.List.{starts_with}
 use Rattle.hunt_ends.specs.declared.ending.Ending.{Ending}
-use Rattle.hunt_ends.specs.Ends.{EndsWith}
+use Rattle.hunt_ends.specs.Ends.{EndsSo}
 use Rattle.hunt_schedule.specs.declared.telling.Told.{Told}
 use Rattle.hunt_schedule.specs.declared.telling.Told.TheVariants.{Found, Unlisted, All, More}
 use Rattle.hunt_schedule.specs.Headline.{headline}
@@ -21,7 +21,7 @@ use Rattle.model.specs.Set.{Set}
 pub record TellsEnd (set : Set) (bounds : Bounds) (before : List Event) (last : Event)
     (text : List ℕ) : Type 0 where
   pub ending : Ending
-  pub ends : EndsWith set bounds.threads before last ending
+  pub ends : EndsSo set bounds.threads before last (Some ending)
   pub wanted : IsWanted bounds.goal ending
   pub begins : starts_with nat_eq text (headline ending) ≡ true
 

@@ -1,5 +1,8 @@
 //! A run's events in an order in which threads take turns less often, and whose run ends alike.
 
+ghost use Rattle.std.specs.Prelude.{◌≤◌};
+ghost use Rattle.model.specs.declared.limits.TheConstants.{MAX_THREADS};
+
 use crate::headline::headline;
 use driver_set::DriverSet;
 use hunt_ends::ending::ending_of;
@@ -7,9 +10,6 @@ use hunt_search::search::Bounds;
 use model::event::Event;
 use std::alloc::{AllocError, Global};
 use tell_uses::standing::thread_of;
-
-ghost use Rattle.std.specs.Prelude.{◌≤◌};
-ghost use Rattle.model.specs.declared.limits.TheConstants.{MAX_THREADS};
 
 /// Events that stand one behind the other, and are of one thread.
 #[derive(Clone, Copy)]

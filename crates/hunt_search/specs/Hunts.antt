@@ -1,8 +1,8 @@
 -- What a search answers.
-use Rattle.std.specs.Prelude.{⊤, ⊥}
+use Rattle.std.specs.Prelude.{⊤, ⊥, Some}
 use Rattle.hunt_ends.specs.declared.ending.Ending.{Ending}
 use Rattle.hunt_ends.specs.declared.ending.Ending.TheVariants.{Fails, Stuck}
-use Rattle.hunt_ends.specs.Ends.{EndsWith}
+use Rattle.hunt_ends.specs.Ends.{EndsSo}
 use Rattle.hunt_search.specs.declared.search.Bounds.{Bounds}
 use Rattle.hunt_search.specs.declared.search.Find.{Find}
 use Rattle.hunt_search.specs.declared.search.Goal.{Goal}
@@ -19,7 +19,7 @@ IsWanted AmissOrStuck (Stuck standing) = ⊤
 
 -- a run on the threads of a hunt ends as is told, and such an end is looked for
 pub record IsFind (set : Set) (bounds : Bounds) (find : Find) : Type 0 where
-  pub ends : EndsWith set bounds.threads find.before.items find.last find.ending
+  pub ends : EndsSo set bounds.threads find.before.items find.last (Some find.ending)
   pub wanted : IsWanted bounds.goal find.ending
 
 -- what is answered: of a run that was found, how it ends

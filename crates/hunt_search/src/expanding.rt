@@ -95,9 +95,9 @@ fn replay(machine: &mut Checked, path: &[Event]) {
 
 /// How many events at the front are steps of a thread.
 fn steps_of(events: &[Event], thread: u8) -> usize {
-    let other = events
-        .iter()
-        .position(|event| !matches!(*event, Event::Step { thread: its } if its == thread));
+    let other = events.iter().position(
+        |event| !matches!(*event, Event::Step { thread: its } if its == thread),
+    );
     other.unwrap_or(events.len())
 }
 

@@ -145,11 +145,7 @@ impl Graph {
 }
 
 /// Notes that a world comes to rest, unless that is known.
-fn reach(
-    comes: &mut Vec<bool>,
-    reached: &mut Vec<usize>,
-    number: usize,
-) -> Result<(), AllocError> {
+fn reach(comes: &mut Vec<bool>, reached: &mut Vec<usize>, number: usize) -> Result<(), AllocError> {
     if let Some(known) = comes.get_mut(number) {
         if !*known {
             *known = true;

@@ -53,7 +53,10 @@ fn first_idle(machine: &Checked, threads: u8) -> Option<u8> {
 
 /// The first thread that isn't idle.
 pub(crate) fn first_busy(machine: &Checked) -> Option<usize> {
-    machine.threads().iter().position(|thread| !thread.is_idle())
+    machine
+        .threads()
+        .iter()
+        .position(|thread| !thread.is_idle())
 }
 
 /// How many devices there are.

@@ -185,14 +185,17 @@ fn find_of(
     ensures { IfOk result (λ found. IfSome found (IsFind set.now plan.now)) }
 {
     let bounds = plan.bounds();
-    match ending_of(alloc, set, bounds.threads, before.as_slice(), &last)? {
-        Some(ending) if is_wanted(bounds.goal, &ending) => Ok(Some(Find {
-            before,
-            last,
-            ending,
-        })),
-        _ => Ok(None),
+    let Some(ending) = ending_of(alloc, set, bounds.threads, before.as_slice(), &last)? else {
+        return Ok(None);
+    };
+    if !is_wanted(bounds.goal, &ending) {
+        return Ok(None);
     }
+    Ok(Some(Find {
+        before,
+        last,
+        ending,
+    }))
 }
 
 /// What comes of a search that has found none.
