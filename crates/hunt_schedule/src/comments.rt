@@ -4,7 +4,7 @@ use checked::Checked;
 use model::event::{Event, Reply};
 use model::view::FrameView;
 use std::alloc::AllocError;
-use tell_names::{Book, add_bug, add_packet, add_top_out};
+use tell_names::{Book, add_bug, add_packet, status_name};
 use tell_uses::standing::thread_of;
 
 /// A run that is told: the machine that makes it, and the names of its set.
@@ -52,35 +52,32 @@ impl Telling<'_> {
         }
     }
 
+    /// The frame on the top of the thread of an event.
+    fn top_of(&self, event: &Event) -> Option<FrameView> {
+        self.machine.thread(thread_of(event)?)?.top
+    }
+
     /// Adds where the thread of an event stands.
     fn add_spot(&self, words: &mut String, event: &Event) -> Result<(), AllocError> {
-        let Some(thread) = thread_of(event) else {
-            return Ok(());
-        };
-        let Some(view) = self.machine.thread(thread) else {
-            return Ok(());
-        };
-        match view.top {
+        match self.top_of(event) {
             Some(frame) => self.add_frame(words, frame),
             None => Ok(()),
         }
     }
 
-    /// Adds where a frame stands: its line, and in a set without a text its numbers.
-    fn add_frame(&self, words: &mut String, frame: FrameView) -> Result<(), AllocError> {
-        if let Some(place) = self.book.line_at(frame) {
-            return words.push_str(self.book.words_of(place));
+    /// Adds which routine begins on the thread of an event.
+    fn add_root(&self, words: &mut String, event: &Event) -> Result<(), AllocError> {
+        match self.top_of(event) {
+            Some(frame) => self.book.add_spot(words, frame),
+            None => Ok(()),
         }
-        match frame {
-            FrameView::Routine {
-                driver,
-                routine,
-                position,
-                device: _,
-            } if self.book.last_line(driver, 0).is_none() => {
-                write!(words, "{driver}.{routine}.{position}")
-            }
-            _ => self.book.add_spot(words, frame),
+    }
+
+    /// Adds where a frame stands, with its instruction.
+    fn add_frame(&self, words: &mut String, frame: FrameView) -> Result<(), AllocError> {
+        match self.book.line_at(frame) {
+            Some(place) => words.push_str(self.book.words_of(place)),
+            None => self.book.add_spot(words, frame),
         }
     }
 
@@ -96,15 +93,12 @@ impl Telling<'_> {
                 if let Event::Issue { .. } = *event {
                     add_packet(words, packet, ": ")?;
                 }
-                self.add_spot(words, event)
+                self.add_root(words, event)
             }
-            Reply::Topped {
-                packet,
-                status,
-                info,
-            } => {
+            Reply::Topped { packet, status, .. } => {
                 words.push_str("; ")?;
-                add_top_out(words, packet, " tops out with ", status, info)
+                add_packet(words, packet, " tops out with ")?;
+                words.push_str(status_name(status))
             }
             Reply::Waited => words.push_str("; it waits"),
             Reply::Bug(bug) => {

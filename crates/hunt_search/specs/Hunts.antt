@@ -1,5 +1,5 @@
 -- What a search answers.
-use Rattle.std.specs.Prelude.{⊤, ⊥, Some}
+use Rattle.std.specs.Prelude.{⊤, Some}
 use Rattle.hunt_ends.specs.declared.ending.Ending.{Ending}
 use Rattle.hunt_ends.specs.declared.ending.Ending.TheVariants.{Fails, Stuck}
 use Rattle.hunt_ends.specs.Ends.{EndsSo}
