@@ -1,6 +1,6 @@
 //! Texts that are read back: whether the run of what one lists ends as its first line tells.
 
-ghost use Rattle.std.specs.Prelude.{◌≡◌, ◌≤◌, ◌++◌, ◌→◌, IfOk, IsTrue, OnOk, replicate};
+ghost use Rattle.std.specs.Prelude.{◌≡◌, ◌≤◌, ◌++◌, ◌→◌, IfOk, IsTrue, OnOk, length, replicate};
 ghost use Rattle.hunt_schedule.specs.Telling.{IsWithin, TellsEnd, TellsItsEnd};
 ghost use Rattle.model.specs.declared.limits.TheConstants.{MAX_THREADS};
 
@@ -36,21 +36,25 @@ pub fn tells_its_end(
         Err(_fault) => return Ok(false),
     };
     let events = events_of(alloc, &schedule.events)?;
-    if schedule.threads != bounds.threads || !is_within(bounds.events, events.len()) {
+    let run = events.as_slice();
+    if schedule.threads != bounds.threads {
         return Ok(false);
     }
-    match events.as_slice().split_last() {
-        Some((last, before)) => tells_end(alloc, set, bounds, before, last, text),
-        None => Ok(false),
+    if !is_within(bounds.events, run) {
+        return Ok(false);
     }
+    let Some((last, before)) = run.split_last() else {
+        return Ok(false);
+    };
+    tells_end(alloc, set, bounds, before, last, text)
 }
 
-/// Whether so many events are within a bound, if there is one.
-fn is_within(bound: Option<u64>, events: usize) -> bool
-    ensures { IsTrue result → IsWithin bound events }
+/// Whether a bound on events, if there is one, lets a run have these.
+fn is_within(bound: Option<u64>, run: &[Event]) -> bool
+    ensures { IsTrue result → IsWithin bound (length run.now) }
 {
     match bound {
-        Some(most) => events as u64 <= most,
+        Some(most) => run.len() as u64 <= most,
         None => true,
     }
 }
@@ -73,8 +77,11 @@ fn tells_end(
     let Some(ending) = ending_of(alloc, set, bounds.threads, before, last)? else {
         return Ok(false);
     };
+    if !is_wanted(bounds.goal, &ending) {
+        return Ok(false);
+    }
     let line = headline(alloc, &ending)?;
-    Ok(is_wanted(bounds.goal, &ending) && text.starts_with(line.as_slice()))
+    Ok(text.starts_with(line.as_slice()))
 }
 
 /// The events of a schedule, one by one.
