@@ -1,6 +1,6 @@
 //! Texts that are read back: whether the run of what one lists ends as its first line tells.
 
-ghost use Rattle.std.specs.Prelude.{◌≡◌, ◌≤◌, ◌++◌, ◌→◌, IfOk, IsTrue, OnOk, length, replicate};
+ghost use Rattle.std.specs.Prelude.{◌≡◌, ◌≤◌, ◌++◌, IfOk, IsTrue, OnOk, length, replicate};
 ghost use Rattle.hunt_schedule.specs.Telling.{IsWithin, TellsEnd, TellsItsEnd};
 ghost use Rattle.model.specs.declared.limits.TheConstants.{MAX_THREADS};
 
