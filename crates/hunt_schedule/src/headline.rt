@@ -36,12 +36,9 @@ fn add_standing(line: &mut Vec<u8>, standing: &Standing) -> Result<(), AllocErro
     add(line, b"stuck: nothing that follows comes to rest")?;
     add_each(line, b"; thread ", standing.threads.as_slice(), b" is busy")?;
     add_each(line, b"; packet ", standing.packets.as_slice(), b" is live")?;
-    add_each(
-        line,
-        b"; device ",
-        standing.devices.as_slice(),
-        b" is busy for StartIo",
-    )
+    let devices = standing.devices.as_slice();
+    add_each(line, b"; device ", devices, b" is busy for StartIo")?;
+    Ok(())
 }
 
 /// Adds each of some numbers between two parts of a text.
