@@ -85,7 +85,7 @@ pub enum Task {
     Mend(u64),
     /// `list FILE`
     List,
-    /// `hunt FILE [--threads N] [--packets N] [--states N]`
+    /// `hunt FILE [--threads N] [--packets N] [--states N] [--events N] [--argument N] [--stuck]`
     Hunt(Reach),
 }
 

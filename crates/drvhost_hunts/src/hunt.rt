@@ -1,14 +1,16 @@
 //! A hunt through the runs of a driver set.
 
-ghost use Rattle.std.specs.Prelude.{◌≡◌, ◌+◌, []};
+ghost use Rattle.std.specs.Prelude.{◌≡◌, ◌+◌, [], IfErr, IfOk};
 ghost use Rattle.drvhost_devices.specs.Device.{CanCount, Says};
 ghost use Rattle.drvhost_devices.specs.Ends.{Answers};
 ghost use Rattle.drvhost_devices.specs.Fault.{Goes, reads_failed, writes_failed};
 ghost use Rattle.drvhost_hunts.specs.Hunt.{IsHunt, IsHuntOf, end_told, text_told};
+ghost use Rattle.hunt_schedule.specs.Telling.{IsToldOf};
 
 use crate::reach::Reach;
 use drvhost_devices::device::{Sink, Source};
 use drvhost_devices::fault::{End, Fault};
+use drvhost_devices::reading::source_of;
 use drvhost_devices::transfer::write_bytes;
 use drvhost_sets::job::{Job, Notes, answer};
 use hunt_schedule::telling::{Told, tell_hunt};
@@ -16,7 +18,8 @@ use image::DriverSet;
 use std::alloc::Global;
 
 /// Writes a shortest run of a driver set, accepted or refused, that ends amiss, as a schedule whose
-/// first line tells how; or that there is none within reach. The answer is the exit status: 0 none,
+/// first line tells how; where that is asked for, one that is stuck; or that there is none within
+/// reach. The answer is the exit status: 0 none,
 /// 1 found, 2 where the set's text or its image is faulty or a read or a write failed, 3 where
 /// memory ran out. Faults are told on the error writer.
 pub fn hunt<S: Source, O: Sink, E: Sink>(
@@ -52,22 +55,23 @@ impl Job for Hunting {
     fn perform<O: Sink>(
         &mut self,
         alloc: Global,
-        _bytes: &[u8],
+        bytes: &[u8],
         set: DriverSet,
         _notes: &mut Notes,
         out: &mut O,
     ) -> Result<End, Fault> {
-        write_hunt(alloc, self.reach, &set, out)
+        write_hunt(alloc, self.reach, &set, bytes, out)
     }
 
     ghost stays_kept = { λ _. (tt, tt) };
 }
 
-/// Hunts through the runs of a set, and writes what comes of it.
+/// Hunts through the runs of a set that these bytes name, and writes what comes of it.
 fn write_hunt<O: Sink>(
     alloc: Global,
     reach: Reach,
     set: &DriverSet,
+    bytes: &[u8],
     out: &mut O,
 ) -> Result<End, Fault>
     requires { CanCount (O.failures out.old) }
@@ -76,9 +80,19 @@ fn write_hunt<O: Sink>(
     ensures reads { reads_failed result ≡ 0 }
     ensures writes { O.failures out.new ≡ O.failures out.old + writes_failed result }
 {
-    let told = tell_hunt(alloc, set, reach.bounds())?;
+    let told = told_of(alloc, reach, set, bytes)?;
     write_bytes(text_told(&told), out)?;
     Ok(end_told(&told))
+}
+
+/// What is told of a hunt, with the names and the lines of the text, or of an image's listing.
+fn told_of(alloc: Global, reach: Reach, set: &DriverSet, bytes: &[u8]) -> Result<Told, Fault>
+    ensures told { IfOk result (IsToldOf set.now reach) }
+    ensures memory { IfErr result (λ fault. fault ≡ Fault.Memory) }
+{
+    let source = source_of(alloc, bytes, set)?;
+    let told = tell_hunt(alloc, set, reach.bounds(), source.as_slice())?;
+    Ok(told)
 }
 
 /// What is written of a hunt.

@@ -1,1 +1,2 @@
+pub mod Finishing
 pub mod Rehearsing

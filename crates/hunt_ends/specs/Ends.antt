@@ -1,9 +1,13 @@
 -- How a run ends amiss: at a bug check or a wrong operand, or in a world in which an audit finds a
 -- packet that no place names, a lock that an idle thread owns, a thread that waits in a ring, or a use
 -- of a stack location that was returned from otherwise than it was marked.
-use Rattle.std.specs.Prelude.{ℕ, ◌≡◌, ◌++◌, List, [], ◌∷◌, length, Option, None, Some}
+use Rattle.std.specs.Prelude.{ℕ, ◌≡◌, ◌++◌, List, [], ◌∷◌, length, Option, None, Some, false, true}
 use Rattle.hunt_ends.specs.declared.amiss.Amiss.{Amiss}
 use Rattle.hunt_ends.specs.declared.amiss.Amiss.TheVariants.{Stopped, Lost, Left, Ringed, Disagrees}
+use Rattle.hunt_ends.specs.declared.ending.Ending.{Ending}
+use Rattle.hunt_ends.specs.declared.ending.Ending.TheVariants.{Fails, Stuck}
+use Rattle.hunt_ends.specs.declared.standing.Standing.{Standing}
+use Rattle.hunt_ends.specs.Rest.{IsStanding, is_rest}
 use Rattle.model.specs.declared.event.Event.{Event}
 use Rattle.model.specs.declared.event.Reply.{Reply}
 use Rattle.model.specs.declared.event.Reply.TheVariants.{Started, Stepped, Finished, Topped, Waited, Idle, Refused, Bug, Wrong}
@@ -11,6 +15,7 @@ use Rattle.model.specs.Machine.{Machine, ShowsWhole, reply_to}
 use Rattle.model.specs.Run.{Run, run}
 use Rattle.model.specs.Set.{Set}
 use Rattle.model.specs.Trace.{Serving}
+use Rattle.model.specs.World.{World}
 use Rattle.tell_audit.specs.declared.left.LeftLock.{LeftLock}
 use Rattle.tell_audit.specs.Findings.{ringed_threads}
 use Rattle.tell_audit.specs.Left.{left_locks}
@@ -54,6 +59,25 @@ abbrev pub amiss_after : Set → ℕ → List Event → Event → Option Amiss
 amiss_after set threads before e =
     or_amiss (stops_with (reply_to set threads before e))
     (amiss_in set (run set threads (before ++ e ∷ [])))
+
+-- nothing is amiss, and this isn't at rest in a world
+pub record StandsFine (amiss : Option Amiss) (w : World) (standing : Standing) : Type 0 where
+  pub fine : amiss ≡ None
+  pub shows : IsStanding w standing
+
+-- so a run has ended in a world, where this is amiss: with that, or with nothing amiss and something
+-- that isn't at rest, or at rest
+abbrev pub EndsAs : Option Amiss → World → Option Ending → Type 0
+EndsAs amiss w (Some (Fails found)) = amiss ≡ Some found
+EndsAs amiss w (Some (Stuck standing)) =
+    StandsFine amiss w standing × (is_rest standing ≡ false)
+EndsAs amiss w None =
+    (standing : Standing) × StandsFine amiss w standing × (is_rest standing ≡ true)
+
+-- so the run of these events and a last one ends
+abbrev pub EndsSo : Set → ℕ → List Event → Event → Option Ending → Type 0
+EndsSo set threads before last =
+    EndsAs (amiss_after set threads before last) (run set threads (before ++ last ∷ [])).world
 
 -- a machine, and a ledger of its run
 pub record Rehearsed : Type 0 where

@@ -1,6 +1,6 @@
 //! Runs on the reference machine, with the ledger that their audit needs.
 
-ghost use Rattle.std.specs.Prelude.{◌≡◌, ◌≤◌, [], IfOk, OnOk};
+ghost use Rattle.std.specs.Prelude.{◌≡◌, ◌≤◌, ◌++◌, ◌∷◌, [], IfOk, OnOk};
 ghost use Rattle.hunt_ends.specs.Ends.{GoesOn, IsAmissNow, Rehearses, amiss_after};
 ghost use Rattle.model.specs.declared.limits.TheConstants.{MAX_THREADS};
 ghost use Rattle.model.specs.Machine.{reply_to};
@@ -151,6 +151,8 @@ pub fn rehearse(
         ended.reply ≡ reply_to set.now threads before.now last.now) }
     ensures amiss { IfOk result (λ ended.
         ended.amiss ≡ amiss_after set.now threads before.now last.now) }
+    ensures shows { IfOk result (λ ended.
+        Rehearses set.now threads (before.now ++ last.now ∷ []) ended.run) }
 {
     let mut run = Rehearsal::replay(alloc, set, threads, before)?;
     let reply = run.apply(last)?;

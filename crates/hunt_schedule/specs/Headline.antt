@@ -1,8 +1,11 @@
--- What is amiss at the end of a run, in one line: a bug check or a wrong operand as a trace tells it,
--- and what an audit finds in its words.
+-- How a run ends, in one line: at a bug check or a wrong operand as a trace tells it, with what an
+-- audit finds in its words, or with what isn't at rest.
 use Rattle.std.specs.Prelude.{ℕ, ◌++◌, List, [], ◌∷◌, codes, decimal}
 use Rattle.hunt_ends.specs.declared.amiss.Amiss.{Amiss}
 use Rattle.hunt_ends.specs.declared.amiss.Amiss.TheVariants.{Stopped, Lost, Left, Ringed, Disagrees}
+use Rattle.hunt_ends.specs.declared.ending.Ending.{Ending}
+use Rattle.hunt_ends.specs.declared.ending.Ending.TheVariants.{Fails, Stuck}
+use Rattle.hunt_ends.specs.declared.standing.Standing.{Standing}
 use Rattle.model.specs.declared.event.Bug.{Bug as BugFound}
 use Rattle.model.specs.declared.event.Lock.{Lock}
 use Rattle.model.specs.declared.event.Lock.TheVariants.{SystemCancel, Spin}
@@ -57,6 +60,23 @@ amiss_words (Disagrees location_use) =
     codes "packet " ++ (decimal location_use.packet
     ++ codes ": a status was returned that disagrees with the mark")
 
+-- each of some numbers between two parts of a text
+abbrev pub each_between : List ℕ → List ℕ → List ℕ → List ℕ
+each_between before [] after = []
+each_between before (n ∷ numbers) after =
+    (before ++ (decimal n ++ after)) ++ each_between before numbers after
+
+abbrev pub standing_words : Standing → List ℕ
+standing_words standing =
+    codes "stuck: nothing that follows comes to rest"
+    ++ (each_between (codes "; thread ") standing.threads.items (codes " is busy")
+    ++ (each_between (codes "; packet ") standing.packets.items (codes " is live")
+    ++ each_between (codes "; device ") standing.devices.items (codes " is busy for StartIo")))
+
+abbrev pub ending_words : Ending → List ℕ
+ending_words (Fails amiss) = amiss_words amiss
+ending_words (Stuck standing) = standing_words standing
+
 -- the line, which is a comment
-abbrev pub headline : Amiss → List ℕ
-headline amiss = codes "; " ++ (amiss_words amiss ++ codes "\n")
+abbrev pub headline : Ending → List ℕ
+headline ending = codes "; " ++ (ending_words ending ++ codes "\n")

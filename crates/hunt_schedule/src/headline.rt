@@ -1,22 +1,60 @@
-//! What is amiss at the end of a run, in one line.
+//! How a run ends, in one line.
 
 ghost use Rattle.std.specs.Prelude.{◌≡◌, ◌++◌, IfOk, OnOk};
-ghost use Rattle.hunt_schedule.specs.Headline.{amiss_words, bug_words, headline, lock_words, of_device, place_words, reply_words, subject_words};
+ghost use Rattle.hunt_schedule.specs.Headline.{amiss_words, bug_words, each_between, ending_words, headline, lock_words, of_device, place_words, reply_words, standing_words, subject_words};
 
 use crate::appending::{add, add_number, add_numbered};
 use hunt_ends::amiss::Amiss;
+use hunt_ends::ending::Ending;
+use hunt_ends::standing::Standing;
 use model::event::{Bug, Lock, OfDevice, Place, Reply, Subject};
 use std::alloc::{AllocError, Global};
 
-/// The line of a text that tells what is amiss.
-pub(crate) fn headline(alloc: Global, amiss: &Amiss) -> Result<Vec<u8>, AllocError>
-    ensures { IfOk result (λ line. line.items ≡ headline amiss.now) }
+/// The line of a text that tells how a run ends.
+pub(crate) fn headline(alloc: Global, ending: &Ending) -> Result<Vec<u8>, AllocError>
+    ensures { IfOk result (λ line. line.items ≡ headline ending.now) }
 {
     let mut line = Vec::new(alloc);
     add(&mut line, b"; ")?;
-    add_amiss(&mut line, amiss)?;
+    add_ending(&mut line, ending)?;
     add(&mut line, b"\n")?;
     Ok(line)
+}
+
+fn add_ending(line: &mut Vec<u8>, ending: &Ending) -> Result<(), AllocError>
+    ensures { OnOk result (line.new.items ≡ line.old.items ++ ending_words ending.now) }
+{
+    match ending {
+        Ending::Fails(amiss) => add_amiss(line, amiss),
+        Ending::Stuck(standing) => add_standing(line, standing),
+    }
+}
+
+fn add_standing(line: &mut Vec<u8>, standing: &Standing) -> Result<(), AllocError>
+    ensures { OnOk result (line.new.items ≡ line.old.items ++ standing_words standing.now) }
+{
+    add(line, b"stuck: nothing that follows comes to rest")?;
+    add_each(line, b"; thread ", standing.threads.as_slice(), b" is busy")?;
+    add_each(line, b"; packet ", standing.packets.as_slice(), b" is live")?;
+    let devices = standing.devices.as_slice();
+    add_each(line, b"; device ", devices, b" is busy for StartIo")?;
+    Ok(())
+}
+
+/// Adds each of some numbers between two parts of a text.
+fn add_each(
+    line: &mut Vec<u8>,
+    before: &[u8],
+    numbers: &[u64],
+    after: &[u8],
+) -> Result<(), AllocError>
+    ensures { OnOk result
+        (line.new.items ≡ line.old.items ++ each_between before.now numbers.now after.now) }
+{
+    for number in numbers {
+        add_numbered(line, before, *number, after)?;
+    }
+    Ok(())
 }
 
 fn add_amiss(line: &mut Vec<u8>, amiss: &Amiss) -> Result<(), AllocError>

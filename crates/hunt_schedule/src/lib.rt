@@ -1,9 +1,10 @@
-//! Runs that end amiss as texts of schedules: the first line of each tells what is amiss behind its
-//! last event.
+//! Runs that were looked for as texts of schedules: the first line of each tells how its run ends.
 #![tactic(auto)]
 
 mod appending;
+mod comments;
 mod headline;
 pub mod reading;
 pub mod telling;
+mod tidying;
 pub mod writing;

@@ -1,25 +1,34 @@
 //! Texts that are read back: whether the run of what one lists ends as its first line tells.
 
-ghost use Rattle.std.specs.Prelude.{◌≡◌, ◌++◌, IfOk, IsTrue, OnOk, replicate};
-ghost use Rattle.hunt_schedule.specs.Telling.{TellsItsEnd};
-ghost use Rattle.interleave.specs.Listing.{IsWithinLimits};
+ghost use Rattle.std.specs.Prelude.{◌≡◌, ◌≤◌, ◌++◌, IfOk, IsTrue, OnOk, length, replicate};
+ghost use Rattle.hunt_schedule.specs.Telling.{IsWithin, TellsEnd, TellsItsEnd};
+ghost use Rattle.model.specs.declared.limits.TheConstants.{MAX_THREADS};
 
 use crate::headline::headline;
 use driver_set::DriverSet;
-use hunt_ends::rehearsal::rehearse;
+use hunt_ends::ending::ending_of;
+use hunt_search::search::{Bounds, is_wanted};
 use interleave::events::Events;
 use interleave::parse::parse_schedule;
-use interleave::schedule::{Schedule, ScheduleKind};
+use interleave::schedule::ScheduleKind;
 use model::event::Event;
 use std::alloc::{AllocError, Global};
 
-/// Whether a text lists a schedule, and begins with the line of what is amiss behind its last event.
+/// Whether a text lists a schedule within the bounds of a hunt, and begins with the line of how its
+/// run ends.
 ///
 /// # Errors
 ///
 /// When memory runs out.
-pub fn tells_its_end(alloc: Global, set: &DriverSet, text: &[u8]) -> Result<bool, AllocError>
-    ensures { IfOk result (λ tells. IsTrue tells → TellsItsEnd set.now text.now) }
+pub fn tells_its_end(
+    alloc: Global,
+    set: &DriverSet,
+    bounds: Bounds,
+    text: &[u8],
+) -> Result<bool, AllocError>
+    requires some { 1 ≤ bounds.threads }
+    requires few { bounds.threads ≤ MAX_THREADS }
+    ensures { IfOk result (λ tells. IsTrue tells → TellsItsEnd set.now bounds text.now) }
 {
     let schedule = match parse_schedule(alloc, text) {
         Ok(schedule) => schedule,
@@ -27,15 +36,51 @@ pub fn tells_its_end(alloc: Global, set: &DriverSet, text: &[u8]) -> Result<bool
         Err(_fault) => return Ok(false),
     };
     let events = events_of(alloc, &schedule.events)?;
-    let Some((last, before)) = events.as_slice().split_last() else {
+    let run = events.as_slice();
+    if schedule.threads != bounds.threads {
+        return Ok(false);
+    }
+    if !is_within(bounds.events, run) {
+        return Ok(false);
+    }
+    let Some((last, before)) = run.split_last() else {
         return Ok(false);
     };
-    let ended = rehearse(alloc, set, schedule.threads, before, last)?;
-    let amiss = ended.amiss;
-    let Some(amiss) = amiss else {
+    tells_end(alloc, set, bounds, before, last, text)
+}
+
+/// Whether a bound on events, if there is one, lets a run have these.
+fn is_within(bound: Option<u64>, run: &[Event]) -> bool
+    ensures { IsTrue result → IsWithin bound (length run.now) }
+{
+    match bound {
+        Some(most) => run.len() as u64 <= most,
+        None => true,
+    }
+}
+
+/// Whether a text begins with the line of how the run of these events and a last one ends, if a hunt
+/// looks for such an end.
+fn tells_end(
+    alloc: Global,
+    set: &DriverSet,
+    bounds: Bounds,
+    before: &[Event],
+    last: &Event,
+    text: &[u8],
+) -> Result<bool, AllocError>
+    requires some { 1 ≤ bounds.threads }
+    requires few { bounds.threads ≤ MAX_THREADS }
+    ensures { IfOk result
+        (λ tells. IsTrue tells → TellsEnd set.now bounds before.now last.now text.now) }
+{
+    let Some(ending) = ending_of(alloc, set, bounds.threads, before, last)? else {
         return Ok(false);
     };
-    let line = headline(alloc, &amiss)?;
+    if !is_wanted(bounds.goal, &ending) {
+        return Ok(false);
+    }
+    let line = headline(alloc, &ending)?;
     Ok(text.starts_with(line.as_slice()))
 }
 

@@ -9,16 +9,16 @@ use crate::appending::{add, add_number};
 use crate::headline::headline;
 use crate::writing::schedule_text;
 use driver_set::DriverSet;
-use hunt_ends::amiss::Amiss;
+use hunt_ends::ending::Ending;
 use hunt_search::search::{Bounds, Find, Hunted, hunt};
 use std::alloc::{AllocError, Global};
 
 /// What is told of a hunt.
 #[derive(Drop)]
 pub enum Told {
-    /// A schedule whose run ends amiss, as a text.
+    /// A schedule whose run was looked for, as a text.
     Found(Vec<u8>),
-    /// A line on a run that ends amiss, of which no schedule is told: what was written, read back,
+    /// A line on a run that was looked for, of which no schedule is told: what was written, read back,
     /// doesn't end so.
     Unlisted(Vec<u8>),
     /// A line that there is none among all worlds within the bounds, which are so many.
@@ -35,18 +35,24 @@ pub enum Told {
     },
 }
 
-/// Hunts in the worlds of a set within bounds, and tells what comes of it.
+/// Hunts in the worlds of a set within bounds, and tells what comes of it, with the names and the
+/// lines of the text that the set was read from.
 ///
 /// # Errors
 ///
 /// When memory runs out.
-pub fn tell_hunt(alloc: Global, set: &DriverSet, bounds: Bounds) -> Result<Told, AllocError>
+pub fn tell_hunt(
+    alloc: Global,
+    set: &DriverSet,
+    bounds: Bounds,
+    source: &[u8],
+) -> Result<Told, AllocError>
     requires some { 1 ≤ bounds.threads }
     requires few { bounds.threads ≤ MAX_THREADS }
     ensures { IfOk result (IsToldOf set.now bounds) }
 {
     match hunt(alloc, set, bounds)? {
-        Hunted::Found(find) => tell_find(alloc, set, bounds, find),
+        Hunted::Found(find) => tell_find(alloc, set, bounds, find, source),
         Hunted::All { worlds } => {
             let line = all_line(alloc, bounds, worlds as u64)?;
             Ok(Told::All { line, worlds })
@@ -63,24 +69,32 @@ pub fn tell_hunt(alloc: Global, set: &DriverSet, bounds: Bounds) -> Result<Told,
 }
 
 /// Tells a find.
-fn tell_find(alloc: Global, set: &DriverSet, bounds: Bounds, find: Find) -> Result<Told, AllocError>
-    requires { IsFind set.now bounds.threads find }
+fn tell_find(
+    alloc: Global,
+    set: &DriverSet,
+    bounds: Bounds,
+    find: Find,
+    source: &[u8],
+) -> Result<Told, AllocError>
+    requires some { 1 ≤ bounds.threads }
+    requires few { bounds.threads ≤ MAX_THREADS }
+    requires found { IsFind set.now bounds find }
     ensures { IfOk result (IsToldOf set.now bounds) }
 {
-    let amiss = find.amiss;
+    let ending = find.ending;
     let mut events = find.before;
     events.push(find.last)?;
-    match schedule_text(alloc, set, bounds.threads, events.as_slice(), &amiss)? {
+    match schedule_text(alloc, set, bounds, events.as_slice(), &ending, source)? {
         Some(text) => Ok(Told::Found(text)),
-        None => Ok(Told::Unlisted(unlisted_line(alloc, &amiss)?)),
+        None => Ok(Told::Unlisted(unlisted_line(alloc, &ending)?)),
     }
 }
 
-/// That a run ends amiss, and isn't told.
-fn unlisted_line(alloc: Global, amiss: &Amiss) -> Result<Vec<u8>, AllocError>
-    ensures { IfOk result (λ line. line.items ≡ unlisted_line amiss.now) }
+/// That a run ends so, and isn't told.
+fn unlisted_line(alloc: Global, ending: &Ending) -> Result<Vec<u8>, AllocError>
+    ensures { IfOk result (λ line. line.items ≡ unlisted_line ending.now) }
 {
-    let mut line = headline(alloc, amiss)?;
+    let mut line = headline(alloc, ending)?;
     add(&mut line, b"; its schedule, read back, doesn't end so\n")?;
     Ok(line)
 }

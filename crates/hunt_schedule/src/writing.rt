@@ -1,19 +1,30 @@
-//! A run that ends amiss, written as a schedule.
+//! A run that was looked for, written as a schedule.
 
-ghost use Rattle.std.specs.Prelude.{IfOk, IfSome};
+ghost use Rattle.std.specs.Prelude.{◌≤◌, IfOk, IfSome};
 ghost use Rattle.hunt_schedule.specs.Telling.{TellsItsEnd};
+ghost use Rattle.model.specs.declared.limits.TheConstants.{MAX_THREADS};
 
 use crate::appending::{add, add_number};
+use crate::comments::Telling;
 use crate::headline::headline;
 use crate::reading::tells_its_end;
+use crate::tidying::tidied;
+use checked::Checked;
 use driver_set::DriverSet;
-use hunt_ends::amiss::Amiss;
+use hunt_ends::ending::Ending;
+use hunt_search::search::Bounds;
 use model::event::Event;
 use model::status::Major;
 use std::alloc::{AllocError, Global};
+use tell_names::Book;
 
-/// The text of a schedule for the run of these events on so many threads: its first line tells what
-/// is amiss behind the last one. None where the run of what it lists doesn't end so.
+/// Where the comments of lines stand.
+const COMMENTS: usize = 24;
+
+/// The text of a schedule for the run of these events on the threads of a hunt: its first line tells
+/// how it ends, and comments what each line does, with the names of the text that the set was read
+/// from. Steps of a thread are told together where the run ends alike. None where the run of what
+/// the text lists doesn't end so.
 ///
 /// # Errors
 ///
@@ -21,36 +32,90 @@ use std::alloc::{AllocError, Global};
 pub fn schedule_text(
     alloc: Global,
     set: &DriverSet,
-    threads: u8,
+    bounds: Bounds,
     events: &[Event],
-    amiss: &Amiss,
+    ending: &Ending,
+    source: &[u8],
 ) -> Result<Option<Vec<u8>>, AllocError>
-    ensures { IfOk result (λ text. IfSome text (λ text. TellsItsEnd set.now text.items)) }
+    requires some { 1 ≤ bounds.threads }
+    requires few { bounds.threads ≤ MAX_THREADS }
+    ensures { IfOk result (λ text. IfSome text (λ text. TellsItsEnd set.now bounds text.items)) }
 {
-    let mut text = headline(alloc, amiss)?;
+    let mut text = headline(alloc, ending)?;
+    let order = tidied(alloc, set, bounds, events, text.as_slice())?;
     add(&mut text, b"threads ")?;
-    add_number(&mut text, u64::from(threads))?;
+    add_number(&mut text, u64::from(bounds.threads))?;
     add(&mut text, b"\n")?;
-    add_events(&mut text, events)?;
-    if tells_its_end(alloc, set, text.as_slice())? {
+    add_events(alloc, &mut text, set, bounds, order.as_slice(), source)?;
+    if tells_its_end(alloc, set, bounds, text.as_slice())? {
         return Ok(Some(text));
     }
     Ok(None)
 }
 
+/// Adds the lines of events, and what each does.
+fn add_events(
+    alloc: Global,
+    text: &mut Vec<u8>,
+    set: &DriverSet,
+    bounds: Bounds,
+    events: &[Event],
+    source: &[u8],
+) -> Result<(), AllocError>
+    requires some { 1 ≤ bounds.threads }
+    requires few { bounds.threads ≤ MAX_THREADS }
+{
+    let Ok(set) = set.copy(alloc) else {
+        return Err(AllocError);
+    };
+    let Ok(machine) = Checked::new(alloc, set, bounds.threads) else {
+        return Err(AllocError);
+    };
+    let book = Book::of(alloc, source)?;
+    add_lines(alloc, text, &mut Telling { machine, book }, events)
+}
+
 /// Adds the lines of events. Steps of a thread that come one after another stand on one line.
-fn add_events(text: &mut Vec<u8>, events: &[Event]) -> Result<(), AllocError> {
-    let mut steps: u64 = 0;
+fn add_lines(
+    alloc: Global,
+    text: &mut Vec<u8>,
+    telling: &mut Telling<'_>,
+    events: &[Event],
+) -> Result<(), AllocError> {
+    let mut start = 0;
     for place in 0..events.len() {
-        if let Some(event) = events.get(place) {
-            steps = steps.saturating_add(1);
-            if !goes_on(event, events.get(place.saturating_add(1))) {
-                add_event(text, event, steps)?;
-                steps = 0;
+        let behind = place.saturating_add(1);
+        if let (Some(event), Some(line)) = (events.get(place), events.get(start..behind)) {
+            if !goes_on(event, events.get(behind)) {
+                let from = text.len();
+                add_event(text, event, line.len() as u64)?;
+                add_comment(alloc, text, from, telling, line)?;
+                start = behind;
             }
         }
     }
     Ok(())
+}
+
+/// Adds what the line of these events does, which starts at a place of a text, and ends it.
+fn add_comment(
+    alloc: Global,
+    text: &mut Vec<u8>,
+    from: usize,
+    telling: &mut Telling<'_>,
+    events: &[Event],
+) -> Result<(), AllocError> {
+    let mut words = String::new(alloc);
+    telling.add_line(&mut words, events)?;
+    if !words.is_empty() {
+        let length = text.len().saturating_sub(from);
+        for _blank in length..COMMENTS {
+            add(text, b" ")?;
+        }
+        add(text, b" ; ")?;
+        add(text, words.as_str().as_bytes())?;
+    }
+    add(text, b"\n")
 }
 
 /// Whether an event and the next one are steps of one thread.
@@ -64,7 +129,7 @@ fn goes_on(event: &Event, next: Option<&Event>) -> bool {
     }
 }
 
-/// Adds the line of an event that happens so many times in a row.
+/// Adds the words of an event that happens so many times in a row.
 fn add_event(text: &mut Vec<u8>, event: &Event, times: u64) -> Result<(), AllocError> {
     match *event {
         Event::Issue {
@@ -98,7 +163,7 @@ fn add_event(text: &mut Vec<u8>, event: &Event, times: u64) -> Result<(), AllocE
             add_words(text, b"step", u64::from(thread), many)?;
         }
     }
-    add(text, b"\n")
+    Ok(())
 }
 
 /// Adds a word and one or two numbers.

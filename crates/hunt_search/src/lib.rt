@@ -1,13 +1,9 @@
 //! The search for a shortest run of a driver set that ends amiss: breadth first over its worlds.
 #![tactic(auto)]
 
-mod cells;
-mod facts;
-mod keys;
+mod expanding;
+mod graph;
 mod moves;
-mod reaching;
-mod registers;
+mod plan;
 pub mod search;
-mod sorting;
 mod worlds;
-mod writer;

@@ -1,8 +1,8 @@
 //! The events that are tried in a world, in a fixed order.
 
-use crate::facts::Facts;
 use crate::search::Bounds;
 use checked::Checked;
+use hunt_keys::facts::Facts;
 use model::event::Event;
 use std::alloc::{AllocError, Global};
 use tell_audit::ring::waits_for;
@@ -51,13 +51,21 @@ fn first_idle(machine: &Checked, threads: u8) -> Option<u8> {
     None
 }
 
+/// The first thread that isn't idle.
+pub(crate) fn first_busy(machine: &Checked) -> Option<usize> {
+    machine
+        .threads()
+        .iter()
+        .position(|thread| !thread.is_idle())
+}
+
 /// How many devices there are.
 fn devices_of(machine: &Checked) -> u8 {
     machine.set().devices().len().min(255) as u8
 }
 
 /// How many packets are live.
-fn live_packets(machine: &Checked) -> usize {
+pub(crate) fn live_packets(machine: &Checked) -> usize {
     let mut live: usize = 0;
     for n in 0..machine.shared().issued() {
         if machine.shared().live_packet(n).is_some() {
@@ -113,7 +121,7 @@ fn add_issues_to(
     device: u8,
 ) -> Result<(), AllocError> {
     for major in facts.majors.as_slice() {
-        for argument in facts.arguments.as_slice() {
+        for argument in facts.arguments.of_request(device, *major) {
             moves.push(Event::Issue {
                 thread,
                 device,

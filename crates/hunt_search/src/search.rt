@@ -1,19 +1,27 @@
-//! A shortest run that ends amiss.
+//! A shortest run that ends amiss, or else one that is stuck.
 
-ghost use Rattle.std.specs.Prelude.{◌≤◌, IfOk, IfSome, Some};
-ghost use Rattle.hunt_search.specs.Hunts.{ComesOf, IsFind, IsFindOf, IsHunted, IsOutcome};
+ghost use Rattle.std.specs.Prelude.{◌≤◌, IfOk, IfSome, IsTrue};
+ghost use Rattle.hunt_search.specs.declared.search.Bounds.{Bounds};
+ghost use Rattle.hunt_search.specs.Hunts.{IsFind, IsHunted, IsWanted};
 ghost use Rattle.model.specs.declared.limits.TheConstants.{MAX_THREADS};
+ghost use Rattle.model.specs.Set.{Set};
 
-use crate::facts::Facts;
-use crate::keys::key_of;
-use crate::moves::moves_of;
+use crate::expanding::{expand, machine_at};
+use crate::plan::Plan;
 use crate::worlds::Worlds;
-use checked::says_unchanged;
 use driver_set::DriverSet;
-use hunt_ends::amiss::Amiss;
-use hunt_ends::rehearsal::{Ended, Rehearsal, rehearse};
+use hunt_ends::ending::{Ending, ending_of};
 use model::event::Event;
 use std::alloc::{AllocError, Global};
+
+/// What a search looks for.
+#[derive(Clone, Copy)]
+pub enum Goal {
+    /// A run that ends amiss.
+    Amiss,
+    /// Or else one from whose end no run within the bounds comes to rest.
+    AmissOrStuck,
+}
 
 /// How far a search goes.
 #[derive(Clone, Copy)]
@@ -24,52 +32,58 @@ pub struct Bounds {
     pub packets: usize,
     /// Worlds that are kept.
     pub worlds: usize,
+    /// Events of a run, where these are bounded.
+    pub events: Option<u64>,
+    /// One more argument that every request is tried with.
+    pub argument: Option<u64>,
+    /// What it looks for.
+    pub goal: Goal,
 }
 
-/// A run that ends amiss.
+/// A run that was looked for.
 #[derive(Drop)]
 pub struct Find {
     /// Its events before the last one.
     pub before: Vec<Event>,
     pub last: Event,
-    /// What is amiss then.
-    pub amiss: Amiss,
+    /// How it ends.
+    pub ending: Ending,
 }
 
 /// What comes of a search.
 #[derive(Drop)]
 pub enum Hunted {
-    /// A run that ends amiss.
+    /// A run that was looked for.
     Found(Find),
     /// There is none among all worlds within the bounds, which are so many.
     All { worlds: usize },
-    /// There is none in runs of up to so many events: so many worlds were seen, and there are more.
+    /// None in runs of up to so many events ends amiss: so many worlds were seen, and there are more.
     More { worlds: usize, events: usize },
 }
 
-/// A world to go on from.
-#[derive(Drop)]
-struct Place {
-    number: usize,
-    /// The events that led to it.
-    path: Vec<Event>,
-    /// Those that are tried in it.
-    moves: Vec<Event>,
+/// How a search for a run that ends amiss has ended.
+#[derive(Clone, Copy)]
+enum Searched {
+    /// In the world of this number something is amiss behind this event.
+    Amiss { number: usize, event: Event },
+    /// All worlds were seen.
+    All,
+    /// Nothing is amiss in runs of up to so many events.
+    More { events: usize },
 }
 
-/// What comes of an event that is tried in a world.
-#[derive(Drop)]
-enum Outcome {
-    /// Nothing has changed.
-    Stays,
-    /// A world, by its key.
-    World(Vec<u8>),
-    /// A run that ends amiss.
-    Ends(Find),
+/// Whether such an end is looked for.
+pub fn is_wanted(goal: Goal, ending: &Ending) -> bool
+    ensures { IsTrue result → IsWanted goal ending.now }
+{
+    match (goal, ending) {
+        (Goal::Amiss, Ending::Stuck(_)) => false,
+        _ => true,
+    }
 }
 
 /// Searches the worlds of a set within bounds, breadth first and in a fixed order, for a run that
-/// ends amiss.
+/// ends amiss. Where there is none, and all worlds were seen, a run that is stuck may be looked for.
 ///
 /// # Errors
 ///
@@ -77,177 +91,121 @@ enum Outcome {
 pub fn hunt(alloc: Global, set: &DriverSet, bounds: Bounds) -> Result<Hunted, AllocError>
     requires some { 1 ≤ bounds.threads }
     requires few { bounds.threads ≤ MAX_THREADS }
-    ensures { IfOk result (IsHunted set.now bounds.threads) }
+    ensures { IfOk result (IsHunted set.now bounds) }
 {
-    let facts = Facts::of(alloc, set)?;
-    let mut worlds = Worlds::new(alloc);
-    worlds.begin(first_key(alloc, set, bounds.threads, &facts)?)?;
-    hunt_from(alloc, set, bounds, &facts, &mut worlds)
-}
-
-/// The key of the first world.
-fn first_key(
-    alloc: Global,
-    set: &DriverSet,
-    threads: u8,
-    facts: &Facts,
-) -> Result<Vec<u8>, AllocError>
-    requires some { 1 ≤ threads }
-    requires few { threads ≤ MAX_THREADS }
-{
-    let first = Rehearsal::of(alloc, set, threads)?;
-    key_of(alloc, first.machine(), facts)
+    let plan = Plan::of(alloc, set, bounds)?;
+    let mut worlds = Worlds::new(alloc, bounds.goal);
+    let searched = search(alloc, set, &plan, &mut worlds)?;
+    match found(alloc, set, &plan, &worlds, searched)? {
+        Some(find) => Ok(Hunted::Found(find)),
+        None => Ok(none_found(&worlds, searched)),
+    }
 }
 
 /// Goes on from each world that was seen, in that order, until none is left or enough are.
-fn hunt_from(
+fn search(
     alloc: Global,
     set: &DriverSet,
-    bounds: Bounds,
-    facts: &Facts,
+    plan: &Plan,
     worlds: &mut Worlds,
-) -> Result<Hunted, AllocError>
-    requires some { 1 ≤ bounds.threads }
-    requires few { bounds.threads ≤ MAX_THREADS }
-    ensures { IfOk result (IsHunted set.now bounds.threads) }
-{
+) -> Result<Searched, AllocError> {
+    let bounds = plan.bounds();
+    let first = machine_at(alloc, set, plan, [].as_slice())?;
+    worlds.begin(&first, plan.facts())?;
     for number in 0..bounds.worlds {
         if number >= worlds.len() {
-            return Ok(Hunted::All {
-                worlds: worlds.len(),
-            });
+            return Ok(Searched::All);
         }
-        if worlds.len() > bounds.worlds {
-            return Ok(Hunted::More {
-                worlds: worlds.len(),
-                events: worlds.depth(number),
-            });
+        let events = worlds.depth(number);
+        if worlds.len() > bounds.worlds || is_far(bounds, events) {
+            return Ok(Searched::More { events });
         }
-        if let Some(find) = expand(alloc, set, bounds, facts, worlds, number)? {
-            return Ok(Hunted::Found(find));
+        if let Some(event) = expand(alloc, set, plan, worlds, number)? {
+            return Ok(Searched::Amiss { number, event });
         }
     }
-    Ok(Hunted::More {
-        worlds: worlds.len(),
+    Ok(Searched::More {
         events: worlds.depth(bounds.worlds),
     })
 }
 
-/// Tries each event in the world of a number. It answers the first run that ends amiss; the worlds
-/// to which the events lead are added.
-fn expand(
-    alloc: Global,
-    set: &DriverSet,
-    bounds: Bounds,
-    facts: &Facts,
-    worlds: &mut Worlds,
-    number: usize,
-) -> Result<Option<Find>, AllocError>
-    requires some { 1 ≤ bounds.threads }
-    requires few { bounds.threads ≤ MAX_THREADS }
-    ensures { IfOk result (λ found. IfSome found (IsFind set.now bounds.threads)) }
-{
-    let path = worlds.path(alloc, number)?;
-    let moves = moves_behind(alloc, set, bounds, facts, path.as_slice())?;
-    let place = Place {
-        number,
-        path,
-        moves,
-    };
-    try_moves(alloc, set, bounds, facts, worlds, &place)
+/// Whether a run of so many events is as long as one may be.
+fn is_far(bounds: Bounds, events: usize) -> bool {
+    match bounds.events {
+        Some(most) => events as u64 >= most,
+        None => false,
+    }
 }
 
-/// The events that are tried behind those that led to a world.
-fn moves_behind(
+/// The run that a search has found: one that ends amiss, or else one that is stuck.
+fn found(
     alloc: Global,
     set: &DriverSet,
-    bounds: Bounds,
-    facts: &Facts,
-    path: &[Event],
-) -> Result<Vec<Event>, AllocError>
-    requires some { 1 ≤ bounds.threads }
-    requires few { bounds.threads ≤ MAX_THREADS }
+    plan: &Plan,
+    worlds: &Worlds,
+    searched: Searched,
+) -> Result<Option<Find>, AllocError>
+    ensures { IfOk result (λ found. IfSome found (IsFind set.now plan.now)) }
 {
-    let run = Rehearsal::replay(alloc, set, bounds.threads, path)?;
-    moves_of(alloc, run.machine(), facts, bounds)
+    let mut events = events_found(alloc, worlds, searched)?;
+    match events.pop() {
+        Some(last) => find_of(alloc, set, plan, events, last),
+        None => Ok(None),
+    }
 }
 
-/// Tries the events of a place.
-fn try_moves(
+/// The events of the run that a search has found: none where it has found none.
+fn events_found(
     alloc: Global,
-    set: &DriverSet,
-    bounds: Bounds,
-    facts: &Facts,
-    worlds: &mut Worlds,
-    place: &Place,
-) -> Result<Option<Find>, AllocError>
-    requires some { 1 ≤ bounds.threads }
-    requires few { bounds.threads ≤ MAX_THREADS }
-    ensures { IfOk result (λ found. IfSome found (IsFind set.now bounds.threads)) }
-{
-    for event in place.moves.as_slice() {
-        match attempt(
-            alloc,
-            set,
-            bounds.threads,
-            facts,
-            place.path.as_slice(),
-            event,
-        )? {
-            Outcome::Stays => {}
-            Outcome::World(key) => worlds.add(key, place.number, *event)?,
-            Outcome::Ends(find) => return Ok(Some(find)),
+    worlds: &Worlds,
+    searched: Searched,
+) -> Result<Vec<Event>, AllocError> {
+    match searched {
+        Searched::Amiss { number, event } => {
+            let mut events = worlds.path(alloc, number)?;
+            events.push(event)?;
+            Ok(events)
         }
+        Searched::All => match worlds.first_stuck(alloc)? {
+            Some(number) => worlds.path(alloc, number),
+            None => Ok(Vec::new(alloc)),
+        },
+        Searched::More { events: _ } => Ok(Vec::new(alloc)),
     }
-    Ok(None)
 }
 
-/// What comes of an event behind those that led to a world.
-fn attempt(
+/// The run of these events and a last one, if it is looked for.
+fn find_of(
     alloc: Global,
     set: &DriverSet,
-    threads: u8,
-    facts: &Facts,
-    path: &[Event],
-    event: &Event,
-) -> Result<Outcome, AllocError>
-    requires some { 1 ≤ threads }
-    requires few { threads ≤ MAX_THREADS }
-    ensures { IfOk result (IsOutcome set.now threads) }
+    plan: &Plan,
+    before: Vec<Event>,
+    last: Event,
+) -> Result<Option<Find>, AllocError>
+    ensures { IfOk result (λ found. IfSome found (IsFind set.now plan.now)) }
 {
-    let ended = rehearse(alloc, set, threads, path, event)?;
-    outcome_of(alloc, facts, path, event, &ended)
-}
-
-/// What comes of a run that has ended.
-fn outcome_of(
-    alloc: Global,
-    facts: &Facts,
-    path: &[Event],
-    event: &Event,
-    ended: &Ended,
-) -> Result<Outcome, AllocError>
-    ensures { IfOk result (ComesOf path.now event.now ended.now.amiss) }
-{
-    if let Some(amiss) = ended.amiss {
-        let find = find_of(alloc, path, event, amiss)?;
-        return Ok(Outcome::Ends(find));
+    let bounds = plan.bounds();
+    let Some(ending) = ending_of(alloc, set, bounds.threads, before.as_slice(), &last)? else {
+        return Ok(None);
+    };
+    if !is_wanted(bounds.goal, &ending) {
+        return Ok(None);
     }
-    if says_unchanged(&ended.reply) {
-        return Ok(Outcome::Stays);
-    }
-    let key = key_of(alloc, ended.run.machine(), facts)?;
-    Ok(Outcome::World(key))
-}
-
-/// The run of these events and a last one, which ends amiss.
-fn find_of(alloc: Global, path: &[Event], event: &Event, amiss: Amiss) -> Result<Find, AllocError>
-    ensures { IfOk result (IsFindOf path.now event.now (Some amiss)) }
-{
-    let before = Vec::from_slice(alloc, path)?;
-    Ok(Find {
+    Ok(Some(Find {
         before,
-        last: *event,
-        amiss,
-    })
+        last,
+        ending,
+    }))
+}
+
+/// What comes of a search that has found none.
+fn none_found(worlds: &Worlds, searched: Searched) -> Hunted
+    ensures { (set : Set) (bounds : Bounds) → IsHunted set bounds result }
+{
+    let worlds = worlds.len();
+    match searched {
+        Searched::All => Hunted::All { worlds },
+        Searched::More { events } => Hunted::More { worlds, events },
+        Searched::Amiss { .. } => Hunted::More { worlds, events: 0 },
+    }
 }

@@ -1,5 +1,11 @@
 //! The worlds that were seen, each by its key, and how each was reached.
 
+use crate::graph::{Graph, Stand};
+use crate::search::Goal;
+use checked::Checked;
+use hunt_keys::facts::Facts;
+use hunt_keys::keys::write_key;
+use hunt_keys::writer::Writer;
 use indexmap::IndexSet;
 use model::event::Event;
 use std::alloc::{AllocError, Global};
@@ -16,17 +22,27 @@ struct Reached {
 /// The worlds that were seen, numbered in that order.
 #[derive(Drop)]
 pub(crate) struct Worlds {
+    alloc: Global,
+    writer: Writer,
     keys: IndexSet<Vec<u8>>,
     /// By the number of a world.
     ways: Vec<Reached>,
+    /// How they lead to one another, where this is asked for.
+    graph: Option<Graph>,
 }
 
 impl Worlds {
     /// None.
-    pub(crate) fn new(alloc: Global) -> Worlds {
+    pub(crate) fn new(alloc: Global, goal: Goal) -> Worlds {
         Worlds {
+            alloc,
+            writer: Writer::new(alloc),
             keys: IndexSet::new(alloc),
             ways: Vec::new(alloc),
+            graph: match goal {
+                Goal::Amiss => None,
+                Goal::AmissOrStuck => Some(Graph::new(alloc)),
+            },
         }
     }
 
@@ -43,30 +59,63 @@ impl Worlds {
         }
     }
 
-    /// Adds a world that was reached from another one, unless it was seen.
+    /// Adds the world of a machine, which was reached from another one by an event, unless it was
+    /// seen.
     pub(crate) fn add(
         &mut self,
-        key: Vec<u8>,
+        machine: &Checked,
+        facts: &Facts,
         from: usize,
         event: Event,
     ) -> Result<(), AllocError> {
-        let (_number, is_new) = self.keys.insert_full(key)?;
-        if is_new {
+        let number = self.number_of(machine, facts)?;
+        if number >= self.ways.len() {
             let depth = self.depth(from).saturating_add(1);
             self.ways.push(Reached { from, event, depth })?;
+            self.note_world(Stand::of(machine))?;
         }
-        Ok(())
+        match &mut self.graph {
+            Some(graph) => graph.add_way(from, number),
+            None => Ok(()),
+        }
     }
 
-    /// Adds the first world.
-    pub(crate) fn begin(&mut self, key: Vec<u8>) -> Result<(), AllocError> {
-        let _first = self.keys.insert_full(key)?;
+    /// The number of the world of a machine, whose key is added unless it was seen.
+    fn number_of(&mut self, machine: &Checked, facts: &Facts) -> Result<usize, AllocError> {
+        write_key(&mut self.writer, machine, facts)?;
+        let key = self.writer.bytes();
+        if let Some(number) = self.keys.get_index_of(key) {
+            return Ok(number);
+        }
+        let (number, _is_new) = self.keys.insert_full(Vec::from_slice(self.alloc, key)?)?;
+        Ok(number)
+    }
+
+    /// Notes how a new world stands.
+    fn note_world(&mut self, stand: Stand) -> Result<(), AllocError> {
+        match &mut self.graph {
+            Some(graph) => graph.add_world(stand),
+            None => Ok(()),
+        }
+    }
+
+    /// Adds the first world, that of a machine before the first event.
+    pub(crate) fn begin(&mut self, machine: &Checked, facts: &Facts) -> Result<(), AllocError> {
+        let _first = self.number_of(machine, facts)?;
         self.ways.push(Reached {
             from: 0,
             event: Event::Interrupt { device: 0 },
             depth: 0,
         })?;
-        Ok(())
+        self.note_world(Stand::of(machine))
+    }
+
+    /// The first world from which none comes to rest.
+    pub(crate) fn first_stuck(&self, alloc: Global) -> Result<Option<usize>, AllocError> {
+        match &self.graph {
+            Some(graph) => graph.first_stuck(alloc),
+            None => Ok(None),
+        }
     }
 
     /// The events that led to a world from the first one.

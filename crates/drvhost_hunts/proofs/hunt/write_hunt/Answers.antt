@@ -4,8 +4,6 @@ use Rattle.std.specs.Prelude.{List, ℕ}
 use Rattle.drvhost_devices.specs.Answer.{ended}
 use Rattle.drvhost_devices.specs.Device.{Adds, TakesBeginning}
 use Rattle.drvhost_hunts.specs.Hunt.{end_told, text_told}
-use Rattle.hunt_schedule.specs.Telling.{IsToldOf}
-use Rattle.hunt_search.specs.declared.search.Bounds.{Bounds}
 use Rattle.drvhost_hunts.proofs.hunt.write_hunt.Goals as goal
 
 pub returns-in_err-write_bytes-clause-goes : goal.returns-in_err-write_bytes-clause-goes
@@ -13,26 +11,20 @@ returns-in_err-write_bytes-clause-goes g c =
     let p = err_from_is_err_and c.from_residual-in_err-write_bytes.result
     c.from_residual-in_err-write_bytes.ensures.1 in
     let told = c.in_ok-told.told in
-    let T : Bounds → Type 0 = λ bounds. IsToldOf c.args.set.now bounds told in
     let B : List ℕ → Type 0 =
     TakesBeginning (g.O.Sink.contents c.args.out.now) (g.O.Sink.contents c.write_bytes.new.sink) in
     rw (p.1, p.2, c.in_err-write_bytes.ensures.fault) (
       ended (end_told told) (text_told told),
-      (told, subst T c.bounds.ensures.bounds c.in_ok-told.ensures, refl),
+      (told, c.in_ok-told.ensures.told, refl),
       subst B c.text_told.ensures c.in_err-write_bytes.ensures.written,
     )
 
 pub returns-clause-goes : goal.returns-clause-goes
 returns-clause-goes g c =
     let told = c.in_ok-told.told in
-    let T : Bounds → Type 0 = λ bounds. IsToldOf c.args.set.now bounds told in
     let A : List ℕ → Type 0 =
     Adds (g.O.Sink.contents c.args.out.now) (g.O.Sink.contents c.write_bytes.new.sink) [] [] in (
       text_told told,
-      (
-        told,
-        subst T c.bounds.ensures.bounds c.in_ok-told.ensures,
-        ap (λ end. ended end (text_told told)) c.end_told.ensures,
-      ),
+      (told, c.in_ok-told.ensures.told, ap (λ end. ended end (text_told told)) c.end_told.ensures),
       subst A c.text_told.ensures (search rules),
     )

@@ -7,3 +7,6 @@ returns-clause-replies c = c.in_ok-reply.ensures.replies _ _ _ c.in_ok-run.ensur
 pub returns-clause-amiss : goal.returns-clause-amiss
 returns-clause-amiss c =
     ends_so _ _ _ _ _ _ _ _ c.in_ok-run.ensures c.in_ok-reply.ensures c.in_ok-amiss.ensures
+
+pub returns-clause-shows : goal.returns-clause-shows
+returns-clause-shows c = c.in_ok-reply.ensures.shows _ _ _ c.in_ok-run.ensures

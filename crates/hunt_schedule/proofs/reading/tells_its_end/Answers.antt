@@ -1,22 +1,30 @@
-use Rattle.std.proofs.Common.{◌≡◌, ◌∙◌, List, ℕ, nat_eq, rules, subst, sym, true}
-use Rattle.std.specs.List.{starts_with}
+use Rattle.std.proofs.Common.{◌≡◌, ◌∙◌, IsTrue, List, length, rules, subst, sym}
+use Rattle.std.proofs.lemmas.Result.{IfOk-weaker}
+use Rattle.hunt_schedule.specs.Telling.{IsWithin, TellsEnd, TellsItsEnd}
+use Rattle.model.specs.declared.event.Event.{Event}
 use Rattle.hunt_schedule.proofs.reading.tells_its_end.Goals as goal
 
 pub returns : goal.returns
 returns c =
-    λ told.
-    let begins : starts_with nat_eq c.args.text.now c.in_ok-line.line.items ≡ true =
-    search (rules, told) in
+    let set = c.args.set.now in
+    let bounds = c.args.bounds in
+    let text = c.args.text.now in
+    let before = c.in-Some.before.now in
+    let last = c.in-Some.last.now in
+    let same : c.as_slice-run.result.now ≡ c.in-Ok.schedule.events =
+    c.as_slice-run.ensures.value ∙ c.in_ok-events.ensures in
+    let within : IsWithin bounds.events (length c.as_slice-run.result.now) =
+    c.is_within.ensures (search rules) in
+    IfOk-weaker c.tells_end.result (λ tells. IsTrue tells → TellsEnd set bounds before last text)
+    (λ tells. IsTrue tells → TellsItsEnd set bounds text)
+    (λ tells h told.
     record {
       schedule = c.in-Ok.schedule;
       lists = c.in-Ok.ensures.listed;
-      before = c.in-Some.before.now;
-      last = c.in-Some.last.now;
-      events = sym (c.as_slice.ensures.value ∙ c.in_ok-events.ensures)
-          ∙ c.in-Some.ensures.cases.0;
-      amiss = c.in-Some-amiss.amiss;
-      ends = sym c.in_ok-ended.ensures.amiss ∙ c.in-Some-amiss.is;
-      begins =
-          subst (λ (line : List ℕ). starts_with nat_eq c.args.text.now line ≡ true)
-          c.in_ok-line.ensures begins;
-    }
+      threads = search rules;
+      before = before;
+      last = last;
+      events = sym same ∙ c.in-Some.ensures.cases.0;
+      within = subst (λ (events : List Event). IsWithin bounds.events (length events)) same within;
+      tells = h told;
+    }) c.tells_end.ensures

@@ -5,7 +5,7 @@ use crate::cells::{paged_cell, plain_cell};
 use crate::facts::Facts;
 use crate::reaching::Cells;
 use crate::registers::Registers;
-use crate::sorting::{sorted_threads, step_number};
+use crate::sorting::step_number;
 use crate::writer::Writer;
 use checked::{Checked, Thread};
 use checked_frames::{Frame, Managing};
@@ -21,17 +21,17 @@ use model::register::Register;
 use model::set::QueueName;
 use model::status::Status;
 use model::world::{Activation, Armer, Completion, Irql, Value};
-use std::alloc::{AllocError, Global};
+use std::alloc::AllocError;
 
-/// The key of the world of a machine.
-pub(crate) fn key_of(
-    alloc: Global,
-    machine: &Checked,
-    facts: &Facts,
-) -> Result<Vec<u8>, AllocError> {
-    let mut writer = Writer::new(alloc, sorted_threads(alloc, machine)?);
-    add_world(&mut writer, machine, facts);
-    writer.into_bytes()
+/// Writes the key of the world of a machine.
+///
+/// # Errors
+///
+/// When memory runs out.
+pub fn write_key(writer: &mut Writer, machine: &Checked, facts: &Facts) -> Result<(), AllocError> {
+    writer.begin(machine)?;
+    add_world(writer, machine, facts);
+    writer.finish()
 }
 
 fn add_world(writer: &mut Writer, machine: &Checked, facts: &Facts) {

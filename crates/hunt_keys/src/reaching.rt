@@ -86,6 +86,18 @@ impl Reaching {
         }
     }
 
+    /// Whether a routine of a driver, with this code, reads the argument of a packet into a register
+    /// that matters.
+    pub(crate) fn reads_argument(&self, driver: u8, routine: u8, code: &[Instr]) -> bool {
+        let Some(reached) = self.drivers.get(driver as usize) else {
+            return false;
+        };
+        match reached.routines.get(routine as usize) {
+            Some(places) => reads_argument(places.as_slice(), code),
+            None => false,
+        }
+    }
+
     /// The registers that matter where an activation stands.
     pub(crate) fn registers(&self, a: &Activation) -> Registers {
         let Some(reached) = self.drivers.get(a.driver as usize) else {
@@ -96,6 +108,18 @@ impl Reaching {
             None => Registers::ALL,
         }
     }
+}
+
+/// Whether code reads the argument of a packet into a register that matters, where these do.
+fn reads_argument(places: &[Registers], code: &[Instr]) -> bool {
+    for position in 0..code.len() {
+        if let Some(Instr::Get(register, _, Field::Argument)) = code.get(position) {
+            if at(places, position.saturating_add(1)).has(*register) {
+                return true;
+            }
+        }
+    }
+    false
 }
 
 /// Nothing yet of each driver.

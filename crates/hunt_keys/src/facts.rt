@@ -1,47 +1,48 @@
 //! What of a driver set says which events may matter.
 
+use crate::arguments::Arguments;
 use crate::reaching::Reaching;
 use driver_set::{DriverSet, Instr};
 use model::set::{Driver, Sort};
 use model::status::Major;
 use std::alloc::{AllocError, Global};
 
-/// The arguments of requests that are tried, at most.
-const MAX_ARGUMENTS: usize = 8;
-
 /// The major functions of requests.
-const MAJORS: [Major; 3] = [Major::Read, Major::Write, Major::Control];
+pub(crate) const MAJORS: [Major; 3] = [Major::Read, Major::Write, Major::Control];
 
 /// What of a driver set says which events may matter.
 #[derive(Drop)]
-pub(crate) struct Facts {
+pub struct Facts {
     /// The major functions that a driver serves.
-    pub(crate) majors: Vec<Major>,
-    /// The arguments that are tried.
-    pub(crate) arguments: Vec<u64>,
-    pub(crate) uses: Uses,
+    pub majors: Vec<Major>,
+    /// The arguments that they are tried with.
+    pub arguments: Arguments,
+    pub uses: Uses,
     /// The numbers that matter.
     pub(crate) reaching: Reaching,
 }
 
 /// What some routine of a driver set does.
 #[derive(Clone, Copy)]
-pub(crate) struct Uses {
+pub struct Uses {
     /// It touches paged cells, and may run below IoCancelIrp, so that this is called at
     /// DISPATCH_LEVEL too.
-    pub(crate) paged: bool,
+    pub paged: bool,
     /// It asks whether a packet is cancelled.
-    pub(crate) cancel: bool,
+    pub cancel: bool,
 }
 
 impl Facts {
-    /// Those of a set.
-    pub(crate) fn of(alloc: Global, set: &DriverSet) -> Result<Facts, AllocError> {
+    /// Those of a set, where every request is also tried with a further argument, if there is one.
+    ///
+    /// # Errors
+    ///
+    /// When memory runs out.
+    pub fn of(alloc: Global, set: &DriverSet, further: Option<u64>) -> Result<Facts, AllocError> {
         let reaching = Reaching::of(alloc, set)?;
-        let is_read = reaching.fields().argument;
         Ok(Facts {
             majors: served_majors(alloc, set.drivers())?,
-            arguments: arguments_of(alloc, set.drivers(), is_read)?,
+            arguments: Arguments::of(alloc, set, &reaching, further)?,
             uses: uses_of(set.drivers()),
             reaching,
         })
@@ -67,47 +68,6 @@ fn is_served(drivers: &[Driver], major: Major) -> bool {
         }
     }
     false
-}
-
-/// 0, and where the argument of a packet can reach a jump, 1 and each constant and the number after
-/// it.
-fn arguments_of(alloc: Global, drivers: &[Driver], is_read: bool) -> Result<Vec<u64>, AllocError> {
-    let mut arguments = Vec::new(alloc);
-    arguments.push(0)?;
-    if is_read {
-        arguments.push(1)?;
-        for driver in drivers {
-            add_driver(&mut arguments, driver)?;
-        }
-    }
-    Ok(arguments)
-}
-
-/// Adds the constants of a driver.
-fn add_driver(arguments: &mut Vec<u64>, driver: &Driver) -> Result<(), AllocError> {
-    for routine in driver.routines.as_slice() {
-        add_code(arguments, routine.code.as_slice())?;
-    }
-    Ok(())
-}
-
-/// Adds the constants of a routine.
-fn add_code(arguments: &mut Vec<u64>, code: &[Instr]) -> Result<(), AllocError> {
-    for instr in code {
-        if let Instr::Const(_, number) = *instr {
-            add_argument(arguments, u64::from(number))?;
-            add_argument(arguments, u64::from(number).saturating_add(1))?;
-        }
-    }
-    Ok(())
-}
-
-/// Adds an argument that isn't there, unless there are enough.
-fn add_argument(arguments: &mut Vec<u64>, number: u64) -> Result<(), AllocError> {
-    if arguments.len() < MAX_ARGUMENTS && !arguments.as_slice().contains(&number) {
-        arguments.push(number)?;
-    }
-    Ok(())
 }
 
 /// What the routines of drivers do.

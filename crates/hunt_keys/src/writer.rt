@@ -1,14 +1,16 @@
 //! What writes the key of a world: numbers, packets and threads.
 
+use crate::sorting::add_sorted;
+use checked::Checked;
 use checked_parts::Shared;
 use std::alloc::{AllocError, Global};
 
 /// The least number that stands behind a byte of its own.
 const LONG: u64 = 255;
 
-/// The bytes of a key, as they grow.
+/// What writes a key, with room that is used again for the next one.
 #[derive(Drop)]
-pub(crate) struct Writer {
+pub struct Writer {
     bytes: Vec<u8>,
     /// The packets that were met, in that order: a packet's name is its place.
     names: Vec<u64>,
@@ -19,22 +21,36 @@ pub(crate) struct Writer {
 }
 
 impl Writer {
-    /// No bytes yet, where threads are written in this order.
-    pub(crate) fn new(alloc: Global, order: Vec<u8>) -> Writer {
+    /// No key yet.
+    pub fn new(alloc: Global) -> Writer {
         Writer {
             bytes: Vec::new(alloc),
             names: Vec::new(alloc),
-            order,
+            order: Vec::new(alloc),
             is_short: false,
         }
     }
 
-    /// The bytes, if nothing is missing.
-    pub(crate) fn into_bytes(self) -> Result<Vec<u8>, AllocError> {
+    /// The bytes of the key.
+    pub fn bytes(&self) -> &[u8] {
+        self.bytes.as_slice()
+    }
+
+    /// Begins the key of the world of a machine.
+    pub(crate) fn begin(&mut self, machine: &Checked) -> Result<(), AllocError> {
+        self.bytes.clear();
+        self.names.clear();
+        self.order.clear();
+        self.is_short = false;
+        add_sorted(&mut self.order, machine)
+    }
+
+    /// Ends it, if nothing is missing.
+    pub(crate) fn finish(&self) -> Result<(), AllocError> {
         if self.is_short {
             return Err(AllocError);
         }
-        Ok(self.bytes)
+        Ok(())
     }
 
     /// How many threads there are.
