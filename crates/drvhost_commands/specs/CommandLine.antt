@@ -1,11 +1,12 @@
 -- The program's command line in the terms of `clap`, and which job its matches name.
-use Rattle.std.specs.Prelude.{◌≡◌, ◌⊎◌, ℕ, List, [], ◌∷◌, Option, None, Some, true, codes, option_and_then, pos, string_bytes}
+use Rattle.std.specs.Prelude.{◌≡◌, ◌⊎◌, ◌-◌, ◌^◌, ℕ, List, [], ◌∷◌, Option, None, Some, true, codes, option_and_then, option_map, pos, string_bytes}
 use Rattle.clap.specs.Words.{App, IsAmong, Row, Rule, Text, fault_of, first_of, new_app, new_rule, subcommand_of, with_rule, with_subcommand}
 use Rattle.clap.specs.declared.error.ErrorKind.TheVariants.{DisplayVersion}
 use Rattle.clap.specs.declared.builder.ArgAction.TheVariants.{Set, SetTrue}
 use Rattle.clap.specs.declared.builder.value_parser.ValueParser.{ValueParser}
-use Rattle.clap.specs.declared.builder.value_parser.ValueParser.TheVariants.{Signed, String as AnyText}
+use Rattle.clap.specs.declared.builder.value_parser.ValueParser.TheVariants.{Signed, String as AnyText, Unsigned}
 use Rattle.hunt_search.specs.declared.search.Bounds.{Bounds}
+use Rattle.hunt_search.specs.declared.search.Goal.TheVariants.{Amiss, AmissOrStuck}
 use Rattle.interleave.specs.Line.{number_within}
 use Rattle.model.specs.declared.abs.Rule.{Rule as VerdictRule}
 use Rattle.model.specs.declared.limits.TheConstants.{MAX_THREADS}
@@ -54,6 +55,10 @@ value_option id name parser =
 abbrev pub number_option : Text → ℕ → Rule
 number_option name most = value_option name name (Signed (pos 1) (pos most))
 
+-- `--NAME N`, any number of 64 bits
+abbrev pub any_number_option : Text → Rule
+any_number_option name = value_option name name (Unsigned 0 (2 ^ 64 - 1))
+
 -- with all of these, one after another
 abbrev pub with_all : {B : Type 0} → (App → B → App) → App → List B → App
 with_all step app [] = app
@@ -86,13 +91,16 @@ tell_command =
     schedule_command (codes "tell")
     (flag (codes "quiet") ∷ flag (codes "every") ∷ flag (codes "strict") ∷ [])
 
--- `hunt FILE [--threads N] [--packets N] [--states N]`
+-- `hunt FILE [--threads N] [--packets N] [--states N] [--events N] [--argument N] [--stuck]`
 abbrev pub hunt_command : App
 hunt_command =
     set_command (codes "hunt")
     (number_option (codes "threads") MAX_THREADS
     ∷ number_option (codes "packets") MAX_PACKETS
-    ∷ number_option (codes "states") MAX_WORLDS ∷ [])
+    ∷ number_option (codes "states") MAX_WORLDS
+    ∷ any_number_option (codes "events")
+    ∷ any_number_option (codes "argument")
+    ∷ flag (codes "stuck") ∷ [])
 
 -- `host FILE SCRIPT --workers N`
 abbrev pub host_command : App
@@ -170,7 +178,12 @@ abbrev pub number_asked : ℕ → ℕ → Option Text → Option ℕ
 number_asked usual most None = Some usual
 number_asked usual most (Some text) = number_within 1 most text
 
--- how far a hunt goes, by the values of `--threads`, `--packets` and `--states`
+-- any number of 64 bits that is asked for by the value of an option: None where none is given
+abbrev pub any_number_asked : Option Text → Option (Option ℕ)
+any_number_asked None = Some None
+any_number_asked (Some text) = option_map Some (number_within 0 (2 ^ 64 - 1) text)
+
+-- how far a hunt goes and what it looks for, by the values of its options
 pub record IsReach (rows : List Row) (reach : Bounds) : Type 0 where
   pub threads : number_asked USUAL_THREADS MAX_THREADS (first_of (codes "threads") rows)
       ≡ Some reach.threads
@@ -178,6 +191,9 @@ pub record IsReach (rows : List Row) (reach : Bounds) : Type 0 where
       ≡ Some reach.packets
   pub worlds : number_asked USUAL_WORLDS MAX_WORLDS (first_of (codes "states") rows)
       ≡ Some reach.worlds
+  pub events : any_number_asked (first_of (codes "events") rows) ≡ Some reach.events
+  pub argument : any_number_asked (first_of (codes "argument") rows) ≡ Some reach.argument
+  pub goal : IsChosen (first_of (codes "stuck") rows) AmissOrStuck Amiss reach.goal
 
 -- a command with its matches names a page; where it explains one there is no file and no `--all`
 abbrev pub NamesPage : Text × List Row → Page → Type 0

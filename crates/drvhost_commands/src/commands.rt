@@ -120,6 +120,22 @@ const COMMANDS: [Entry<'static>; 10] = [
                 ValueParser::Signed(1, MAX_WORLDS as i64),
                 "Worlds that are kept; 1000000 where none is given",
             ),
+            Argument::Value(
+                "events",
+                "events",
+                ValueParser::Unsigned(0, u64::MAX),
+                "Events of a run, at most; as many as there are where none is given",
+            ),
+            Argument::Value(
+                "argument",
+                "argument",
+                ValueParser::Unsigned(0, u64::MAX),
+                "An argument with which each request is tried besides",
+            ),
+            Argument::Flag(
+                "stuck",
+                "Looks besides for a run from whose end nothing comes to rest",
+            ),
         ],
     },
     Entry {

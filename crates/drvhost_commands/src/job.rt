@@ -81,7 +81,7 @@ pub enum Task {
     Explain(Extent),
     /// `list FILE`
     List,
-    /// `hunt FILE [--threads N] [--packets N] [--states N]`
+    /// `hunt FILE [--threads N] [--packets N] [--states N] [--events N] [--argument N] [--stuck]`
     Hunt(Reach),
 }
 

@@ -2,7 +2,7 @@
 
 ghost use Rattle.std.specs.Prelude.{◌≡◌, ◌≤◌, codes, false, option_map, IfNone, IfSome, IsTrue, ℕ, List};
 ghost use Rattle.clap.specs.Words.{first_of, found_of, rows_of, subcommand_rows_of};
-ghost use Rattle.drvhost_commands.specs.CommandLine.{IsChosen, IsDetail, IsGiven, IsManner, IsReach, Names, NamesBy, NamesFiles, NamesPage, NamesRun, NamesSet, NamesTask, NamesWay, number_asked};
+ghost use Rattle.drvhost_commands.specs.CommandLine.{IsChosen, IsDetail, IsGiven, IsManner, IsReach, Names, NamesBy, NamesFiles, NamesPage, NamesRun, NamesSet, NamesTask, NamesWay, any_number_asked, number_asked};
 
 use crate::job::{Job, Page, Task, Way, Workers};
 use clap::ArgMatches;
@@ -12,7 +12,7 @@ use drvhost_hunts::reach::{
 };
 use drvhost_sets::explaining::Extent;
 use drvhost_views::tell::{Detail, Manner, Strictness};
-use hunt_search::search::Bounds;
+use hunt_search::search::{Bounds, Goal};
 use interleave::read::number_within;
 use model::limits::MAX_THREADS;
 use report::rule::rule_named;
@@ -204,7 +204,7 @@ fn host_named<'a>(matches: &ArgMatches<'a>) -> Option<Job<'a>>
     })
 }
 
-/// How far a hunt is to go, if each of its numbers is one within its limits.
+/// How far a hunt is to go, and what it looks for, if each of its numbers is one within its limits.
 fn reach_asked(matches: &ArgMatches<'_>) -> Option<Reach>
     ensures some { IfSome result (IsReach (rows_of (found_of matches.now))) }
     ensures none { IfNone result
@@ -213,10 +213,15 @@ fn reach_asked(matches: &ArgMatches<'_>) -> Option<Reach>
     let threads = number_asked(matches, "threads", USUAL_THREADS, MAX_THREADS as u64)?;
     let packets = number_asked(matches, "packets", USUAL_PACKETS, MAX_PACKETS)?;
     let worlds = number_asked(matches, "states", USUAL_WORLDS, MAX_WORLDS)?;
+    let events = any_number_asked(matches, "events")?;
+    let argument = any_number_asked(matches, "argument")?;
     Some(Reach::of(Bounds {
         threads: threads as u8,
         packets: packets as usize,
         worlds: worlds as usize,
+        events,
+        argument,
+        goal: goal_asked(matches),
     }))
 }
 
@@ -231,6 +236,28 @@ fn number_asked(matches: &ArgMatches<'_>, id: &str, usual: u64, most: u64) -> Op
     match argument(matches, id) {
         Some(text) => number_within(1, most, text.as_bytes()),
         None => Some(usual),
+    }
+}
+
+/// The number of an option, any of 64 bits, or none where none is given.
+fn any_number_asked(matches: &ArgMatches<'_>, id: &str) -> Option<Option<u64>>
+    ensures { result ≡ any_number_asked (first_of id.now (rows_of (found_of matches.now))) }
+{
+    match argument(matches, id) {
+        Some(text) => Some(Some(number_within(0, u64::MAX, text.as_bytes())?)),
+        None => Some(None),
+    }
+}
+
+/// What a hunt looks for.
+fn goal_asked(matches: &ArgMatches<'_>) -> Goal
+    ensures { IsChosen (first_of (codes "stuck") (rows_of (found_of matches.now)))
+        Goal.AmissOrStuck Goal.Amiss result }
+{
+    if is_given(matches, "stuck") {
+        Goal::AmissOrStuck
+    } else {
+        Goal::Amiss
     }
 }
 

@@ -105,6 +105,10 @@ fn hunts(rt: HostRuntime) {
         ("--states", "1000000001"),
         ("--states", "many"),
         ("--states", "+5"),
+        ("--events", "many"),
+        ("--events", "18446744073709551616"),
+        ("--argument", "+5"),
+        ("--argument", "-1"),
     ] {
         assert!(rt;
             is_refused(alloc, &["hunt", "a", option, number]),
