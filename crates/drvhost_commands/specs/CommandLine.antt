@@ -16,12 +16,13 @@ use Rattle.drvhost_commands.specs.declared.job.Job.TheVariants.{Page as OfPage, 
 use Rattle.drvhost_commands.specs.declared.job.Page.{Page}
 use Rattle.drvhost_commands.specs.declared.job.Page.TheVariants.{Rule as PageOfRule, LockOrder, Version}
 use Rattle.drvhost_commands.specs.declared.job.Task.{Task}
-use Rattle.drvhost_commands.specs.declared.job.Task.TheVariants.{Explain, List as Listing, Hunt}
+use Rattle.drvhost_commands.specs.declared.job.Task.TheVariants.{Explain, Mend, List as Listing, Hunt}
 use Rattle.drvhost_commands.specs.declared.job.Way.{Way}
 use Rattle.drvhost_commands.specs.declared.job.Way.TheVariants.{Trace, Tell, Draw}
 use Rattle.drvhost_commands.specs.declared.job.JobFault.{JobFault}
 use Rattle.drvhost_commands.specs.declared.job.JobFault.TheVariants.{Usage, Memory}
 use Rattle.drvhost_hunts.specs.declared.reach.TheConstants.{MAX_PACKETS, MAX_WORLDS, USUAL_PACKETS, USUAL_THREADS, USUAL_WORLDS}
+use Rattle.drvhost_mends.specs.declared.mend.TheConstants.{MAX_TRIES, USUAL_TRIES}
 use Rattle.drvhost_sets.specs.declared.explaining.Extent.TheVariants.{First, Each}
 use Rattle.drvhost_views.specs.declared.tell.Detail.{Detail}
 use Rattle.drvhost_views.specs.declared.tell.Detail.TheVariants.{Every, Usual, Quiet}
@@ -109,11 +110,16 @@ host_command =
     (file_argument (codes "SCRIPT")
     ∷ required (number_option (codes "workers") MAX_THREADS) ∷ [])
 
+-- `mend FILE [--tries N]`
+abbrev pub mend_command : App
+mend_command = set_command (codes "mend") (number_option (codes "tries") MAX_TRIES ∷ [])
+
 -- all commands, in the order of the texts of help
 abbrev pub commands : List App
 commands =
     set_command (codes "check") []
     ∷ explain_command
+    ∷ mend_command
     ∷ schedule_command (codes "trace") []
     ∷ tell_command
     ∷ schedule_command (codes "draw") []
@@ -212,6 +218,8 @@ abbrev pub NamesTask : Text × List Row → Task → Type 0
 NamesTask found (Explain extent) = (found.0 ≡ codes "explain")
     × (first_of (codes "RULE") found.1 ≡ None)
     × IsChosen (first_of (codes "all") found.1) Each First extent
+NamesTask found (Mend tries) = (found.0 ≡ codes "mend")
+    × (number_asked USUAL_TRIES MAX_TRIES (first_of (codes "tries") found.1) ≡ Some tries)
 NamesTask found Listing = found.0 ≡ codes "list"
 NamesTask found (Hunt reach) = (found.0 ≡ codes "hunt") × IsReach found.1 reach
 

@@ -11,6 +11,7 @@ use crate::usage::EXPLAIN_USAGE;
 use clap::Command;
 use clap::builder::ValueParser;
 use drvhost_hunts::reach::{MAX_PACKETS, MAX_WORLDS};
+use drvhost_mends::mend::MAX_TRIES;
 use model::limits::MAX_THREADS;
 use std::alloc::{AllocError, Global};
 
@@ -46,7 +47,7 @@ const UNCHECKED: Argument<'static> = Argument::Flag(
 );
 
 /// All commands, in the order of the texts of help.
-const COMMANDS: [Entry<'static>; 10] = [
+const COMMANDS: [Entry<'static>; 11] = [
     Entry {
         name: "check",
         about: "Accepts or refuses a driver set",
@@ -65,6 +66,20 @@ const COMMANDS: [Entry<'static>; 10] = [
                 "rule",
                 ValueParser::String,
                 "Says this rule in words, V1 to V20 or by its name, or LockOrder, with an example",
+            ),
+        ],
+    },
+    Entry {
+        name: "mend",
+        about: "Looks for mends of a refused driver set, and writes them as diffs",
+        usage: None,
+        arguments: &[
+            SET,
+            Argument::Value(
+                "tries",
+                "tries",
+                ValueParser::Signed(1, MAX_TRIES as i64),
+                "Tries for each faulty routine, 1 to 1000000; 20000 where none is given",
             ),
         ],
     },

@@ -79,6 +79,8 @@ pub enum Page {
 pub enum Task {
     /// `explain FILE [--all]`
     Explain(Extent),
+    /// `mend FILE [--tries N]`
+    Mend(u64),
     /// `list FILE`
     List,
     /// `hunt FILE [--threads N] [--packets N] [--states N] [--events N] [--argument N] [--stuck]`

@@ -10,6 +10,7 @@ use drvhost_devices::verification::Verification;
 use drvhost_hunts::reach::{
     MAX_PACKETS, MAX_WORLDS, Reach, USUAL_PACKETS, USUAL_THREADS, USUAL_WORLDS,
 };
+use drvhost_mends::mend::{MAX_TRIES, USUAL_TRIES};
 use drvhost_sets::explaining::Extent;
 use drvhost_views::tell::{Detail, Manner, Strictness};
 use hunt_search::search::{Bounds, Goal};
@@ -94,6 +95,7 @@ fn task_named(command: &str, matches: &ArgMatches<'_>) -> Option<Task>
 {
     match command {
         "explain" => set_to_explain(matches),
+        "mend" => set_to_mend(matches),
         "list" => Some(Task::List),
         "hunt" => set_to_hunt(matches),
         _ => None,
@@ -110,6 +112,15 @@ fn set_to_explain(matches: &ArgMatches<'_>) -> Option<Task>
         Some(_) => None,
         None => Some(Task::Explain(extent_asked(matches))),
     }
+}
+
+fn set_to_mend(matches: &ArgMatches<'_>) -> Option<Task>
+    ensures some { IfSome result (NamesTask (codes "mend", rows_of (found_of matches.now))) }
+    ensures none { IfNone result
+        ((task : Task) → NamesTask (codes "mend", rows_of (found_of matches.now)) task → ⊥) }
+{
+    let tries = number_asked(matches, "tries", USUAL_TRIES, MAX_TRIES)?;
+    Some(Task::Mend(tries))
 }
 
 fn set_to_hunt(matches: &ArgMatches<'_>) -> Option<Task>

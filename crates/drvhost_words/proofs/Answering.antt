@@ -10,7 +10,7 @@ use Rattle.drvhost_runs.specs.Served.{IsHostOf}
 use Rattle.drvhost_devices.specs.declared.verification.Verification.{Verification}
 use Rattle.drvhost_commands.specs.declared.job.Job.{Job}
 use Rattle.drvhost_commands.specs.declared.job.Task.{Task}
-use Rattle.drvhost_commands.specs.declared.job.Task.TheVariants.{Explain, List as Listing, Hunt}
+use Rattle.drvhost_commands.specs.declared.job.Task.TheVariants.{Explain, Mend, List as Listing, Hunt}
 use Rattle.drvhost_commands.specs.declared.job.Way.{Way}
 use Rattle.drvhost_commands.specs.declared.job.Way.TheVariants.{Trace, Tell, Draw}
 use Rattle.drvhost_commands.specs.declared.job.JobFault.{JobFault}
@@ -201,6 +201,8 @@ check_known known supply h answer (bytes, holds, right) =
 pub task_known : (task : Task) (known supply : Supply) → IsSuppliedAs known supply
     → (answer : Answer) → IsDoneOf task supply answer → IsDoneOf task known answer
 task_known (Explain extent) known supply h answer (bytes, holds, right) =
+    (bytes, holds_known known supply bytes h holds, right)
+task_known (Mend tries) known supply h answer (bytes, holds, right) =
     (bytes, holds_known known supply bytes h holds, right)
 task_known Listing known supply h answer (bytes, holds, right) =
     (bytes, holds_known known supply bytes h holds, right)

@@ -11,6 +11,7 @@ use Rattle.drvhost_devices.specs.declared.verification.Verification.{Verificatio
 use Rattle.drvhost_devices.specs.declared.verification.Verification.TheVariants.{Required}
 use Rattle.drvhost_devices.specs.Ends.{HoldsRun, IsCheckOf, IsListOf, IsRewriteOf, IsTraceOf}
 use Rattle.drvhost_hunts.specs.Hunt.{IsHuntOf}
+use Rattle.drvhost_mends.specs.Mend.{IsMendOf}
 use Rattle.drvhost_sets.specs.Explained.{IsExplainedOf, IsLockOrderExplained}
 use Rattle.drvhost_runs.specs.Readiness.{AreWarningsOf}
 use Rattle.drvhost_runs.specs.Served.{IsHostOf}
@@ -20,7 +21,7 @@ use Rattle.drvhost_commands.specs.declared.job.Job.TheVariants.{Page as OfPage, 
 use Rattle.drvhost_commands.specs.declared.job.Page.{Page}
 use Rattle.drvhost_commands.specs.declared.job.Page.TheVariants.{Rule, LockOrder, Version}
 use Rattle.drvhost_commands.specs.declared.job.Task.{Task}
-use Rattle.drvhost_commands.specs.declared.job.Task.TheVariants.{Explain, List as Listing, Hunt}
+use Rattle.drvhost_commands.specs.declared.job.Task.TheVariants.{Explain, Mend, List as Listing, Hunt}
 use Rattle.drvhost_commands.specs.declared.job.Way.{Way}
 use Rattle.drvhost_commands.specs.declared.job.Way.TheVariants.{Trace, Tell, Draw}
 use Rattle.drvhost_commands.specs.CommandLine.{Names, NamesJob, program, usage}
@@ -43,6 +44,7 @@ verification_of (Draw verification) = verification
 -- what a task with a set answers, where this is what its file has
 abbrev pub IsDoneOf : Task → Supply → Answer → Type 0
 IsDoneOf (Explain extent) = IsExplainedOf extent
+IsDoneOf (Mend tries) = IsMendOf (record { tries = tries })
 IsDoneOf Listing = IsListOf
 IsDoneOf (Hunt reach) = IsHuntOf reach
 

@@ -17,6 +17,7 @@ use drvhost_devices::unopened::tell_unopened;
 use drvhost_devices::verification::Verification;
 use drvhost_files::files::{Files, Later, Pending};
 use drvhost_hunts::hunt::hunt;
+use drvhost_mends::mend::{Asked, mend};
 use drvhost_runs::host::{Hosting, host};
 use drvhost_runs::trace::trace;
 use drvhost_sets::check::check;
@@ -280,6 +281,7 @@ fn fulfil<S: Source, O: Sink, E: Sink>(
 {
     match task {
         Task::Explain(extent) => explain(alloc, extent, set, out, err),
+        Task::Mend(tries) => mend(alloc, Asked { tries }, set, out, err),
         Task::List => list(alloc, set, out, err),
         Task::Hunt(reach) => hunt(alloc, reach, set, out, err),
     }

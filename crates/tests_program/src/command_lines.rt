@@ -117,6 +117,34 @@ fn hunts(rt: HostRuntime) {
     }
 }
 
+/// Numbers of tries that are none of a mend's.
+#[test]
+fn mends(rt: HostRuntime) -> Result<(), Fail> {
+    let alloc = rt.alloc();
+    let job = Job::of(alloc, &["mend", "a", "--tries", "7"])?;
+    assert!(rt; is_to_mend(&job, 7));
+    let job = Job::of(alloc, &["mend", "a"])?;
+    assert!(rt; is_to_mend(&job, 20_000));
+    for number in ["0", "1000001", "+5", "many"] {
+        assert!(rt;
+            is_refused(alloc, &["mend", "a", "--tries", number]),
+            "{number}"
+        );
+    }
+    Ok(())
+}
+
+/// Whether a job is to mend the set of a file by so many tries.
+fn is_to_mend(job: &Job<'_>, wanted: u64) -> bool {
+    match *job {
+        Job::OnSet {
+            set,
+            task: Task::Mend(tries),
+        } => set == "a" && tries == wanted,
+        _ => false,
+    }
+}
+
 /// A run that is told so, and not strictly.
 fn leniently(detail: Detail) -> Manner {
     Manner {

@@ -3,6 +3,9 @@ use Rattle.drvhost_words.proofs.answer.fulfil.Goals as goal
 pub returns-in-Explain : goal.returns-in-Explain
 returns-in-Explain g c = rw c.in-Explain.is c.explain.ensures
 
+pub returns-in-Mend : goal.returns-in-Mend
+returns-in-Mend g c = rw c.in-Mend.is c.mend.ensures
+
 pub returns-in-List : goal.returns-in-List
 returns-in-List g c = rw c.in-List.is c.list.ensures
 
