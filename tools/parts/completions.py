@@ -15,7 +15,8 @@ def rules():
 
 def values(flag):
     """What may stand behind a flag; nothing where it takes no value, or any."""
-    known = {"--rule RULE": rules(), "--workers N": [str(2 ** power) for power in range(7)]}
+    known = {"--rule RULE": rules(), "--workers N": [str(2 ** power) for power in range(7)],
+             "--format FORMAT": ["text", "json"]}
     return known.get(flag, [])
 
 BASH = """\

@@ -16,11 +16,13 @@ use Rattle.drvhost_commands.specs.declared.job.Job.TheVariants.{Page as OfPage, 
 use Rattle.drvhost_commands.specs.declared.job.Page.{Page}
 use Rattle.drvhost_commands.specs.declared.job.Page.TheVariants.{Rule as PageOfRule, LockOrder, Version}
 use Rattle.drvhost_commands.specs.declared.job.Task.{Task}
-use Rattle.drvhost_commands.specs.declared.job.Task.TheVariants.{Explain, Mend, List as Listing, Hunt}
+use Rattle.drvhost_commands.specs.declared.job.Task.TheVariants.{CheckJson, Explain, Mend, List as Listing, Hunt}
 use Rattle.drvhost_commands.specs.declared.job.Way.{Way}
-use Rattle.drvhost_commands.specs.declared.job.Way.TheVariants.{Trace, Tell, Draw}
+use Rattle.drvhost_commands.specs.declared.job.Way.TheVariants.{Trace, TraceJson, Tell, Draw}
 use Rattle.drvhost_commands.specs.declared.job.JobFault.{JobFault}
 use Rattle.drvhost_commands.specs.declared.job.JobFault.TheVariants.{Usage, Memory}
+use Rattle.drvhost_commands.specs.declared.naming.Format.{Format}
+use Rattle.drvhost_commands.specs.declared.naming.Format.TheVariants.{Plain, Json}
 use Rattle.drvhost_hunts.specs.declared.reach.TheConstants.{MAX_PACKETS, MAX_WORLDS, USUAL_PACKETS, USUAL_THREADS, USUAL_WORLDS}
 use Rattle.drvhost_mends.specs.declared.mend.TheConstants.{MAX_TRIES, USUAL_TRIES}
 use Rattle.drvhost_sets.specs.declared.explaining.Extent.TheVariants.{First, Each}
@@ -78,6 +80,10 @@ abbrev pub schedule_command : Text → List Rule → App
 schedule_command name rules =
     set_command name (file_argument (codes "SCHEDULE") ∷ flag (codes "unchecked") ∷ rules)
 
+-- `--format FORMAT`
+abbrev pub format_option : Rule
+format_option = value_option (codes "format") (codes "format") AnyText
+
 -- `explain [FILE] [--all] [--rule RULE]`, of which `NamesBy` says what goes with what
 abbrev pub explain_command : App
 explain_command =
@@ -117,10 +123,10 @@ mend_command = set_command (codes "mend") (number_option (codes "tries") MAX_TRI
 -- all commands, in the order of the texts of help
 abbrev pub commands : List App
 commands =
-    set_command (codes "check") []
+    set_command (codes "check") (format_option ∷ [])
     ∷ explain_command
     ∷ mend_command
-    ∷ schedule_command (codes "trace") []
+    ∷ schedule_command (codes "trace") (format_option ∷ [])
     ∷ tell_command
     ∷ schedule_command (codes "draw") []
     ∷ hunt_command
@@ -201,6 +207,11 @@ pub record IsReach (rows : List Row) (reach : Bounds) : Type 0 where
   pub argument : any_number_asked (first_of (codes "argument") rows) ≡ Some reach.argument
   pub goal : IsChosen (first_of (codes "stuck") rows) AmissOrStuck Amiss reach.goal
 
+-- how an answer is written, by the value of `--format`
+abbrev pub IsFormat : Option Text → Format → Type 0
+IsFormat value Plain = (value ≡ None) ⊎ (value ≡ Some (codes "text"))
+IsFormat value Json = value ≡ Some (codes "json")
+
 -- a command with its matches names a page; where it explains one there is no file and no `--all`
 abbrev pub NamesPage : Text × List Row → Page → Type 0
 NamesPage found (PageOfRule rule) = (found.0 ≡ codes "explain")
@@ -215,6 +226,8 @@ NamesPage found Version = found.0 ≡ codes "version"
 
 -- a task with a set
 abbrev pub NamesTask : Text × List Row → Task → Type 0
+NamesTask found CheckJson =
+    (found.0 ≡ codes "check") × IsFormat (first_of (codes "format") found.1) Json
 NamesTask found (Explain extent) = (found.0 ≡ codes "explain")
     × (first_of (codes "RULE") found.1 ≡ None)
     × IsChosen (first_of (codes "all") found.1) Each First extent
@@ -230,6 +243,10 @@ NamesSet found set task = (first_of (codes "FILE") found.1 ≡ Some set) × Name
 abbrev pub NamesWay : Text × List Row → Way → Type 0
 NamesWay found (Trace verification) =
     (found.0 ≡ codes "trace") × IsVerified found.1 verification
+    × IsFormat (first_of (codes "format") found.1) Plain
+NamesWay found (TraceJson verification) =
+    (found.0 ≡ codes "trace") × IsVerified found.1 verification
+    × IsFormat (first_of (codes "format") found.1) Json
 NamesWay found (Tell verification manner) =
     (found.0 ≡ codes "tell") × IsVerified found.1 verification × IsManner found.1 manner
 NamesWay found (Draw verification) = (found.0 ≡ codes "draw") × IsVerified found.1 verification
@@ -242,6 +259,7 @@ NamesRun found set input way = (first_of (codes "FILE") found.1 ≡ Some set)
 abbrev pub NamesFiles : Text × List Row → Job → Type 0
 NamesFiles found (Check set) =
     (found.0 ≡ codes "check") × (first_of (codes "FILE") found.1 ≡ Some set.now)
+    × IsFormat (first_of (codes "format") found.1) Plain
 NamesFiles found (Rewrite set output) =
     (found.0 ≡ codes "rewrite") × (first_of (codes "FILE") found.1 ≡ Some set.now)
     × (first_of (codes "OUT") found.1 ≡ Some output.now)

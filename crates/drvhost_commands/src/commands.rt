@@ -46,13 +46,20 @@ const UNCHECKED: Argument<'static> = Argument::Flag(
     "Runs the set whether or not it is accepted",
 );
 
+const FORMAT: Argument<'static> = Argument::Value(
+    "format",
+    "format",
+    ValueParser::String,
+    "How the answer is written, text or json; text where none is given",
+);
+
 /// All commands, in the order of the texts of help.
 const COMMANDS: [Entry<'static>; 11] = [
     Entry {
         name: "check",
         about: "Accepts or refuses a driver set",
         usage: None,
-        arguments: &[SET],
+        arguments: &[SET, FORMAT],
     },
     Entry {
         name: "explain",
@@ -87,7 +94,7 @@ const COMMANDS: [Entry<'static>; 11] = [
         name: "trace",
         about: "Runs a driver set by a schedule, and writes a line for each event",
         usage: None,
-        arguments: &[SET, SCHEDULE, UNCHECKED],
+        arguments: &[SET, SCHEDULE, UNCHECKED, FORMAT],
     },
     Entry {
         name: "tell",

@@ -35,7 +35,7 @@ const USAGE: &str = "Usage: drvhost <COMMAND>";
 pub enum Job<'a> {
     /// A page that stands in the program.
     Page(Page),
-    /// `check FILE`
+    /// `check FILE`, as text
     Check {
         set: &'a str,
     },
@@ -77,6 +77,8 @@ pub enum Page {
 /// What is done with a driver set alone.
 #[derive(Clone, Copy)]
 pub enum Task {
+    /// `check FILE --format json`
+    CheckJson,
     /// `explain FILE [--all]`
     Explain(Extent),
     /// `mend FILE [--tries N]`
@@ -90,8 +92,10 @@ pub enum Task {
 /// How a driver set is run by an input.
 #[derive(Clone, Copy)]
 pub enum Way {
-    /// `trace FILE SCHEDULE [--unchecked]`
+    /// `trace FILE SCHEDULE [--unchecked]`, as text
     Trace(Verification),
+    /// `trace FILE SCHEDULE [--unchecked] --format json`
+    TraceJson(Verification),
     /// `tell FILE SCHEDULE [--unchecked] [--quiet | --every] [--strict]`
     Tell(Verification, Manner),
     /// `draw FILE SCHEDULE [--unchecked]`

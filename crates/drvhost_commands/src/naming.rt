@@ -2,7 +2,7 @@
 
 ghost use Rattle.std.specs.Prelude.{◌≡◌, ◌≤◌, codes, false, option_map, IfNone, IfSome, IsTrue, ℕ, List};
 ghost use Rattle.clap.specs.Words.{first_of, found_of, rows_of, subcommand_rows_of};
-ghost use Rattle.drvhost_commands.specs.CommandLine.{IsChosen, IsDetail, IsGiven, IsManner, IsReach, Names, NamesBy, NamesFiles, NamesPage, NamesRun, NamesSet, NamesTask, NamesWay, any_number_asked, number_asked};
+ghost use Rattle.drvhost_commands.specs.CommandLine.{IsChosen, IsDetail, IsFormat, IsGiven, IsManner, IsReach, Names, NamesBy, NamesFiles, NamesPage, NamesRun, NamesSet, NamesTask, NamesWay, any_number_asked, number_asked};
 
 use crate::job::{Job, Page, Task, Way, Workers};
 use clap::ArgMatches;
@@ -94,11 +94,24 @@ fn task_named(command: &str, matches: &ArgMatches<'_>) -> Option<Task>
         ((task : Task) → NamesTask (command.now, rows_of (found_of matches.now)) task → ⊥) }
 {
     match command {
+        "check" => set_to_check(matches),
         "explain" => set_to_explain(matches),
         "mend" => set_to_mend(matches),
         "list" => Some(Task::List),
         "hunt" => set_to_hunt(matches),
         _ => None,
+    }
+}
+
+/// A set is to be checked, and that not answered as text.
+fn set_to_check(matches: &ArgMatches<'_>) -> Option<Task>
+    ensures some { IfSome result (NamesTask (codes "check", rows_of (found_of matches.now))) }
+    ensures none { IfNone result
+        ((task : Task) → NamesTask (codes "check", rows_of (found_of matches.now)) task → ⊥) }
+{
+    match format_asked(matches)? {
+        Format::Plain => None,
+        Format::Json => Some(Task::CheckJson),
     }
 }
 
@@ -151,10 +164,23 @@ fn way_named(command: &str, matches: &ArgMatches<'_>) -> Option<Way>
         ((way : Way) → NamesWay (command.now, rows_of (found_of matches.now)) way → ⊥) }
 {
     match command {
-        "trace" => Some(Way::Trace(verification_asked(matches))),
+        "trace" => run_to_trace(matches),
         "tell" => run_to_tell(matches),
         "draw" => Some(Way::Draw(verification_asked(matches))),
         _ => None,
+    }
+}
+
+fn run_to_trace(matches: &ArgMatches<'_>) -> Option<Way>
+    ensures some { IfSome result (NamesWay (codes "trace", rows_of (found_of matches.now))) }
+    ensures none { IfNone result
+        ((way : Way) → NamesWay (codes "trace", rows_of (found_of matches.now)) way → ⊥) }
+{
+    let format = format_asked(matches)?;
+    let verification = verification_asked(matches);
+    match format {
+        Format::Plain => Some(Way::Trace(verification)),
+        Format::Json => Some(Way::TraceJson(verification)),
     }
 }
 
@@ -187,7 +213,10 @@ fn check_named<'a>(matches: &ArgMatches<'a>) -> Option<Job<'a>>
         ((job : Job) → NamesFiles (codes "check", rows_of (found_of matches.now)) job → ⊥) }
 {
     let set = argument(matches, "FILE")?;
-    Some(Job::Check { set })
+    match format_asked(matches)? {
+        Format::Plain => Some(Job::Check { set }),
+        Format::Json => None,
+    }
 }
 
 fn rewrite_named<'a>(matches: &ArgMatches<'a>) -> Option<Job<'a>>
@@ -278,6 +307,30 @@ pub(crate) fn argument<'a>(matches: &ArgMatches<'a>, id: &str) -> Option<&'a str
         (rows_of (found_of matches.now)) }
 {
     matches.get_str(id)
+}
+
+/// How an answer is written.
+#[derive(Clone, Copy)]
+pub(crate) enum Format {
+    Plain,
+    Json,
+}
+
+/// How it is to be written, if there is such a format.
+fn format_asked(matches: &ArgMatches<'_>) -> Option<Format>
+    ensures some { IfSome result
+        (IsFormat (first_of (codes "format") (rows_of (found_of matches.now)))) }
+    ensures none { IfNone result
+        (IsFormat (first_of (codes "format") (rows_of (found_of matches.now))) Format.Plain → ⊥) }
+    ensures neither { IfNone result
+        (IsFormat (first_of (codes "format") (rows_of (found_of matches.now))) Format.Json → ⊥) }
+{
+    match argument(matches, "format") {
+        None => Some(Format::Plain),
+        Some("text") => Some(Format::Plain),
+        Some("json") => Some(Format::Json),
+        Some(_) => None,
+    }
 }
 
 /// Of which faults words are asked for.

@@ -13,6 +13,11 @@ pub(crate) const EXPLAIN_USAGE: &str =
 /// How `tell` is used, and what is told where two of its levels are asked for.
 const TELL_USAGE: &str = "drvhost tell [OPTIONS] <FILE> <SCHEDULE>";
 
+/// How `check` is used, and how `trace` is.
+const CHECK_USAGE: &str = "drvhost check [OPTIONS] <FILE>";
+
+const TRACE_USAGE: &str = "drvhost trace [OPTIONS] <FILE> <SCHEDULE>";
+
 const TWO_LEVELS: &str = "the argument '--quiet' cannot be used with '--every'";
 
 /// What is told of words that the command line takes, and that name no job.
@@ -24,6 +29,8 @@ pub(crate) fn unnamed(
     match matches.subcommand() {
         Some(("explain", inner)) => unexplained(alloc, inner),
         Some(("tell", _)) => untold(alloc),
+        Some(("check", inner)) => unwritten(alloc, inner, CHECK_USAGE),
+        Some(("trace", inner)) => unwritten(alloc, inner, TRACE_USAGE),
         _ => unnumbered(program),
     }
 }
@@ -66,6 +73,14 @@ fn untold(alloc: Global) -> Result<String, AllocError> {
     let mut text = String::from_str(alloc, "error: ")?;
     text.push_str(TWO_LEVELS)?;
     add_usage(&mut text, TELL_USAGE)?;
+    Ok(text)
+}
+
+/// What is told where an answer is to be written in a format that there isn't.
+fn unwritten(alloc: Global, matches: &ArgMatches<'_>, usage: &str) -> Result<String, AllocError> {
+    let word = argument(matches, "format").unwrap_or("");
+    let mut text = format!(in alloc; "error: there is no format '{word}': it is text or json")?;
+    add_usage(&mut text, usage)?;
     Ok(text)
 }
 

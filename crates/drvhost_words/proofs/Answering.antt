@@ -1,5 +1,6 @@
 -- What is right for files is right for what is known of them, and how words are answered.
 use Rattle.std.proofs.Common.{◌≡◌, ◌≢◌, ◌∙◌, ◌⊎◌, ap, ℕ, ◌+◌, List, [], ◌++◌, ◌∷◌, Option, None, true, string_bytes, append-nil, arith, inl, inr, refl, subst, sym}
+use Rattle.std.specs.Borrow.{Bor}
 use Rattle.std.proofs.KnownBytes.{Appends-nil, Keeps-refl}
 use Rattle.clap.specs.Words.{Text, subcommand_of, takes}
 use Rattle.drvhost_devices.specs.Answer.{Answer}
@@ -10,9 +11,9 @@ use Rattle.drvhost_runs.specs.Served.{IsHostOf}
 use Rattle.drvhost_devices.specs.declared.verification.Verification.{Verification}
 use Rattle.drvhost_commands.specs.declared.job.Job.{Job}
 use Rattle.drvhost_commands.specs.declared.job.Task.{Task}
-use Rattle.drvhost_commands.specs.declared.job.Task.TheVariants.{Explain, Mend, List as Listing, Hunt}
+use Rattle.drvhost_commands.specs.declared.job.Task.TheVariants.{CheckJson, Explain, Mend, List as Listing, Hunt}
 use Rattle.drvhost_commands.specs.declared.job.Way.{Way}
-use Rattle.drvhost_commands.specs.declared.job.Way.TheVariants.{Trace, Tell, Draw}
+use Rattle.drvhost_commands.specs.declared.job.Way.TheVariants.{Trace, TraceJson, Tell, Draw}
 use Rattle.drvhost_commands.specs.declared.job.JobFault.{JobFault}
 use Rattle.drvhost_commands.specs.declared.job.JobFault.TheVariants.{Memory, Usage}
 use Rattle.drvhost_commands.specs.CommandLine.{Names, NamesJob, job_fault_status, job_fault_told, program, text_told}
@@ -198,15 +199,17 @@ pub check_known : (known supply : Supply) → IsSuppliedAs known supply → (ans
 check_known known supply h answer (bytes, holds, right) =
     (bytes, holds_known known supply bytes h holds, right)
 
-pub task_known : (task : Task) (known supply : Supply) → IsSuppliedAs known supply
-    → (answer : Answer) → IsDoneOf task supply answer → IsDoneOf task known answer
-task_known (Explain extent) known supply h answer (bytes, holds, right) =
+pub task_known : (task : Task) (name : List ℕ) (known supply : Supply) → IsSuppliedAs known supply
+    → (answer : Answer) → IsDoneOf task name supply answer → IsDoneOf task name known answer
+task_known CheckJson name known supply h answer (bytes, holds, right) =
     (bytes, holds_known known supply bytes h holds, right)
-task_known (Mend tries) known supply h answer (bytes, holds, right) =
+task_known (Explain extent) name known supply h answer (bytes, holds, right) =
     (bytes, holds_known known supply bytes h holds, right)
-task_known Listing known supply h answer (bytes, holds, right) =
+task_known (Mend tries) name known supply h answer (bytes, holds, right) =
     (bytes, holds_known known supply bytes h holds, right)
-task_known (Hunt reach) known supply h answer (bytes, holds, right) =
+task_known Listing name known supply h answer (bytes, holds, right) =
+    (bytes, holds_known known supply bytes h holds, right)
+task_known (Hunt reach) name known supply h answer (bytes, holds, right) =
     (bytes, holds_known known supply bytes h holds, right)
 
 pub rewrite_known : (known supply : Supply) → IsSuppliedAs known supply → (answer : Answer)
@@ -229,21 +232,24 @@ warnings_known known supply h status warnings (inl (bytes, holds, warns)) =
     inl (bytes, holds_known known supply bytes h holds, warns)
 warnings_known known supply h status warnings (inr none) = inr none
 
-way_held : (way : Way) (known supply input : Supply) → IsSuppliedAs known supply
-    → (answer : Answer) → IsRunBy way supply input answer → IsRunBy way known input answer
-way_held (Trace v) known supply input h answer (bytes, holds, right) =
+way_held : (way : Way) (n o : Bor (List ℕ)) (known supply input : Supply)
+    → IsSuppliedAs known supply → (answer : Answer) → IsRunBy way n o supply input answer
+    → IsRunBy way n o known input answer
+way_held (TraceJson v) n o known supply input h answer (bytes, holds, right) =
     (bytes, holds_known known supply bytes h holds, right)
-way_held (Tell v d) known supply input h answer (bytes, holds, right) =
+way_held (Trace v) n o known supply input h answer (bytes, holds, right) =
     (bytes, holds_known known supply bytes h holds, right)
-way_held (Draw v) known supply input h answer (bytes, holds, right) =
+way_held (Tell v d) n o known supply input h answer (bytes, holds, right) =
+    (bytes, holds_known known supply bytes h holds, right)
+way_held (Draw v) n o known supply input h answer (bytes, holds, right) =
     (bytes, holds_known known supply bytes h holds, right)
 
-pub way_known : (way : Way) (known supply input other : Supply)
+pub way_known : (way : Way) (n o : Bor (List ℕ)) (known supply input other : Supply)
     → IsSuppliedAs known supply → other ≡ input → (answer : Answer)
-    → IsRunBy way supply other answer → IsRunBy way known input answer
-way_known way known supply input other h e answer right =
-    let P : Supply → Type 0 = λ s. IsRunBy way known s answer in
-    subst P e (way_held way known supply other h answer right)
+    → IsRunBy way n o supply other answer → IsRunBy way n o known input answer
+way_known way n o known supply input other h e answer right =
+    let P : Supply → Type 0 = λ s. IsRunBy way n o known s answer in
+    subst P e (way_held way n o known supply other h answer right)
 
 pub run_known : {A : Type 0} (v : Verification) (known supply : Supply)
     → IsSuppliedAs known supply → A ⊎ HoldsRun v supply → (A → ⊥) → HoldsRun v known

@@ -1,6 +1,7 @@
 -- What the program answers for the words of its command line, what it tells before and behind that,
 -- which files it opens, and what it writes to one.
-use Rattle.std.specs.Prelude.{ℕ, ◌≡◌, ◌≢◌, ◌+◌, ◌++◌, ◌⊎◌, List, [], map, true, Result, Ok, Err, String, drop, string_bytes}
+use Rattle.std.specs.Prelude.{ℕ, ◌≡◌, ◌≢◌, ◌+◌, ◌++◌, ◌⊎◌, Bool, List, [], false, map, true, Result, Ok, Err, String, drop, string_bytes}
+use Rattle.std.specs.Borrow.{Bor}
 use Rattle.std.specs.Global.{Global, Vec}
 use Rattle.std.specs.declared.io.ErrorKind.{ErrorKind}
 use Rattle.std.specs.declared.io.ErrorKind.TheVariants.{OutOfMemory}
@@ -10,6 +11,9 @@ use Rattle.drvhost_devices.specs.Device.{MayBeClosed, Supply}
 use Rattle.drvhost_devices.specs.declared.verification.Verification.{Verification}
 use Rattle.drvhost_devices.specs.declared.verification.Verification.TheVariants.{Required}
 use Rattle.drvhost_devices.specs.Ends.{HoldsRun, IsCheckOf, IsListOf, IsRewriteOf, IsTraceOf}
+use Rattle.drvhost_formats.specs.Check.{IsCheckJsonOf}
+use Rattle.drvhost_formats.specs.Told.{IsUnopenedJson}
+use Rattle.drvhost_formats.specs.Trace.{IsTraceJsonOf}
 use Rattle.drvhost_hunts.specs.Hunt.{IsHuntOf}
 use Rattle.drvhost_mends.specs.Mend.{IsMendOf}
 use Rattle.drvhost_sets.specs.Explained.{IsExplainedOf, IsLockOrderExplained}
@@ -21,32 +25,35 @@ use Rattle.drvhost_commands.specs.declared.job.Job.TheVariants.{Page as OfPage, 
 use Rattle.drvhost_commands.specs.declared.job.Page.{Page}
 use Rattle.drvhost_commands.specs.declared.job.Page.TheVariants.{Rule, LockOrder, Version}
 use Rattle.drvhost_commands.specs.declared.job.Task.{Task}
-use Rattle.drvhost_commands.specs.declared.job.Task.TheVariants.{Explain, Mend, List as Listing, Hunt}
+use Rattle.drvhost_commands.specs.declared.job.Task.TheVariants.{CheckJson, Explain, Mend, List as Listing, Hunt}
 use Rattle.drvhost_commands.specs.declared.job.Way.{Way}
-use Rattle.drvhost_commands.specs.declared.job.Way.TheVariants.{Trace, Tell, Draw}
+use Rattle.drvhost_commands.specs.declared.job.Way.TheVariants.{Trace, TraceJson, Tell, Draw}
 use Rattle.drvhost_commands.specs.CommandLine.{Names, NamesJob, program, usage}
 use Rattle.drvhost_files.specs.Files.{Has}
 use Rattle.drvhost_words.specs.Unread.{IsNamedUnread, IsOneOf}
 
--- what a run of a set by an input answers, where these are what their files have
-abbrev pub IsRunBy : Way → Supply → Supply → Answer → Type 0
-IsRunBy (Trace verification) set schedule answer = IsTraceOf verification set schedule answer
-IsRunBy (Tell verification manner) set schedule answer =
-    IsTellOf verification manner set schedule answer
-IsRunBy (Draw verification) set schedule answer = IsDrawOf verification set schedule answer
+-- what a run of a set by an input answers, by the names of their files and what these have
+abbrev pub IsRunBy : Way → Bor (List ℕ) → Bor (List ℕ) → Supply → Supply → Answer → Type 0
+IsRunBy (Trace verification) name other = IsTraceOf verification
+IsRunBy (TraceJson verification) name other =
+    IsTraceJsonOf (record { set = name; schedule = other; verification = verification })
+IsRunBy (Tell verification manner) name other = IsTellOf verification manner
+IsRunBy (Draw verification) name other = IsDrawOf verification
 
 -- whether the set has to be accepted
 abbrev pub verification_of : Way → Verification
 verification_of (Trace verification) = verification
+verification_of (TraceJson verification) = verification
 verification_of (Tell verification manner) = verification
 verification_of (Draw verification) = verification
 
--- what a task with a set answers, where this is what its file has
-abbrev pub IsDoneOf : Task → Supply → Answer → Type 0
-IsDoneOf (Explain extent) = IsExplainedOf extent
-IsDoneOf (Mend tries) = IsMendOf (record { tries = tries })
-IsDoneOf Listing = IsListOf
-IsDoneOf (Hunt reach) = IsHuntOf reach
+-- what a task with a set answers, by the name of its file and what this has
+abbrev pub IsDoneOf : Task → List ℕ → Supply → Answer → Type 0
+IsDoneOf CheckJson name = IsCheckJsonOf name
+IsDoneOf (Explain extent) name = IsExplainedOf extent
+IsDoneOf (Mend tries) name = IsMendOf (record { tries = tries })
+IsDoneOf Listing name = IsListOf
+IsDoneOf (Hunt reach) name = IsHuntOf reach
 
 -- a page that stands in the program
 abbrev pub IsPage : Page → Answer → Type 0
@@ -54,10 +61,24 @@ IsPage (Rule rule) = IsRuleExplained rule
 IsPage LockOrder = IsLockOrderExplained
 IsPage Version = IsVersion
 
--- what is right for what the file of a name has, or where it can't be opened: its name is told
-abbrev pub IsOfNamed : (Supply → Answer → Type 0) → (List ℕ → Supply) → List ℕ → Answer → Type 0
-IsOfNamed Right supply name answer =
-    Right (supply name) answer ⊎ (MayBeClosed (supply name) × IsUnopened name answer)
+-- whether all that it answers is JSON
+abbrev pub is_in_json : Task → Bool
+is_in_json CheckJson = true
+is_in_json task = false
+
+-- what it answers where the file of a name can't be opened
+abbrev pub IsUnopenedAs : Bool → List ℕ → Answer → Type 0
+IsUnopenedAs true = IsUnopenedJson
+IsUnopenedAs false = IsUnopened
+
+abbrev pub IsUnopenedBy : Task → List ℕ → Answer → Type 0
+IsUnopenedBy task = IsUnopenedAs (is_in_json task)
+
+-- what is right for a task with the set of the file of a name
+abbrev pub IsOfTask : Task → (List ℕ → Supply) → List ℕ → Answer → Type 0
+IsOfTask task supply name answer =
+    IsDoneOf task name (supply name) answer
+    ⊎ (MayBeClosed (supply name) × IsUnopenedBy task name answer)
 
 -- what is right where the output goes to a file: the same, with nothing on the standard output
 abbrev pub IsQuietly : (Answer → Type 0) → Answer → Type 0
@@ -69,9 +90,9 @@ abbrev pub IsJobOf : (List ℕ → Supply) → Job → Answer → Type 0
 IsJobOf supply (OfPage page) answer = IsPage page answer
 IsJobOf supply (Check set) answer = IsCheckOf (supply set.now) answer
 IsJobOf supply (Rewrite set output) answer = IsQuietly (IsRewriteOf (supply set.now)) answer
-IsJobOf supply (OnSet set task) answer = IsOfNamed (IsDoneOf task) supply set.now answer
+IsJobOf supply (OnSet set task) answer = IsOfTask task supply set.now answer
 IsJobOf supply (OnRun set input way) answer =
-    IsRunBy way (supply set.now) (supply input.now) answer
+    IsRunBy way set input (supply set.now) (supply input.now) answer
 IsJobOf supply (Host set script workers) answer =
     IsHostOf workers (supply set.now) (supply script.now) answer
 

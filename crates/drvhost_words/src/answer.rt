@@ -1,7 +1,7 @@
 //! What the program answers.
 
 ghost use Rattle.std.specs.Prelude.{◌≡◌, ◌+◌, ◌<◌, ◌^◌, ◌⊎◌, ℕ, List, Option, drop, map, string_bytes, true};
-ghost use Rattle.drvhost_words.specs.Program.{IsAnswerTo, IsAnswerToLost, IsDoneOf, IsJobOf, IsOfNamed, IsPage, IsProgram, IsRunBy, Opens, OpensFor, OpensToTrace, IsQuietly, JobStores, JobTells, JobWarns, ProgramOpens, ProgramStores, ProgramTells, ProgramWarns, RewritesFile, WordsStore, WordsTell, WordsWarn, verification_of};
+ghost use Rattle.drvhost_words.specs.Program.{IsAnswerTo, IsAnswerToLost, IsDoneOf, IsJobOf, IsOfTask, IsPage, IsProgram, IsRunBy, IsUnopenedBy, Opens, OpensFor, OpensToTrace, IsQuietly, JobStores, JobTells, JobWarns, ProgramOpens, ProgramStores, ProgramTells, ProgramWarns, RewritesFile, WordsStore, WordsTell, WordsWarn, is_in_json, verification_of};
 ghost use Rattle.drvhost_words.specs.Unread.{IsNamedUnread, IsOneOf, SaysAround, SaysMore};
 ghost use Rattle.drvhost_devices.specs.Device.{CanCount, Says};
 ghost use Rattle.drvhost_devices.specs.Ends.{Answers, HoldsRun, IsCheckOf, IsRewriteOf};
@@ -16,8 +16,11 @@ use drvhost_devices::device::{Sink, Source};
 use drvhost_devices::unopened::tell_unopened;
 use drvhost_devices::verification::Verification;
 use drvhost_files::files::{Files, Later, Pending};
+use drvhost_formats::check::check_json;
+use drvhost_formats::trace::{Asked, trace_json};
+use drvhost_formats::unopened::unopened_json;
 use drvhost_hunts::hunt::hunt;
-use drvhost_mends::mend::{Asked, mend};
+use drvhost_mends::mend::{self, mend};
 use drvhost_runs::host::{Hosting, host};
 use drvhost_runs::trace::trace;
 use drvhost_sets::check::check;
@@ -167,7 +170,7 @@ fn perform<F: Files, O: Sink, E: Sink, R: Threads + Wait + Sync>(
         Job::OnSet { set, task } => task_file(alloc, task, set, files, out, err),
         Job::OnRun { set, input, way } => {
             let names = Names::of(set, input);
-            run_files(alloc, names, way, files, out, err)
+            run_files(alloc, Running { names, way }, files, out, err)
         }
         Job::Host {
             set,
@@ -238,7 +241,7 @@ fn task_file<F: Files, O: Sink, E: Sink>(
     requires files { CanCount (F.failures files.old) }
     requires out { CanCount (O.failures out.old) }
     requires err { CanCount (E.failures err.old) }
-    ensures answers { Answers (IsOfNamed (IsDoneOf task) (F.supply files.old) set.now)
+    ensures answers { Answers (IsOfTask task (F.supply files.old) set.now)
         (F.failures files.old) (F.failures files.new) (O.failures out.old) (O.failures out.new)
         (O.contents out.old) (O.contents out.new)
         (SaysMore (IsNamedUnread (λ name. name ≡ set.now)
@@ -254,18 +257,48 @@ fn task_file<F: Files, O: Sink, E: Sink>(
     let mut file = files.open(set);
     if files.is_closed(&file) {
         files.close(file);
-        return tell_unopened(set, err);
+        return refuse_unopened(alloc, task, set, out, err);
     }
-    let status = fulfil(alloc, task, &mut file, out, err);
+    let status = fulfil(alloc, task, set, &mut file, out, err);
     tell_if_unread(set, &file, failures, err);
     files.close(file);
     status
 }
 
-/// Does a task with the set of a source.
+/// Tells that the file of the set of a task can't be opened.
+fn refuse_unopened<O: Sink, E: Sink>(
+    alloc: Global,
+    task: Task,
+    name: &str,
+    out: &mut O,
+    err: &mut E,
+) -> u8
+    requires out { CanCount (O.failures out.old) }
+    requires err { CanCount (E.failures err.old) }
+    ensures { (reads : ℕ) → Answers (IsUnopenedBy task name.now)
+        reads reads (O.failures out.old) (O.failures out.new)
+        (O.contents out.old) (O.contents out.new)
+        (Says (E.failures err.old) (E.failures err.new) (E.contents err.old) (E.contents err.new))
+        result }
+{
+    if is_in_json(task) {
+        return unopened_json(alloc, name, out, err);
+    }
+    tell_unopened(name, err)
+}
+
+/// Whether all that a task answers is JSON.
+fn is_in_json(task: Task) -> bool
+    ensures { result ≡ is_in_json task }
+{
+    matches!(task, Task::CheckJson)
+}
+
+/// Does a task with the set of a source, whose file has this name.
 fn fulfil<S: Source, O: Sink, E: Sink>(
     alloc: Global,
     task: Task,
+    name: &str,
     set: &mut S,
     out: &mut O,
     err: &mut E,
@@ -273,15 +306,16 @@ fn fulfil<S: Source, O: Sink, E: Sink>(
     requires set { CanCount (S.failures set.old) }
     requires out { CanCount (O.failures out.old) }
     requires err { CanCount (E.failures err.old) }
-    ensures { Answers (IsDoneOf task (S.supply set.old))
+    ensures { Answers (IsDoneOf task name.now (S.supply set.old))
         (S.failures set.old) (S.failures set.new) (O.failures out.old) (O.failures out.new)
         (O.contents out.old) (O.contents out.new)
         (Says (E.failures err.old) (E.failures err.new) (E.contents err.old) (E.contents err.new))
         result }
 {
     match task {
+        Task::CheckJson => check_json(alloc, name, set, out, err),
         Task::Explain(extent) => explain(alloc, extent, set, out, err),
-        Task::Mend(tries) => mend(alloc, Asked { tries }, set, out, err),
+        Task::Mend(tries) => mend(alloc, mend::Asked { tries }, set, out, err),
         Task::List => list(alloc, set, out, err),
         Task::Hunt(reach) => hunt(alloc, reach, set, out, err),
     }
@@ -323,12 +357,18 @@ fn rewrite_file<F: Files, E: Sink>(
     status
 }
 
+/// A set that is run by the input of another file.
+#[derive(Clone, Copy)]
+struct Running<'n> {
+    names: Names<'n>,
+    way: Way,
+}
+
 /// Runs the set of a file by the input of another one, which is opened for a run alone. The one
 /// that can't be read is named.
 fn run_files<F: Files, O: Sink, E: Sink>(
     alloc: Global,
-    names: Names<'_>,
-    way: Way,
+    running: Running<'_>,
     files: &mut F,
     out: &mut O,
     err: &mut E,
@@ -337,25 +377,29 @@ fn run_files<F: Files, O: Sink, E: Sink>(
     requires files { CanCount (F.failures files.old) }
     requires out { CanCount (O.failures out.old) }
     requires err { CanCount (E.failures err.old) }
-    ensures answers { Answers (IsRunBy way (F.supply files.old names.entry.set.now)
-        (F.supply files.old names.entry.input.now))
+    ensures answers { Answers (IsRunBy running.entry.way
+        running.entry.names.set running.entry.names.input
+        (F.supply files.old running.entry.names.set.now)
+        (F.supply files.old running.entry.names.input.now))
         (F.failures files.old) (F.failures files.new) (O.failures out.old) (O.failures out.new)
         (O.contents out.old) (O.contents out.new)
-        (SaysMore (IsNamedUnread (IsOneOf names.entry.set.now names.entry.input.now)
+        (SaysMore (IsNamedUnread (IsOneOf running.entry.names.set.now running.entry.names.input.now)
         (F.failures files.old) (F.failures files.new))
         (E.failures err.old) (E.failures err.new) (E.contents err.old) (E.contents err.new))
         result }
     ensures opened { (count : ℕ)
-        × OpensToTrace (verification_of way) (F.supply files.old names.entry.set.now) count
+        × OpensToTrace (verification_of running.entry.way)
+        (F.supply files.old running.entry.names.set.now) count
         × (F.opened files.new ≡ F.opened files.old + count) }
     ensures supply { F.supply files.new ≡ F.supply files.old }
     ensures created { F.created files.new ≡ F.created files.old }
     ensures unwritten { F.unwritten files.new ≡ F.unwritten files.old }
 {
+    let names = running.names;
     let failures = err.failures();
     let mut file = files.open(names.set);
     let mut later = Later::new(files, names.input);
-    let status = run(alloc, &mut file, &mut later, way, out, err);
+    let status = run(alloc, running, &mut file, &mut later, out, err);
     tell_which_unread(names, &file, &later, failures, err);
     let inputs = later.into_file();
     files.close(file);
@@ -368,9 +412,9 @@ fn run_files<F: Files, O: Sink, E: Sink>(
 /// Runs the set of a source by the input of another one.
 fn run<S: Source, P: Source, O: Sink, E: Sink>(
     alloc: Global,
+    running: Running<'_>,
     set: &mut S,
     input: &mut P,
-    way: Way,
     out: &mut O,
     err: &mut E,
 ) -> u8
@@ -379,15 +423,25 @@ fn run<S: Source, P: Source, O: Sink, E: Sink>(
     requires out { CanCount (O.failures out.old) }
     requires err { CanCount (E.failures err.old) }
     ensures unread { (input.new ≡ input.old)
-        ⊎ HoldsRun (verification_of way) (S.supply set.old) }
-    ensures answers { Answers (IsRunBy way (S.supply set.old) (P.supply input.old))
+        ⊎ HoldsRun (verification_of running.entry.way) (S.supply set.old) }
+    ensures answers { Answers (IsRunBy running.entry.way
+        running.entry.names.set running.entry.names.input
+        (S.supply set.old) (P.supply input.old))
         (S.failures set.old + P.failures input.old) (S.failures set.new + P.failures input.new)
         (O.failures out.old) (O.failures out.new) (O.contents out.old) (O.contents out.new)
         (Says (E.failures err.old) (E.failures err.new) (E.contents err.old) (E.contents err.new))
         result }
 {
-    match way {
+    match running.way {
         Way::Trace(verification) => trace(alloc, set, input, verification, out, err),
+        Way::TraceJson(verification) => {
+            let asked = Asked {
+                set: running.names.set,
+                schedule: running.names.input,
+                verification,
+            };
+            trace_json(alloc, asked, set, input, out, err)
+        }
         Way::Tell(verification, manner) => {
             let telling = Telling {
                 verification,

@@ -17,8 +17,8 @@ pub(crate) struct Names<'n> {
 impl<'n> Names<'n> {
     /// The names of a set, and of what it is run by.
     pub(crate) fn of(set: &'n str, input: &'n str) -> Names<'n>
-        ensures set { result.set.now ≡ set.now }
-        ensures input { result.input.now ≡ input.now }
+        ensures set { result.set ≡ set.entry }
+        ensures input { result.input ≡ input.entry }
     {
         Names { set, input }
     }

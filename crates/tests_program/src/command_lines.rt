@@ -24,6 +24,13 @@ fn jobs(rt: HostRuntime) -> Result<(), Fail> {
             }
         )
     );
+    for words in [
+        ["check", "a", "--format", "json"],
+        ["check", "--format", "json", "a"],
+    ] {
+        let job = Job::of(alloc, &words)?;
+        assert!(rt; is_to_check_in_json(&job, "a"));
+    }
     for word in ["version", "--version", "-V"] {
         let words = [word];
         let job = Job::of(alloc, &words)?;
@@ -177,6 +184,17 @@ fn is_to_draw(job: &Job<'_>, run: Verification) -> bool {
     }
 }
 
+/// Whether a job is to check the set of a file, and to answer in JSON.
+fn is_to_check_in_json(job: &Job<'_>, file: &str) -> bool {
+    match *job {
+        Job::OnSet {
+            set,
+            task: Task::CheckJson,
+        } => set == file,
+        _ => false,
+    }
+}
+
 /// Whether a job is to explain the set of a file so.
 fn is_to_explain(job: &Job<'_>, file: &str, all: Extent) -> bool {
     match *job {
@@ -256,6 +274,11 @@ fn wrong_words(rt: HostRuntime) {
         &["explain", "--rule", "V1", "--rule", "V2"],
         &["explain", "a", "--all", "--all"],
         &["check", "a", "--all"],
+        &["check", "a", "--format"],
+        &["check", "a", "--format", "xml"],
+        &["check", "a", "--format", "JSON"],
+        &["check", "a", "--format", ""],
+        &["list", "a", "--format", "json"],
         &["list", "--rule", "V1"],
     ] {
         assert!(rt; is_refused(alloc, words), "{}", words[1]);

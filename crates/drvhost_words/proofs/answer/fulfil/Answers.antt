@@ -1,5 +1,8 @@
 use Rattle.drvhost_words.proofs.answer.fulfil.Goals as goal
 
+pub returns-in-CheckJson : goal.returns-in-CheckJson
+returns-in-CheckJson g c = rw c.in-CheckJson.is c.check_json.ensures
+
 pub returns-in-Explain : goal.returns-in-Explain
 returns-in-Explain g c = rw c.in-Explain.is c.explain.ensures
 

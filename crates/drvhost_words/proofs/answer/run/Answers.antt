@@ -3,6 +3,9 @@ use Rattle.drvhost_words.proofs.answer.run.Goals as goal
 pub returns-in-Trace : goal.returns-in-Trace
 returns-in-Trace g c = rw c.in-Trace.is c.trace.ensures
 
+pub returns-in-TraceJson : goal.returns-in-TraceJson
+returns-in-TraceJson g c = rw c.in-TraceJson.is c.trace_json.ensures
+
 pub returns-in-Tell : goal.returns-in-Tell
 returns-in-Tell g c = rw c.in-Tell.is c.tell.ensures
 
