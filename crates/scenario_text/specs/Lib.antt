@@ -1,0 +1,5 @@
+pub mod Expecting
+pub mod Line
+pub mod Listing
+pub mod Names
+pub mod Operands

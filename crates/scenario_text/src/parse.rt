@@ -1,0 +1,201 @@
+//! The text of a scenario.
+
+ghost use Rattle.std.specs.Prelude.{◌≡◌, ◌+◌, ◌<◌, ◌≤◌, ◌^◌, IfOk, IfSome, MatchResult, OnOk, Ok, Err, length};
+ghost use Rattle.interleave.specs.Line.{opening_line};
+ghost use Rattle.model.specs.declared.limits.TheConstants.{MAX_THREADS};
+ghost use Rattle.scenario_text.specs.Listing.{IsFaultOf, given_after, listing, nothing, opening, scenario_in, with_said, with_threads};
+
+use crate::names::Names;
+use crate::reading::{Said, step_line};
+use crate::scenario::{MAX_STEPS, Scenario, Step};
+use interleave::read::opening_line;
+use interleave::schedule::{ScheduleFault, ScheduleKind};
+use std::alloc::{AllocError, Global};
+use std::marker::Model;
+use text::cut::Lines;
+use text::piece::Piece;
+
+/// The scenario that a text lists, where the set's devices have these names.
+///
+/// The first line with a token gives the threads, and each later line a step or an expectation.
+///
+/// # Errors
+///
+/// The first faulty line, with the kind of its first token that can't stand there; `Memory` when
+/// memory runs out.
+pub fn parse_scenario(
+    alloc: Global,
+    names: &Names<'_>,
+    text: &[u8],
+) -> Result<Scenario, ScheduleFault>
+    ensures listed { MatchResult result
+        (λ s. scenario_in names.now text.now
+        ≡ Ok (record { threads = s.threads; steps = s.steps.items }))
+        (IsFaultOf names.now text.now) }
+    ensures some { IfOk result (λ s. 1 ≤ s.threads) }
+    ensures few { IfOk result (λ s. s.threads ≤ MAX_THREADS) }
+{
+    match scenario_in(alloc, names, text) {
+        Ok(Ok(scenario)) => Ok(scenario),
+        Ok(Err(fault)) => Err(fault),
+        Err(AllocError) => Err(ScheduleFault {
+            line: 0,
+            kind: ScheduleKind::Memory,
+        }),
+    }
+}
+
+/// The scenario or its first fault.
+fn scenario_in(
+    alloc: Global,
+    names: &Names<'_>,
+    text: &[u8],
+) -> Result<Result<Scenario, ScheduleFault>, AllocError>
+    ensures { IfOk result (λ r. MatchResult r
+        (λ s. scenario_in names.now text.now
+        ≡ Ok (record { threads = s.threads; steps = s.steps.items })
+        × (1 ≤ s.threads) × (s.threads ≤ MAX_THREADS))
+        (λ fault. scenario_in names.now text.now ≡ Err fault)) }
+{
+    let mut left = Lines::of(text);
+    match find_opening(names, &mut left) {
+        Ok(opening) => match list(alloc, names, left, opening.line + 1)? {
+            Ok(steps) => Ok(Ok(Scenario {
+                threads: opening.threads,
+                steps,
+            })),
+            Err(fault) => Ok(Err(fault)),
+        },
+        Err(fault) => Ok(Err(fault)),
+    }
+}
+
+/// What the first line with a token says, and its number.
+#[derive(Clone, Copy)]
+struct Opening {
+    threads: u8,
+    line: u64,
+}
+
+/// The number of threads that a line gives, which a run may have.
+fn threads_on(line: &[u8]) -> Result<Option<u8>, ScheduleKind>
+    ensures line { result ≡ opening_line line.now }
+    ensures bounds { IfOk result
+        (λ threads. IfSome threads (λ k. (1 ≤ k) × (k ≤ MAX_THREADS))) }
+{
+    opening_line(line)
+}
+
+/// Takes the lines of a text to the one that says how many threads there are.
+fn find_opening(names: &Names<'_>, left: &mut Lines<'_>) -> Result<Opening, ScheduleFault>
+    requires { length left.old < 2 ^ 63 }
+    ensures threads { IfOk result (λ o. (1 ≤ o.threads) × (o.threads ≤ MAX_THREADS)) }
+    ensures opens { MatchResult result (λ o. (o.line + length left.new < 2 ^ 63)
+        × (opening names.now 1 left.old
+        ≡ with_threads o.threads (listing names.now nothing (o.line + 1) left.new)))
+        (λ fault. opening names.now 1 left.old ≡ Err fault) }
+{
+    let mut line: u64 = 1;
+    while let Some(raw) = left.next() {
+        match threads_on(raw) {
+            Ok(Some(threads)) => return Ok(Opening { threads, line }),
+            Ok(None) => {}
+            Err(kind) => return Err(ScheduleFault { line, kind }),
+        }
+        line += 1;
+    }
+    Err(ScheduleFault {
+        line,
+        kind: ScheduleKind::UnknownWord,
+    })
+}
+
+/// The steps of lines of which the first has this number.
+fn list(
+    alloc: Global,
+    names: &Names<'_>,
+    mut left: Lines<'_>,
+    first: u64,
+) -> Result<Result<Vec<Step>, ScheduleFault>, AllocError>
+    requires { first + length left < 2 ^ 64 }
+    ensures { IfOk result (λ r. MatchResult r
+        (λ steps. listing names.now nothing first left.entry ≡ Ok steps.items)
+        (λ fault. listing names.now nothing first left.entry ≡ Err fault)) }
+{
+    let mut given = Given::new(alloc);
+    let mut line = first;
+    while let Some(raw) = left.next() {
+        if let Err(kind) = given.add_line(names, line, raw)? {
+            return Ok(Err(ScheduleFault { line, kind }));
+        }
+        line += 1;
+    }
+    Ok(Ok(given.steps))
+}
+
+/// What lines have given so far.
+#[derive(Drop)]
+struct Given<'a> {
+    /// The names of the packets that they issue.
+    packets: Vec<Piece<'a>>,
+    steps: Vec<Step>,
+}
+
+impl<'a> Model for Given<'a> {
+    ghost use Rattle.scenario_text.specs.Listing.{Given};
+
+    ghost Value = { Given };
+
+    ghost view = { λ g. record { packets = g.packets.items; steps = g.steps.items } };
+}
+
+impl<'a> Given<'a> {
+    /// Nothing.
+    fn new(alloc: Global) -> Given<'a>
+        ensures { result ≡ nothing }
+    {
+        Given {
+            packets: Vec::new(alloc),
+            steps: Vec::new(alloc),
+        }
+    }
+
+    /// Adds what a line says.
+    fn add_line(
+        &mut self,
+        names: &Names<'_>,
+        number: u64,
+        line: &'a [u8],
+    ) -> Result<Result<(), ScheduleKind>, AllocError>
+        ensures { IfOk result (λ r. MatchResult r
+            (λ _. given_after names.now self.old number line.now ≡ Ok self.new)
+            (λ kind. given_after names.now self.old number line.now ≡ Err kind)) }
+    {
+        match step_line(names, self.packets.as_slice(), line) {
+            Ok(Some(said)) => {
+                if self.steps.len() >= MAX_STEPS {
+                    return Ok(Err(ScheduleKind::TooLong));
+                }
+                self.add(number, said)?;
+                Ok(Ok(()))
+            }
+            Ok(None) => Ok(Ok(())),
+            Err(kind) => Ok(Err(kind)),
+        }
+    }
+
+    /// Adds a step, and the name of the packet that it issues.
+    fn add(&mut self, number: u64, said: Said<'a>) -> Result<(), AllocError>
+        ensures { OnOk result (self.new ≡ with_said self.old number said.entry) }
+    {
+        self.steps.push(Step {
+            line: number,
+            may: said.may,
+            action: said.action,
+        })?;
+        if let Some(name) = said.name {
+            self.packets.push(name)?;
+        }
+        Ok(())
+    }
+}
