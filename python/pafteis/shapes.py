@@ -88,7 +88,7 @@ def _device(data: bytes, number: int) -> Device:
 
 def _routines(data: bytes, driver: int) -> tuple[Routine, ...]:
     found: Any = _library.CRoutineShape()
-    routines = []
+    routines: list[Routine] = []
     while _ask("routine", data, found, driver, len(routines)):
         routines.append(Routine(Sort(found.sort), found.instructions, found.certificate))
     return tuple(routines)

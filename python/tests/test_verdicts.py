@@ -96,10 +96,12 @@ class Shapes(unittest.TestCase):
         found = pafteis.describe(text("filter.drv"))
         self.assertEqual([it.lower for it in found.devices], [None, 0])
         self.assertEqual([it.stack for it in found.devices], [1, 2])
-        for number, routines in enumerate(found.drivers):
-            for at, routine in enumerate(routines):
-                line = f"{number}:{at} {routine.certificate}"
-                self.assertIn(line, pafteis.report(text("filter.drv")).replace(" routine ", ":"))
+        lines = [
+            f"driver {number} routine {at} {it.sort.name.lower()} certificate {it.certificate}"
+            for number, routines in enumerate(found.drivers)
+            for at, it in enumerate(routines)
+        ]
+        self.assertEqual(lines, pafteis.report(text("filter.drv")).splitlines()[1:])
 
     def test_refused(self):
         with self.assertRaises(pafteis.Refused):
