@@ -132,9 +132,9 @@ uint32_t pafteis_order_of_locks(const uint8_t *set, size_t set_length, uint8_t d
 
 /* What a set has -----------------------------------------------------------------------------
  *
- * Of a set that is accepted; else the status is that of pafteis_check, and `verdict` tells why, which
- * is all 0 where something is told. What is told of nothing stays as it was. Each call takes memory,
- * and judges the set anew. */
+ * Of a set that is accepted; else the status is that of pafteis_check, and `verdict` tells why,
+ * which is all 0 where something is told. What is told of nothing stays as it was. Each call takes
+ * memory, and judges the set anew. */
 
 typedef struct {
     uint32_t drivers, devices; /* their numbers begin at 0, in the order of the text */
@@ -291,9 +291,10 @@ typedef struct {
 uint32_t pafteis_world_apply(pafteis_world *world, const pafteis_event *event,
                              pafteis_reply *reply);
 
-/* Events one after the other, each with its reply at the place of its event: up to the last, or until
- * `room` replies are written. `applied` is how many were applied. PAFTEIS_DONE; _WRONG_ARGUMENT where
- * events[*applied] is of no such kind or no such major function, and is not applied; or _NO_WORLD. */
+/* Events one after the other, each with its reply at the place of its event: up to the last, or
+ * until `room` replies are written. `applied` is how many were applied. PAFTEIS_DONE;
+ * _WRONG_ARGUMENT where events[*applied] is of no such kind or no such major function, and is not
+ * applied; or _NO_WORLD. */
 uint32_t pafteis_world_apply_all(pafteis_world *world, const pafteis_event *events, size_t count,
                                  pafteis_reply *replies, size_t room, size_t *applied);
 
