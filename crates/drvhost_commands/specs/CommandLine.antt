@@ -5,8 +5,8 @@ use Rattle.clap.specs.declared.error.ErrorKind.TheVariants.{DisplayVersion}
 use Rattle.clap.specs.declared.builder.ArgAction.TheVariants.{Set, SetTrue}
 use Rattle.clap.specs.declared.builder.value_parser.ValueParser.{ValueParser}
 use Rattle.clap.specs.declared.builder.value_parser.ValueParser.TheVariants.{Signed, String as AnyText, Unsigned}
-use Rattle.hunt_search.specs.declared.search.Bounds.{Bounds}
-use Rattle.hunt_search.specs.declared.search.Goal.TheVariants.{Amiss, AmissOrStuck}
+use Rattle.hunt_bounds.specs.declared.bounds.Bounds.{Bounds}
+use Rattle.hunt_bounds.specs.declared.bounds.Goal.TheVariants.{Amiss, AmissOrStuck}
 use Rattle.interleave.specs.Line.{number_within}
 use Rattle.model.specs.declared.abs.Rule.{Rule as VerdictRule}
 use Rattle.model.specs.declared.limits.TheConstants.{MAX_THREADS}
@@ -23,13 +23,13 @@ use Rattle.drvhost_commands.specs.declared.job.JobFault.{JobFault}
 use Rattle.drvhost_commands.specs.declared.job.JobFault.TheVariants.{Usage, Memory}
 use Rattle.drvhost_commands.specs.declared.naming.Format.{Format}
 use Rattle.drvhost_commands.specs.declared.naming.Format.TheVariants.{Plain, Json}
-use Rattle.drvhost_hunts.specs.declared.reach.TheConstants.{MAX_PACKETS, MAX_WORLDS, USUAL_PACKETS, USUAL_THREADS, USUAL_WORLDS}
-use Rattle.drvhost_mends.specs.declared.mend.TheConstants.{MAX_TRIES, USUAL_TRIES}
-use Rattle.drvhost_sets.specs.declared.explaining.Extent.TheVariants.{First, Each}
-use Rattle.drvhost_views.specs.declared.tell.Detail.{Detail}
-use Rattle.drvhost_views.specs.declared.tell.Detail.TheVariants.{Every, Usual, Quiet}
-use Rattle.drvhost_views.specs.declared.tell.Manner.{Manner}
-use Rattle.drvhost_views.specs.declared.tell.Strictness.TheVariants.{Lenient, Strict}
+use Rattle.hunt_bounds.specs.declared.reach.TheConstants.{MAX_PACKETS, MAX_WORLDS, USUAL_PACKETS, USUAL_THREADS, USUAL_WORLDS}
+use Rattle.drvhost_options.specs.declared.tries.TheConstants.{MAX_TRIES, USUAL_TRIES}
+use Rattle.drvhost_options.specs.declared.extent.Extent.TheVariants.{First, Each}
+use Rattle.drvhost_options.specs.declared.manner.Detail.{Detail}
+use Rattle.drvhost_options.specs.declared.manner.Detail.TheVariants.{Every, Usual, Quiet}
+use Rattle.drvhost_options.specs.declared.manner.Manner.{Manner}
+use Rattle.drvhost_options.specs.declared.manner.Strictness.TheVariants.{Lenient, Strict}
 use Rattle.drvhost_devices.specs.declared.verification.Verification.{Verification}
 use Rattle.drvhost_devices.specs.declared.verification.Verification.TheVariants.{Required, Skipped}
 

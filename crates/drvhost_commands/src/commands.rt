@@ -10,8 +10,8 @@ use crate::arguments::{Argument, arg_of};
 use crate::usage::EXPLAIN_USAGE;
 use clap::Command;
 use clap::builder::ValueParser;
-use drvhost_hunts::reach::{MAX_PACKETS, MAX_WORLDS};
-use drvhost_mends::mend::MAX_TRIES;
+use drvhost_options::tries::MAX_TRIES;
+use hunt_bounds::reach::{MAX_PACKETS, MAX_WORLDS};
 use model::limits::MAX_THREADS;
 use std::alloc::{AllocError, Global};
 

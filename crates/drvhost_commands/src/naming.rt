@@ -7,13 +7,13 @@ ghost use Rattle.drvhost_commands.specs.CommandLine.{IsChosen, IsDetail, IsForma
 use crate::job::{Job, Page, Task, Way, Workers};
 use clap::ArgMatches;
 use drvhost_devices::verification::Verification;
-use drvhost_hunts::reach::{
+use drvhost_options::extent::Extent;
+use drvhost_options::manner::{Detail, Manner, Strictness};
+use drvhost_options::tries::{MAX_TRIES, USUAL_TRIES};
+use hunt_bounds::bounds::{Bounds, Goal};
+use hunt_bounds::reach::{
     MAX_PACKETS, MAX_WORLDS, Reach, USUAL_PACKETS, USUAL_THREADS, USUAL_WORLDS,
 };
-use drvhost_mends::mend::{MAX_TRIES, USUAL_TRIES};
-use drvhost_sets::explaining::Extent;
-use drvhost_views::tell::{Detail, Manner, Strictness};
-use hunt_search::search::{Bounds, Goal};
 use interleave::read::number_within;
 use model::limits::MAX_THREADS;
 use report::rule::rule_named;

@@ -10,13 +10,13 @@ ghost use Rattle.drvhost_sets.specs.Worded.{TakesWords};
 ghost use Rattle.drvhost_views.specs.Told.{IsRunShown, IsShownRunOf, Tells};
 
 use crate::drawing::draw_run;
-use crate::tell::Manner;
 use crate::telling::{Told, tell_run};
 use checked::Checked;
 use drvhost_devices::device::{Sink, Source};
 use drvhost_devices::fault::{End, Fault, of_schedule};
 use drvhost_devices::reading::source_of;
 use drvhost_devices::transfer::read_whole;
+use drvhost_options::manner::Manner;
 use drvhost_sets::job::Notes;
 use drvhost_sets::judged::Running;
 use image::DriverSet;

@@ -11,7 +11,7 @@ ghost use Rattle.drvhost_views.specs.Told.{IsDrawOf, IsTellOf};
 use crate::returned::{Told, collected};
 use drvhost_devices::device::{Reader, Source, Writer};
 use drvhost_devices::verification::Verification;
-use drvhost_sets::explaining::Extent;
+use drvhost_options::extent::Extent;
 use drvhost_views::tell::Telling;
 use model::abs::Rule;
 use model::memory::OutOfMemory;

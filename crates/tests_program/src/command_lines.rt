@@ -3,8 +3,8 @@
 use drvhost_commands::job::{Job, JobFault, Page, Task, Way, refuse_words};
 use drvhost_devices::device::Writer;
 use drvhost_devices::verification::Verification;
-use drvhost_sets::explaining::Extent;
-use drvhost_views::tell::{Detail, Manner, Strictness};
+use drvhost_options::extent::Extent;
+use drvhost_options::manner::{Detail, Manner, Strictness};
 use model::abs::Rule;
 use std::alloc::Global;
 use std::test::Fail;

@@ -1,0 +1,7 @@
+//! What the options of commands choose among: values alone, so that what reads a command line stands
+//! on no job.
+#![tactic(auto)]
+
+pub mod extent;
+pub mod manner;
+pub mod tries;
