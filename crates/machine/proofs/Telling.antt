@@ -2,6 +2,8 @@
 use Rattle.std.proofs.Common.{◌≡◌, ℕ, zero, suc, true, List, [], ◌∷◌, map, length, Option, None, Some, refl, ap, ◌∙◌}
 use Rattle.std.specs.Prelude.{is_some, option_map, slice_get}
 use Rattle.model.specs.declared.event.Event.{Event}
+use Rattle.model.specs.declared.instr.Field.{Field}
+use Rattle.model.specs.declared.instr.Field.TheVariants.{Major as MajorField, Argument as ArgumentField, Info as InfoField}
 use Rattle.model.specs.declared.world.Frame.{Frame}
 use Rattle.model.specs.declared.world.Frame.TheVariants.{Routine, Walk, Cancel as CancelFrame}
 use Rattle.model.specs.declared.world.Packet.{Packet}
@@ -11,7 +13,8 @@ use Rattle.model.specs.Run.{run}
 use Rattle.model.specs.Set.{Set}
 use Rattle.model.specs.Shown.{ShowsFrame, ShowsFrames, ShowsThread, ShowsThreads, ShowsWorld, ShownPacket, shown_packet, whole, whole_frame, whole_thread}
 use Rattle.model.specs.View.{due_at, frame_view, packet_at, thread_at, thread_view, view_of}
-use Rattle.model.specs.World.{Shared, World, packet_of, place_of}
+use Rattle.model.specs.World.{Shared, World, field_of, packet_of, place_of}
+use Rattle.machine.specs.Read.{field_at}
 use Rattle.machine.proofs.Walking.{top_above, top_walk_live}
 use Rattle.laws_runs.specs.ArrivingStates.{States}
 use Rattle.laws_runs.specs.Holder.{HasOneHolder}
@@ -120,6 +123,31 @@ module _ (first second : Shared)
       (rw (places_same first.packets second.packets n packets)
       (found_same first.packets second.packets (place_of second.packets n) packets))
 
+  of_field : (field : Field) (p q : Packet) → p.depth ≡ q.depth → p.info ≡ q.info
+      → p.locations.items ≡ q.locations.items → field_of p field ≡ field_of q field
+  of_field MajorField p q depth info locations = rw (depth, locations) refl
+  of_field ArgumentField p q depth info locations = rw (depth, locations) refl
+  of_field InfoField p q depth info locations = info
+
+  fields : (field : Field) (o other : Option Packet) → option_map shown_packet o
+      ≡ option_map shown_packet other
+      → option_map (λ p. field_of p field) o ≡ option_map (λ p. field_of p field) other
+  fields field None None h = refl
+  fields field None (Some q) h = cc
+  fields field (Some p) None h = cc
+  fields field (Some p) (Some q) h =
+      let same : shown_packet p ≡ shown_packet q = cc in
+      ap Some (of_field field p q (ap (λ (x : ShownPacket). x.depth) same)
+      (ap (λ (x : ShownPacket). x.info) same) (ap (λ (x : ShownPacket). x.locations) same))
+
+  packet_fields : (n : ℕ) (field : Field)
+      → option_map (λ p. field_of p field) (packet_of first n)
+      ≡ option_map (λ p. field_of p field) (packet_of second n)
+  packet_fields n field =
+      fields field (packet_of first n) (packet_of second n)
+      (rw (places_same first.packets second.packets n packets)
+      (found_same first.packets second.packets (place_of second.packets n) packets))
+
 -- what is told of a world of a run
 module _ (set : Set) (w : World) (threads : ℕ) (events : List Event)
     (shows : ShowsWorld (whole set w) (run set threads events).world) where
@@ -136,3 +164,10 @@ module _ (set : Set) (w : World) (threads : ℕ) (events : List Event)
 
   pub tells_due : (d : ℕ) → due_at w d ≡ due_at (run set threads events).world d
   tells_due d = rw (shows.starts, shows.dpcs) refl
+
+-- what is read of what threads share, where it shows as that of a run
+module _ (s : Shared) (w : World) (packets : map shown_packet s.packets
+    ≡ map shown_packet w.shared.packets) (issued : s.issued ≡ w.shared.issued) where
+  pub tells_field : (n : ℕ) (field : Field)
+      → option_map (λ p. field_of p field) (packet_of s n) ≡ field_at w n field
+  tells_field n field = packet_fields s w.shared packets issued n field

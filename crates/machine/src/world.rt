@@ -1,6 +1,7 @@
 //! The world of an accepted driver set.
 
 ghost use Rattle.std.specs.Prelude.{◌≡◌, ◌≢◌, ◌≤◌, ◌<◌, List, [], IfOk, IfErr, option_map};
+ghost use Rattle.machine.specs.Read.{cells_at, field_at, owner_at};
 ghost use Rattle.machine.specs.Registers.{LendsWords};
 ghost use Rattle.machine.specs.Runs.{GoesOn, RestKept, RulesKept, StepsThreads, TellsOf};
 ghost use Rattle.machine.specs.Slots.{HasSlots, number_at};
@@ -14,6 +15,7 @@ ghost use Rattle.model.specs.View.{due_at, packet_at, thread_at};
 ghost use Rattle.laws_runs.specs.Rules.{KeepsTheRules};
 ghost use Rattle.laws_locks.specs.Rest.{ComesToRest};
 
+use driver_set::DriverSet;
 use laws_locks::accepted_runs_come_to_rest;
 use laws_runs::accepted_runs_keep_the_rules;
 use laws_slots::slots_show_what_they_mean;
@@ -23,10 +25,12 @@ use laws_words::{
     words_tell_registers,
 };
 use machine_world::Slots;
-use model::event::{Event, Reply};
+use model::event::{Event, Lock, Reply};
+use model::instr::Field;
 use model::limits::REGISTERS;
 use model::memory::OutOfMemory;
 use model::view::{PacketView, ThreadView};
+use model::world::Cells;
 use std::alloc::Global;
 use std::marker::Model;
 use verifier::Accepted;
@@ -94,6 +98,13 @@ impl World {
             Ok(slots) => Ok(World { accepted, slots }),
             Err(_refused) => Err((accepted, OutOfMemory)),
         }
+    }
+
+    /// The set.
+    pub fn set(&self) -> &DriverSet
+        ensures { result.now ≡ self.now.set }
+    {
+        self.accepted.set()
     }
 
     /// Applies an event: a world that showed a run shows that run with the event added, and answers
@@ -204,7 +215,32 @@ impl World {
         words_mean_what_they_show();
         slots_show_what_they_mean();
         words_tell_as_slots();
-        self.slots.packet(number)
+        self.slots.shared().packet(number)
+    }
+
+    /// A field of the packet of a number, its major function and its argument those of its current
+    /// location. None where no packet of this number is live.
+    pub fn field(&self, number: u64, field: Field) -> Option<u64>
+        ensures { TellsOf self.now (λ w. field_at w number field) result }
+    {
+        words_show_what_they_mean();
+        self.slots.shared().field(number, field)
+    }
+
+    /// The number cells of a device, if there is one of this number.
+    pub fn cells(&self, device: u8) -> Option<Cells>
+        ensures { TellsOf self.now (λ w. cells_at w device) result }
+    {
+        words_show_what_they_mean();
+        self.slots.shared().cells(device)
+    }
+
+    /// The thread that owns a lock, if there is such a lock: none while it is free.
+    pub fn owner(&self, lock: Lock) -> Option<Option<u8>>
+        ensures { TellsOf self.now (λ w. owner_at w lock) result }
+    {
+        words_show_what_they_mean();
+        self.slots.shared().owner(lock)
     }
 
     /// What is due of a device: whether its start list has a packet, so that its StartIo routine

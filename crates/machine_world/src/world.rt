@@ -4,7 +4,7 @@ ghost use Rattle.std.specs.Prelude.{◌≡◌, ◌≤◌, ◌<◌, ℕ, IfOk, So
 ghost use Rattle.model.specs.declared.limits.TheConstants.{MAX_DEVICES};
 ghost use Rattle.model.specs.Events.{irql_of as irql_of_level};
 ghost use Rattle.model.specs.Set.{dpc_of, startio_of};
-ghost use Rattle.model.specs.View.{due_view, packet_view};
+ghost use Rattle.model.specs.View.{due_view};
 ghost use Rattle.laws_words.specs.WordsDone.{WordEventDone, IssueDone};
 ghost use Rattle.laws_words.specs.WordsFit.{WordEventFits};
 ghost use Rattle.laws_slots.specs.ShownSlots.{meant_shared};
@@ -28,7 +28,7 @@ use machine_parts::Shared;
 use model::event::{Event, Reply};
 use model::limits::REGISTERS;
 use model::status::Major;
-use model::view::{PacketView, ThreadView};
+use model::view::ThreadView;
 use model::world::{CancelStep, Irql};
 use std::alloc::{AllocError, Global};
 use std::marker::Model;
@@ -152,11 +152,11 @@ impl Slots {
         }
     }
 
-    /// What there is to tell of the packet of a number.
-    pub fn packet(&self, number: u64) -> PacketView
-        ensures { result ≡ packet_view (meant_shared self.now.shared) number }
+    /// What the threads share, to be looked at.
+    pub fn shared(&self) -> &Shared
+        ensures { result.now ≡ self.now.shared }
     {
-        self.shared.packet(number)
+        &self.shared
     }
 
     /// Whether the start list of a device has a packet, and whether its DPC is queued.

@@ -1,14 +1,22 @@
 //! The number cells of devices.
 
-ghost use Rattle.std.specs.Prelude.{◌≡◌, ◌<◌, length, slice_index_or};
+ghost use Rattle.std.specs.Prelude.{◌≡◌, ◌<◌, length, slice_get, slice_index_or};
 
 use super::Shared;
 use driver_set::Cell;
+use model::world::Cells;
 
 impl Shared {
     ghost use Rattle.model.specs.Effect.{stored, stored_paged};
     ghost use Rattle.laws_slots.specs.Slots.{with_slot_cells};
     ghost use Rattle.machine_parts.specs.Devices.{cells_in};
+
+    /// All cells of a device, if there is one of this number.
+    pub fn cells(&self, device: u8) -> Option<Cells>
+        ensures { result ≡ slice_get self.now.cells device }
+    {
+        self.cell_list.get(device as usize).copied()
+    }
 
     /// The number in a cell of a device.
     pub fn load(&self, device: u8, cell: Cell) -> u64

@@ -1,6 +1,6 @@
 //! Packets that are issued, and looked for by their numbers.
 
-ghost use Rattle.std.specs.Prelude.{◌≡◌, ◌≤◌, ℕ, IsTrue, length, nat_lt, slice_get};
+ghost use Rattle.std.specs.Prelude.{◌≡◌, ◌≤◌, ℕ, IsTrue, length, nat_lt, option_map, slice_get};
 ghost use Rattle.model.specs.declared.limits.TheConstants.{MAX_STACK};
 ghost use Rattle.model.specs.World.{place_of};
 ghost use Rattle.laws_slots.specs.Rep.{packets_in};
@@ -8,6 +8,7 @@ ghost use Rattle.laws_slots.specs.SlotEvents.{key_of};
 
 use super::Shared;
 use iomgr::PacketTable;
+use model::instr::Field;
 use model::status::Major;
 use model::view::{LiveView, PacketView};
 
@@ -25,7 +26,7 @@ fn packets_are_in_slots(table: &PacketTable)
 
 impl Shared {
     ghost use Rattle.model.specs.View.{packet_view};
-    ghost use Rattle.model.specs.World.{new_packet};
+    ghost use Rattle.model.specs.World.{field_of, new_packet, packet_of};
     ghost use Rattle.laws_slots.specs.Done.{TakesSlot};
     ghost use Rattle.laws_slots.specs.ShownSlots.{meant_shared};
     ghost use Rattle.laws_slots.specs.SlotEvents.{can_issue_slot};
@@ -72,6 +73,16 @@ impl Shared {
         packets_are_in_slots(&self.packet_table);
         let key = self.packet_table.find(number)?;
         Some(key.slot() as u64)
+    }
+
+    /// A field of the live packet of a number, if there is one.
+    pub fn field(&self, number: u64, field: Field) -> Option<u64>
+        ensures { let packet = packet_of (meant_shared self.now) number in
+            result ≡ option_map (λ p. field_of p field) packet }
+    {
+        packets_are_in_slots(&self.packet_table);
+        let packet = self.packet_table.live_packet(number)?;
+        Some(packet.field(field))
     }
 
     /// What there is to tell of the packet of a number.

@@ -9,6 +9,13 @@ impl Shared {
     ghost use Rattle.model.specs.World.{owner_of, with_owner};
     ghost use Rattle.laws_slots.specs.Slots.{with_slot_locks};
 
+    /// The owner of a lock, if there is such a lock: none while it is free.
+    pub fn owner(&self, lock: Lock) -> Option<Option<u8>>
+        ensures { result ≡ owner_of self.now.locks lock }
+    {
+        self.lock_table.owner(lock)
+    }
+
     /// A thread acquires a lock that is there and isn't its own. It answers false, and nothing has
     /// changed, exactly where another thread owns it.
     pub fn acquire(&mut self, lock: Lock, thread: u8) -> bool

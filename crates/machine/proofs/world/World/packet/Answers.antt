@@ -14,7 +14,7 @@ returns c =
           run_shown c.words_show_what_they_mean.ensures c.self.inside.accepted c.self.inside.slots
           c.self.invariant.1.1;
       tells = λ threads events shows.
-          c.packet.ensures
+          (rw c.shared.ensures at c.packet.ensures)
           ∙ words_packet c.words_mean_what_they_show.ensures c.slots_show_what_they_mean.ensures
           c.words_tell_as_slots.ensures c.self.inside.accepted c.self.invariant.0
           c.self.invariant.1.0 c.self.inside.slots c.self.invariant.1.1 threads events shows
