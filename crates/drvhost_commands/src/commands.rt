@@ -114,9 +114,19 @@ const COMMANDS: [Entry<'static>; 11] = [
     },
     Entry {
         name: "draw",
-        about: "Runs a driver set by a schedule, and writes the run as an SVG picture",
+        about: "Runs a driver set by a schedule, and draws the run: an SVG picture, or a trace for Perfetto",
         usage: None,
-        arguments: &[SET, SCHEDULE, UNCHECKED],
+        arguments: &[
+            SET,
+            SCHEDULE,
+            UNCHECKED,
+            Argument::Value(
+                "format",
+                "format",
+                ValueParser::String,
+                "As what it is drawn, svg or perfetto; svg where none is given",
+            ),
+        ],
     },
     Entry {
         name: "hunt",

@@ -3,5 +3,6 @@
 #![tactic(auto)]
 
 pub mod extent;
+pub mod figure;
 pub mod manner;
 pub mod tries;
