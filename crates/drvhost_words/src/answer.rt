@@ -469,6 +469,12 @@ impl Gate for Open {
     {
         true
     }
+
+    fn at_once(&self, worker: u32, count: u64) -> bool
+        ensures { result ≡ true }
+    {
+        self.before(worker, count)
+    }
 }
 
 /// Workers that serve the script of a file on the set of another one.

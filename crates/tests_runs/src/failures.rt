@@ -83,6 +83,10 @@ impl Gate for Open {
     fn before(&self, _worker: u32, _count: u64) -> bool {
         true
     }
+
+    fn at_once(&self, _worker: u32, _count: u64) -> bool {
+        true
+    }
 }
 
 /// What is asked of a set.
