@@ -114,7 +114,7 @@ const COMMANDS: [Entry<'static>; 11] = [
     },
     Entry {
         name: "draw",
-        about: "Runs a driver set by a schedule, and draws the run: an SVG picture, or a trace for Perfetto",
+        about: "Runs a driver set by a schedule, and draws the run, in SVG or for Perfetto",
         usage: None,
         arguments: &[
             SET,
