@@ -2,7 +2,7 @@
 //! is owned.
 
 use crate::mark::{Kind, Mark, Marks};
-use crate::spans::track_of;
+use crate::spans::{BELOW, place_of};
 use draw_lanes::lock::{NamedLock, is_same, lock_of, owns};
 use draw_lanes::seen::Seen;
 use model::event::Lock;
@@ -11,9 +11,6 @@ use tell_names::Book;
 
 /// The first track of a lock.
 const FIRST: u64 = 2_000;
-
-/// Tracks of locks that stand below a thread's.
-const BELOW: u64 = 100;
 
 /// A lock that a thread owned.
 #[derive(Drop)]
@@ -128,5 +125,5 @@ fn call(marks: &mut Marks, thread: u8, name: &str, track: u64) -> Result<(), All
     write!(words, "thread {thread} owns {name}")?;
     marks.add(Mark::called(track, words.as_str()))?;
     let below = track % BELOW + 1;
-    marks.add(Mark::stands(track, track_of(thread) * BELOW + below))
+    marks.add(Mark::stands(track, place_of(thread).saturating_add(below)))
 }

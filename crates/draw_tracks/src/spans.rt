@@ -114,6 +114,14 @@ pub(crate) fn track_of(thread: u8) -> u64 {
     u64::from(thread) + 1
 }
 
+/// Places below the track of a thread, for those of its locks.
+pub(crate) const BELOW: u64 = 100;
+
+/// Where the track of a thread stands among the others.
+pub(crate) fn place_of(thread: u8) -> u64 {
+    u64::from(thread).saturating_mul(BELOW)
+}
+
 /// Adds what a frame is called: its routine and its device, or what the I/O manager does.
 fn add_name(name: &mut String, book: &Book<'_>, frame: FrameView) -> Result<(), AllocError> {
     match frame {

@@ -3,7 +3,7 @@
 use crate::bar::Bars;
 use crate::lists::count_lists;
 use crate::mark::{Kind, Mark, Marks};
-use crate::spans::{Spans, track_of};
+use crate::spans::{Spans, place_of, track_of};
 use checked::Checked;
 use draw_lanes::lane::{Lane, Post, lanes_of};
 use draw_lanes::seen::{Seen, packet_of};
@@ -210,7 +210,7 @@ impl Tracks {
 fn name_tracks(marks: &mut Marks, lanes: &[Lane]) -> Result<(), AllocError> {
     for lane in lanes {
         let (track, place) = match lane.post {
-            Post::Thread(thread) => (track_of(thread), track_of(thread) * 100),
+            Post::Thread(thread) => (track_of(thread), place_of(thread)),
             Post::Device(device) => (track_of_device(device), u64::from(device) + BELOW_THREADS),
             _ => continue,
         };
