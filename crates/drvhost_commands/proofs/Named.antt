@@ -1,6 +1,6 @@
 -- Matches that name no job of any kind.
-use Rattle.std.proofs.Common.{◌≡◌, List, None, Option, Some, ℕ}
-use Rattle.std.specs.Prelude.{IfNone}
+use Rattle.std.proofs.Common.{◌≡◌, List, None, Option, Some, ℕ, rules, subst}
+use Rattle.std.specs.Prelude.{IfNone, IfSome}
 use Rattle.std.specs.Borrow.{Bor}
 use Rattle.clap.specs.Words.{Row, Text}
 use Rattle.drvhost_commands.specs.declared.job.Judging.{Judging}
@@ -15,6 +15,12 @@ use Rattle.drvhost_commands.specs.CommandLine.{NamesBy, NamesFiles, NamesPage, N
 pub is_none : {A T : Type 0} (result : Option A) → result ≡ None → IfNone result T → T
 is_none None is h = h
 is_none (Some a) is h = cc
+
+-- and of one that is some
+pub is_some : {A : Type 0} (T : A → Type 0) (result : Option A) (a : A) → result ≡ Some a
+    → IfSome result T → T a
+is_some T None a is h = cc
+is_some T (Some b) a is h = let same : b ≡ a = search rules in subst T same h
 
 module _ (found : Text × List Row) (page : (p : Page) → NamesPage found p → ⊥)
     (on_paths : (paths : List (Bor (List ℕ))) (judging : Judging) → NamesPaths found paths judging → ⊥)

@@ -29,9 +29,9 @@ use Rattle.hunt_bounds.specs.declared.reach.TheConstants.{MAX_PACKETS, MAX_WORLD
 use Rattle.drvhost_options.specs.declared.tries.TheConstants.{MAX_TRIES, USUAL_TRIES}
 use Rattle.drvhost_options.specs.declared.extent.Extent.TheVariants.{First, Each}
 use Rattle.drvhost_options.specs.declared.figure.Figure.{Figure}
-use Rattle.drvhost_options.specs.declared.figure.use Rattle.drvhost_commands.specs.declared.job.Judging.{Judging}
+use Rattle.drvhost_options.specs.declared.figure.Figure.TheVariants.{Picture, Tracks}
+use Rattle.drvhost_commands.specs.declared.job.Judging.{Judging}
 use Rattle.drvhost_commands.specs.declared.job.Judging.TheVariants.{Check, CheckJson, Explain}
-Figure.TheVariants.{Picture, Tracks}
 use Rattle.drvhost_options.specs.declared.manner.Detail.{Detail}
 use Rattle.drvhost_options.specs.declared.manner.Detail.TheVariants.{Every, Usual, Quiet}
 use Rattle.drvhost_options.specs.declared.manner.Manner.{Manner}

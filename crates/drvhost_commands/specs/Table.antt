@@ -4,7 +4,7 @@ use Rattle.clap.specs.Words.{App, Rule}
 use Rattle.drvhost_commands.specs.declared.arguments.Argument.{Argument}
 use Rattle.drvhost_commands.specs.declared.arguments.Argument.TheVariants.{File, Files, AnyFiles, Flag, Value, WantedValue}
 use Rattle.drvhost_commands.specs.declared.commands.Entry.{Entry}
-use Rattle.drvhost_commands.specs.CommandLine.{command, file_argument, flag, required, value_argument, value_option, values_argument}
+use Rattle.drvhost_commands.specs.CommandLine.{command, file_argument, flag, required, value_option, values_argument}
 
 -- an argument of it
 abbrev pub rule_for : Argument → Rule
