@@ -5,7 +5,7 @@ import os, re
 from commands import bare, commands
 from versions import TOP
 
-ENDINGS = {"FILE": "*.(drv|image)", "SCHEDULE": "*.sched", "SCRIPT": "*.script"}
+ENDINGS = {"PATH": "*.(drv|image)", "FILE": "*.(drv|image)", "SCHEDULE": "*.sched", "SCRIPT": "*.script"}
 
 def rules():
     """Numbers and names of the rules, and the warning's, by the headings of docs/RULES.md."""

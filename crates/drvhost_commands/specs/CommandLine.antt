@@ -1,8 +1,10 @@
 -- The program's command line in the terms of `clap`, and which job its matches name.
-use Rattle.std.specs.Prelude.{◌≡◌, ◌⊎◌, ◌-◌, ◌^◌, ℕ, List, [], ◌∷◌, Option, None, Some, true, codes, option_and_then, option_map, pos, string_bytes}
-use Rattle.clap.specs.Words.{App, IsAmong, Row, Rule, Text, fault_of, first_of, new_app, new_rule, subcommand_of, with_rule, with_subcommand}
+use Rattle.std.specs.Borrow.{Bor}
+use Rattle.std.specs.Prelude.{◌≡◌, ◌⊎◌, ◌-◌, ◌^◌, ℕ, List, [], ◌∷◌, Option, None, Some, true, codes, map, option_and_then, option_map, pos, string_bytes}
+use Rattle.clap.specs.Lexer.{usize_max}
+use Rattle.clap.specs.Words.{App, IsAmong, Row, Rule, Text, all_of, fault_of, first_of, new_app, new_rule, subcommand_of, with_rule, with_subcommand}
 use Rattle.clap.specs.declared.error.ErrorKind.TheVariants.{DisplayVersion}
-use Rattle.clap.specs.declared.builder.ArgAction.TheVariants.{Set, SetTrue}
+use Rattle.clap.specs.declared.builder.ArgAction.TheVariants.{Append, Set, SetTrue}
 use Rattle.clap.specs.declared.builder.value_parser.ValueParser.{ValueParser}
 use Rattle.clap.specs.declared.builder.value_parser.ValueParser.TheVariants.{Signed, String as AnyText, Unsigned}
 use Rattle.hunt_bounds.specs.declared.bounds.Bounds.{Bounds}
@@ -12,11 +14,11 @@ use Rattle.model.specs.declared.abs.Rule.{Rule as VerdictRule}
 use Rattle.model.specs.declared.limits.TheConstants.{MAX_THREADS}
 use Rattle.report.specs.Rule.{IsRuleWord}
 use Rattle.drvhost_commands.specs.declared.job.Job.{Job}
-use Rattle.drvhost_commands.specs.declared.job.Job.TheVariants.{Page as OfPage, Check, Rewrite, OnSet, OnRun, Host}
+use Rattle.drvhost_commands.specs.declared.job.Job.TheVariants.{Page as OfPage, OnPaths, Rewrite, OnSet, OnRun, Host}
 use Rattle.drvhost_commands.specs.declared.job.Page.{Page}
 use Rattle.drvhost_commands.specs.declared.job.Page.TheVariants.{Rule as PageOfRule, LockOrder, Version}
 use Rattle.drvhost_commands.specs.declared.job.Task.{Task}
-use Rattle.drvhost_commands.specs.declared.job.Task.TheVariants.{CheckJson, Explain, Mend, List as Listing, Hunt}
+use Rattle.drvhost_commands.specs.declared.job.Task.TheVariants.{Mend, List as Listing, Hunt}
 use Rattle.drvhost_commands.specs.declared.job.Way.{Way}
 use Rattle.drvhost_commands.specs.declared.job.Way.TheVariants.{Trace, TraceJson, Tell, Draw}
 use Rattle.drvhost_commands.specs.declared.job.JobFault.{JobFault}
@@ -28,6 +30,8 @@ use Rattle.drvhost_options.specs.declared.tries.TheConstants.{MAX_TRIES, USUAL_T
 use Rattle.drvhost_options.specs.declared.extent.Extent.TheVariants.{First, Each}
 use Rattle.drvhost_options.specs.declared.figure.Figure.{Figure}
 use Rattle.drvhost_options.specs.declared.figure.Figure.TheVariants.{Picture, Tracks}
+use Rattle.drvhost_commands.specs.declared.job.Judging.{Judging}
+use Rattle.drvhost_commands.specs.declared.job.Judging.TheVariants.{Check, CheckJson, Explain}
 use Rattle.drvhost_options.specs.declared.manner.Detail.{Detail}
 use Rattle.drvhost_options.specs.declared.manner.Detail.TheVariants.{Every, Usual, Quiet}
 use Rattle.drvhost_options.specs.declared.manner.Manner.{Manner}
@@ -38,6 +42,14 @@ use Rattle.drvhost_devices.specs.declared.verification.Verification.TheVariants.
 -- an argument with a value
 abbrev pub value_argument : Text → Rule
 value_argument id = record (new_rule id) { action = Some Set }
+
+-- one with a value or more, in each of its uses
+abbrev pub values_argument : Text → Rule
+values_argument id =
+    record (new_rule id) {
+      action = Some Append;
+      range = Some (record { start_inclusive = 1; end_inclusive = usize_max });
+    }
 
 -- an argument that has to be there
 abbrev pub required : Rule → Rule
@@ -86,11 +98,16 @@ schedule_command name rules =
 abbrev pub format_option : Rule
 format_option = value_option (codes "format") (codes "format") AnyText
 
--- `explain [FILE] [--all] [--rule RULE]`, of which `NamesBy` says what goes with what
+-- `check PATH.. [--format FORMAT]`
+abbrev pub check_command : App
+check_command =
+    command (codes "check") (required (values_argument (codes "PATH")) ∷ format_option ∷ [])
+
+-- `explain [PATH..] [--all] [--rule RULE]`, of which `NamesBy` says what goes with what
 abbrev pub explain_command : App
 explain_command =
     command (codes "explain")
-    (value_argument (codes "FILE") ∷ flag (codes "all")
+    (values_argument (codes "PATH") ∷ flag (codes "all")
     ∷ value_option (codes "RULE") (codes "rule") AnyText ∷ [])
 
 -- `tell FILE SCHEDULE [--unchecked] [--quiet] [--every] [--strict]`, of which `NamesBy` says that
@@ -125,7 +142,7 @@ mend_command = set_command (codes "mend") (number_option (codes "tries") MAX_TRI
 -- all commands, in the order of the texts of help
 abbrev pub commands : List App
 commands =
-    set_command (codes "check") (format_option ∷ [])
+    check_command
     ∷ explain_command
     ∷ mend_command
     ∷ schedule_command (codes "trace") (format_option ∷ [])
@@ -219,25 +236,36 @@ abbrev pub IsFigure : Option Text → Figure → Type 0
 IsFigure value Picture = (value ≡ None) ⊎ (value ≡ Some (codes "svg"))
 IsFigure value Tracks = value ≡ Some (codes "perfetto")
 
--- a command with its matches names a page; where it explains one there is no file and no `--all`
+-- a command with its matches names a page; where it explains one there is no path and no `--all`
 abbrev pub NamesPage : Text × List Row → Page → Type 0
 NamesPage found (PageOfRule rule) = (found.0 ≡ codes "explain")
-    × (first_of (codes "FILE") found.1 ≡ None)
+    × (first_of (codes "PATH") found.1 ≡ None)
     × IsRuleAsked (first_of (codes "RULE") found.1) rule
     × IsChosen (first_of (codes "all") found.1) Each First First
 NamesPage found LockOrder = (found.0 ≡ codes "explain")
-    × (first_of (codes "FILE") found.1 ≡ None)
+    × (first_of (codes "PATH") found.1 ≡ None)
     × (first_of (codes "RULE") found.1 ≡ Some (codes "LockOrder"))
     × IsChosen (first_of (codes "all") found.1) Each First First
 NamesPage found Version = found.0 ≡ codes "version"
 
--- a task with a set
-abbrev pub NamesTask : Text × List Row → Task → Type 0
-NamesTask found CheckJson =
+-- how sets are judged
+abbrev pub NamesJudging : Text × List Row → Judging → Type 0
+NamesJudging found Check =
+    (found.0 ≡ codes "check") × IsFormat (first_of (codes "format") found.1) Plain
+NamesJudging found CheckJson =
     (found.0 ≡ codes "check") × IsFormat (first_of (codes "format") found.1) Json
-NamesTask found (Explain extent) = (found.0 ≡ codes "explain")
+NamesJudging found (Explain extent) = (found.0 ≡ codes "explain")
     × (first_of (codes "RULE") found.1 ≡ None)
     × IsChosen (first_of (codes "all") found.1) Each First extent
+
+-- the paths for which they are, one or more
+abbrev pub NamesPaths : Text × List Row → List (Bor (List ℕ)) → Judging → Type 0
+NamesPaths found paths judging =
+    (all_of (codes "PATH") found.1 ≡ Some (map (λ path. path.now) paths))
+    × NamesJudging found judging
+
+-- a task with a set
+abbrev pub NamesTask : Text × List Row → Task → Type 0
 NamesTask found (Mend tries) = (found.0 ≡ codes "mend")
     × (number_asked USUAL_TRIES MAX_TRIES (first_of (codes "tries") found.1) ≡ Some tries)
 NamesTask found Listing = found.0 ≡ codes "list"
@@ -266,9 +294,6 @@ NamesRun found set input way = (first_of (codes "FILE") found.1 ≡ Some set)
 
 -- a job that is neither of these, nor a page
 abbrev pub NamesFiles : Text × List Row → Job → Type 0
-NamesFiles found (Check set) =
-    (found.0 ≡ codes "check") × (first_of (codes "FILE") found.1 ≡ Some set.now)
-    × IsFormat (first_of (codes "format") found.1) Plain
 NamesFiles found (Rewrite set output) =
     (found.0 ≡ codes "rewrite") × (first_of (codes "FILE") found.1 ≡ Some set.now)
     × (first_of (codes "OUT") found.1 ≡ Some output.now)
@@ -282,6 +307,7 @@ NamesFiles found _ = ⊥
 -- any job
 abbrev pub NamesBy : Text × List Row → Job → Type 0
 NamesBy found (OfPage page) = NamesPage found page
+NamesBy found (OnPaths paths judging) = NamesPaths found paths.items judging
 NamesBy found (OnSet set task) = NamesSet found set.now task
 NamesBy found (OnRun set input way) = NamesRun found set.now input.now way
 NamesBy found job = NamesFiles found job

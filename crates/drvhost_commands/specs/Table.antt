@@ -2,14 +2,15 @@
 use Rattle.std.specs.Prelude.{map}
 use Rattle.clap.specs.Words.{App, Rule}
 use Rattle.drvhost_commands.specs.declared.arguments.Argument.{Argument}
-use Rattle.drvhost_commands.specs.declared.arguments.Argument.TheVariants.{File, AnyFile, Flag, Value, WantedValue}
+use Rattle.drvhost_commands.specs.declared.arguments.Argument.TheVariants.{File, Files, AnyFiles, Flag, Value, WantedValue}
 use Rattle.drvhost_commands.specs.declared.commands.Entry.{Entry}
-use Rattle.drvhost_commands.specs.CommandLine.{command, file_argument, flag, required, value_argument, value_option}
+use Rattle.drvhost_commands.specs.CommandLine.{command, file_argument, flag, required, value_option, values_argument}
 
 -- an argument of it
 abbrev pub rule_for : Argument → Rule
 rule_for (File id help) = file_argument id.now
-rule_for (AnyFile id help) = value_argument id.now
+rule_for (Files id help) = required (values_argument id.now)
+rule_for (AnyFiles id help) = values_argument id.now
 rule_for (Flag name help) = flag name.now
 rule_for (Value id name parser help) = value_option id.now name.now parser
 rule_for (WantedValue id name parser help) = required (value_option id.now name.now parser)

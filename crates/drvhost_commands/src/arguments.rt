@@ -2,7 +2,7 @@
 
 ghost use Rattle.std.specs.Prelude.{◌≡◌, false};
 ghost use Rattle.clap.specs.Words.{rule_of};
-ghost use Rattle.drvhost_commands.specs.CommandLine.{flag, value_argument};
+ghost use Rattle.drvhost_commands.specs.CommandLine.{flag, value_argument, values_argument};
 ghost use Rattle.drvhost_commands.specs.Table.{rule_for};
 
 use clap::builder::ValueParser;
@@ -14,8 +14,10 @@ use std::alloc::Global;
 pub(crate) enum Argument<'a> {
     /// The name of a file, which has to be there.
     File(&'a str, &'a str),
-    /// The name of a file, which needn't.
-    AnyFile(&'a str, &'a str),
+    /// Names of files, of which there has to be one.
+    Files(&'a str, &'a str),
+    /// Names of files, of which there needn't be any.
+    AnyFiles(&'a str, &'a str),
     /// `--NAME`
     Flag(&'a str, &'a str),
     /// `--NAME VALUE`: the name of the value, that of the option, and what the value has to be.
@@ -31,7 +33,8 @@ pub(crate) fn arg_of<'a>(alloc: Global, argument: Argument<'a>) -> Arg<'a>
 {
     match argument {
         Argument::File(id, help) => valued(alloc, id, help).required(true),
-        Argument::AnyFile(id, help) => valued(alloc, id, help),
+        Argument::Files(id, help) => several(alloc, id, help).required(true),
+        Argument::AnyFiles(id, help) => several(alloc, id, help),
         Argument::Flag(name, help) => flag(alloc, name, help),
         Argument::Value(id, name, parser, help) => {
             valued(alloc, id, help).long(name).value_parser(parser)
@@ -49,6 +52,17 @@ fn valued<'a>(alloc: Global, id: &'a str, help: &'a str) -> Arg<'a>
     ensures local { result.global ≡ false }
 {
     Arg::new(alloc, id).action(ArgAction::Set).help(help)
+}
+
+/// One with a value or more.
+fn several<'a>(alloc: Global, id: &'a str, help: &'a str) -> Arg<'a>
+    ensures rule { rule_of result ≡ values_argument id.entry.now }
+    ensures local { result.global ≡ false }
+{
+    Arg::new(alloc, id)
+        .action(ArgAction::Append)
+        .num_args(1..)
+        .help(help)
 }
 
 /// A flag.

@@ -39,6 +39,9 @@ pub(crate) struct Entry<'a> {
 
 const SET: Argument<'static> = Argument::File("FILE", "The text or the image of the driver set");
 
+/// What the paths are of which the driver sets are judged.
+const PATHS: &str = "Texts or images of driver sets, or folders with such files";
+
 const SCHEDULE: Argument<'static> = Argument::File("SCHEDULE", "The threads and the events");
 
 const UNCHECKED: Argument<'static> = Argument::Flag(
@@ -57,16 +60,16 @@ const FORMAT: Argument<'static> = Argument::Value(
 const COMMANDS: [Entry<'static>; 11] = [
     Entry {
         name: "check",
-        about: "Accepts or refuses a driver set",
+        about: "Accepts or refuses driver sets",
         usage: None,
-        arguments: &[SET, FORMAT],
+        arguments: &[Argument::Files("PATH", PATHS), FORMAT],
     },
     Entry {
         name: "explain",
-        about: "Accepts or refuses a driver set, and says in words why; or says a rule in words",
+        about: "Accepts or refuses driver sets, and says in words why; or says a rule in words",
         usage: Some(EXPLAIN_USAGE),
         arguments: &[
-            Argument::AnyFile("FILE", "The text or the image of the driver set"),
+            Argument::AnyFiles("PATH", PATHS),
             Argument::Flag("all", "Explains the first fault of each routine"),
             Argument::Value(
                 "RULE",

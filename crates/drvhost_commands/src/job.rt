@@ -32,13 +32,14 @@ use thiserror::Error;
 const USAGE: &str = "Usage: drvhost <COMMAND>";
 
 /// What the program is to do, with the names of its files.
-#[derive(Clone, Copy)]
+#[derive(Drop)]
 pub enum Job<'a> {
     /// A page that stands in the program.
     Page(Page),
-    /// `check FILE`, as text
-    Check {
-        set: &'a str,
+    /// The driver sets that paths stand for are judged.
+    OnPaths {
+        paths: Vec<&'a str>,
+        judging: Judging,
     },
     /// `rewrite FILE OUT`
     Rewrite {
@@ -75,13 +76,20 @@ pub enum Page {
     Version,
 }
 
+/// What is written of driver sets that are judged.
+#[derive(Clone, Copy)]
+pub enum Judging {
+    /// `check PATH..`, as text
+    Check,
+    /// `check PATH.. --format json`
+    CheckJson,
+    /// `explain PATH.. [--all]`
+    Explain(Extent),
+}
+
 /// What is done with a driver set alone.
 #[derive(Clone, Copy)]
 pub enum Task {
-    /// `check FILE --format json`
-    CheckJson,
-    /// `explain FILE [--all]`
-    Explain(Extent),
     /// `mend FILE [--tries N]`
     Mend(u64),
     /// `list FILE`
@@ -200,7 +208,7 @@ impl<'a> Job<'a> {
     {
         let mut program = program(alloc)?;
         match program.try_get_matches_from_mut(words) {
-            Ok(matches) => match named(&matches) {
+            Ok(matches) => match named(alloc, &matches)? {
                 Some(job) => Ok(job),
                 None => Err(JobFault::Usage(unnamed(alloc, &mut program, &matches)?)),
             },

@@ -1,10 +1,11 @@
 //! Which job the matches of a command line name.
 
-ghost use Rattle.std.specs.Prelude.{◌≡◌, ◌≤◌, codes, false, option_map, IfNone, IfSome, IsTrue, ℕ, List};
-ghost use Rattle.clap.specs.Words.{first_of, found_of, rows_of, subcommand_rows_of};
-ghost use Rattle.drvhost_commands.specs.CommandLine.{IsChosen, IsDetail, IsFigure, IsFormat, IsGiven, IsManner, IsReach, Names, NamesBy, NamesFiles, NamesPage, NamesRun, NamesSet, NamesTask, NamesWay, any_number_asked, number_asked};
+ghost use Rattle.std.specs.Prelude.{◌≡◌, ◌≤◌, codes, false, map, option_map, IfNone, IfOk, IfSome, IsTrue, ℕ, List};
+ghost use Rattle.std.specs.Borrow.{Bor};
+ghost use Rattle.clap.specs.Words.{all_of, first_of, found_of, rows_of, subcommand_rows_of};
+ghost use Rattle.drvhost_commands.specs.CommandLine.{IsChosen, IsDetail, IsFigure, IsFormat, IsGiven, IsManner, IsReach, Names, NamesBy, NamesFiles, NamesJudging, NamesPage, NamesPaths, NamesRun, NamesSet, NamesTask, NamesWay, any_number_asked, number_asked};
 
-use crate::job::{Job, Page, Task, Way, Workers};
+use crate::job::{Job, Judging, Page, Task, Way, Workers};
 use clap::ArgMatches;
 use drvhost_devices::verification::Verification;
 use drvhost_options::extent::Extent;
@@ -18,32 +19,48 @@ use hunt_bounds::reach::{
 use interleave::read::number_within;
 use model::limits::MAX_THREADS;
 use report::rule::rule_named;
+use std::alloc::{AllocError, Global};
 
 /// The job that a parsed command line names.
-pub(crate) fn named<'a>(matches: &ArgMatches<'a>) -> Option<Job<'a>>
-    ensures some { IfSome result (Names (subcommand_rows_of matches.now)) }
-    ensures none { IfNone result ((job : Job) → Names (subcommand_rows_of matches.now) job → ⊥) }
+pub(crate) fn named<'a>(
+    alloc: Global,
+    matches: &ArgMatches<'a>,
+) -> Result<Option<Job<'a>>, AllocError>
+    ensures some { IfOk result (λ named.
+        IfSome named (Names (subcommand_rows_of matches.now))) }
+    ensures none { IfOk result (λ named.
+        IfNone named ((job : Job) → Names (subcommand_rows_of matches.now) job → ⊥)) }
 {
-    let (command, inner) = matches.subcommand()?;
-    job_named(command, inner)
+    match matches.subcommand() {
+        Some((command, inner)) => job_named(alloc, command, inner),
+        None => Ok(None),
+    }
 }
 
 /// The one that a command and its matches name.
-fn job_named<'a>(command: &str, matches: &ArgMatches<'a>) -> Option<Job<'a>>
-    ensures some { IfSome result (NamesBy (command.now, rows_of (found_of matches.now))) }
-    ensures none { IfNone result
-        ((job : Job) → NamesBy (command.now, rows_of (found_of matches.now)) job → ⊥) }
+fn job_named<'a>(
+    alloc: Global,
+    command: &str,
+    matches: &ArgMatches<'a>,
+) -> Result<Option<Job<'a>>, AllocError>
+    ensures some { IfOk result (λ named.
+        IfSome named (NamesBy (command.now, rows_of (found_of matches.now)))) }
+    ensures none { IfOk result (λ named. IfNone named
+        ((job : Job) → NamesBy (command.now, rows_of (found_of matches.now)) job → ⊥)) }
 {
     if let Some(page) = page_named(command, matches) {
-        return Some(Job::Page(page));
+        return Ok(Some(Job::Page(page)));
+    }
+    if let Some(job) = paths_named(alloc, command, matches)? {
+        return Ok(Some(job));
     }
     if let Some(job) = set_named(command, matches) {
-        return Some(job);
+        return Ok(Some(job));
     }
     if let Some(job) = run_named(command, matches) {
-        return Some(job);
+        return Ok(Some(job));
     }
-    file_named(command, matches)
+    Ok(file_named(command, matches))
 }
 
 /// The page that they name.
@@ -67,13 +84,75 @@ fn page_to_explain(matches: &ArgMatches<'_>) -> Option<Page>
         ((page : Page) → NamesPage (codes "explain", rows_of (found_of matches.now)) page → ⊥) }
 {
     let word = argument(matches, "RULE")?;
-    match (argument(matches, "FILE"), extent_asked(matches)) {
+    match (argument(matches, "PATH"), extent_asked(matches)) {
         (None, Extent::First) if word == "LockOrder" => Some(Page::LockOrder),
         (None, Extent::First) => {
             let rule = rule_named(word)?;
             Some(Page::Rule(rule))
         }
         _ => None,
+    }
+}
+
+/// The paths that they name, of which the sets are to be judged.
+fn paths_named<'a>(
+    alloc: Global,
+    command: &str,
+    matches: &ArgMatches<'a>,
+) -> Result<Option<Job<'a>>, AllocError>
+    ensures some { IfOk result (λ named.
+        IfSome named (NamesBy (command.now, rows_of (found_of matches.now)))) }
+    ensures none { IfOk result (λ named. IfNone named
+        ((paths : List (Bor (List ℕ))) (judging : Judging)
+        → NamesPaths (command.now, rows_of (found_of matches.now)) paths judging → ⊥)) }
+{
+    let Some(judging) = judging_named(command, matches) else {
+        return Ok(None);
+    };
+    let Some(given) = arguments(matches, "PATH") else {
+        return Ok(None);
+    };
+    let mut paths = Vec::new(alloc);
+    paths.extend_from_slice(given)?;
+    Ok(Some(Job::OnPaths { paths, judging }))
+}
+
+/// How sets are to be judged.
+fn judging_named(command: &str, matches: &ArgMatches<'_>) -> Option<Judging>
+    ensures some { IfSome result (NamesJudging (command.now, rows_of (found_of matches.now))) }
+    ensures none { IfNone result ((judging : Judging)
+        → NamesJudging (command.now, rows_of (found_of matches.now)) judging → ⊥) }
+{
+    match command {
+        "check" => sets_to_check(matches),
+        "explain" => sets_to_explain(matches),
+        _ => None,
+    }
+}
+
+/// How sets are to be checked, if there is a format of that name.
+fn sets_to_check(matches: &ArgMatches<'_>) -> Option<Judging>
+    ensures some { IfSome result
+        (NamesJudging (codes "check", rows_of (found_of matches.now))) }
+    ensures none { IfNone result ((judging : Judging)
+        → NamesJudging (codes "check", rows_of (found_of matches.now)) judging → ⊥) }
+{
+    match format_asked(matches)? {
+        Format::Plain => Some(Judging::Check),
+        Format::Json => Some(Judging::CheckJson),
+    }
+}
+
+/// How sets are to be explained, where no rule is.
+fn sets_to_explain(matches: &ArgMatches<'_>) -> Option<Judging>
+    ensures some { IfSome result
+        (NamesJudging (codes "explain", rows_of (found_of matches.now))) }
+    ensures none { IfNone result ((judging : Judging)
+        → NamesJudging (codes "explain", rows_of (found_of matches.now)) judging → ⊥) }
+{
+    match argument(matches, "RULE") {
+        Some(_) => None,
+        None => Some(Judging::Explain(extent_asked(matches))),
     }
 }
 
@@ -95,36 +174,10 @@ fn task_named(command: &str, matches: &ArgMatches<'_>) -> Option<Task>
         ((task : Task) → NamesTask (command.now, rows_of (found_of matches.now)) task → ⊥) }
 {
     match command {
-        "check" => set_to_check(matches),
-        "explain" => set_to_explain(matches),
         "mend" => set_to_mend(matches),
         "list" => Some(Task::List),
         "hunt" => set_to_hunt(matches),
         _ => None,
-    }
-}
-
-/// A set is to be checked, and that not answered as text.
-fn set_to_check(matches: &ArgMatches<'_>) -> Option<Task>
-    ensures some { IfSome result (NamesTask (codes "check", rows_of (found_of matches.now))) }
-    ensures none { IfNone result
-        ((task : Task) → NamesTask (codes "check", rows_of (found_of matches.now)) task → ⊥) }
-{
-    match format_asked(matches)? {
-        Format::Plain => None,
-        Format::Json => Some(Task::CheckJson),
-    }
-}
-
-/// A set is to be explained, where no rule is.
-fn set_to_explain(matches: &ArgMatches<'_>) -> Option<Task>
-    ensures some { IfSome result (NamesTask (codes "explain", rows_of (found_of matches.now))) }
-    ensures none { IfNone result
-        ((task : Task) → NamesTask (codes "explain", rows_of (found_of matches.now)) task → ⊥) }
-{
-    match argument(matches, "RULE") {
-        Some(_) => None,
-        None => Some(Task::Explain(extent_asked(matches))),
     }
 }
 
@@ -210,22 +263,9 @@ fn file_named<'a>(command: &str, matches: &ArgMatches<'a>) -> Option<Job<'a>>
         ((job : Job) → NamesFiles (command.now, rows_of (found_of matches.now)) job → ⊥) }
 {
     match command {
-        "check" => check_named(matches),
         "rewrite" => rewrite_named(matches),
         "host" => host_named(matches),
         _ => None,
-    }
-}
-
-fn check_named<'a>(matches: &ArgMatches<'a>) -> Option<Job<'a>>
-    ensures some { IfSome result (NamesBy (codes "check", rows_of (found_of matches.now))) }
-    ensures none { IfNone result
-        ((job : Job) → NamesFiles (codes "check", rows_of (found_of matches.now)) job → ⊥) }
-{
-    let set = argument(matches, "FILE")?;
-    match format_asked(matches)? {
-        Format::Plain => Some(Job::Check { set }),
-        Format::Json => None,
     }
 }
 
@@ -317,6 +357,14 @@ pub(crate) fn argument<'a>(matches: &ArgMatches<'a>, id: &str) -> Option<&'a str
         (rows_of (found_of matches.now)) }
 {
     matches.get_str(id)
+}
+
+/// The values of an argument, of all its uses.
+fn arguments<'m, 'a>(matches: &'m ArgMatches<'a>, id: &str) -> Option<&'m [&'a str]>
+    ensures { option_map (λ values. map (λ value. value.now) values.now) result
+        ≡ all_of id.now (rows_of (found_of matches.now)) }
+{
+    matches.get_raw(id)
 }
 
 /// How an answer is written.

@@ -8,13 +8,13 @@ use std::fmt;
 
 /// How `explain` is used.
 pub(crate) const EXPLAIN_USAGE: &str =
-    "drvhost explain [--all] <FILE>\n       drvhost explain --rule <RULE>";
+    "drvhost explain [--all] <PATH>...\n       drvhost explain --rule <RULE>";
 
 /// How `tell` is used, and what is told where two of its levels are asked for.
 const TELL_USAGE: &str = "drvhost tell [OPTIONS] <FILE> <SCHEDULE>";
 
 /// How `check` is used, and how `trace` is.
-const CHECK_USAGE: &str = "drvhost check [OPTIONS] <FILE>";
+const CHECK_USAGE: &str = "drvhost check [OPTIONS] <PATH>...";
 
 const TRACE_USAGE: &str = "drvhost trace [OPTIONS] <FILE> <SCHEDULE>";
 
@@ -55,12 +55,12 @@ fn unnumbered(program: &mut Command<'_>) -> Result<String, AllocError> {
 fn unexplained(alloc: Global, matches: &ArgMatches<'_>) -> Result<String, AllocError> {
     let mut text = String::from_str(alloc, "error: ")?;
     match argument(matches, "RULE") {
-        None => text.push_str("a FILE is wanted, or a rule by '--rule'")?,
+        None => text.push_str("a PATH is wanted, or a rule by '--rule'")?,
         Some(word) if rule_named(word).is_none() => {
             write!(text, "there is no rule '{word}': the rules are\n")?;
             add_rules(alloc, &mut text)?;
         }
-        Some(_) => text.push_str("'--rule' goes with no FILE and with no '--all'")?,
+        Some(_) => text.push_str("'--rule' goes with no PATH and with no '--all'")?,
     }
     add_usage(&mut text, EXPLAIN_USAGE)?;
     Ok(text)

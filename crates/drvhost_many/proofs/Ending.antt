@@ -8,19 +8,18 @@ use Rattle.drvhost_devices.specs.Device.{Says, SaysBehind, Supply}
 use Rattle.drvhost_devices.proofs.Writing.{appends_more, appends_none, behind_more, keeps_same, writes_behind}
 use Rattle.drvhost_many.specs.declared.many.Halt.{Halt}
 use Rattle.drvhost_many.specs.declared.many.Halt.TheVariants.{Memory, Write}
-use Rattle.drvhost_many.specs.declared.many.Task.{Task}
-use Rattle.drvhost_many.specs.declared.many.Task.TheVariants.{Checked, Explained}
-use Rattle.drvhost_found.specs.declared.find.Found.{Found}
-use Rattle.drvhost_many.specs.All.{Answered, AnswersAll, AnswersEach, AreFound, AreOf, EachEnds, OutOfMemory, WriteFailed, nothing}
-use Rattle.drvhost_many.specs.Marked.{gap, marked, named_answer}
+use Rattle.drvhost_commands.specs.declared.job.Judging.{Judging}
+use Rattle.drvhost_commands.specs.declared.job.Judging.TheVariants.{Check, CheckJson, Explain}
+use Rattle.drvhost_many.specs.All.{Answered, AnswersEach, AreOf, EachEnds, OutOfMemory, WriteFailed, nothing}
+use Rattle.drvhost_many.specs.Marked.{gap, marked, named_answer, noted}
 use Rattle.drvhost_many.specs.One.{GoesOne, IsOfOne, halt_status}
 use Rattle.drvhost_many.proofs.Joining.{of_more}
 
 -- the answers for some files have gone out
-pub record SoFar (task : Task) (supply : List ℕ → Supply) (names : List (String Global))
+pub record SoFar (judging : Judging) (supply : List ℕ → Supply) (names : List (String Global))
     (reads status : ℕ) (before after : Option (List ℕ)) (Tells : List ℕ → Type 0) : Type 0 where
   pub answer : Answer
-  pub are : AreOf task supply names reads answer
+  pub are : AreOf judging supply names reads answer
   pub status_is : status ≡ answer.status
   pub appended : Appends before after answer.output
   pub tells : Tells answer.told
@@ -41,10 +40,10 @@ kept b m n text a k =
     let P : List ℕ → Type 0 = Appends b n in
     subst P (append-nil text) (appends_more b m n text [] a (appends_none m n k))
 
-reads_most : (task : Task) (supply : Supply) (reads : ℕ) (answer : Answer)
-    → IsOfOne task supply reads answer → reads ≤ 1
-reads_most task supply reads answer (inl (none, right)) = omega (arith, none)
-reads_most task supply reads answer (inr (one, is)) = omega (arith, one)
+reads_most : (judging : Judging) (name : List ℕ) (supply : Supply) (reads : ℕ) (answer : Answer)
+    → IsOfOne judging name supply reads answer → reads ≤ 1
+reads_most judging name supply reads answer (inl (none, right)) = omega (arith, none)
+reads_most judging name supply reads answer (inr (one, is)) = omega (arith, one)
 
 not_ended : (status : ℕ) (end other : Result ℕ Halt) → end ≡ Ok status → other ≡ Err Memory
     → end ≡ other → ⊥
@@ -55,9 +54,9 @@ not_both end other p q e =
     let same : Err Write ≡ Err Memory = sym p ∙ e ∙ q in
     let halts : Write ≡ Memory = search rules in cc
 
-pub so_far_none : (task : Task) (supply : List ℕ → Supply) (b : Option (List ℕ)) (failures e : ℕ)
-    (p : Option (List ℕ)) → SoFar task supply [] 0 0 b b (SaysBehind failures e e p p)
-so_far_none task supply b failures e p =
+pub so_far_none : (judging : Judging) (supply : List ℕ → Supply) (b : Option (List ℕ)) (failures e : ℕ)
+    (p : Option (List ℕ)) → SoFar judging supply [] 0 0 b b (SaysBehind failures e e p p)
+so_far_none judging supply b failures e p =
     record {
       answer = nothing;
       are = (refl, refl);
@@ -66,26 +65,26 @@ so_far_none task supply b failures e p =
       tells = behind_none failures e p;
     }
 
-module _ (task : Task) (supply : List ℕ → Supply) (before : List (String Global))
+module _ (judging : Judging) (supply : List ℕ → Supply) (before : List (String Global))
     (one : String Global) (r status failures e f h : ℕ) (b m n p q t : Option (List ℕ))
     (reads_before reads_after w x : ℕ)
-    (so : SoFar task supply before r status b m (SaysBehind failures e f p q)) where
+    (so : SoFar judging supply before r status b m (SaysBehind failures e f p q)) where
   -- one file more
   pub so_far_more : (answered : ℕ)
-      → GoesOne task (supply (string_bytes one)) (string_bytes one) reads_before reads_after w x m n
+      → GoesOne judging (supply (string_bytes one)) (string_bytes one) reads_before reads_after w x m n
       (SaysBehind failures f h q t) (Ok answered)
       → (s : ℕ) × (reads_after ≡ reads_before + s) × (s ≤ 1) × (x ≡ w)
-      × SoFar task supply (before ++ one ∷ []) (r + s) (max status answered) b n
+      × SoFar judging supply (before ++ one ∷ []) (r + s) (max status answered) b n
       (SaysBehind failures e h p t)
   so_far_more answered (s, are, inl (answer, is, (ended, wrote, out, tells))) =
-      let told = named_answer task (string_bytes one) answer in (
+      let told = named_answer judging (string_bytes one) answer in (
         s,
         are,
-        reads_most task (supply (string_bytes one)) s answer is,
+        reads_most judging (string_bytes one) (supply (string_bytes one)) s answer is,
         wrote,
         record {
           answer = _;
-          are = of_more task supply before one r s so.answer answer so.are is;
+          are = of_more judging supply before one r s so.answer answer so.are is;
           status_is = rw (so.status_is, ended) refl;
           appended = appends_more b m n so.answer.output told.output so.appended out;
           tells = behind_more failures e f h p q t so.answer.told told.told so.tells tells;
@@ -99,9 +98,9 @@ module _ (task : Task) (supply : List ℕ → Supply) (before : List (String Glo
       (start : reads_before ≡ reads_start + r) (writes : w ≡ w_start) where
     -- something keeps from going on
     pub halts : (halt : Halt)
-        → GoesOne task (supply (string_bytes one)) (string_bytes one) reads_before reads_after w x m n
+        → GoesOne judging (supply (string_bytes one)) (string_bytes one) reads_before reads_after w x m n
         (SaysBehind failures f h q t) (Err halt)
-        → AnswersEach task supply names opened_before opened_after reads_start reads_after w_start x b
+        → AnswersEach judging supply names opened_before opened_after reads_start reads_after w_start x b
         n (Says e h p t) (halt_status halt)
     halts Write (s, are, inl (answer, is, (wrote, part, tells))) =
         let name = string_bytes one in
@@ -130,14 +129,14 @@ module _ (task : Task) (supply : List ℕ → Supply) (before : List (String Glo
                 answers = so.are;
               })
               is refl refl refl refl
-              (writes_behind r b m n so.answer.output (marked task name answer.output) so.appended
+              (writes_behind r b m n so.answer.output (marked judging name answer.output) so.appended
               part);
         }
     halts Memory (s, are, inl (answer, is, never)) = absurd never
     halts Write (s, are, inr (other, wrote, keep, tells)) = absurd (not_both _ _ refl refl other)
     halts Memory (s, are, inr (other, wrote, keep, tells)) =
         let name = string_bytes one in
-        let text = marked task name (codes "out of memory\n") in
+        let text = noted judging name (codes "out of memory\n") in
         record {
           opened = length before + 1;
           reads = _;
@@ -165,14 +164,14 @@ module _ (task : Task) (supply : List ℕ → Supply) (before : List (String Glo
         }
 
 -- all files are answered
-pub ends_all : (task : Task) (supply : List ℕ → Supply) (names : List (String Global))
+pub ends_all : (judging : Judging) (supply : List ℕ → Supply) (names : List (String Global))
     (r status failures e h opened_before opened_after reads_before reads_after w x : ℕ)
-    (b n p t : Option (List ℕ)) → SoFar task supply names r status b n (SaysBehind failures e h p t)
+    (b n p t : Option (List ℕ)) → SoFar judging supply names r status b n (SaysBehind failures e h p t)
     → failures ≡ e → opened_after ≡ opened_before + length names
     → reads_after ≡ reads_before + r → x ≡ w
-    → AnswersEach task supply names opened_before opened_after reads_before reads_after w x b n
+    → AnswersEach judging supply names opened_before opened_after reads_before reads_after w x b n
     (Says e h p t) status
-ends_all task supply names r status failures e h opened_before opened_after reads_before reads_after w x b n p t so same opened reads writes =
+ends_all judging supply names r status failures e h opened_before opened_after reads_before reads_after w x b n p t so same opened reads writes =
     record {
       opened = length names;
       reads = r;
@@ -186,12 +185,12 @@ ends_all task supply names r status failures e h opened_before opened_after read
     }
 
 -- by what is known of a name
-pub goes_as : (task other : Task) (supply known : List ℕ → Supply) (name same : List ℕ)
+pub goes_as : (judging other : Judging) (supply known : List ℕ → Supply) (name same : List ℕ)
     (reads_before reads_after w x : ℕ) (m n : Option (List ℕ)) (Tells : List ℕ → Type 0)
-    (end : Result ℕ Halt) → other ≡ task → known ≡ supply → same ≡ name
+    (end : Result ℕ Halt) → other ≡ judging → known ≡ supply → same ≡ name
     → GoesOne other (known same) same reads_before reads_after w x m n Tells end
-    → GoesOne task (supply name) name reads_before reads_after w x m n Tells end
-goes_as task other supply known name same reads_before reads_after w x m n Tells end p q r goes =
+    → GoesOne judging (supply name) name reads_before reads_after w x m n Tells end
+goes_as judging other supply known name same reads_before reads_after w x m n Tells end p q r goes =
     let first = subst (λ y. GoesOne other (known y) y reads_before reads_after w x m n Tells end) r goes in
     let second = subst (λ k. GoesOne other (k name) name reads_before reads_after w x m n Tells end) q first in
     subst (λ t. GoesOne t (supply name) name reads_before reads_after w x m n Tells end) p second
@@ -203,81 +202,35 @@ split_at xs i x h is =
     sym (take-append-drop i xs)
     ∙ ap (λ l. take i xs ++ l) (drop_more xs i x h ∙ ap (λ y. y ∷ drop (i + 1) xs) (sym is))
 
-pub so_far_next : (task : Task) (supply : List ℕ → Supply) (names : List (String Global)) (i : ℕ)
+pub so_far_next : (judging : Judging) (supply : List ℕ → Supply) (names : List (String Global)) (i : ℕ)
     (one : String Global) (r reads status st : ℕ) (b n : Option (List ℕ)) (Tells : List ℕ → Type 0)
     → i < length names → one ≡ get_or names i one → r ≡ reads → status ≡ st
-    → SoFar task supply (take i names ++ one ∷ []) r status b n Tells
-    → SoFar task supply (take (i + 1) names) reads st b n Tells
-so_far_next task supply names i one r reads status st b n Tells h is same sames so =
+    → SoFar judging supply (take i names ++ one ∷ []) r status b n Tells
+    → SoFar judging supply (take (i + 1) names) reads st b n Tells
+so_far_next judging supply names i one r reads status st b n Tells h is same sames so =
     let next : take i names ++ one ∷ [] ≡ take (i + 1) names =
     ap (λ x. take i names ++ x ∷ []) is ∙ sym (take_more names i one h) in
-    subst (λ s. SoFar task supply (take (i + 1) names) reads s b n Tells) sames
-    (subst (λ k. SoFar task supply (take (i + 1) names) k status b n Tells) same
-    (subst (λ l. SoFar task supply l r status b n Tells) next so))
+    subst (λ s. SoFar judging supply (take (i + 1) names) reads s b n Tells) sames
+    (subst (λ k. SoFar judging supply (take (i + 1) names) k status b n Tells) same
+    (subst (λ l. SoFar judging supply l r status b n Tells) next so))
 
-pub so_far_all : (task : Task) (supply : List ℕ → Supply) (names : List (String Global)) (i : ℕ)
+pub so_far_all : (judging : Judging) (supply : List ℕ → Supply) (names : List (String Global)) (i : ℕ)
     (reads status : ℕ) (b n : Option (List ℕ)) (Tells : List ℕ → Type 0)
-    → length names ≤ i → SoFar task supply (take i names) reads status b n Tells
-    → SoFar task supply names reads status b n Tells
-so_far_all task supply names i reads status b n Tells h so =
-    subst (λ l. SoFar task supply l reads status b n Tells) (take_all i names h) so
-
--- by the paths that the files are found for
-pub all_found : {P : Type 0} (task : Task) (Stands : P → Found → Type 0) (supply : List ℕ → Supply)
-    (paths : List P) (names same : List (String Global)) (o1 o2 r1 r2 w x : ℕ)
-    (b n : Option (List ℕ)) (Tells : List ℕ → Type 0) (status : ℕ) → AreFound Stands paths names
-    → same ≡ names → AnswersEach task supply same o1 o2 r1 r2 w x b n Tells status
-    → AnswersAll task Stands supply paths o1 o2 r1 r2 w x b n Tells status
-all_found task Stands supply paths names same o1 o2 r1 r2 w x b n Tells status found is a =
-    record {
-      opened = a.opened;
-      reads = a.reads;
-      writes = a.writes;
-      told = a.told;
-      opened_are = a.opened_are;
-      reads_are = a.reads_are;
-      writes_are = a.writes_are;
-      tells = a.tells;
-      ends = inl (
-        names,
-        found,
-        subst (λ l. EachEnds task supply l a.opened a.reads a.writes b n status a.told) is a.ends,
-      );
-    }
-
-pub none_found : {P : Type 0} (task : Task) (Stands : P → Found → Type 0)
-    (supply : List ℕ → Supply) (paths : List P) (o r w : ℕ) (b : Option (List ℕ))
-    (Tells : List ℕ → Type 0) (status : ℕ) → status ≡ 3 → Tells (codes "out of memory\n")
-    → AnswersAll task Stands supply paths o o r r w w b b Tells status
-none_found task Stands supply paths o r w b Tells status is tells =
-    record {
-      opened = 0;
-      reads = 0;
-      writes = 0;
-      told = codes "out of memory\n";
-      opened_are = omega arith;
-      reads_are = omega arith;
-      writes_are = omega arith;
-      tells = tells;
-      ends = inr (record {
-        opened_are = refl;
-        reads_are = refl;
-        writes_are = refl;
-        status_is = is;
-        told_is = refl;
-        keeps = keeps_same b;
-      });
-    }
+    → length names ≤ i → SoFar judging supply (take i names) reads status b n Tells
+    → SoFar judging supply names reads status b n Tells
+so_far_all judging supply names i reads status b n Tells h so =
+    subst (λ l. SoFar judging supply l reads status b n Tells) (take_all i names h) so
 
 -- what is told where memory runs out for a file
-pub no_memory_told : (task : Task) (name a d text : List ℕ) → a ≡ name → d ≡ gap task
+pub no_memory_told : (judging : Judging) (name a d text : List ℕ) → a ≡ name → d ≡ gap judging
     → text ≡ codes "out of memory\n"
-    → (a ++ d) ++ text ≡ marked task name (codes "out of memory\n")
-no_memory_told task name a d text p q r =
+    → (a ++ d) ++ text ≡ noted judging name (codes "out of memory\n")
+no_memory_told judging name a d text p q r =
     ap (λ x. (x ++ d) ++ text) p ∙ ap (λ x. (name ++ x) ++ text) q
-    ∙ ap (λ x. (name ++ gap task) ++ x) r ∙ no_memory_marked task name
+    ∙ ap (λ x. (name ++ gap judging) ++ x) r ∙ no_memory_noted judging name
   where
-    no_memory_marked : (task : Task) (name : List ℕ)
-        → (name ++ gap task) ++ codes "out of memory\n" ≡ marked task name (codes "out of memory\n")
-    no_memory_marked Checked name = refl
-    no_memory_marked (Explained extent) name = refl
+    no_memory_noted : (judging : Judging) (name : List ℕ)
+        → (name ++ gap judging) ++ codes "out of memory\n" ≡ noted judging name (codes "out of memory\n")
+    no_memory_noted Check name = refl
+    no_memory_noted CheckJson name = refl
+    no_memory_noted (Explained extent) name = refl

@@ -3,7 +3,7 @@ use Rattle.std.proofs.Common.{◌≡◌, ◌∙◌, ◌+◌, ℕ, List, [], ◌�
 use Rattle.std.specs.Global.{Global}
 use Rattle.drvhost_devices.specs.Answer.{Answer}
 use Rattle.drvhost_devices.specs.Device.{Supply}
-use Rattle.drvhost_many.specs.declared.many.Task.{Task}
+use Rattle.drvhost_commands.specs.declared.job.Judging.{Judging}
 use Rattle.drvhost_many.specs.All.{AreOf, joined, nothing}
 use Rattle.drvhost_many.specs.Marked.{named_answer}
 use Rattle.drvhost_many.specs.One.{IsOfOne}
@@ -29,13 +29,13 @@ joined_none a =
     λ i. record { status = status i; output = output i; told = told i }
 
 -- those for one file more
-pub of_more : (task : Task) (supply : List ℕ → Supply) (names : List (String Global))
-    (name : String Global) (r s : ℕ) (first last : Answer) → AreOf task supply names r first
-    → IsOfOne task (supply (string_bytes name)) s last
-    → AreOf task supply (names ++ name ∷ []) (r + s)
-    (joined first (named_answer task (string_bytes name) last))
-of_more task supply [] name r s first last (none, empty) is =
-    let told = named_answer task (string_bytes name) last in (
+pub of_more : (judging : Judging) (supply : List ℕ → Supply) (names : List (String Global))
+    (name : String Global) (r s : ℕ) (first last : Answer) → AreOf judging supply names r first
+    → IsOfOne judging (string_bytes name) (supply (string_bytes name)) s last
+    → AreOf judging supply (names ++ name ∷ []) (r + s)
+    (joined first (named_answer judging (string_bytes name) last))
+of_more judging supply [] name r s first last (none, empty) is =
+    let told = named_answer judging (string_bytes name) last in (
       s,
       0,
       last,
@@ -45,15 +45,15 @@ of_more task supply [] name r s first last (none, empty) is =
       omega (arith, none),
       ap (λ a. joined a told) empty ∙ joined_none told,
     )
-of_more task supply (one ∷ names) name r s first last (failed, others, answer, rest, here, more, sum, whole) is =
-    let told = named_answer task (string_bytes name) last in (
+of_more judging supply (one ∷ names) name r s first last (failed, others, answer, rest, here, more, sum, whole) is =
+    let told = named_answer judging (string_bytes name) last in (
       failed,
       others + s,
       answer,
       joined rest told,
       here,
-      of_more task supply names name others s rest last more is,
+      of_more judging supply names name others s rest last more is,
       omega (arith, sum),
       ap (λ a. joined a told) whole
-          ∙ joined_assoc (named_answer task (string_bytes one) answer) rest told,
+          ∙ joined_assoc (named_answer judging (string_bytes one) answer) rest told,
     )

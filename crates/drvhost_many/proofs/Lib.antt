@@ -2,3 +2,5 @@ pub mod Collected
 pub mod Finding
 pub mod Joining
 pub mod Ending
+pub mod Judged
+pub mod Alone

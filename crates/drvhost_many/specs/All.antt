@@ -1,12 +1,13 @@
 -- What is answered for several files.
-use Rattle.std.specs.Prelude.{ℕ, ◌≡◌, ◌+◌, ◌++◌, ◌⊎◌, List, [], ◌∷◌, codes, length, max, Option, String, string_bytes}
+use Rattle.std.specs.Prelude.{ℕ, ◌≡◌, ◌+◌, ◌++◌, ◌⊎◌, List, [], ◌∷◌, codes, length, map, max, Option, String, string_bytes}
+use Rattle.std.specs.Borrow.{Bor}
 use Rattle.std.specs.Global.{Global}
 use Rattle.std.specs.Io.KnownBytes.{Appends, Keeps}
+use Rattle.drvhost_commands.specs.declared.job.Judging.{Judging}
 use Rattle.drvhost_devices.specs.Answer.{Answer}
 use Rattle.drvhost_devices.specs.Device.{Supply, TakesBeginning}
 use Rattle.drvhost_found.specs.declared.find.Found.{Found}
-use Rattle.drvhost_many.specs.declared.many.Task.{Task}
-use Rattle.drvhost_many.specs.Marked.{marked, named_answer}
+use Rattle.drvhost_many.specs.Marked.{marked, named_answer, noted}
 use Rattle.drvhost_many.specs.One.{IsOfOne}
 
 -- the names of the files that paths stand for, path by path, where each may stand for such a
@@ -17,6 +18,12 @@ AreFound Stands (path ∷ paths) names =
     (found : Found) × (others : List (String Global)) × Stands path found
     × AreFound Stands paths others
     × (names ≡ (found.files.items ++ found.unread.items) ++ others)
+
+-- there is one path, and it alone is found for it
+pub record IsAlone (paths : List (Bor (List ℕ))) (names : List (String Global)) (path : List ℕ)
+    : Type 0 where
+  pub one : map (λ given. given.now) paths ≡ path ∷ []
+  pub itself : map string_bytes names ≡ path ∷ []
 
 -- the answer for no file
 abbrev pub nothing : Answer
@@ -32,16 +39,16 @@ joined first second =
     }
 
 -- the answers for files, of which so many reads failed, in order, each told with its name
-abbrev pub AreOf : Task → (List ℕ → Supply) → List (String Global) → ℕ → Answer → Type 0
-AreOf task supply [] reads whole = (reads ≡ 0) × (whole ≡ nothing)
-AreOf task supply (name ∷ names) reads whole =
+abbrev pub AreOf : Judging → (List ℕ → Supply) → List (String Global) → ℕ → Answer → Type 0
+AreOf judging supply [] reads whole = (reads ≡ 0) × (whole ≡ nothing)
+AreOf judging supply (name ∷ names) reads whole =
     (failed others : ℕ) × (answer rest : Answer)
-    × IsOfOne task (supply (string_bytes name)) failed answer
-    × AreOf task supply names others rest × (reads ≡ failed + others)
-    × (whole ≡ joined (named_answer task (string_bytes name) answer) rest)
+    × IsOfOne judging (string_bytes name) (supply (string_bytes name)) failed answer
+    × AreOf judging supply names others rest × (reads ≡ failed + others)
+    × (whole ≡ joined (named_answer judging (string_bytes name) answer) rest)
 
 -- one of several files, with those before it, and their answers
-pub record IsAt (task : Task) (supply : List ℕ → Supply) (names : List (String Global)) (opened : ℕ)
+pub record IsAt (judging : Judging) (supply : List ℕ → Supply) (names : List (String Global)) (opened : ℕ)
     (name : List ℕ) (reads : ℕ) (answer : Answer) : Type 0 where
   pub before : List (String Global)
   pub one : String Global
@@ -49,31 +56,31 @@ pub record IsAt (task : Task) (supply : List ℕ → Supply) (names : List (Stri
   pub split : names ≡ before ++ one ∷ behind
   pub opened_are : opened ≡ length before + 1
   pub name_is : name ≡ string_bytes one
-  pub answers : AreOf task supply before reads answer
+  pub answers : AreOf judging supply before reads answer
 
--- how a task with several files ends, by its exit status, what it tells, what went out, and how
+-- how the judging of several files ends, by its exit status, what it tells, what went out, and how
 -- many files were opened, and reads and writes failed
-pub data EachEnds (task : Task) (supply : List ℕ → Supply) (names : List (String Global))
+pub data EachEnds (judging : Judging) (supply : List ℕ → Supply) (names : List (String Global))
     (opened reads writes : ℕ) (before after : Option (List ℕ)) (status : ℕ) (told : List ℕ)
     : Type 0 where
   -- all are answered
-  Answered : (answer : Answer) → AreOf task supply names reads answer → opened ≡ length names
+  Answered : (answer : Answer) → AreOf judging supply names reads answer → opened ≡ length names
       → writes ≡ 0 → status ≡ answer.status → told ≡ answer.told
       → Appends before after answer.output
-      → EachEnds task supply names opened reads writes before after status told
+      → EachEnds judging supply names opened reads writes before after status told
   -- the output of one of them couldn't be written
   WriteFailed : (name : List ℕ) (some one : ℕ) (first answer : Answer)
-      → IsAt task supply names opened name some first → IsOfOne task (supply name) one answer
+      → IsAt judging supply names opened name some first → IsOfOne judging name (supply name) one answer
       → reads ≡ some + one → writes ≡ 1 → status ≡ 2
       → told ≡ first.told ++ codes "write failed\n"
-      → TakesBeginning before after (first.output ++ marked task name answer.output)
-      → EachEnds task supply names opened reads writes before after status told
+      → TakesBeginning before after (first.output ++ marked judging name answer.output)
+      → EachEnds judging supply names opened reads writes before after status told
   -- memory ran out for one of them
   OutOfMemory : (name : List ℕ) (some one : ℕ) (first : Answer)
-      → IsAt task supply names opened name some first → reads ≡ some + one → writes ≡ 0
-      → status ≡ 3 → told ≡ first.told ++ marked task name (codes "out of memory\n")
+      → IsAt judging supply names opened name some first → reads ≡ some + one → writes ≡ 0
+      → status ≡ 3 → told ≡ first.told ++ noted judging name (codes "out of memory\n")
       → Appends before after first.output
-      → EachEnds task supply names opened reads writes before after status told
+      → EachEnds judging supply names opened reads writes before after status told
 
 -- memory ran out before a file was opened
 pub record IsUnfound (opened reads writes : ℕ) (before after : Option (List ℕ)) (status : ℕ)
@@ -84,14 +91,6 @@ pub record IsUnfound (opened reads writes : ℕ) (before after : Option (List �
   pub status_is : status ≡ 3
   pub told_is : told ≡ codes "out of memory\n"
   pub keeps : Keeps before after
-
--- how a task with the files that paths stand for ends
-abbrev pub AllEnds : {P : Type 0} → Task → (P → Found → Type 0) → (List ℕ → Supply) → List P → ℕ → ℕ
-    → ℕ → Option (List ℕ) → Option (List ℕ) → ℕ → List ℕ → Type 0
-AllEnds task Stands supply paths opened reads writes before after status told =
-    ((names : List (String Global)) × AreFound Stands paths names
-    × EachEnds task supply names opened reads writes before after status told)
-    ⊎ IsUnfound opened reads writes before after status told
 
 -- a command ends so: by its counts of opened files, failed reads and failed writes before and
 -- after, what its output held before and after, what it may have told, and its exit status
@@ -109,11 +108,7 @@ pub record Counted
   pub tells : Tells told
   pub ends : Ends opened reads writes before after status told
 
--- how a task with these files is answered, and with the files that these paths stand for
-abbrev pub AnswersEach : Task → (List ℕ → Supply) → List (String Global) → ℕ → ℕ → ℕ → ℕ → ℕ → ℕ
+-- how it goes where the sets of these files are judged
+abbrev pub AnswersEach : Judging → (List ℕ → Supply) → List (String Global) → ℕ → ℕ → ℕ → ℕ → ℕ → ℕ
     → Option (List ℕ) → Option (List ℕ) → (List ℕ → Type 0) → ℕ → Type 0
-AnswersEach task supply names = Counted (EachEnds task supply names)
-
-abbrev pub AnswersAll : {P : Type 0} → Task → (P → Found → Type 0) → (List ℕ → Supply) → List P → ℕ → ℕ
-    → ℕ → ℕ → ℕ → ℕ → Option (List ℕ) → Option (List ℕ) → (List ℕ → Type 0) → ℕ → Type 0
-AnswersAll task Stands supply paths = Counted (AllEnds task Stands supply paths)
+AnswersEach judging supply names = Counted (EachEnds judging supply names)

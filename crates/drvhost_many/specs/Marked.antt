@@ -1,13 +1,14 @@
 -- An answer told with the name of its file.
 use Rattle.std.specs.Prelude.{ℕ, ◌++◌, List, [], ◌∷◌, Bool, true, false, codes, nat_eq}
+use Rattle.drvhost_commands.specs.declared.job.Judging.{Judging}
+use Rattle.drvhost_commands.specs.declared.job.Judging.TheVariants.{Check, CheckJson, Explain}
 use Rattle.drvhost_devices.specs.Answer.{Answer}
-use Rattle.drvhost_many.specs.declared.many.Task.{Task}
-use Rattle.drvhost_many.specs.declared.many.Task.TheVariants.{Checked, Explained}
 
 -- what stands between a name and what is told
-abbrev pub gap : Task → List ℕ
-gap Checked = codes ": "
-gap (Explained extent) = codes ":\n"
+abbrev pub gap : Judging → List ℕ
+gap Check = codes ": "
+gap CheckJson = codes ": "
+gap (Explain extent) = codes ":\n"
 
 -- a text with a name before each of its lines, by whether a line begins here
 abbrev pub lines_named : List ℕ → Bool → List ℕ → List ℕ
@@ -21,16 +22,24 @@ abbrev pub headed : List ℕ → List ℕ → List ℕ
 headed name [] = []
 headed name (byte ∷ text) = (name ++ codes ":\n") ++ byte ∷ text
 
--- a text of the answer to a task: a verdict has the name before each line, an explanation above
-abbrev pub marked : Task → List ℕ → List ℕ → List ℕ
-marked Checked name text = lines_named name true text
-marked (Explained extent) name text = headed name text
+-- what goes out: a verdict has the name before each line, an explanation above, and a line of JSON
+-- has it in itself
+abbrev pub marked : Judging → List ℕ → List ℕ → List ℕ
+marked Check name text = lines_named name true text
+marked CheckJson name text = text
+marked (Explain extent) name text = headed name text
+
+-- what is told besides, which is never JSON
+abbrev pub noted : Judging → List ℕ → List ℕ → List ℕ
+noted Check name text = lines_named name true text
+noted CheckJson name text = lines_named name true text
+noted (Explain extent) name text = headed name text
 
 -- the answer for a file, told with its name
-abbrev pub named_answer : Task → List ℕ → Answer → Answer
-named_answer task name answer =
+abbrev pub named_answer : Judging → List ℕ → Answer → Answer
+named_answer judging name answer =
     record {
       status = answer.status;
-      output = marked task name answer.output;
-      told = marked task name answer.told;
+      output = marked judging name answer.output;
+      told = noted judging name answer.told;
     }

@@ -1,34 +1,51 @@
 -- What is answered for one of several files.
-use Rattle.std.specs.Prelude.{ℕ, ◌≡◌, ◌+◌, ◌⊎◌, List, codes, IfOk, Option, Result, Ok, Err}
+use Rattle.std.specs.Prelude.{ℕ, ◌≡◌, ◌+◌, ◌⊎◌, Bool, true, false, List, codes, IfOk, Option, Result, Ok, Err}
 use Rattle.std.specs.Io.KnownBytes.{Appends, Keeps}
+use Rattle.drvhost_commands.specs.declared.job.Judging.{Judging}
+use Rattle.drvhost_commands.specs.declared.job.Judging.TheVariants.{Check, CheckJson, Explain}
 use Rattle.drvhost_devices.specs.Answer.{Answer, faulty}
-use Rattle.drvhost_devices.specs.Device.{Supply, TakesBeginning}
+use Rattle.drvhost_devices.specs.Device.{MayBeClosed, Supply, TakesBeginning}
 use Rattle.drvhost_devices.specs.Ends.{IsCheckOf}
+use Rattle.drvhost_formats.specs.Check.{IsCheckJsonOf}
+use Rattle.drvhost_formats.specs.Told.{IsUnopenedJson}
 use Rattle.drvhost_sets.specs.Explained.{IsExplainedOf}
 use Rattle.drvhost_many.specs.declared.many.Halt.{Halt}
 use Rattle.drvhost_many.specs.declared.many.Halt.TheVariants.{Memory, Write}
-use Rattle.drvhost_many.specs.declared.many.Task.{Task}
-use Rattle.drvhost_many.specs.declared.many.Task.TheVariants.{Checked, Explained}
-use Rattle.drvhost_many.specs.Marked.{marked, named_answer}
+use Rattle.drvhost_many.specs.Marked.{marked, named_answer, noted}
 
--- what a task with a set answers, where this is what its file has
-abbrev pub IsDoneOf : Task → Supply → Answer → Type 0
-IsDoneOf Checked = IsCheckOf
-IsDoneOf (Explained extent) = IsExplainedOf extent
+-- what is answered for a set that is judged, where its file has this name and this to give
+abbrev pub IsJudged : Judging → List ℕ → Supply → Answer → Type 0
+IsJudged Check name = IsCheckOf
+IsJudged CheckJson name = IsCheckJsonOf name
+IsJudged (Explain extent) name = IsExplainedOf extent
+
+-- whether all that is answered is JSON
+abbrev pub is_in_json : Judging → Bool
+is_in_json CheckJson = true
+is_in_json judging = false
+
+-- then a file that can't be opened is told so too
+abbrev pub IsUnopenedAs : Judging → List ℕ → Answer → Type 0
+IsUnopenedAs CheckJson name answer = IsUnopenedJson name answer
+IsUnopenedAs judging name answer = ⊥
+
+abbrev pub IsJudgedFile : Judging → List ℕ → Supply → Answer → Type 0
+IsJudgedFile judging name supply answer =
+    IsJudged judging name supply answer ⊎ (MayBeClosed supply × IsUnopenedAs judging name answer)
 
 -- what is answered for a file of which so many reads failed: what is right for what it has, or that
 -- it can't be read
-abbrev pub IsOfOne : Task → Supply → ℕ → Answer → Type 0
-IsOfOne task supply reads answer =
-    ((reads ≡ 0) × IsDoneOf task supply answer)
+abbrev pub IsOfOne : Judging → List ℕ → Supply → ℕ → Answer → Type 0
+IsOfOne judging name supply reads answer =
+    ((reads ≡ 0) × IsJudgedFile judging name supply answer)
     ⊎ ((reads ≡ 1) × (answer ≡ faulty (codes "read failed\n")))
 
 -- the same of a call, by the failed reads before and after it, told so; or memory ran out
-abbrev pub IsToldOne : {E : Type 0} → Task → Supply → (Answer → Answer) → ℕ → ℕ → Result Answer E
-    → Type 0
-IsToldOne task supply telling before after result =
+abbrev pub IsToldOne : {E : Type 0} → Judging → List ℕ → Supply → (Answer → Answer) → ℕ → ℕ
+    → Result Answer E → Type 0
+IsToldOne judging name supply telling before after result =
     (reads : ℕ) × (after ≡ before + reads)
-    × IfOk result (λ told. (answer : Answer) × IsOfOne task supply reads answer
+    × IfOk result (λ told. (answer : Answer) × IsOfOne judging name supply reads answer
     × (told ≡ telling answer))
 
 -- the exit status for what keeps from going on
@@ -49,11 +66,11 @@ Delivers answer writes_before writes_after before after Tells (Err Write) =
 Delivers answer writes_before writes_after before after Tells (Err Memory) = ⊥
 
 -- how it goes with one of several files: its answer is delivered, or memory runs out
-abbrev pub GoesOne : Task → Supply → List ℕ → ℕ → ℕ → ℕ → ℕ → Option (List ℕ) → Option (List ℕ)
+abbrev pub GoesOne : Judging → Supply → List ℕ → ℕ → ℕ → ℕ → ℕ → Option (List ℕ) → Option (List ℕ)
     → (List ℕ → Type 0) → Result ℕ Halt → Type 0
-GoesOne task supply name reads_before reads_after writes_before writes_after before after Tells end =
+GoesOne judging supply name reads_before reads_after writes_before writes_after before after Tells end =
     (reads : ℕ) × (reads_after ≡ reads_before + reads)
-    × (((answer : Answer) × IsOfOne task supply reads answer
-    × Delivers (named_answer task name answer) writes_before writes_after before after Tells end)
+    × (((answer : Answer) × IsOfOne judging name supply reads answer
+    × Delivers (named_answer judging name answer) writes_before writes_after before after Tells end)
     ⊎ ((end ≡ Err Memory) × (writes_after ≡ writes_before) × Keeps before after
-    × Tells (marked task name (codes "out of memory\n"))))
+    × Tells (noted judging name (codes "out of memory\n"))))

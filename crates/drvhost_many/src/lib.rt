@@ -2,8 +2,8 @@
 //! in order, told with its name.
 #![tactic(auto)]
 
-mod file;
+pub mod file;
 pub mod many;
 mod named;
-mod paths;
+pub mod paths;
 mod told;

@@ -2,50 +2,66 @@
 
 ghost use Rattle.std.specs.Prelude.{◌≡◌, IfOk, codes, true};
 ghost use Rattle.drvhost_devices.specs.Device.{CanCount, SaysBehind};
-ghost use Rattle.drvhost_many.specs.Marked.{gap, headed, lines_named, marked, named_answer};
+ghost use Rattle.drvhost_many.specs.Marked.{gap, headed, lines_named, marked, named_answer, noted};
 
-use crate::many::Task;
 use crate::told::Told;
+use drvhost_commands::job::Judging;
 use drvhost_devices::device::Sink;
 use drvhost_devices::unopened::say_behind;
 use report::fault::OUT_OF_MEMORY;
 use std::alloc::{AllocError, Global};
 
-/// One of several files: what is done with its set, and its name.
+/// One of several files: how its set is judged, and its name.
 #[derive(Clone, Copy)]
 pub(crate) struct One<'n> {
-    pub(crate) task: Task,
+    pub(crate) judging: Judging,
     pub(crate) name: &'n str,
 }
 
 impl<'n> One<'n> {
-    /// A file of this name, and what is done with its set.
-    pub(crate) fn of(task: Task, name: &'n str) -> One<'n>
-        ensures task { result.task ≡ task }
+    /// A file of this name, and how its set is judged.
+    pub(crate) fn of(judging: Judging, name: &'n str) -> One<'n>
+        ensures judging { result.judging ≡ judging }
         ensures name { result.name.now ≡ name.now }
     {
-        One { task, name }
+        One { judging, name }
     }
 }
 
 /// The answer for a file, told with its name.
 pub(crate) fn with_name(alloc: Global, one: One<'_>, told: &Told) -> Result<Told, AllocError>
     ensures { IfOk result (λ named.
-        named ≡ named_answer one.entry.task one.entry.name.now told.now) }
+        named ≡ named_answer one.entry.judging one.entry.name.now told.now) }
 {
     let written = mark(alloc, one, told.output())?;
-    let errors = mark(alloc, one, told.told())?;
+    let errors = note(alloc, one, told.told())?;
     Ok(Told::of(told.status(), written, errors))
 }
 
-/// A text of the answer for a file, told with its name.
+/// What goes out for a file, told with its name.
 fn mark(alloc: Global, one: One<'_>, text: &[u8]) -> Result<Vec<u8>, AllocError>
     ensures { IfOk result (λ bytes.
-        bytes.items ≡ marked one.entry.task one.entry.name.now text.now) }
+        bytes.items ≡ marked one.entry.judging one.entry.name.now text.now) }
 {
-    match one.task {
-        Task::Checked => name_lines(alloc, one.name, text),
-        Task::Explained(_extent) => head(alloc, one.name, text),
+    match one.judging {
+        Judging::Check => name_lines(alloc, one.name, text),
+        Judging::CheckJson => {
+            let mut bytes = Vec::new(alloc);
+            bytes.extend_from_slice(text)?;
+            Ok(bytes)
+        }
+        Judging::Explain(_extent) => head(alloc, one.name, text),
+    }
+}
+
+/// What is told besides of a file, with its name.
+fn note(alloc: Global, one: One<'_>, text: &[u8]) -> Result<Vec<u8>, AllocError>
+    ensures { IfOk result (λ bytes.
+        bytes.items ≡ noted one.entry.judging one.entry.name.now text.now) }
+{
+    match one.judging {
+        Judging::Check | Judging::CheckJson => name_lines(alloc, one.name, text),
+        Judging::Explain(_extent) => head(alloc, one.name, text),
     }
 }
 
@@ -85,19 +101,19 @@ pub(crate) fn tell_no_memory<E: Sink>(one: One<'_>, failures: u64, err: &mut E)
     requires { CanCount failures }
     ensures { SaysBehind failures (E.failures err.old) (E.failures err.new) (E.contents err.old)
         (E.contents err.new)
-        (marked one.entry.task one.entry.name.now (codes "out of memory\n")) }
+        (noted one.entry.judging one.entry.name.now (codes "out of memory\n")) }
 {
     say_behind(one.name.as_bytes(), failures, err);
-    say_behind(gap(one.task).as_bytes(), failures, err);
+    say_behind(gap(one.judging).as_bytes(), failures, err);
     say_behind(OUT_OF_MEMORY.as_bytes(), failures, err);
 }
 
 /// What stands between the name of a file and what is told of it.
-fn gap(task: Task) -> &'static str
-    ensures { result.now ≡ gap task }
+fn gap(judging: Judging) -> &'static str
+    ensures { result.now ≡ gap judging }
 {
-    match task {
-        Task::Checked => ": ",
-        Task::Explained(_extent) => ":\n",
+    match judging {
+        Judging::Check | Judging::CheckJson => ": ",
+        Judging::Explain(_extent) => ":\n",
     }
 }

@@ -1,14 +1,14 @@
 //! The files that paths stand for.
 
-ghost use Rattle.std.specs.Prelude.{IfOk};
-ghost use Rattle.drvhost_many.specs.All.{AreFound};
+ghost use Rattle.std.specs.Prelude.{ℕ, IfNone, IfOk, IfSome, List};
+ghost use Rattle.drvhost_many.specs.All.{AreFound, IsAlone};
 
 use drvhost_files::files::Files;
 use std::alloc::{AllocError, Global};
 
 /// The names of the files that paths stand for, path by path. Behind those of each stand what can't
 /// be looked at in and below it: as a file it can't be read, and is told so.
-pub(crate) fn find_all<F: Files>(
+pub fn find_all<F: Files>(
     alloc: Global,
     paths: &[&str],
     files: &F,
@@ -23,4 +23,22 @@ pub(crate) fn find_all<F: Files>(
         names.append(&mut found.unread)?;
     }
     Ok(names)
+}
+
+/// The one path, if what was found for it is that path itself: it is a file, or can't be looked
+/// into.
+pub fn alone<'p>(paths: &[&'p str], names: &[String]) -> Option<&'p str>
+    ensures some { IfSome result (λ path. IsAlone paths.now names.now path.now) }
+    ensures none { IfNone result
+        ((path : List ℕ) → IsAlone paths.now names.now path → ⊥) }
+{
+    if paths.len() != 1 || names.len() != 1 {
+        return None;
+    }
+    let path = paths[0];
+    if names[0].as_str() == path {
+        Some(path)
+    } else {
+        None
+    }
 }

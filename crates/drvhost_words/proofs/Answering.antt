@@ -11,42 +11,21 @@ use Rattle.drvhost_runs.specs.Served.{IsHostOf}
 use Rattle.drvhost_devices.specs.declared.verification.Verification.{Verification}
 use Rattle.drvhost_commands.specs.declared.job.Job.{Job}
 use Rattle.drvhost_commands.specs.declared.job.Task.{Task}
-use Rattle.drvhost_commands.specs.declared.job.Task.TheVariants.{CheckJson, Explain, Mend, List as Listing, Hunt}
+use Rattle.drvhost_commands.specs.declared.job.Task.TheVariants.{Mend, List as Listing, Hunt}
 use Rattle.drvhost_commands.specs.declared.job.Way.{Way}
 use Rattle.drvhost_commands.specs.declared.job.Way.TheVariants.{Trace, TraceJson, Tell, Draw}
 use Rattle.drvhost_commands.specs.declared.job.JobFault.{JobFault}
 use Rattle.drvhost_commands.specs.declared.job.JobFault.TheVariants.{Memory, Usage}
-use Rattle.drvhost_commands.specs.CommandLine.{Names, NamesJob, job_fault_status, job_fault_told, program, text_told}
+use Rattle.drvhost_commands.specs.CommandLine.{Names, job_fault_status, job_fault_told, program, text_told}
 use Rattle.drvhost_files.specs.Files.{supply_of}
-use Rattle.drvhost_words.specs.Program.{IsAnswerTo, IsDoneOf, IsQuietly, IsRunBy, JobTells, JobWarns, WordsTell, WordsWarn}
+use Rattle.drvhost_files.proofs.Known.{holds_known}
+use Rattle.drvhost_many.specs.All.{Counted}
+use Rattle.drvhost_many.proofs.Collected.{judged_known}
+use Rattle.drvhost_many.proofs.Judged.{ends_rightly}
+use Rattle.drvhost_words.specs.Program.{EndsAtOnce, IsDoneOf, IsQuietly, IsRunBy, IsTaskOf, IsUsage}
+use Rattle.drvhost_words.specs.declared.work.Work.{Work}
+use Rattle.drvhost_words.specs.declared.work.Work.TheVariants.{Do, Judge}
 use Rattle.drvhost_words.specs.Unread.{IsNamedUnread, SaysAround, SaysMore, SaysUnread}
-
--- where more answers are right
-ends_rightly : (R Q : Answer → Type 0) (reads writes : ℕ) (b n : Option (List ℕ)) (status : ℕ)
-    (told : List ℕ) → ((answer : Answer) → R answer → Q answer)
-    → Ends R reads writes b n status told → Ends Q reads writes b n status told
-ends_rightly R Q reads writes b n status told on (Rightly answer right r w s t out) =
-    Rightly answer (on answer right) r w s t out
-ends_rightly R Q reads writes b n status told on (ReadFailed r w s t out) = ReadFailed r w s t out
-ends_rightly R Q reads writes b n status told on (WriteFailed answer right r w s t out) =
-    WriteFailed answer (on answer right) r w s t out
-ends_rightly R Q reads writes b n status told on (OutOfMemory r w s t out) = OutOfMemory r w s t out
-
--- and as many reads failed by another count
-pub answers_rightly : (R Q : Answer → Type 0) (k m i j w x : ℕ) (b n : Option (List ℕ))
-    (Tells : List ℕ → Type 0) (status : ℕ) → Answers R k m w x b n Tells status
-    → ((answer : Answer) → R answer → Q answer) → j + k ≡ i + m
-    → Answers Q i j w x b n Tells status
-answers_rightly R Q k m i j w x b n Tells status a on same =
-    record {
-      reads = a.reads;
-      writes = a.writes;
-      told = a.told;
-      reads_are = let are : m ≡ k + a.reads = a.reads_are in omega arith;
-      writes_are = a.writes_are;
-      tells = a.tells;
-      ends = ends_rightly R Q a.reads a.writes b n status a.told on a.ends;
-    }
 
 -- where nothing was written to the files beside
 pub answers_beside : (R : Answer → Type 0) (k m w x u v : ℕ) (b n : Option (List ℕ))
@@ -92,15 +71,6 @@ answers_alone R k m w x b n Tells e f p q status none a =
     answers_telling R k m w x b n (Says e f p q) (SaysMore Tells e f p q) status a
     (says_alone Tells e f p q none)
 
--- what is told round the answer of a job is so for words that name it
-pub words_tell : (supply : List ℕ → Supply) (words : List Text) (job : Job)
-    (status before after e f : ℕ) (b n : Option (List ℕ)) → NamesJob words job → (told : List ℕ)
-    → SaysAround (JobWarns supply job status) (JobTells job before after) e f b n told
-    → SaysAround (WordsWarn supply words status) (WordsTell words before after) e f b n told
-words_tell supply words job status before after e f b n named told
-    (warnings, text, warns, tells, says) =
-    (warnings, text, inr (job, named, warns), inr (job, named, tells), says)
-
 -- by other counts of failed reads
 unread_moved : (Such : List ℕ → Type 0) (reads before after : ℕ) (text : List ℕ)
     → after ≡ before + reads → IsNamedUnread Such 0 reads text
@@ -123,19 +93,6 @@ answers_unread R k m w x b n Such reads before after e f h p q r status a (text,
       unread_moved Such reads before after text are unread,
       said p told says,
     ))
-
--- nothing is said before
-pub says_behind_none : (Warns Tells : List ℕ → Type 0) (e f : ℕ) (b n : Option (List ℕ)) → Warns []
-    → (told : List ℕ) → SaysMore Tells e f b n told → SaysAround Warns Tells e f b n told
-says_behind_none Warns Tells e f b n none told (text, tells, says) = ([], text, none, tells, says)
-
-pub answers_unwarned : (R : Answer → Type 0) (k m w x : ℕ) (b n : Option (List ℕ))
-    (Warns Tells : List ℕ → Type 0) (e f : ℕ) (p q : Option (List ℕ)) (status : ℕ) → Warns []
-    → Answers R k m w x b n (SaysMore Tells e f p q) status
-    → Answers R k m w x b n (SaysAround Warns Tells e f p q) status
-answers_unwarned R k m w x b n Warns Tells e f p q status none a =
-    answers_telling R k m w x b n (SaysMore Tells e f p q) (SaysAround Warns Tells e f p q) status a
-    (says_behind_none Warns Tells e f p q none)
 
 -- warnings are said before, and the name of a file that can't be read behind
 pub answers_warned : (R : Answer → Type 0) (k m w x : ℕ) (b n : Option (List ℕ))
@@ -186,31 +143,26 @@ answers_quietly R Q k m i j w x u v p b n c Tells status a on same moved =
       ends = ends_quietly R Q a.reads a.writes b n c status a.told on a.ends;
     }
 
--- what a file holds, what is known of it holds
-holds_known : (known supply : Supply) (bytes : List ℕ) → IsSuppliedAs known supply
-    → Holds supply bytes → Holds known bytes
-holds_known Unknown supply bytes h p = tt
-holds_known Closed supply bytes h p = let P : Supply → Type 0 = λ s. Holds s bytes in subst P h p
-holds_known (Bytes held) supply bytes h p =
-    let P : Supply → Type 0 = λ s. Holds s bytes in subst P h p
-
+-- what is right for a file is right for what is known of it
 pub check_known : (known supply : Supply) → IsSuppliedAs known supply → (answer : Answer)
     → IsCheckOf supply answer → IsCheckOf known answer
 check_known known supply h answer (bytes, holds, right) =
     (bytes, holds_known known supply bytes h holds, right)
 
-pub task_known : (task : Task) (name : List ℕ) (known supply : Supply) → IsSuppliedAs known supply
-    → (answer : Answer) → IsDoneOf task name supply answer → IsDoneOf task name known answer
-task_known CheckJson name known supply h answer (bytes, holds, right) =
+task_known : (task : Task) (known supply : Supply) → IsSuppliedAs known supply
+    → (answer : Answer) → IsTaskOf task supply answer → IsTaskOf task known answer
+task_known (Mend tries) known supply h answer (bytes, holds, right) =
     (bytes, holds_known known supply bytes h holds, right)
-task_known (Explain extent) name known supply h answer (bytes, holds, right) =
+task_known Listing known supply h answer (bytes, holds, right) =
     (bytes, holds_known known supply bytes h holds, right)
-task_known (Mend tries) name known supply h answer (bytes, holds, right) =
+task_known (Hunt reach) known supply h answer (bytes, holds, right) =
     (bytes, holds_known known supply bytes h holds, right)
-task_known Listing name known supply h answer (bytes, holds, right) =
-    (bytes, holds_known known supply bytes h holds, right)
-task_known (Hunt reach) name known supply h answer (bytes, holds, right) =
-    (bytes, holds_known known supply bytes h holds, right)
+
+pub work_known : (work : Work) (name : List ℕ) (known supply : Supply) → IsSuppliedAs known supply
+    → (answer : Answer) → IsDoneOf work name supply answer → IsDoneOf work name known answer
+work_known (Judge judging) name known supply h answer right =
+    judged_known judging name known supply h answer right
+work_known (Do task) name known supply h answer right = task_known task known supply h answer right
 
 pub rewrite_known : (known supply : Supply) → IsSuppliedAs known supply → (answer : Answer)
     → IsRewriteOf supply answer → IsRewriteOf known answer
@@ -257,13 +209,6 @@ run_known v known supply h (inl a) never = absurd (never a)
 run_known v known supply h (inr (bytes, holds, right)) never =
     (bytes, holds_known known supply bytes h holds, right)
 
--- a file that is closed may be so, for what is known of it
-pub closed_known : (known supply : Supply) → IsSuppliedAs known supply → supply ≡ Closed
-    → MayBeClosed known
-closed_known Unknown supply h closed = tt
-closed_known Closed supply h closed = tt
-closed_known (Bytes held) supply h closed = cc
-
 -- a file that wasn't opened yet has what its name is known to have
 pub unopened : {A N M : Type 0} (f : A → Supply) (k : N → M → Supply) (a c : N) (b d : M)
     (file : Option A) → a ≡ c → b ≡ d → file ≡ None → supply_of f (k a b) file ≡ k c d
@@ -276,52 +221,61 @@ told_something [] e = cc
 told_something (byte ∷ text) e = cc
 
 -- a text is told, and nothing else is done
-pub told_alone : (R : Answer → Type 0) (k w : ℕ) (b : Option (List ℕ)) (Tells : List ℕ → Type 0)
+pub told_at_once : (R : Answer → Type 0) (o k w : ℕ) (b : Option (List ℕ)) (Tells : List ℕ → Type 0)
     (status : ℕ) (text : List ℕ) → R (record { status = 2; output = []; told = text })
-    → status ≡ 2 → Tells text → Answers R k k w w b b Tells status
-told_alone R k w b Tells status text right is tells =
+    → status ≡ 2 → Tells text → Counted (EndsAtOnce R) o o k k w w b b Tells status
+told_at_once R o k w b Tells status text right is tells =
     record {
+      opened = 0;
       reads = 0;
       writes = 0;
       told = text;
+      opened_are = omega arith;
       reads_are = omega arith;
       writes_are = omega arith;
       tells = tells;
-      ends = Rightly _ right refl refl is refl (Appends-nil b);
+      ends = (
+        refl,
+        refl,
+        refl,
+        Rightly _ right refl refl is refl (Appends-nil b),
+      );
     }
 
-pub out_of_memory : (R : Answer → Type 0) (k w : ℕ) (b : Option (List ℕ))
+pub memory_at_once : (R : Answer → Type 0) (o k w : ℕ) (b : Option (List ℕ))
     (Tells : List ℕ → Type 0) (status : ℕ) → status ≡ job_fault_status Memory
-    → Tells (job_fault_told Memory) → Answers R k k w w b b Tells status
-out_of_memory R k w b Tells status is tells =
+    → Tells (job_fault_told Memory) → Counted (EndsAtOnce R) o o k k w w b b Tells status
+memory_at_once R o k w b Tells status is tells =
     record {
+      opened = 0;
       reads = 0;
       writes = 0;
       told = job_fault_told Memory;
+      opened_are = omega arith;
       reads_are = omega arith;
       writes_are = omega arith;
       tells = tells;
-      ends = OutOfMemory refl refl is refl (Keeps-refl b);
+      ends = (refl, refl, refl, OutOfMemory refl refl is refl (Keeps-refl b));
     }
 
 -- words are refused
-pub refused_words : (supply : List ℕ → Supply) (words : List Text) (fault : JobFault) (k w : ℕ)
-    (b : Option (List ℕ)) (Tells : List ℕ → Type 0) (status : ℕ)
+pub refused_words : (words : List Text) (fault : JobFault) (o k w : ℕ) (b : Option (List ℕ))
+    (Tells : List ℕ → Type 0) (status : ℕ)
     → (takes program words ≡ true → (job : Job) → Names (subcommand_of program words) job
     → fault ≡ Memory)
     → status ≡ job_fault_status fault → Tells (job_fault_told fault)
-    → Answers (IsAnswerTo supply words) k k w w b b Tells status
-refused_words supply words (Usage text) k w b Tells status refused is tells =
-    told_alone (IsAnswerTo supply words) k w b Tells status (text_told (string_bytes text))
-    (inr (record {
+    → Counted (EndsAtOnce (IsUsage words)) o o k k w w b b Tells status
+refused_words words (Usage text) o k w b Tells status refused is tells =
+    told_at_once (IsUsage words) o k w b Tells status (text_told (string_bytes text))
+    (record {
       none = λ taken job names. let e : Usage text ≡ Memory = refused taken job names in cc;
       status = refl;
       output = refl;
       told = told_something (string_bytes text);
-    }))
+    })
     is tells
-refused_words supply words Memory k w b Tells status refused is tells =
-    out_of_memory (IsAnswerTo supply words) k w b Tells status is tells
+refused_words words Memory o k w b Tells status refused is tells =
+    memory_at_once (IsUsage words) o k w b Tells status is tells
 
 -- then the program doesn't succeed
 pub refused_status : (fault : JobFault) → job_fault_status fault ≢ 0

@@ -1,3 +1,4 @@
 pub mod Answering
 pub mod Rewritten
 pub mod Behind
+pub mod Ending

@@ -1,6 +1,6 @@
--- What the program answers for the words of its command line, what it tells before and behind that,
--- which files it opens, and what it writes to one.
-use Rattle.std.specs.Prelude.{ℕ, ◌≡◌, ◌≢◌, ◌+◌, ◌++◌, ◌⊎◌, Bool, List, [], false, map, true, Result, Ok, Err, String, drop, string_bytes}
+-- How the program answers the words of its command line, which files it opens, and what it writes to
+-- one.
+use Rattle.std.specs.Prelude.{ℕ, ◌≡◌, ◌≢◌, ◌+◌, ◌++◌, ◌⊎◌, Bool, List, [], Option, false, map, true, Result, Ok, Err, String, drop, string_bytes}
 use Rattle.std.specs.Borrow.{Bor}
 use Rattle.std.specs.Global.{Global, Vec}
 use Rattle.std.specs.declared.io.ErrorKind.{ErrorKind}
@@ -10,26 +10,32 @@ use Rattle.drvhost_devices.specs.Answer.{Answer, IsRuleExplained, IsUnopened, Is
 use Rattle.drvhost_devices.specs.Device.{MayBeClosed, Supply}
 use Rattle.drvhost_devices.specs.declared.verification.Verification.{Verification}
 use Rattle.drvhost_devices.specs.declared.verification.Verification.TheVariants.{Required}
-use Rattle.drvhost_devices.specs.Ends.{HoldsRun, IsCheckOf, IsListOf, IsRewriteOf, IsTraceOf}
-use Rattle.drvhost_formats.specs.Check.{IsCheckJsonOf}
+use Rattle.drvhost_devices.specs.Ends.{Ends, HoldsRun, IsCheckOf, IsListOf, IsRewriteOf, IsTraceOf}
 use Rattle.drvhost_formats.specs.Told.{IsUnopenedJson}
 use Rattle.drvhost_formats.specs.Trace.{IsTraceJsonOf}
 use Rattle.drvhost_hunts.specs.Hunt.{IsHuntOf}
 use Rattle.drvhost_mends.specs.Mend.{IsMendOf}
-use Rattle.drvhost_sets.specs.Explained.{IsExplainedOf, IsLockOrderExplained}
+use Rattle.drvhost_sets.specs.Explained.{IsLockOrderExplained}
 use Rattle.drvhost_runs.specs.Readiness.{AreWarningsOf}
 use Rattle.drvhost_runs.specs.Served.{IsHostOf}
 use Rattle.drvhost_views.specs.Told.{IsDrawOf, IsTellOf}
 use Rattle.drvhost_commands.specs.declared.job.Job.{Job}
-use Rattle.drvhost_commands.specs.declared.job.Job.TheVariants.{Page as OfPage, Check, Rewrite, OnSet, OnRun, Host}
+use Rattle.drvhost_commands.specs.declared.job.Job.TheVariants.{Page as OfPage, OnPaths, Rewrite, OnSet, OnRun, Host}
 use Rattle.drvhost_commands.specs.declared.job.Page.{Page}
 use Rattle.drvhost_commands.specs.declared.job.Page.TheVariants.{Rule, LockOrder, Version}
 use Rattle.drvhost_commands.specs.declared.job.Task.{Task}
-use Rattle.drvhost_commands.specs.declared.job.Task.TheVariants.{CheckJson, Explain, Mend, List as Listing, Hunt}
+use Rattle.drvhost_commands.specs.declared.job.Task.TheVariants.{Mend, List as Listing, Hunt}
+use Rattle.drvhost_commands.specs.declared.job.Judging.{Judging}
+use Rattle.drvhost_commands.specs.declared.job.Judging.TheVariants.{Check, CheckJson, Explain}
 use Rattle.drvhost_commands.specs.declared.job.Way.{Way}
 use Rattle.drvhost_commands.specs.declared.job.Way.TheVariants.{Trace, TraceJson, Tell, Draw}
 use Rattle.drvhost_commands.specs.CommandLine.{Names, NamesJob, program, usage}
 use Rattle.drvhost_files.specs.Files.{Has}
+use Rattle.drvhost_found.specs.declared.find.Found.{Found}
+use Rattle.drvhost_many.specs.All.{AreFound, EachEnds, IsAlone, IsUnfound}
+use Rattle.drvhost_many.specs.One.{IsJudged, is_in_json as judged_in_json}
+use Rattle.drvhost_words.specs.declared.work.Work.{Work}
+use Rattle.drvhost_words.specs.declared.work.Work.TheVariants.{Do, Judge}
 use Rattle.drvhost_words.specs.Unread.{IsNamedUnread, IsOneOf}
 
 -- what a run of a set by an input answers, by the names of their files and what these have
@@ -47,13 +53,16 @@ verification_of (TraceJson verification) = verification
 verification_of (Tell verification manner) = verification
 verification_of (Draw verification figure) = verification
 
--- what a task with a set answers, by the name of its file and what this has
-abbrev pub IsDoneOf : Task → List ℕ → Supply → Answer → Type 0
-IsDoneOf CheckJson name = IsCheckJsonOf name
-IsDoneOf (Explain extent) name = IsExplainedOf extent
-IsDoneOf (Mend tries) name = IsMendOf (record { tries = tries })
-IsDoneOf Listing name = IsListOf
-IsDoneOf (Hunt reach) name = IsHuntOf reach
+-- what a task with a set answers, where this is what its file has
+abbrev pub IsTaskOf : Task → Supply → Answer → Type 0
+IsTaskOf (Mend tries) = IsMendOf (record { tries = tries })
+IsTaskOf Listing = IsListOf
+IsTaskOf (Hunt reach) = IsHuntOf reach
+
+-- what any work with it does, by the name of its file and what this has
+abbrev pub IsDoneOf : Work → List ℕ → Supply → Answer → Type 0
+IsDoneOf (Judge judging) name = IsJudged judging name
+IsDoneOf (Do task) name = IsTaskOf task
 
 -- a page that stands in the program
 abbrev pub IsPage : Page → Answer → Type 0
@@ -61,97 +70,38 @@ IsPage (Rule rule) = IsRuleExplained rule
 IsPage LockOrder = IsLockOrderExplained
 IsPage Version = IsVersion
 
--- whether all that it answers is JSON
-abbrev pub is_in_json : Task → Bool
-is_in_json CheckJson = true
-is_in_json task = false
+-- whether all that such work answers is JSON
+abbrev pub is_in_json : Work → Bool
+is_in_json (Judge judging) = judged_in_json judging
+is_in_json (Do task) = false
 
 -- what it answers where the file of a name can't be opened
 abbrev pub IsUnopenedAs : Bool → List ℕ → Answer → Type 0
 IsUnopenedAs true = IsUnopenedJson
 IsUnopenedAs false = IsUnopened
 
-abbrev pub IsUnopenedBy : Task → List ℕ → Answer → Type 0
-IsUnopenedBy task = IsUnopenedAs (is_in_json task)
+abbrev pub IsUnopenedBy : Work → List ℕ → Answer → Type 0
+IsUnopenedBy work = IsUnopenedAs (is_in_json work)
 
--- what is right for a task with the set of the file of a name
-abbrev pub IsOfTask : Task → (List ℕ → Supply) → List ℕ → Answer → Type 0
-IsOfTask task supply name answer =
-    IsDoneOf task name (supply name) answer
-    ⊎ (MayBeClosed (supply name) × IsUnopenedBy task name answer)
+-- what is right for work with the set of the file of a name
+abbrev pub IsOfWork : Work → (List ℕ → Supply) → List ℕ → Answer → Type 0
+IsOfWork work supply name answer =
+    IsDoneOf work name (supply name) answer
+    ⊎ (MayBeClosed (supply name) × IsUnopenedBy work name answer)
 
 -- what is right where the output goes to a file: the same, with nothing on the standard output
 abbrev pub IsQuietly : (Answer → Type 0) → Answer → Type 0
 IsQuietly Right answer =
     (whole : Answer) × Right whole × (answer ≡ record whole { output = [] })
 
--- what is right for a job, where the files of these names have this to give
-abbrev pub IsJobOf : (List ℕ → Supply) → Job → Answer → Type 0
-IsJobOf supply (OfPage page) answer = IsPage page answer
-IsJobOf supply (Check set) answer = IsCheckOf (supply set.now) answer
-IsJobOf supply (Rewrite set output) answer = IsQuietly (IsRewriteOf (supply set.now)) answer
-IsJobOf supply (OnSet set task) answer = IsOfTask task supply set.now answer
-IsJobOf supply (OnRun set input way) answer =
-    IsRunBy way set input (supply set.now) (supply input.now) answer
-IsJobOf supply (Host set script workers) answer =
-    IsHostOf workers (supply set.now) (supply script.now) answer
-
 -- the words after the program's name
 abbrev pub arguments : Vec (String Global) → List Text
 arguments words = map string_bytes (drop 1 words.items)
-
--- what is told behind the answer of a job, for so many reads that had failed before it, and that
--- have after it: the name of the file that can't be read, but for `check` and `rewrite`
-abbrev pub JobTells : Job → ℕ → ℕ → List ℕ → Type 0
-JobTells (OnSet set task) before after text =
-    IsNamedUnread (λ name. name ≡ set.now) before after text
-JobTells (OnRun set input way) before after text =
-    IsNamedUnread (IsOneOf set.now input.now) before after text
-JobTells (Host set script workers) before after text =
-    IsNamedUnread (IsOneOf set.now script.now) before after text
-JobTells job before after text = text ≡ []
-
--- what is told behind the answer to words: nothing where they name no job, and no read failed; or
--- what is behind that of a job that they name
-abbrev pub WordsTell : List Text → ℕ → ℕ → List ℕ → Type 0
-WordsTell words before after text =
-    ((after ≡ before) × (text ≡ []))
-    ⊎ ((job : Job) × NamesJob words job × JobTells job before after text)
-
-abbrev pub ProgramTells : Result (Vec (String Global)) ErrorKind → ℕ → ℕ → List ℕ → Type 0
-ProgramTells (Ok words) before after text = WordsTell (arguments words) before after text
-ProgramTells (Err kind) before after text = text ≡ []
-
--- what is told before the answer of a job, by its exit status: of a set that workers serve, its
--- warnings
-abbrev pub JobWarns : (List ℕ → Supply) → Job → ℕ → List ℕ → Type 0
-JobWarns supply (Host set script workers) status warnings =
-    AreWarningsOf (supply set.now) status warnings
-JobWarns supply job status warnings = warnings ≡ []
-
--- and before the answer to words: nothing where they name no job
-abbrev pub WordsWarn : (List ℕ → Supply) → List Text → ℕ → List ℕ → Type 0
-WordsWarn supply words status warnings =
-    ((warnings ≡ []) × (status ≢ 0))
-    ⊎ ((job : Job) × NamesJob words job × JobWarns supply job status warnings)
-
-abbrev pub ProgramWarns : (List ℕ → Supply) → Result (Vec (String Global)) ErrorKind → ℕ → List ℕ
-    → Type 0
-ProgramWarns supply (Ok words) status warnings = WordsWarn supply (arguments words) status warnings
-ProgramWarns supply (Err kind) status warnings = warnings ≡ []
 
 -- how many files are opened for a run: that of its input for a set that is run alone
 abbrev pub OpensToTrace : Verification → Supply → ℕ → Type 0
 OpensToTrace verification set count =
     (count ≡ 1) ⊎ ((count ≡ 2) × HoldsRun verification set)
-
--- how many files a job opens to read them
-abbrev pub Opens : (List ℕ → Supply) → Job → ℕ → Type 0
-Opens supply (OfPage page) count = count ≡ 0
-Opens supply (OnRun set input way) count =
-    OpensToTrace (verification_of way) (supply set.now) count
-Opens supply (Host set script workers) count = OpensToTrace Required (supply set.now) count
-Opens supply job count = count ≡ 1
 
 -- words that name no job are answered with a text on how the program is used
 pub record IsUsage (words : List Text) (answer : Answer) : Type 0 where
@@ -160,30 +110,111 @@ pub record IsUsage (words : List Text) (answer : Answer) : Type 0 where
   pub output : answer.output ≡ []
   pub told : answer.told ≢ []
 
--- what is right for the words of a command line
-abbrev pub IsAnswerTo : (List ℕ → Supply) → List Text → Answer → Type 0
-IsAnswerTo supply words answer =
-    ((job : Job) × NamesJob words job × IsJobOf supply job answer) ⊎ IsUsage words answer
-
 -- what is right where the words can't be had, since some of them aren't text
 abbrev pub IsAnswerToLost : ErrorKind → Answer → Type 0
 IsAnswerToLost kind answer =
     (kind ≢ OutOfMemory) × (answer ≡ record { status = 2; output = []; told = usage })
 
--- what is right for all words of a command line, the program's name first
-abbrev pub IsProgram : (List ℕ → Supply) → Result (Vec (String Global)) ErrorKind → Answer → Type 0
-IsProgram supply (Ok words) answer = IsAnswerTo supply (arguments words) answer
-IsProgram supply (Err kind) answer = IsAnswerToLost kind answer
+-- how a command ends with a text behind its answer, where these answers are right
+pub record EndsTelling (Tells : List ℕ → Type 0) (Right : Answer → Type 0) (reads writes : ℕ)
+    (before after : Option (List ℕ)) (status : ℕ) (told : List ℕ) : Type 0 where
+  pub said : List ℕ
+  pub text : List ℕ
+  pub tells : Tells text
+  pub ends : Ends Right reads writes before after status said
+  pub told_is : told ≡ said ++ text
 
--- how many files the program opens to read them, for these words: none, or those of a job that they
--- name
-abbrev pub OpensFor : (List ℕ → Supply) → List Text → ℕ → Type 0
-OpensFor supply words count =
-    (count ≡ 0) ⊎ ((job : Job) × NamesJob words job × Opens supply job count)
+-- and with warnings before it
+pub record EndsWarned (Warns Tells : List ℕ → Type 0) (Right : Answer → Type 0) (reads writes : ℕ)
+    (before after : Option (List ℕ)) (status : ℕ) (told : List ℕ) : Type 0 where
+  pub warnings : List ℕ
+  pub rest : List ℕ
+  pub warns : Warns warnings
+  pub ends : EndsTelling Tells Right reads writes before after status rest
+  pub told_is : told ≡ warnings ++ rest
 
-abbrev pub ProgramOpens : (List ℕ → Supply) → Result (Vec (String Global)) ErrorKind → ℕ → Type 0
-ProgramOpens supply (Ok words) count = OpensFor supply (arguments words) count
-ProgramOpens supply (Err kind) count = count ≡ 0
+-- how work with the set of the file of a name ends: that file is opened, and named behind the answer
+-- where it can't be read
+abbrev pub WorkEnds : Work → (List ℕ → Supply) → List ℕ → ℕ → ℕ → ℕ → Option (List ℕ)
+    → Option (List ℕ) → ℕ → List ℕ → Type 0
+WorkEnds work supply name opened reads writes before after status told =
+    (opened ≡ 1) × EndsTelling (IsNamedUnread (λ unread. unread ≡ name) 0 reads)
+    (IsOfWork work supply name) reads writes before after status told
+
+-- how the judging of the set of one file alone does: a verdict in lines of text has no name behind it
+abbrev pub FileEnds : Judging → (List ℕ → Supply) → List ℕ → ℕ → ℕ → ℕ → Option (List ℕ)
+    → Option (List ℕ) → ℕ → List ℕ → Type 0
+FileEnds Check supply name opened reads writes before after status told =
+    (opened ≡ 1) × Ends (IsCheckOf (supply name)) reads writes before after status told
+FileEnds CheckJson supply name opened reads writes before after status told =
+    WorkEnds (Judge CheckJson) supply name opened reads writes before after status told
+FileEnds (Explain extent) supply name opened reads writes before after status told =
+    WorkEnds (Judge (Explain extent)) supply name opened reads writes before after status told
+
+-- how that of the sets does that were found for paths: of one file alone as it is, and of others
+-- each told with its name
+abbrev pub FoundEnds : Judging → (List ℕ → Supply) → List (Bor (List ℕ)) → List (String Global)
+    → ℕ → ℕ → ℕ → Option (List ℕ) → Option (List ℕ) → ℕ → List ℕ → Type 0
+FoundEnds judging supply paths names opened reads writes before after status told =
+    ((path : List ℕ) × IsAlone paths names path
+    × FileEnds judging supply path opened reads writes before after status told)
+    ⊎ (((path : List ℕ) → IsAlone paths names path → ⊥)
+    × EachEnds judging supply names opened reads writes before after status told)
+
+-- how that of the sets does that paths stand for
+abbrev pub PathsEnd : (List ℕ → Found → Type 0) → (List ℕ → Supply) → List (Bor (List ℕ))
+    → Judging → ℕ → ℕ → ℕ → Option (List ℕ) → Option (List ℕ) → ℕ → List ℕ → Type 0
+PathsEnd stands supply paths judging opened reads writes before after status told =
+    ((names : List (String Global)) × AreFound (λ path. stands path.now) paths names
+    × FoundEnds judging supply paths names opened reads writes before after status told)
+    ⊎ IsUnfound opened reads writes before after status told
+
+-- how a job ends, where paths stand for such files, and the files of names have this to give: by the
+-- number of files that it opens, that of reads and of writes that fail, what went out, its exit
+-- status, and all that it tells
+abbrev pub JobEnds : (List ℕ → Found → Type 0) → (List ℕ → Supply) → Job → ℕ → ℕ → ℕ
+    → Option (List ℕ) → Option (List ℕ) → ℕ → List ℕ → Type 0
+JobEnds stands supply (OfPage page) opened reads writes before after status told =
+    (opened ≡ 0) × Ends (IsPage page) reads writes before after status told
+JobEnds stands supply (OnPaths paths judging) opened reads writes before after status told =
+    PathsEnd stands supply paths.items judging opened reads writes before after status told
+JobEnds stands supply (Rewrite set output) opened reads writes before after status told =
+    (opened ≡ 1)
+    × Ends (IsQuietly (IsRewriteOf (supply set.now))) reads writes before after status told
+JobEnds stands supply (OnSet set task) opened reads writes before after status told =
+    WorkEnds (Do task) supply set.now opened reads writes before after status told
+JobEnds stands supply (OnRun set input way) opened reads writes before after status told =
+    OpensToTrace (verification_of way) (supply set.now) opened
+    × EndsTelling (IsNamedUnread (IsOneOf set.now input.now) 0 reads)
+    (IsRunBy way set input (supply set.now) (supply input.now)) reads writes before after status told
+JobEnds stands supply (Host set script workers) opened reads writes before after status told =
+    OpensToTrace Required (supply set.now) opened
+    × EndsWarned (AreWarningsOf (supply set.now) status)
+    (IsNamedUnread (IsOneOf set.now script.now) 0 reads)
+    (IsHostOf workers (supply set.now) (supply script.now)) reads writes before after status told
+
+-- how words are answered that name no job, where these answers are right: nothing is read
+abbrev pub EndsAtOnce : (Answer → Type 0) → ℕ → ℕ → ℕ → Option (List ℕ) → Option (List ℕ) → ℕ
+    → List ℕ → Type 0
+EndsAtOnce Right opened reads writes before after status told =
+    (opened ≡ 0) × (reads ≡ 0) × (writes ≡ 0) × Ends Right 0 0 before after status told
+
+-- how the words of a command line are answered
+abbrev pub WordsEnd : (List ℕ → Found → Type 0) → (List ℕ → Supply) → List Text → ℕ → ℕ → ℕ
+    → Option (List ℕ) → Option (List ℕ) → ℕ → List ℕ → Type 0
+WordsEnd stands supply words opened reads writes before after status told =
+    ((job : Job) × NamesJob words job
+    × JobEnds stands supply job opened reads writes before after status told)
+    ⊎ EndsAtOnce (IsUsage words) opened reads writes before after status told
+
+-- how all words of a command line are, the program's name first
+abbrev pub ProgramEnds : (List ℕ → Found → Type 0) → (List ℕ → Supply)
+    → Result (Vec (String Global)) ErrorKind → ℕ → ℕ → ℕ → Option (List ℕ) → Option (List ℕ) → ℕ
+    → List ℕ → Type 0
+ProgramEnds stands supply (Ok words) opened reads writes before after status told =
+    WordsEnd stands supply (arguments words) opened reads writes before after status told
+ProgramEnds stands supply (Err kind) opened reads writes before after status told =
+    EndsAtOnce (IsAnswerToLost kind) opened reads writes before after status told
 
 -- what the files of names have to give before and after, and how many were written until then and
 -- since: none was, and all have what they had

@@ -1,7 +1,8 @@
 //! What the program answers.
 
 ghost use Rattle.std.specs.Prelude.{◌≡◌, ◌+◌, ◌<◌, ◌^◌, ◌⊎◌, ℕ, List, Option, drop, map, string_bytes, true};
-ghost use Rattle.drvhost_words.specs.Program.{IsAnswerTo, IsAnswerToLost, IsDoneOf, IsJobOf, IsOfTask, IsPage, IsProgram, IsRunBy, IsUnopenedBy, Opens, OpensFor, OpensToTrace, IsQuietly, JobStores, JobTells, JobWarns, ProgramOpens, ProgramStores, ProgramTells, ProgramWarns, RewritesFile, WordsStore, WordsTell, WordsWarn, is_in_json, verification_of};
+ghost use Rattle.drvhost_words.specs.Program.{FileEnds, IsAnswerToLost, IsDoneOf, IsOfWork, IsPage, IsRunBy, IsTaskOf, IsUnopenedBy, OpensToTrace, IsQuietly, EndsAtOnce, JobEnds, JobStores, PathsEnd, ProgramEnds, ProgramStores, RewritesFile, WordsEnd, WordsStore, is_in_json, verification_of};
+ghost use Rattle.drvhost_many.specs.All.{Counted};
 ghost use Rattle.drvhost_words.specs.Unread.{IsNamedUnread, IsOneOf, SaysAround, SaysMore};
 ghost use Rattle.drvhost_devices.specs.Device.{CanCount, Says};
 ghost use Rattle.drvhost_devices.specs.Ends.{Answers, HoldsRun, IsCheckOf, IsRewriteOf};
@@ -9,29 +10,32 @@ ghost use Rattle.drvhost_runs.specs.Readiness.{AreWarningsOf};
 ghost use Rattle.drvhost_runs.specs.Served.{IsHostOf};
 
 use crate::unread::{Names, tell_if_unread, tell_which_unread};
+use crate::work::Work;
 use drvhost_commands::job::{
-    Job, JobFault, Page, Task, Way, Workers, refuse_unknown_words, refuse_words,
+    Job, JobFault, Judging, Page, Task, Way, Workers, refuse_unknown_words, refuse_words,
 };
 use drvhost_devices::device::{Sink, Source};
+use drvhost_devices::fault::no_memory;
 use drvhost_devices::unopened::tell_unopened;
 use drvhost_devices::verification::Verification;
 use drvhost_files::files::{Files, Later, Pending};
-use drvhost_formats::check::check_json;
 use drvhost_formats::trace::{Asked, trace_json};
 use drvhost_formats::unopened::unopened_json;
 use drvhost_hunts::hunt::hunt;
+use drvhost_many::file::{self, judge};
+use drvhost_many::many::answer_each;
+use drvhost_many::paths::{alone, find_all};
 use drvhost_mends::mend::{self, mend};
 use drvhost_runs::host::{Hosting, host};
 use drvhost_runs::trace::trace;
 use drvhost_sets::check::check;
-use drvhost_sets::explaining::explain;
 use drvhost_sets::list::list;
 use drvhost_sets::rewriting::rewrite;
 use drvhost_sets::rule::{explain_lock_order, explain_rule};
 use drvhost_sets::version::version;
 use drvhost_views::draw::{Drawing, draw};
 use drvhost_views::tell::{Telling, tell};
-use std::alloc::Global;
+use std::alloc::{AllocError, Global};
 use std::io::ErrorKind;
 use std::sync::Wait;
 use std::thread::Threads;
@@ -49,22 +53,18 @@ pub fn answer<F: Files, O: Sink, E: Sink, R: Threads + Wait + Sync>(
     out: &mut O,
     err: &mut E,
 ) -> u8
-    requires opened { F.opened files.old + 2 < 2 ^ 64 }
-    requires files { CanCount (F.failures files.old) }
+    requires opened { F.opened files.old < 2 ^ 63 }
+    requires files { F.failures files.old < 2 ^ 63 }
     requires created { F.created files.old + 1 < 2 ^ 64 }
     requires unwritten { CanCount (F.unwritten files.old) }
     requires out { CanCount (O.failures out.old) }
     requires err { CanCount (E.failures err.old) }
-    ensures answers { Answers (IsProgram (F.supply files.old) words)
-        (F.failures files.old) (F.failures files.new)
+    ensures answers { Counted (ProgramEnds (F.stands files.old) (F.supply files.old) words)
+        (F.opened files.old) (F.opened files.new) (F.failures files.old) (F.failures files.new)
         (F.unwritten files.old + O.failures out.old) (F.unwritten files.new + O.failures out.new)
         (O.contents out.old) (O.contents out.new)
-        (SaysAround (ProgramWarns (F.supply files.old) words result)
-        (ProgramTells words (F.failures files.old) (F.failures files.new))
-        (E.failures err.old) (E.failures err.new) (E.contents err.old) (E.contents err.new))
+        (Says (E.failures err.old) (E.failures err.new) (E.contents err.old) (E.contents err.new))
         result }
-    ensures opened { (count : ℕ) × ProgramOpens (F.supply files.old) words count
-        × (F.opened files.new ≡ F.opened files.old + count) }
     ensures stores { ProgramStores words (F.supply files.old) (F.supply files.new)
         (F.created files.old) (F.created files.new) result }
 {
@@ -88,8 +88,9 @@ fn arguments(words: &[String]) -> &[String]
 /// ones.
 fn refuse_lost_words<E: Sink>(kind: ErrorKind, err: &mut E) -> u8
     requires { CanCount (E.failures err.old) }
-    ensures { (reads writes : ℕ) (written : Option (List ℕ))
-        → Answers (IsAnswerToLost kind) reads reads writes writes written written
+    ensures { (opened reads writes : ℕ) (written : Option (List ℕ))
+        → Counted (EndsAtOnce (IsAnswerToLost kind)) opened opened reads reads writes writes
+        written written
         (Says (E.failures err.old) (E.failures err.new) (E.contents err.old) (E.contents err.new))
         result }
 {
@@ -109,22 +110,19 @@ fn answer_words<F: Files, O: Sink, E: Sink, R: Threads + Wait + Sync>(
     out: &mut O,
     err: &mut E,
 ) -> u8
-    requires opened { F.opened files.old + 2 < 2 ^ 64 }
-    requires files { CanCount (F.failures files.old) }
+    requires opened { F.opened files.old < 2 ^ 63 }
+    requires files { F.failures files.old < 2 ^ 63 }
     requires created { F.created files.old + 1 < 2 ^ 64 }
     requires unwritten { CanCount (F.unwritten files.old) }
     requires out { CanCount (O.failures out.old) }
     requires err { CanCount (E.failures err.old) }
-    ensures answers { Answers (IsAnswerTo (F.supply files.old) (map string_bytes words.now))
-        (F.failures files.old) (F.failures files.new)
+    ensures answers { Counted
+        (WordsEnd (F.stands files.old) (F.supply files.old) (map string_bytes words.now))
+        (F.opened files.old) (F.opened files.new) (F.failures files.old) (F.failures files.new)
         (F.unwritten files.old + O.failures out.old) (F.unwritten files.new + O.failures out.new)
         (O.contents out.old) (O.contents out.new)
-        (SaysAround (WordsWarn (F.supply files.old) (map string_bytes words.now) result)
-        (WordsTell (map string_bytes words.now) (F.failures files.old) (F.failures files.new))
-        (E.failures err.old) (E.failures err.new) (E.contents err.old) (E.contents err.new))
+        (Says (E.failures err.old) (E.failures err.new) (E.contents err.old) (E.contents err.new))
         result }
-    ensures opened { (count : ℕ) × OpensFor (F.supply files.old) (map string_bytes words.now) count
-        × (F.opened files.new ≡ F.opened files.old + count) }
     ensures stores { WordsStore (map string_bytes words.now) (F.supply files.old) (F.supply files.new)
         (F.created files.old) (F.created files.new) result }
 {
@@ -144,33 +142,31 @@ fn perform<F: Files, O: Sink, E: Sink, R: Threads + Wait + Sync>(
     out: &mut O,
     err: &mut E,
 ) -> u8
-    requires opened { F.opened files.old + 2 < 2 ^ 64 }
-    requires files { CanCount (F.failures files.old) }
+    requires opened { F.opened files.old < 2 ^ 63 }
+    requires files { F.failures files.old < 2 ^ 63 }
     requires created { F.created files.old + 1 < 2 ^ 64 }
     requires unwritten { CanCount (F.unwritten files.old) }
     requires out { CanCount (O.failures out.old) }
     requires err { CanCount (E.failures err.old) }
-    ensures answers { Answers (IsJobOf (F.supply files.old) job.now)
-        (F.failures files.old) (F.failures files.new)
+    ensures answers { Counted (JobEnds (F.stands files.old) (F.supply files.old) job.now)
+        (F.opened files.old) (F.opened files.new) (F.failures files.old) (F.failures files.new)
         (F.unwritten files.old + O.failures out.old) (F.unwritten files.new + O.failures out.new)
         (O.contents out.old) (O.contents out.new)
-        (SaysAround (JobWarns (F.supply files.old) job.now result)
-        (JobTells job.now (F.failures files.old) (F.failures files.new))
-        (E.failures err.old) (E.failures err.new) (E.contents err.old) (E.contents err.new))
+        (Says (E.failures err.old) (E.failures err.new) (E.contents err.old) (E.contents err.new))
         result }
-    ensures opened { (count : ℕ) × Opens (F.supply files.old) job.now count
-        × (F.opened files.new ≡ F.opened files.old + count) }
     ensures stores { JobStores job.now (F.supply files.old) (F.supply files.new)
         (F.created files.old) (F.created files.new) result }
 {
-    match *job {
-        Job::Page(page) => write_page(alloc, page, out, err),
-        Job::Check { set } => check_file(alloc, set, files, out, err),
+    match job {
+        Job::Page(page) => write_page(alloc, *page, out, err),
+        Job::OnPaths { paths, judging } => {
+            judge_paths(alloc, *judging, paths.as_slice(), files, out, err)
+        }
         Job::Rewrite { set, output } => rewrite_file(alloc, set, output, files, err),
-        Job::OnSet { set, task } => task_file(alloc, task, set, files, out, err),
+        Job::OnSet { set, task } => work_file(alloc, Work::Do(*task), set, files, out, err),
         Job::OnRun { set, input, way } => {
             let names = Names::of(set, input);
-            run_files(alloc, Running { names, way }, files, out, err)
+            run_files(alloc, Running { names, way: *way }, files, out, err)
         }
         Job::Host {
             set,
@@ -178,7 +174,11 @@ fn perform<F: Files, O: Sink, E: Sink, R: Threads + Wait + Sync>(
             workers,
         } => {
             let names = Names::of(set, script);
-            host_files(rt, alloc, Serving { names, workers }, files, out, err)
+            let serving = Serving {
+                names,
+                workers: *workers,
+            };
+            host_files(rt, alloc, serving, files, out, err)
         }
     }
 }
@@ -200,7 +200,70 @@ fn write_page<O: Sink, E: Sink>(alloc: Global, page: Page, out: &mut O, err: &mu
     }
 }
 
-/// Judges the set of a file.
+/// Judges the sets that paths stand for: that of one file alone as it is, and others each told with
+/// its name.
+fn judge_paths<F: Files, O: Sink, E: Sink>(
+    alloc: Global,
+    judging: Judging,
+    paths: &[&str],
+    files: &mut F,
+    out: &mut O,
+    err: &mut E,
+) -> u8
+    requires opened { F.opened files.old < 2 ^ 63 }
+    requires files { F.failures files.old < 2 ^ 63 }
+    requires out { CanCount (O.failures out.old) }
+    requires err { CanCount (E.failures err.old) }
+    ensures answers { Counted
+        (PathsEnd (F.stands files.old) (F.supply files.old) paths.now judging)
+        (F.opened files.old) (F.opened files.new) (F.failures files.old) (F.failures files.new)
+        (O.failures out.old) (O.failures out.new) (O.contents out.old) (O.contents out.new)
+        (Says (E.failures err.old) (E.failures err.new) (E.contents err.old) (E.contents err.new))
+        result }
+    ensures supply { F.supply files.new ≡ F.supply files.old }
+    ensures created { F.created files.new ≡ F.created files.old }
+    ensures unwritten { F.unwritten files.new ≡ F.unwritten files.old }
+{
+    match find_all(alloc, paths, files) {
+        Ok(names) => match alone(paths, names.as_slice()) {
+            Some(path) => judge_file(alloc, judging, path, files, out, err),
+            None => answer_each(alloc, judging, names.as_slice(), files, out, err),
+        },
+        Err(AllocError) => no_memory(err),
+    }
+}
+
+/// Judges the set of one file alone.
+fn judge_file<F: Files, O: Sink, E: Sink>(
+    alloc: Global,
+    judging: Judging,
+    set: &str,
+    files: &mut F,
+    out: &mut O,
+    err: &mut E,
+) -> u8
+    requires opened { F.opened files.old + 1 < 2 ^ 64 }
+    requires files { CanCount (F.failures files.old) }
+    requires out { CanCount (O.failures out.old) }
+    requires err { CanCount (E.failures err.old) }
+    ensures answers { Counted (FileEnds judging (F.supply files.old) set.now)
+        (F.opened files.old) (F.opened files.new) (F.failures files.old) (F.failures files.new)
+        (O.failures out.old) (O.failures out.new) (O.contents out.old) (O.contents out.new)
+        (Says (E.failures err.old) (E.failures err.new) (E.contents err.old) (E.contents err.new))
+        result }
+    ensures supply { F.supply files.new ≡ F.supply files.old }
+    ensures created { F.created files.new ≡ F.created files.old }
+    ensures unwritten { F.unwritten files.new ≡ F.unwritten files.old }
+{
+    match judging {
+        Judging::Check => check_file(alloc, set, files, out, err),
+        Judging::CheckJson | Judging::Explain(_) => {
+            work_file(alloc, Work::Judge(judging), set, files, out, err)
+        }
+    }
+}
+
+/// Writes the verdict on the set of a file.
 fn check_file<F: Files, O: Sink, E: Sink>(
     alloc: Global,
     set: &str,
@@ -228,10 +291,10 @@ fn check_file<F: Files, O: Sink, E: Sink>(
     status
 }
 
-/// Does a task with the set of a file. One that can't be opened or read is named.
-fn task_file<F: Files, O: Sink, E: Sink>(
+/// Does some work with the set of a file. One that can't be opened or read is named.
+fn work_file<F: Files, O: Sink, E: Sink>(
     alloc: Global,
-    task: Task,
+    work: Work,
     set: &str,
     files: &mut F,
     out: &mut O,
@@ -241,7 +304,7 @@ fn task_file<F: Files, O: Sink, E: Sink>(
     requires files { CanCount (F.failures files.old) }
     requires out { CanCount (O.failures out.old) }
     requires err { CanCount (E.failures err.old) }
-    ensures answers { Answers (IsOfTask task (F.supply files.old) set.now)
+    ensures answers { Answers (IsOfWork work (F.supply files.old) set.now)
         (F.failures files.old) (F.failures files.new) (O.failures out.old) (O.failures out.new)
         (O.contents out.old) (O.contents out.new)
         (SaysMore (IsNamedUnread (λ name. name ≡ set.now)
@@ -257,47 +320,50 @@ fn task_file<F: Files, O: Sink, E: Sink>(
     let mut file = files.open(set);
     if files.is_closed(&file) {
         files.close(file);
-        return refuse_unopened(alloc, task, set, out, err);
+        return refuse_unopened(alloc, work, set, out, err);
     }
-    let status = fulfil(alloc, task, set, &mut file, out, err);
+    let status = perform_work(alloc, work, set, &mut file, out, err);
     tell_if_unread(set, &file, failures, err);
     files.close(file);
     status
 }
 
-/// Tells that the file of the set of a task can't be opened.
+/// Tells that the file of the set can't be opened that some work is to be done with.
 fn refuse_unopened<O: Sink, E: Sink>(
     alloc: Global,
-    task: Task,
+    work: Work,
     name: &str,
     out: &mut O,
     err: &mut E,
 ) -> u8
     requires out { CanCount (O.failures out.old) }
     requires err { CanCount (E.failures err.old) }
-    ensures { (reads : ℕ) → Answers (IsUnopenedBy task name.now)
+    ensures { (reads : ℕ) → Answers (IsUnopenedBy work name.now)
         reads reads (O.failures out.old) (O.failures out.new)
         (O.contents out.old) (O.contents out.new)
         (Says (E.failures err.old) (E.failures err.new) (E.contents err.old) (E.contents err.new))
         result }
 {
-    if is_in_json(task) {
+    if is_in_json(work) {
         return unopened_json(alloc, name, out, err);
     }
     tell_unopened(name, err)
 }
 
-/// Whether all that a task answers is JSON.
-fn is_in_json(task: Task) -> bool
-    ensures { result ≡ is_in_json task }
+/// Whether all that some work answers is JSON.
+fn is_in_json(work: Work) -> bool
+    ensures { result ≡ is_in_json work }
 {
-    matches!(task, Task::CheckJson)
+    match work {
+        Work::Judge(judging) => file::is_in_json(judging),
+        Work::Do(_task) => false,
+    }
 }
 
-/// Does a task with the set of a source, whose file has this name.
-fn fulfil<S: Source, O: Sink, E: Sink>(
+/// Does some work with the set of a source, whose file has this name.
+fn perform_work<S: Source, O: Sink, E: Sink>(
     alloc: Global,
-    task: Task,
+    work: Work,
     name: &str,
     set: &mut S,
     out: &mut O,
@@ -306,15 +372,36 @@ fn fulfil<S: Source, O: Sink, E: Sink>(
     requires set { CanCount (S.failures set.old) }
     requires out { CanCount (O.failures out.old) }
     requires err { CanCount (E.failures err.old) }
-    ensures { Answers (IsDoneOf task name.now (S.supply set.old))
+    ensures { Answers (IsDoneOf work name.now (S.supply set.old))
+        (S.failures set.old) (S.failures set.new) (O.failures out.old) (O.failures out.new)
+        (O.contents out.old) (O.contents out.new)
+        (Says (E.failures err.old) (E.failures err.new) (E.contents err.old) (E.contents err.new))
+        result }
+{
+    match work {
+        Work::Judge(judging) => judge(alloc, judging, name, set, out, err),
+        Work::Do(task) => fulfil(alloc, task, set, out, err),
+    }
+}
+
+/// Does a task with the set of a source.
+fn fulfil<S: Source, O: Sink, E: Sink>(
+    alloc: Global,
+    task: Task,
+    set: &mut S,
+    out: &mut O,
+    err: &mut E,
+) -> u8
+    requires set { CanCount (S.failures set.old) }
+    requires out { CanCount (O.failures out.old) }
+    requires err { CanCount (E.failures err.old) }
+    ensures { Answers (IsTaskOf task (S.supply set.old))
         (S.failures set.old) (S.failures set.new) (O.failures out.old) (O.failures out.new)
         (O.contents out.old) (O.contents out.new)
         (Says (E.failures err.old) (E.failures err.new) (E.contents err.old) (E.contents err.new))
         result }
 {
     match task {
-        Task::CheckJson => check_json(alloc, name, set, out, err),
-        Task::Explain(extent) => explain(alloc, extent, set, out, err),
         Task::Mend(tries) => mend(alloc, mend::Asked { tries }, set, out, err),
         Task::List => list(alloc, set, out, err),
         Task::Hunt(reach) => hunt(alloc, reach, set, out, err),

@@ -4,3 +4,4 @@
 
 pub mod answer;
 mod unread;
+mod work;

@@ -108,16 +108,14 @@ fn told_of<R: Threads + Wait + Sync>(
 #[test]
 fn wrong_words(rt: HostRuntime) {
     let alloc = rt.alloc();
-    let all: [&[&str]; 19] = [
+    let all: [&[&str]; 17] = [
         &[],
         &["drvhost", "explain", "--all"],
         &["drvhost", "explain", "--rule"],
         &["drvhost", "explain", "--rule", "V1", "--all"],
-        &["drvhost", "explain", "good.drv", "good.drv"],
         &["drvhost"],
         &["drvhost", "run", "good.drv"],
         &["drvhost", "check"],
-        &["drvhost", "check", "good.drv", "good.sched"],
         &["drvhost", "list"],
         &["drvhost", "tell", "good.drv"],
         &["drvhost", "draw", "good.drv", "good.sched", "--quiet"],

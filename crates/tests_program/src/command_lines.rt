@@ -1,6 +1,6 @@
 //! What the words of a command line name.
 
-use drvhost_commands::job::{Job, JobFault, Page, Task, Way, refuse_words};
+use drvhost_commands::job::{Job, JobFault, Judging, Page, Task, Way, refuse_words};
 use drvhost_devices::device::Writer;
 use drvhost_devices::verification::Verification;
 use drvhost_options::extent::Extent;
@@ -14,7 +14,9 @@ use std::test::Fail;
 fn jobs(rt: HostRuntime) -> Result<(), Fail> {
     let alloc = rt.alloc();
     let job = Job::of(alloc, &["check", "a.set"])?;
-    assert!(rt; matches!(job, Job::Check { set: "a.set" }));
+    assert!(rt; is_to_check(&job, &["a.set"]));
+    let job = Job::of(alloc, &["check", "b", "a", "--format", "text", "b"])?;
+    assert!(rt; is_to_check(&job, &["b", "a", "b"]));
     let job = Job::of(alloc, &["list", "a.set"])?;
     assert!(rt;
         matches!(
@@ -30,19 +32,23 @@ fn jobs(rt: HostRuntime) -> Result<(), Fail> {
         ["check", "--format", "json", "a"],
     ] {
         let job = Job::of(alloc, &words)?;
-        assert!(rt; is_to_check_in_json(&job, "a"));
+        assert!(rt; is_to_check_in_json(&job, &["a"]));
     }
+    let job = Job::of(alloc, &["check", "b", "--format=json", "a"])?;
+    assert!(rt; is_to_check_in_json(&job, &["b", "a"]));
     for word in ["version", "--version", "-V"] {
         let words = [word];
         let job = Job::of(alloc, &words)?;
         assert!(rt; matches!(job, Job::Page(Page::Version)), "{word}");
     }
     let job = Job::of(alloc, &["explain", "a.set"])?;
-    assert!(rt; is_to_explain(&job, "a.set", Extent::First));
+    assert!(rt; is_to_explain(&job, &["a.set"], Extent::First));
     for words in [["explain", "a.set", "--all"], ["explain", "--all", "a.set"]] {
         let job = Job::of(alloc, &words)?;
-        assert!(rt; is_to_explain(&job, "a.set", Extent::Each));
+        assert!(rt; is_to_explain(&job, &["a.set"], Extent::Each));
     }
+    let job = Job::of(alloc, &["explain", "b", "--all", "a"])?;
+    assert!(rt; is_to_explain(&job, &["b", "a"], Extent::Each));
     Ok(())
 }
 
@@ -188,24 +194,40 @@ fn is_to_draw(job: &Job<'_>, run: Verification, figure: Figure) -> bool {
     }
 }
 
-/// Whether a job is to check the set of a file, and to answer in JSON.
-fn is_to_check_in_json(job: &Job<'_>, file: &str) -> bool {
-    match *job {
-        Job::OnSet {
-            set,
-            task: Task::CheckJson,
-        } => set == file,
+/// Whether these are the paths.
+fn are(paths: &[&str], wanted: &[&str]) -> bool {
+    paths.len() == wanted.len() && paths.iter().zip(wanted).all(|(path, word)| *path == *word)
+}
+
+/// Whether a job is to check the sets of these paths, and to answer in text.
+fn is_to_check(job: &Job<'_>, wanted: &[&str]) -> bool {
+    match job {
+        Job::OnPaths {
+            paths,
+            judging: Judging::Check,
+        } => are(paths.as_slice(), wanted),
         _ => false,
     }
 }
 
-/// Whether a job is to explain the set of a file so.
-fn is_to_explain(job: &Job<'_>, file: &str, all: Extent) -> bool {
-    match *job {
-        Job::OnSet {
-            set,
-            task: Task::Explain(extent),
-        } => set == file && extent == all,
+/// Whether a job is to check the sets of these paths, and to answer in JSON.
+fn is_to_check_in_json(job: &Job<'_>, wanted: &[&str]) -> bool {
+    match job {
+        Job::OnPaths {
+            paths,
+            judging: Judging::CheckJson,
+        } => are(paths.as_slice(), wanted),
+        _ => false,
+    }
+}
+
+/// Whether a job is to explain the sets of these paths so.
+fn is_to_explain(job: &Job<'_>, wanted: &[&str], all: Extent) -> bool {
+    match job {
+        Job::OnPaths {
+            paths,
+            judging: Judging::Explain(extent),
+        } => are(paths.as_slice(), wanted) && *extent == all,
         _ => false,
     }
 }
@@ -271,7 +293,6 @@ fn wrong_words(rt: HostRuntime) {
     for words in [
         ["explain", "--all"].as_slice(),
         &["explain", "--rule"],
-        &["explain", "a", "b"],
         &["explain", "a", "--unchecked"],
         &["explain", "a", "--rule", "V1"],
         &["explain", "--rule", "V1", "--all"],
@@ -288,7 +309,6 @@ fn wrong_words(rt: HostRuntime) {
         assert!(rt; is_refused(alloc, words), "{}", words[1]);
     }
     assert!(rt; is_refused(alloc, &["trace", "a"]));
-    assert!(rt; is_refused(alloc, &["check", "a", "b"]));
     assert!(rt; is_refused(alloc, &["check", "a", "--unchecked"]));
     assert!(rt; is_refused(alloc, &["trace", "a", "b", "c"]));
     assert!(rt; is_refused(alloc, &["trace", "a", "b", "--checked"]));

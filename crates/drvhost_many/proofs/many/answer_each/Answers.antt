@@ -24,13 +24,13 @@ returns-in-Err-clause-answers g c =
     let q = g.E.Sink.contents at.err in
     let t = g.E.Sink.contents c.answer_one.new.err in
     let goes =
-    goes_as c.args.task c.of-one.result.task supply (g.F.Files.supply at.files) (string_bytes one)
+    goes_as c.args.judging c.of-one.result.judging supply (g.F.Files.supply at.files) (string_bytes one)
     c.of-one.result.name.now (g.F.Files.failures at.files) reads (g.O.Sink.failures at.out) writes m
-    n (SaysBehind failures mid new q t) (Err c.in-Err.halt) c.of-one.ensures.task
+    n (SaysBehind failures mid new q t) (Err c.in-Err.halt) c.of-one.ensures.judging
     at.invariant.supply (c.of-one.ensures.name ∙ c.as_str.ensures.value) c.in-Err.ensures.goes in
     let long = length-take-le at.name-index names (omega (arith, c.loop-name-test.true)) in
     rw c.status.ensures
-    (halts c.args.task supply (take at.name-index names) one so.0 at.status failures old mid new b m n
+    (halts c.args.judging supply (take at.name-index names) one so.0 at.status failures old mid new b m n
     p q t (g.F.Files.failures at.files) reads (g.O.Sink.failures at.out) writes so.3 names
     (drop (at.name-index + 1) names) (g.F.Files.opened c.args.files.now)
     (g.F.Files.opened c.answer_one.new.files) (g.F.Files.failures c.args.files.now)
@@ -60,12 +60,12 @@ loop-name-preserved g c =
     let q = g.E.Sink.contents at.err in
     let t = g.E.Sink.contents c.answer_one.new.err in
     let goes =
-    goes_as c.args.task c.of-one.result.task supply (g.F.Files.supply at.files) (string_bytes one)
+    goes_as c.args.judging c.of-one.result.judging supply (g.F.Files.supply at.files) (string_bytes one)
     c.of-one.result.name.now (g.F.Files.failures at.files) reads (g.O.Sink.failures at.out) writes m
-    n (SaysBehind failures mid new q t) (Ok c.in-Ok.answered) c.of-one.ensures.task
+    n (SaysBehind failures mid new q t) (Ok c.in-Ok.answered) c.of-one.ensures.judging
     at.invariant.supply (c.of-one.ensures.name ∙ c.as_str.ensures.value) c.in-Ok.ensures.goes in
     let more =
-    so_far_more c.args.task supply (take at.name-index names) one so.0 at.status failures old mid new
+    so_far_more c.args.judging supply (take at.name-index names) one so.0 at.status failures old mid new
     b m n p q t (g.F.Files.failures at.files) reads (g.O.Sink.failures at.out) writes so.3
     c.in-Ok.answered goes in
     record {
@@ -78,7 +78,7 @@ loop-name-preserved g c =
         so.0 + more.0,
         omega (arith, so.1, more.2),
         omega (arith, so.2, more.1),
-        so_far_next c.args.task supply names at.name-index one _ (so.0 + more.0) _ _ _ _ _
+        so_far_next c.args.judging supply names at.name-index one _ (so.0 + more.0) _ _ _ _ _
             c.loop-name-test.true c.name-item.is refl (sym c.greater-status.ensures) more.4,
       );
     }
@@ -96,11 +96,11 @@ returns-clause-answers g c =
     let n = g.O.Sink.contents at.out in
     let p = g.E.Sink.contents c.args.err.now in
     let t = g.E.Sink.contents at.err in
-    ends_all c.args.task supply names so.0 at.status failures old new
+    ends_all c.args.judging supply names so.0 at.status failures old new
     (g.F.Files.opened c.args.files.now) (g.F.Files.opened at.files)
     (g.F.Files.failures c.args.files.now) (g.F.Files.failures at.files)
     (g.O.Sink.failures c.args.out.now) (g.O.Sink.failures at.out) b n p t
-    (so_far_all c.args.task supply names at.name-index so.0 at.status b n
+    (so_far_all c.args.judging supply names at.name-index so.0 at.status b n
     (SaysBehind failures old new p t) (omega (arith, c.loop-name-test.false)) so.3)
     c.failures-failures.ensures
     (omega (arith, at.invariant.opened, c.loop-name-test.false, at.auto.name-index-end)) so.2

@@ -14,7 +14,7 @@ invariant-loop-name g l =
       answered :
           (reads : ℕ) × (reads ≤ l.name-index)
           × (g.F.Files.failures l.files ≡ g.F.Files.failures l.initial.files + reads)
-          × SoFar l.task (g.F.Files.supply l.initial.files) (take l.name-index l.names) reads l.status
+          × SoFar l.judging (g.F.Files.supply l.initial.files) (take l.name-index l.names) reads l.status
           (g.O.Sink.contents l.initial.out) (g.O.Sink.contents l.out)
           (SaysBehind l.failures (g.E.Sink.failures l.initial.err) (g.E.Sink.failures l.err)
           (g.E.Sink.contents l.initial.err) (g.E.Sink.contents l.err));

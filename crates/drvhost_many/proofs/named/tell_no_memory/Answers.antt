@@ -12,6 +12,6 @@ returns g c =
     SaysBehind c.args.failures (g.E.Sink.failures c.args.err.now)
     (g.E.Sink.failures c.say_behind-3.new.err) (g.E.Sink.contents c.args.err.now)
     (g.E.Sink.contents c.say_behind-3.new.err) in
-    subst P (no_memory_told c.args.one.task c.args.one.name.now _ _ _ c.as_bytes.ensures.value
+    subst P (no_memory_told c.args.one.judging c.args.one.name.now _ _ _ c.as_bytes.ensures.value
     (c.as_bytes-2.ensures.value ∙ c.gap.ensures) c.as_bytes-3.ensures.value)
     all

@@ -1,5 +1,4 @@
-use Rattle.std.proofs.Common.{◌≡◌, [], arith, refl}
-use Rattle.drvhost_words.proofs.Answering.{answers_alone, answers_unwarned}
+use Rattle.std.proofs.Common.{refl}
 use Rattle.drvhost_words.proofs.answer.answer.Goals as goal
 
 pub returns-in-Ok : goal.returns-in-Ok
@@ -11,11 +10,6 @@ pub returns-in-Err : goal.returns-in-Err
 returns-in-Err g c =
     rw c.in-Err.is
     (record {
-      answers =
-          answers_unwarned _ _ _ _ _ _ _ (λ warnings. warnings ≡ []) (λ text. text ≡ []) _ _ _ _ _
-          refl
-          (answers_alone _ _ _ _ _ _ _ (λ text. text ≡ []) _ _ _ _ _ refl
-          (c.refuse_lost_words.ensures _ _ _));
-      opened = (0, refl, omega arith);
+      answers = c.refuse_lost_words.ensures _ _ _ _;
       stores = record { supply = refl; none = refl };
     })

@@ -1,6 +1,7 @@
 use Rattle.std.proofs.Common.{arith}
 use Rattle.drvhost_devices.specs.Ends.{IsCheckOf}
-use Rattle.drvhost_words.proofs.Answering.{answers_rightly, check_known}
+use Rattle.drvhost_many.proofs.Judged.{answers_rightly}
+use Rattle.drvhost_words.proofs.Answering.{check_known}
 use Rattle.drvhost_words.proofs.answer.check_file.Goals as goal
 
 pub returns-clause-answers : goal.returns-clause-answers

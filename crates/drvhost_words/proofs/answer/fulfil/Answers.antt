@@ -1,11 +1,5 @@
 use Rattle.drvhost_words.proofs.answer.fulfil.Goals as goal
 
-pub returns-in-CheckJson : goal.returns-in-CheckJson
-returns-in-CheckJson g c = rw c.in-CheckJson.is c.check_json.ensures
-
-pub returns-in-Explain : goal.returns-in-Explain
-returns-in-Explain g c = rw c.in-Explain.is c.explain.ensures
-
 pub returns-in-Mend : goal.returns-in-Mend
 returns-in-Mend g c = rw c.in-Mend.is c.mend.ensures
 

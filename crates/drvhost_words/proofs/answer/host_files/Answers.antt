@@ -4,7 +4,8 @@ use Rattle.drvhost_runs.specs.Served.{IsHostOf}
 use Rattle.drvhost_devices.specs.declared.verification.Verification.TheVariants.{Required}
 use Rattle.drvhost_files.specs.Files.{failures_of}
 use Rattle.drvhost_words.specs.Unread.{IsOneOf}
-use Rattle.drvhost_words.proofs.Answering.{answers_rightly, answers_warned, host_known, run_known, unopened, warnings_known}
+use Rattle.drvhost_many.proofs.Judged.{answers_rightly}
+use Rattle.drvhost_words.proofs.Answering.{answers_warned, host_known, run_known, unopened, warnings_known}
 use Rattle.drvhost_words.proofs.answer.host_files.Goals as goal
 
 pub returns-in-Some-clause-answers : goal.returns-in-Some-clause-answers

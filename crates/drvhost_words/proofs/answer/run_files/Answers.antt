@@ -2,7 +2,8 @@ use Rattle.std.proofs.Common.{◌≡◌, ◌∙◌, None, Some, arith, ap, inr, 
 use Rattle.drvhost_words.specs.Program.{IsRunBy, verification_of}
 use Rattle.drvhost_files.specs.Files.{failures_of}
 use Rattle.drvhost_words.specs.Unread.{IsOneOf}
-use Rattle.drvhost_words.proofs.Answering.{answers_rightly, answers_unread, run_known, way_known, unopened}
+use Rattle.drvhost_many.proofs.Judged.{answers_rightly}
+use Rattle.drvhost_words.proofs.Answering.{answers_unread, run_known, way_known, unopened}
 use Rattle.drvhost_words.proofs.answer.run_files.Goals as goal
 
 pub returns-in-Some-clause-answers : goal.returns-in-Some-clause-answers

@@ -1,6 +1,6 @@
 use Rattle.std.proofs.Common.{◌≡◌, ◌∙◌, inl, inr, ap, sym, refl, rules, List, Option, Result, Ok, Err, IfErr, IsErrAnd, subst, true}
 use Rattle.clap.proofs.OnLiterals.{clap_on_literals}
-use Rattle.clap.specs.Words.{App, HasKind, IsAmong, Kinds, Row, Text, app_of, fault_of, is_simple, is_simple_and_free, kind_of, subcommand_of, subcommand_rows_of, takes}
+use Rattle.clap.specs.Words.{App, HasKind, IsAmong, Kinds, Row, Text, app_of, fault_of, is_simple, is_simple_and_free, kind_of, subcommand_of, takes}
 use Rattle.clap.specs.declared.error.Error.{Error}
 use Rattle.clap.specs.declared.error.ErrorKind.{ErrorKind}
 use Rattle.clap.specs.declared.error.ErrorKind.TheVariants.{DisplayVersion, OutOfMemory}
@@ -8,6 +8,7 @@ use Rattle.drvhost_commands.specs.declared.job.Job.{Job}
 use Rattle.drvhost_commands.specs.declared.job.JobFault.{JobFault}
 use Rattle.drvhost_commands.specs.declared.job.JobFault.TheVariants.{Memory}
 use Rattle.drvhost_commands.specs.CommandLine.{Names, program}
+use Rattle.drvhost_commands.proofs.Named.{is_none, is_some}
 use Rattle.drvhost_commands.proofs.job.Job.of.Goals as goal
 
 -- `clap` says exactly which words the command line takes
@@ -68,7 +69,7 @@ returns-in-Some-clause-task g c =
     inl (record {
       taken = sym (same_faults _ _ app) ∙ c.in-Ok.ensures.kinds exact;
       named = subst (λ (found : Option (Text × List Row)). Names found c.in-Some.job) rows
-          c.in-Some.ensures.some;
+          (is_some _ _ c.in-Some.job c.in-Some.is c.in_ok-job-in-Ok.ensures.some);
     })
 
 pub returns-in-Ok-clause-refused : goal.returns-in-Ok-clause-refused
@@ -76,8 +77,12 @@ returns-in-Ok-clause-refused g c =
     let app = c.in_ok-program.ensures in
     let rows = (c.in-Ok.ensures.ok.2 (form_of _ app)).1 ∙ same_subcommand _ _ app in
     λ taken job names.
-    absurd (c.in-None.ensures.none job
+    absurd (is_none _ c.in-None.is c.in_ok-job-in-Ok.ensures.none job
     (subst (λ (found : Option (Text × List Row)). Names found job) (sym rows) names))
+
+pub returns-in_err-job-in-Ok-clause-refused : goal.returns-in_err-job-in-Ok-clause-refused
+returns-in_err-job-in-Ok-clause-refused g c =
+    of_memory _ _ _ c.from_residual-in_err-job-in-Ok.ensures.1
 
 pub returns-in-Err-clause-task : goal.returns-in-Err-clause-task
 returns-in-Err-clause-task g c =
