@@ -13,4 +13,4 @@ pub mod lock;
 pub mod row;
 pub mod seen;
 pub mod sign;
-mod words;
+pub mod words;

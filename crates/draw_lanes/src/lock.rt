@@ -16,7 +16,7 @@ const CUT: usize = 10;
 /// A lock that was owned, and what it is called beside a bar.
 #[derive(Drop)]
 pub struct NamedLock {
-    pub(crate) lock: Lock,
+    pub lock: Lock,
     pub name: String,
 }
 
@@ -26,7 +26,7 @@ impl NamedLock {
     /// # Errors
     ///
     /// When memory runs out.
-    pub(crate) fn of(alloc: Global, book: &Book<'_>, lock: Lock) -> Result<NamedLock, AllocError> {
+    pub fn of(alloc: Global, book: &Book<'_>, lock: Lock) -> Result<NamedLock, AllocError> {
         let mut name = String::new(alloc);
         match lock {
             Lock::SystemCancel => name.push_str("cancel lock")?,
@@ -55,7 +55,7 @@ fn add_device(
 }
 
 /// The lock that a step of a frame acquires or releases, if it does.
-pub(crate) fn lock_of(acting: &Acting) -> Option<Lock> {
+pub fn lock_of(acting: &Acting) -> Option<Lock> {
     let instruction = acting.instruction;
     match acting.frame {
         FrameView::Walk(_) => None,
@@ -85,7 +85,7 @@ fn spin(device: u8, lock: SpinLock) -> Lock {
 }
 
 /// Whether two locks are the same.
-pub(crate) fn is_same(one: Lock, other: Lock) -> bool {
+pub fn is_same(one: Lock, other: Lock) -> bool {
     match (one, other) {
         (Lock::SystemCancel, Lock::SystemCancel) => true,
         (Lock::Spin(one), Lock::Spin(other)) => {
@@ -96,6 +96,6 @@ pub(crate) fn is_same(one: Lock, other: Lock) -> bool {
 }
 
 /// Whether a thread owns a lock.
-pub(crate) fn owns(machine: &Checked, thread: u8, lock: Lock) -> bool {
+pub fn owns(machine: &Checked, thread: u8, lock: Lock) -> bool {
     matches!(machine.shared().owner(lock), Some(Some(owner)) if owner == thread)
 }

@@ -11,12 +11,12 @@ use tell_uses::standing::thread_of;
 /// An event that happened: the moment before it, and the machine after it.
 #[derive(Clone, Copy)]
 pub struct Seen<'a> {
-    pub(crate) event: &'a Event,
-    pub(crate) moment: &'a Moment,
-    pub(crate) reply: &'a Reply,
-    pub(crate) machine: &'a Checked,
+    pub event: &'a Event,
+    pub moment: &'a Moment,
+    pub reply: &'a Reply,
+    pub machine: &'a Checked,
     /// The top frame of its thread after it.
-    pub(crate) top: Option<FrameView>,
+    pub top: Option<FrameView>,
 }
 
 impl<'a> Seen<'a> {
@@ -38,7 +38,7 @@ impl<'a> Seen<'a> {
 }
 
 /// The packet that an event is about, if it is one of a frame.
-pub(crate) fn packet_of(seen: Seen<'_>) -> Option<u64> {
+pub fn packet_of(seen: Seen<'_>) -> Option<u64> {
     match *seen.reply {
         Reply::Topped { packet, .. } => Some(packet),
         _ => match seen.moment.acting {

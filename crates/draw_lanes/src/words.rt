@@ -11,11 +11,11 @@ use tell_uses::acting::Acting;
 
 /// Adds where the frame stands that acts: its routine and the line of its instruction, or what the
 /// I/O manager does. Where a routine begins in the event, its name.
-pub(crate) fn add_place(
-    words: &mut String,
-    book: &Book<'_>,
-    seen: Seen<'_>,
-) -> Result<(), AllocError> {
+///
+/// # Errors
+///
+/// When memory runs out.
+pub fn add_place(words: &mut String, book: &Book<'_>, seen: Seen<'_>) -> Result<(), AllocError> {
     match seen.moment.acting {
         Some(acting) => book.add_spot(words, acting.frame),
         None => match (seen.event, seen.top) {
@@ -37,11 +37,11 @@ pub(crate) fn add_place(
 }
 
 /// Adds what an event changed.
-pub(crate) fn add_words(
-    words: &mut String,
-    book: &Book<'_>,
-    seen: Seen<'_>,
-) -> Result<(), AllocError> {
+///
+/// # Errors
+///
+/// When memory runs out.
+pub fn add_words(words: &mut String, book: &Book<'_>, seen: Seen<'_>) -> Result<(), AllocError> {
     let moment = seen.moment;
     match *seen.reply {
         Reply::Bug(bug) => write!(words, "bug check {}: ", bug.check.as_str())?,

@@ -5,8 +5,8 @@ use Rattle.clap.specs.declared.error.ErrorKind.TheVariants.{DisplayVersion}
 use Rattle.clap.specs.declared.builder.ArgAction.TheVariants.{Set, SetTrue}
 use Rattle.clap.specs.declared.builder.value_parser.ValueParser.{ValueParser}
 use Rattle.clap.specs.declared.builder.value_parser.ValueParser.TheVariants.{Signed, String as AnyText, Unsigned}
-use Rattle.hunt_search.specs.declared.search.Bounds.{Bounds}
-use Rattle.hunt_search.specs.declared.search.Goal.TheVariants.{Amiss, AmissOrStuck}
+use Rattle.hunt_bounds.specs.declared.bounds.Bounds.{Bounds}
+use Rattle.hunt_bounds.specs.declared.bounds.Goal.TheVariants.{Amiss, AmissOrStuck}
 use Rattle.interleave.specs.Line.{number_within}
 use Rattle.model.specs.declared.abs.Rule.{Rule as VerdictRule}
 use Rattle.model.specs.declared.limits.TheConstants.{MAX_THREADS}
@@ -23,13 +23,15 @@ use Rattle.drvhost_commands.specs.declared.job.JobFault.{JobFault}
 use Rattle.drvhost_commands.specs.declared.job.JobFault.TheVariants.{Usage, Memory}
 use Rattle.drvhost_commands.specs.declared.naming.Format.{Format}
 use Rattle.drvhost_commands.specs.declared.naming.Format.TheVariants.{Plain, Json}
-use Rattle.drvhost_hunts.specs.declared.reach.TheConstants.{MAX_PACKETS, MAX_WORLDS, USUAL_PACKETS, USUAL_THREADS, USUAL_WORLDS}
-use Rattle.drvhost_mends.specs.declared.mend.TheConstants.{MAX_TRIES, USUAL_TRIES}
-use Rattle.drvhost_sets.specs.declared.explaining.Extent.TheVariants.{First, Each}
-use Rattle.drvhost_views.specs.declared.tell.Detail.{Detail}
-use Rattle.drvhost_views.specs.declared.tell.Detail.TheVariants.{Every, Usual, Quiet}
-use Rattle.drvhost_views.specs.declared.tell.Manner.{Manner}
-use Rattle.drvhost_views.specs.declared.tell.Strictness.TheVariants.{Lenient, Strict}
+use Rattle.hunt_bounds.specs.declared.reach.TheConstants.{MAX_PACKETS, MAX_WORLDS, USUAL_PACKETS, USUAL_THREADS, USUAL_WORLDS}
+use Rattle.drvhost_options.specs.declared.tries.TheConstants.{MAX_TRIES, USUAL_TRIES}
+use Rattle.drvhost_options.specs.declared.extent.Extent.TheVariants.{First, Each}
+use Rattle.drvhost_options.specs.declared.figure.Figure.{Figure}
+use Rattle.drvhost_options.specs.declared.figure.Figure.TheVariants.{Picture, Tracks}
+use Rattle.drvhost_options.specs.declared.manner.Detail.{Detail}
+use Rattle.drvhost_options.specs.declared.manner.Detail.TheVariants.{Every, Usual, Quiet}
+use Rattle.drvhost_options.specs.declared.manner.Manner.{Manner}
+use Rattle.drvhost_options.specs.declared.manner.Strictness.TheVariants.{Lenient, Strict}
 use Rattle.drvhost_devices.specs.declared.verification.Verification.{Verification}
 use Rattle.drvhost_devices.specs.declared.verification.Verification.TheVariants.{Required, Skipped}
 
@@ -128,7 +130,7 @@ commands =
     ∷ mend_command
     ∷ schedule_command (codes "trace") (format_option ∷ [])
     ∷ tell_command
-    ∷ schedule_command (codes "draw") []
+    ∷ schedule_command (codes "draw") (format_option ∷ [])
     ∷ hunt_command
     ∷ host_command
     ∷ set_command (codes "list") []
@@ -212,6 +214,11 @@ abbrev pub IsFormat : Option Text → Format → Type 0
 IsFormat value Plain = (value ≡ None) ⊎ (value ≡ Some (codes "text"))
 IsFormat value Json = value ≡ Some (codes "json")
 
+-- as what a run is drawn, by the same
+abbrev pub IsFigure : Option Text → Figure → Type 0
+IsFigure value Picture = (value ≡ None) ⊎ (value ≡ Some (codes "svg"))
+IsFigure value Tracks = value ≡ Some (codes "perfetto")
+
 -- a command with its matches names a page; where it explains one there is no file and no `--all`
 abbrev pub NamesPage : Text × List Row → Page → Type 0
 NamesPage found (PageOfRule rule) = (found.0 ≡ codes "explain")
@@ -249,7 +256,9 @@ NamesWay found (TraceJson verification) =
     × IsFormat (first_of (codes "format") found.1) Json
 NamesWay found (Tell verification manner) =
     (found.0 ≡ codes "tell") × IsVerified found.1 verification × IsManner found.1 manner
-NamesWay found (Draw verification) = (found.0 ≡ codes "draw") × IsVerified found.1 verification
+NamesWay found (Draw verification figure) =
+    (found.0 ≡ codes "draw") × IsVerified found.1 verification
+    × IsFigure (first_of (codes "format") found.1) figure
 
 abbrev pub NamesRun : Text × List Row → List ℕ → List ℕ → Way → Type 0
 NamesRun found set input way = (first_of (codes "FILE") found.1 ≡ Some set)

@@ -10,8 +10,8 @@ use crate::arguments::{Argument, arg_of};
 use crate::usage::EXPLAIN_USAGE;
 use clap::Command;
 use clap::builder::ValueParser;
-use drvhost_hunts::reach::{MAX_PACKETS, MAX_WORLDS};
-use drvhost_mends::mend::MAX_TRIES;
+use drvhost_options::tries::MAX_TRIES;
+use hunt_bounds::reach::{MAX_PACKETS, MAX_WORLDS};
 use model::limits::MAX_THREADS;
 use std::alloc::{AllocError, Global};
 
@@ -114,9 +114,19 @@ const COMMANDS: [Entry<'static>; 11] = [
     },
     Entry {
         name: "draw",
-        about: "Runs a driver set by a schedule, and writes the run as an SVG picture",
+        about: "Runs a driver set by a schedule, and draws the run, in SVG or for Perfetto",
         usage: None,
-        arguments: &[SET, SCHEDULE, UNCHECKED],
+        arguments: &[
+            SET,
+            SCHEDULE,
+            UNCHECKED,
+            Argument::Value(
+                "format",
+                "format",
+                ValueParser::String,
+                "As what it is drawn, svg or perfetto; svg where none is given",
+            ),
+        ],
     },
     Entry {
         name: "hunt",

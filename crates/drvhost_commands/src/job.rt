@@ -14,9 +14,10 @@ use clap::error::ErrorKind;
 use drvhost_devices::device::Sink;
 use drvhost_devices::fault::say;
 use drvhost_devices::verification::Verification;
-use drvhost_hunts::reach::Reach;
-use drvhost_sets::explaining::Extent;
-use drvhost_views::tell::Manner;
+use drvhost_options::extent::Extent;
+use drvhost_options::figure::Figure;
+use drvhost_options::manner::Manner;
+use hunt_bounds::reach::Reach;
 use interleave::read::number_within;
 use model::abs::Rule;
 use model::limits::MAX_THREADS;
@@ -98,8 +99,8 @@ pub enum Way {
     TraceJson(Verification),
     /// `tell FILE SCHEDULE [--unchecked] [--quiet | --every] [--strict]`
     Tell(Verification, Manner),
-    /// `draw FILE SCHEDULE [--unchecked]`
-    Draw(Verification),
+    /// `draw FILE SCHEDULE [--unchecked] [--format svg|perfetto]`
+    Draw(Verification, Figure),
 }
 
 /// How many workers serve the commands of a script, 1 to `MAX_THREADS`.

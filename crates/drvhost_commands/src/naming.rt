@@ -2,18 +2,19 @@
 
 ghost use Rattle.std.specs.Prelude.{◌≡◌, ◌≤◌, codes, false, option_map, IfNone, IfSome, IsTrue, ℕ, List};
 ghost use Rattle.clap.specs.Words.{first_of, found_of, rows_of, subcommand_rows_of};
-ghost use Rattle.drvhost_commands.specs.CommandLine.{IsChosen, IsDetail, IsFormat, IsGiven, IsManner, IsReach, Names, NamesBy, NamesFiles, NamesPage, NamesRun, NamesSet, NamesTask, NamesWay, any_number_asked, number_asked};
+ghost use Rattle.drvhost_commands.specs.CommandLine.{IsChosen, IsDetail, IsFigure, IsFormat, IsGiven, IsManner, IsReach, Names, NamesBy, NamesFiles, NamesPage, NamesRun, NamesSet, NamesTask, NamesWay, any_number_asked, number_asked};
 
 use crate::job::{Job, Page, Task, Way, Workers};
 use clap::ArgMatches;
 use drvhost_devices::verification::Verification;
-use drvhost_hunts::reach::{
+use drvhost_options::extent::Extent;
+use drvhost_options::figure::Figure;
+use drvhost_options::manner::{Detail, Manner, Strictness};
+use drvhost_options::tries::{MAX_TRIES, USUAL_TRIES};
+use hunt_bounds::bounds::{Bounds, Goal};
+use hunt_bounds::reach::{
     MAX_PACKETS, MAX_WORLDS, Reach, USUAL_PACKETS, USUAL_THREADS, USUAL_WORLDS,
 };
-use drvhost_mends::mend::{MAX_TRIES, USUAL_TRIES};
-use drvhost_sets::explaining::Extent;
-use drvhost_views::tell::{Detail, Manner, Strictness};
-use hunt_search::search::{Bounds, Goal};
 use interleave::read::number_within;
 use model::limits::MAX_THREADS;
 use report::rule::rule_named;
@@ -166,7 +167,7 @@ fn way_named(command: &str, matches: &ArgMatches<'_>) -> Option<Way>
     match command {
         "trace" => run_to_trace(matches),
         "tell" => run_to_tell(matches),
-        "draw" => Some(Way::Draw(verification_asked(matches))),
+        "draw" => run_to_draw(matches),
         _ => None,
     }
 }
@@ -191,6 +192,15 @@ fn run_to_tell(matches: &ArgMatches<'_>) -> Option<Way>
 {
     let manner = manner_asked(matches)?;
     Some(Way::Tell(verification_asked(matches), manner))
+}
+
+fn run_to_draw(matches: &ArgMatches<'_>) -> Option<Way>
+    ensures some { IfSome result (NamesWay (codes "draw", rows_of (found_of matches.now))) }
+    ensures none { IfNone result
+        ((way : Way) → NamesWay (codes "draw", rows_of (found_of matches.now)) way → ⊥) }
+{
+    let figure = figure_asked(matches)?;
+    Some(Way::Draw(verification_asked(matches), figure))
 }
 
 /// What they name beside these with files.
@@ -329,6 +339,21 @@ fn format_asked(matches: &ArgMatches<'_>) -> Option<Format>
         None => Some(Format::Plain),
         Some("text") => Some(Format::Plain),
         Some("json") => Some(Format::Json),
+        Some(_) => None,
+    }
+}
+
+/// As what a run is to be drawn, if there is such a format.
+fn figure_asked(matches: &ArgMatches<'_>) -> Option<Figure>
+    ensures some { IfSome result
+        (IsFigure (first_of (codes "format") (rows_of (found_of matches.now)))) }
+    ensures none { IfNone result ((figure : Figure)
+        → IsFigure (first_of (codes "format") (rows_of (found_of matches.now))) figure → ⊥) }
+{
+    match argument(matches, "format") {
+        None => Some(Figure::Picture),
+        Some("svg") => Some(Figure::Picture),
+        Some("perfetto") => Some(Figure::Tracks),
         Some(_) => None,
     }
 }

@@ -18,6 +18,14 @@ const CHECK_USAGE: &str = "drvhost check [OPTIONS] <FILE>";
 
 const TRACE_USAGE: &str = "drvhost trace [OPTIONS] <FILE> <SCHEDULE>";
 
+/// How `draw` is used.
+const DRAW_USAGE: &str = "drvhost draw [OPTIONS] <FILE> <SCHEDULE>";
+
+/// The formats of answers, and those of drawn runs.
+const ANSWERS: &str = "text or json";
+
+const FIGURES: &str = "svg or perfetto";
+
 const TWO_LEVELS: &str = "the argument '--quiet' cannot be used with '--every'";
 
 /// What is told of words that the command line takes, and that name no job.
@@ -29,8 +37,9 @@ pub(crate) fn unnamed(
     match matches.subcommand() {
         Some(("explain", inner)) => unexplained(alloc, inner),
         Some(("tell", _)) => untold(alloc),
-        Some(("check", inner)) => unwritten(alloc, inner, CHECK_USAGE),
-        Some(("trace", inner)) => unwritten(alloc, inner, TRACE_USAGE),
+        Some(("check", inner)) => unwritten(alloc, inner, ANSWERS, CHECK_USAGE),
+        Some(("trace", inner)) => unwritten(alloc, inner, ANSWERS, TRACE_USAGE),
+        Some(("draw", inner)) => unwritten(alloc, inner, FIGURES, DRAW_USAGE),
         _ => unnumbered(program),
     }
 }
@@ -77,9 +86,14 @@ fn untold(alloc: Global) -> Result<String, AllocError> {
 }
 
 /// What is told where an answer is to be written in a format that there isn't.
-fn unwritten(alloc: Global, matches: &ArgMatches<'_>, usage: &str) -> Result<String, AllocError> {
+fn unwritten(
+    alloc: Global,
+    matches: &ArgMatches<'_>,
+    formats: &str,
+    usage: &str,
+) -> Result<String, AllocError> {
     let word = argument(matches, "format").unwrap_or("");
-    let mut text = format!(in alloc; "error: there is no format '{word}': it is text or json")?;
+    let mut text = format!(in alloc; "error: there is no format '{word}': it is {formats}")?;
     add_usage(&mut text, usage)?;
     Ok(text)
 }

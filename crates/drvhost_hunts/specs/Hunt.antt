@@ -8,7 +8,7 @@ use Rattle.drvhost_devices.specs.Ends.{IsOfSupply}
 use Rattle.hunt_schedule.specs.declared.telling.Told.{Told}
 use Rattle.hunt_schedule.specs.declared.telling.Told.TheVariants.{Found, Unlisted, All, More}
 use Rattle.hunt_schedule.specs.Telling.{IsToldOf}
-use Rattle.hunt_search.specs.declared.search.Bounds.{Bounds}
+use Rattle.hunt_bounds.specs.declared.bounds.Bounds.{Bounds}
 use Rattle.model.specs.Set.{Set}
 
 -- what is written of what is told

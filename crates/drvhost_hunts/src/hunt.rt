@@ -7,21 +7,20 @@ ghost use Rattle.drvhost_devices.specs.Fault.{Goes, reads_failed, writes_failed}
 ghost use Rattle.drvhost_hunts.specs.Hunt.{IsHunt, IsHuntOf, end_told, text_told};
 ghost use Rattle.hunt_schedule.specs.Telling.{IsToldOf};
 
-use crate::reach::Reach;
 use drvhost_devices::device::{Sink, Source};
 use drvhost_devices::fault::{End, Fault};
 use drvhost_devices::reading::source_of;
 use drvhost_devices::transfer::write_bytes;
 use drvhost_sets::job::{Job, Notes, answer};
+use hunt_bounds::reach::Reach;
 use hunt_schedule::telling::{Told, tell_hunt};
 use image::DriverSet;
 use std::alloc::Global;
 
 /// Writes a shortest run of a driver set, accepted or refused, that ends amiss, as a schedule whose
 /// first line tells how; where that is asked for, one that is stuck; or that there is none within
-/// reach. The answer is the exit status: 0 none,
-/// 1 found, 2 where the set's text or its image is faulty or a read or a write failed, 3 where
-/// memory ran out. Faults are told on the error writer.
+/// reach. The answer is the exit status: 0 none, 1 found, 2 where the set's text or its image is
+/// faulty or a read or a write failed, 3 where memory ran out. Faults are told on the error writer.
 pub fn hunt<S: Source, O: Sink, E: Sink>(
     alloc: Global,
     reach: Reach,

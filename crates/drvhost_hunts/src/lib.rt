@@ -3,4 +3,3 @@
 #![tactic(auto)]
 
 pub mod hunt;
-pub mod reach;

@@ -14,7 +14,7 @@ use drvhost_devices::fault::no_memory;
 use drvhost_devices::transfer::write_whole;
 use drvhost_devices::unopened::say_behind;
 use drvhost_files::files::Files;
-use drvhost_sets::explaining::Extent;
+use drvhost_options::extent::Extent;
 use report::fault::WRITE_FAILED;
 use std::alloc::{AllocError, Global};
 

@@ -21,12 +21,6 @@ use report::lines::Lines;
 use std::alloc::{AllocError, Global};
 use verifier::verify;
 
-/// How often a mend is tried of each faulty routine where nothing is said of it.
-pub const USUAL_TRIES: u64 = 20_000;
-
-/// How often at most.
-pub const MAX_TRIES: u64 = 1_000_000;
-
 /// What is asked for.
 #[derive(Clone, Copy)]
 pub struct Asked {

@@ -18,6 +18,7 @@ use drvhost_devices::device::{Sink, Source};
 use drvhost_devices::fault::{End, Fault, finish, no_memory, say_with_words};
 use drvhost_devices::reading::{begins_image, set_of};
 use drvhost_devices::transfer::{read_whole, write_lines, write_words};
+use drvhost_options::extent::Extent;
 use image::{DriverSet, ImageFault};
 use model::abs::{Refusal, Rule};
 use report::lines::Lines;
@@ -26,15 +27,6 @@ use verifier::{Accepted, verify};
 use verifier_names::Origin;
 use verifier_warnings::acceptance;
 use verifier_words::{Told, explanation, explanations};
-
-/// Of which faults of a refused set words are written.
-#[derive(Clone, Copy, Debug, PartialEq, Eq)]
-pub enum Extent {
-    /// Of its first fault, for which it is refused.
-    First,
-    /// Of the first fault of each routine that has one.
-    Each,
-}
 
 /// What words are asked for on a set: on which faults, and in the terms of what it was read from.
 #[derive(Clone, Copy)]

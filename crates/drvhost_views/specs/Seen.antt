@@ -7,7 +7,7 @@ use Rattle.model.specs.Machine.{Machine, ShowsWhole}
 use Rattle.tell_uses.specs.Acting.{acting_in}
 use Rattle.tell_uses.specs.Acts.{use_step}
 use Rattle.tell_uses.specs.Plain.{is_plain}
-use Rattle.drvhost_views.specs.declared.tell.Detail.{Detail}
+use Rattle.drvhost_options.specs.declared.manner.Detail.{Detail}
 use Rattle.drvhost_views.specs.Told.{is_left_out}
 use Rattle.tell_words.specs.declared.line.Happened.{Happened}
 

@@ -29,12 +29,13 @@ use Rattle.drvhost_devices.specs.declared.fault.End.TheVariants.{Complete, Stopp
 use Rattle.drvhost_devices.specs.declared.fault.Fault.{Fault}
 use Rattle.drvhost_devices.specs.declared.fault.Fault.TheVariants.{Read, Write, Memory, Text, Image, Schedule as OfSchedule, Script as OfScript}
 use Rattle.drvhost_views.specs.declared.show.Showing.{Showing}
-use Rattle.drvhost_views.specs.declared.show.Showing.TheVariants.{InWords, AsPicture}
-use Rattle.drvhost_views.specs.declared.tell.Detail.{Detail}
-use Rattle.drvhost_views.specs.declared.tell.Detail.TheVariants.{Every, Usual, Quiet}
-use Rattle.drvhost_views.specs.declared.tell.Manner.{Manner}
-use Rattle.drvhost_views.specs.declared.tell.Strictness.{Strictness}
-use Rattle.drvhost_views.specs.declared.tell.Strictness.TheVariants.{Lenient, Strict}
+use Rattle.drvhost_views.specs.declared.show.Showing.TheVariants.{InWords, Drawn}
+use Rattle.drvhost_options.specs.declared.figure.Figure.{Figure}
+use Rattle.drvhost_options.specs.declared.manner.Detail.{Detail}
+use Rattle.drvhost_options.specs.declared.manner.Detail.TheVariants.{Every, Usual, Quiet}
+use Rattle.drvhost_options.specs.declared.manner.Manner.{Manner}
+use Rattle.drvhost_options.specs.declared.manner.Strictness.{Strictness}
+use Rattle.drvhost_options.specs.declared.manner.Strictness.TheVariants.{Lenient, Strict}
 use Rattle.drvhost_views.specs.declared.telling.Told.{Told}
 use Rattle.drvhost_views.specs.declared.telling.Telling.{Telling}
 use Rattle.drvhost_devices.specs.declared.verification.Verification.{Verification}
@@ -233,7 +234,7 @@ pub record IsRunDrawn (set : Set) (threads : ℕ) (events : List Event) (answer 
 -- a run is shown in words, or as a picture
 abbrev pub IsRunShown : Showing → Set → ℕ → List Event → Answer → Type 0
 IsRunShown (InWords manner) set threads events answer = IsRunTold manner set threads events answer
-IsRunShown AsPicture set threads events answer = IsRunDrawn set threads events answer
+IsRunShown (Drawn figure) set threads events answer = IsRunDrawn set threads events answer
 
 -- or the fault of the schedule is told, with some words behind its line
 abbrev pub IsScheduleShown : Showing → Set → Result Schedule ScheduleFault → Answer → Type 0
@@ -259,9 +260,9 @@ abbrev pub IsTellOf : Verification → Manner → Supply → Supply → Answer �
 IsTellOf verification manner supply schedule answer =
     IsShownOf verification (InWords manner) supply schedule answer
 
-abbrev pub IsDrawOf : Verification → Supply → Supply → Answer → Type 0
-IsDrawOf verification supply schedule answer =
-    IsShownOf verification AsPicture supply schedule answer
+abbrev pub IsDrawOf : Verification → Figure → Supply → Supply → Answer → Type 0
+IsDrawOf verification figure supply schedule answer =
+    IsShownOf verification (Drawn figure) supply schedule answer
 
 -- a text was made, and with the way that the job ends it is a right answer; or a schedule is rightly
 -- told as faulty, whatever words stand behind its line, or a read failed or memory ran out

@@ -6,8 +6,8 @@ ghost use Rattle.drvhost_views.specs.Told.{GoesAlone, ToldAlone, ToldOnce, unkno
 
 use crate::levels::FEW;
 use crate::page::{Page, length_of};
-use crate::tell::Detail;
 use checked::Checked;
+use drvhost_options::manner::Detail;
 use model::event::{Event, Reply};
 use model::view::FrameView;
 use report::word::Word;

@@ -1,4 +1,4 @@
-//! A run drawn as a picture.
+//! A run that is drawn.
 
 ghost use Rattle.std.specs.Prelude.{◌≡◌, ◌+◌, ◌⊎◌};
 ghost use Rattle.drvhost_devices.specs.Device.{CanCount, Says};
@@ -8,21 +8,30 @@ ghost use Rattle.drvhost_views.specs.Told.{IsDrawOf};
 use crate::show::{Showing, Shown};
 use drvhost_devices::device::{Sink, Source};
 use drvhost_devices::verification::Verification;
+use drvhost_options::figure::Figure;
 use drvhost_sets::job::answer;
 use drvhost_sets::judged::Judged;
 use std::alloc::Global;
 
+/// A run that is to be drawn: of which sets, and as what.
+#[derive(Clone, Copy, Debug, PartialEq, Eq)]
+pub struct Drawing {
+    pub verification: Verification,
+    pub figure: Figure,
+}
+
 /// Runs a driver set by a schedule as [`trace`](drvhost_runs::trace::trace) does, and writes the run as
 /// one SVG picture: a lane for each thread, device and list, a line for each packet, and a row of
-/// words for each event of interest, at most 500. Where verification is required, a refused set
+/// words for each event of interest, at most 500; or, without a limit, as trace events in JSON: a
+/// track for each thread with a span for each frame. Where verification is required, a refused set
 /// isn't run, and what is written is the line of its refusal. The answer is the exit status of the
 /// trace, and faults are told on the error writer as there. Nothing is written before the whole
-/// picture stands in memory.
+/// text stands in memory.
 pub fn draw<S: Source, P: Source, O: Sink, E: Sink>(
     alloc: Global,
+    drawing: Drawing,
     set: &mut S,
     schedule: &mut P,
-    verification: Verification,
     out: &mut O,
     err: &mut E,
 ) -> u8
@@ -30,9 +39,10 @@ pub fn draw<S: Source, P: Source, O: Sink, E: Sink>(
     requires schedule { CanCount (P.failures schedule.old) }
     requires out { CanCount (O.failures out.old) }
     requires err { CanCount (E.failures err.old) }
-    ensures unread { (schedule.new ≡ schedule.old) ⊎ HoldsRun verification (S.supply set.old) }
+    ensures unread { (schedule.new ≡ schedule.old) ⊎ HoldsRun drawing.verification (S.supply set.old) }
     ensures answers { Answers
-        (IsDrawOf verification (S.supply set.old) (P.supply schedule.old))
+        (IsDrawOf drawing.verification drawing.figure
+        (S.supply set.old) (P.supply schedule.old))
         (S.failures set.old + P.failures schedule.old)
         (S.failures set.new + P.failures schedule.new)
         (O.failures out.old) (O.failures out.new) (O.contents out.old) (O.contents out.new)
@@ -42,9 +52,9 @@ pub fn draw<S: Source, P: Source, O: Sink, E: Sink>(
     let mut job = Judged {
         running: Shown {
             schedule,
-            showing: Showing::AsPicture,
+            showing: Showing::Drawn(drawing.figure),
         },
-        verification,
+        verification: drawing.verification,
     };
     answer(&mut job, alloc, set, out, err)
 }

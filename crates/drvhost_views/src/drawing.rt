@@ -10,7 +10,9 @@ ghost use Rattle.drvhost_views.specs.Told.{IsRunDrawn};
 use crate::telling::Told;
 use checked::Checked;
 use draw_picture::{Drawing, Seen, add_picture};
+use draw_tracks::Tracks;
 use drvhost_devices::fault::Fault;
+use drvhost_options::figure::Figure;
 use drvhost_runs::follow::is_last;
 use drvhost_runs::running::Machine;
 use drvhost_runs::watching::{Observer, Taken, observe};
@@ -28,6 +30,7 @@ pub(crate) fn draw_run(
     source: &[u8],
     machine: &mut Checked,
     schedule: &Schedule,
+    figure: Figure,
 ) -> Result<Told, AllocError>
     requires begun { ShowsWhole machine.old schedule.now.threads [] }
     requires limits { IsWithinLimits schedule.now }
@@ -35,27 +38,71 @@ pub(crate) fn draw_run(
         schedule.now.events (ended told.end told.text)) }
 {
     let book = Book::of(alloc, source)?;
-    let drawing = Drawing::begin(alloc, machine, &book)?;
     let mut painter = Painter {
-        drawing,
+        canvas: Canvas::of(alloc, figure, machine, &book)?,
         book,
         number: 0,
     };
     let Ok(end) = observe(machine, schedule, &mut painter) else {
         return Err(AllocError);
     };
-    let mut picture = String::new(alloc);
-    add_picture(&mut picture, &painter.drawing)?;
     Ok(Told {
-        text: ToldLines::of_bytes(alloc, picture.into_bytes())?,
+        text: ToldLines::of_bytes(alloc, painter.canvas.into_text(alloc)?)?,
         end,
     })
 }
 
-/// A picture of the events of a run, of which each is drawn by itself.
+/// What a run is drawn on.
+#[derive(Drop)]
+enum Canvas {
+    Picture(Drawing),
+    Tracks(Tracks),
+}
+
+impl Canvas {
+    /// An empty one, by the machine before the first event and the names of its set.
+    fn of(
+        alloc: Global,
+        figure: Figure,
+        machine: &Checked,
+        book: &Book<'_>,
+    ) -> Result<Canvas, AllocError> {
+        Ok(match figure {
+            Figure::Picture => Canvas::Picture(Drawing::begin(alloc, machine, book)?),
+            Figure::Tracks => Canvas::Tracks(Tracks::begin(alloc, machine, book)?),
+        })
+    }
+
+    /// Adds the event of a number.
+    fn add_event(
+        &mut self,
+        book: &Book<'_>,
+        number: u64,
+        seen: Seen<'_>,
+    ) -> Result<(), AllocError> {
+        match self {
+            Canvas::Picture(drawing) => drawing.add_event(book, number, seen),
+            Canvas::Tracks(tracks) => tracks.add_event(book, seen),
+        }
+    }
+
+    /// The text of what was drawn.
+    fn into_text(self, alloc: Global) -> Result<Vec<u8>, AllocError> {
+        match self {
+            Canvas::Picture(drawing) => {
+                let mut picture = String::new(alloc);
+                add_picture(&mut picture, &drawing)?;
+                Ok(picture.into_bytes())
+            }
+            Canvas::Tracks(tracks) => tracks.end(),
+        }
+    }
+}
+
+/// The events of a run, of which each is drawn by itself.
 #[derive(Drop)]
 struct Painter<'a> {
-    drawing: Drawing,
+    canvas: Canvas,
     book: Book<'a>,
     number: u64,
 }
@@ -71,7 +118,7 @@ impl<'a> Painter<'a> {
         machine: &'s Checked,
     ) -> Result<(), AllocError> {
         let seen = Seen::of(event, moment, reply, machine);
-        self.drawing.add_event(&self.book, self.number, seen)?;
+        self.canvas.add_event(&self.book, self.number, seen)?;
         self.number = self.number.saturating_add(1);
         Ok(())
     }

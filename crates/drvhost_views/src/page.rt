@@ -7,8 +7,8 @@ ghost use Rattle.tell_words.specs.Noted.{noted};
 ghost use Rattle.drvhost_views.specs.Told.{ToldOnce, ToldTimes, has_occurred};
 
 use crate::levels::is_left_out;
-use crate::tell::Detail;
 use checked::Checked;
+use drvhost_options::manner::Detail;
 use report::event_number::EventNumber;
 use report::lines::Lines;
 use report::word::Word;

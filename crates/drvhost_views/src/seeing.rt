@@ -9,8 +9,8 @@ ghost use Rattle.tell_uses.specs.Acting.{acting_in};
 ghost use Rattle.tell_uses.specs.Plain.{is_plain};
 ghost use Rattle.laws_runs.specs.Waits.{says_unchanged};
 
-use crate::tell::Detail;
 use checked::Checked;
+use drvhost_options::manner::Detail;
 use model::event::{Event, Reply};
 use std::alloc::{AllocError, Global};
 use tell_changes::Moment;

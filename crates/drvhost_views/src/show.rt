@@ -1,4 +1,4 @@
-//! A run shown to people, in words or as a picture.
+//! A run shown to people, in words or drawn.
 
 ghost use Rattle.std.specs.Prelude.{◌≡◌, ◌+◌, [], IfOk};
 ghost use Rattle.interleave.specs.Listing.{IsWithinLimits};
@@ -10,13 +10,14 @@ ghost use Rattle.drvhost_sets.specs.Worded.{TakesWords};
 ghost use Rattle.drvhost_views.specs.Told.{IsRunShown, IsShownRunOf, Tells};
 
 use crate::drawing::draw_run;
-use crate::tell::Manner;
 use crate::telling::{Told, tell_run};
 use checked::Checked;
 use drvhost_devices::device::{Sink, Source};
 use drvhost_devices::fault::{End, Fault, of_schedule};
 use drvhost_devices::reading::source_of;
 use drvhost_devices::transfer::read_whole;
+use drvhost_options::figure::Figure;
+use drvhost_options::manner::Manner;
 use drvhost_sets::job::Notes;
 use drvhost_sets::judged::Running;
 use image::DriverSet;
@@ -32,8 +33,8 @@ use verifier::Accepted;
 pub(crate) enum Showing {
     /// In words, with an audit.
     InWords(Manner),
-    /// As a picture.
-    AsPicture,
+    /// Drawn, as one picture or as trace events.
+    Drawn(Figure),
 }
 
 /// The run by the schedule that a source has, shown to people. Words on a faulty schedule stand
@@ -183,6 +184,6 @@ fn run_shown(
 {
     match showing {
         Showing::InWords(manner) => tell_run(alloc, source, machine, schedule, manner, lines),
-        Showing::AsPicture => draw_run(alloc, source, machine, schedule),
+        Showing::Drawn(figure) => draw_run(alloc, source, machine, schedule, figure),
     }
 }

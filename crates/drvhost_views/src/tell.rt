@@ -8,37 +8,10 @@ ghost use Rattle.drvhost_views.specs.Told.{IsTellOf};
 use crate::show::{Showing, Shown};
 use drvhost_devices::device::{Sink, Source};
 use drvhost_devices::verification::Verification;
+use drvhost_options::manner::Manner;
 use drvhost_sets::job::answer;
 use drvhost_sets::judged::Judged;
 use std::alloc::Global;
-
-/// Of which events of a run a line is told.
-#[derive(Clone, Copy, Debug, PartialEq, Eq)]
-pub enum Detail {
-    /// Of each.
-    Every,
-    /// Of those about packets, locks, lists and levels: but for those that find nothing to do, and
-    /// for steps at instructions that only compute.
-    Usual,
-    /// Of those that do more than make a step or find nothing to do.
-    Quiet,
-}
-
-/// Whether a run in which an event was refused is answered as one that went well.
-#[derive(Clone, Copy, Debug, PartialEq, Eq)]
-pub enum Strictness {
-    /// It is.
-    Lenient,
-    /// It is answered as one that stopped.
-    Strict,
-}
-
-/// How a run is told.
-#[derive(Clone, Copy, Debug, PartialEq, Eq)]
-pub struct Manner {
-    pub detail: Detail,
-    pub strictness: Strictness,
-}
 
 /// A run that is to be told: of which sets, and how.
 #[derive(Clone, Copy, Debug, PartialEq, Eq)]

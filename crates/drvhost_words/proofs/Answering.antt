@@ -241,7 +241,7 @@ way_held (Trace v) n o known supply input h answer (bytes, holds, right) =
     (bytes, holds_known known supply bytes h holds, right)
 way_held (Tell v d) n o known supply input h answer (bytes, holds, right) =
     (bytes, holds_known known supply bytes h holds, right)
-way_held (Draw v) n o known supply input h answer (bytes, holds, right) =
+way_held (Draw v f) n o known supply input h answer (bytes, holds, right) =
     (bytes, holds_known known supply bytes h holds, right)
 
 pub way_known : (way : Way) (n o : Bor (List ℕ)) (known supply input other : Supply)

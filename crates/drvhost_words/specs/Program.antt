@@ -38,14 +38,14 @@ IsRunBy (Trace verification) name other = IsTraceOf verification
 IsRunBy (TraceJson verification) name other =
     IsTraceJsonOf (record { set = name; schedule = other; verification = verification })
 IsRunBy (Tell verification manner) name other = IsTellOf verification manner
-IsRunBy (Draw verification) name other = IsDrawOf verification
+IsRunBy (Draw verification figure) name other = IsDrawOf verification figure
 
 -- whether the set has to be accepted
 abbrev pub verification_of : Way → Verification
 verification_of (Trace verification) = verification
 verification_of (TraceJson verification) = verification
 verification_of (Tell verification manner) = verification
-verification_of (Draw verification) = verification
+verification_of (Draw verification figure) = verification
 
 -- what a task with a set answers, by the name of its file and what this has
 abbrev pub IsDoneOf : Task → List ℕ → Supply → Answer → Type 0

@@ -29,7 +29,7 @@ use drvhost_sets::list::list;
 use drvhost_sets::rewriting::rewrite;
 use drvhost_sets::rule::{explain_lock_order, explain_rule};
 use drvhost_sets::version::version;
-use drvhost_views::draw::draw;
+use drvhost_views::draw::{Drawing, draw};
 use drvhost_views::tell::{Telling, tell};
 use std::alloc::Global;
 use std::io::ErrorKind;
@@ -449,7 +449,13 @@ fn run<S: Source, P: Source, O: Sink, E: Sink>(
             };
             tell(alloc, set, input, telling, out, err)
         }
-        Way::Draw(verification) => draw(alloc, set, input, verification, out, err),
+        Way::Draw(verification, figure) => {
+            let drawing = Drawing {
+                verification,
+                figure,
+            };
+            draw(alloc, drawing, set, input, out, err)
+        }
     }
 }
 
@@ -462,6 +468,12 @@ impl Gate for Open {
         ensures { result ≡ true }
     {
         true
+    }
+
+    fn at_once(&self, worker: u32, count: u64) -> bool
+        ensures { result ≡ true }
+    {
+        self.before(worker, count)
     }
 }
 

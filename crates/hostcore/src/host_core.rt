@@ -100,6 +100,7 @@ fn had_frames(world: &World, thread: u8, reply: &Reply) -> bool
 }
 
 /// Appends an entry, which the seat of its thread counts, if it is given out.
+#[inline(always)]
 fn append(log: &mut Log, seats: &mut Vec<Option<u64>>, entry: Entry)
     requires room { nat_eq (length log.old.entries) log.old.most ≡ false }
     requires counts { All (λ seat. IfSome seat (λ n. n ≤ MAX_HISTORY)) seats.old.items }

@@ -73,6 +73,7 @@ fn told_top(reply: &Reply) -> Option<TopOut>
 }
 
 /// Notes the place of an entry that has a name.
+#[inline(always)]
 fn note_name(places: &mut Index<Name, usize>, name: Option<Name>, place: usize)
     requires room { length (noted places.old) < room places.old }
     ensures noted { Notes is_name places.old places.new (option_map (λ name. (name, place)) name) }
@@ -85,6 +86,7 @@ fn note_name(places: &mut Index<Name, usize>, name: Option<Name>, place: usize)
 }
 
 /// Notes how a packet topped out, if the reply says that one did.
+#[inline(always)]
 fn note_top(tops: &mut Index<u64, TopOut>, reply: &Reply)
     requires room { length (noted tops.old) < room tops.old }
     ensures noted { Notes nat_eq tops.old tops.new
@@ -127,6 +129,7 @@ impl Log {
     }
 
     /// Appends an entry of a run that goes on, whose event is about its thread or about none.
+    #[inline(always)]
     pub fn append(&mut self, entry: Entry)
         requires room { nat_eq (length self.old.entries) self.old.most ≡ false }
         requires own { IfSome (thread_of entry.event) (λ t. t ≡ entry.thread) }

@@ -79,6 +79,7 @@ impl Model for Stored {
 }
 
 /// An event on its thread.
+#[inline(always)]
 fn split_event(event: Event, _thread: u8) -> EventParts
     requires { IfSome (thread_of event) (λ t. t ≡ _thread) }
     ensures { event_as result.happened _thread result.number ≡ event }
@@ -104,6 +105,7 @@ fn split_event(event: Event, _thread: u8) -> EventParts
 }
 
 /// A reply with which a run goes on.
+#[inline(always)]
 fn split_reply(reply: Reply) -> ReplyParts
     requires { LetsGoOn reply }
     ensures { reply_as result.answer result.packet result.info ≡ reply }
@@ -131,6 +133,7 @@ fn split_reply(reply: Reply) -> ReplyParts
 
 impl Stored {
     /// An entry of a run that goes on, whose event is about its thread or about none.
+    #[inline(always)]
     pub(crate) fn of(entry: Entry) -> Stored
         requires own { IfSome (thread_of entry.event) (λ t. t ≡ entry.thread) }
         requires goes_on { LetsGoOn entry.reply }

@@ -8,7 +8,7 @@ use Rattle.hunt_ends.specs.Ends.{EndsSo}
 use Rattle.hunt_schedule.specs.declared.telling.Told.{Told}
 use Rattle.hunt_schedule.specs.declared.telling.Told.TheVariants.{Found, Unlisted, All, More}
 use Rattle.hunt_schedule.specs.Headline.{headline}
-use Rattle.hunt_search.specs.declared.search.Bounds.{Bounds}
+use Rattle.hunt_bounds.specs.declared.bounds.Bounds.{Bounds}
 use Rattle.hunt_search.specs.declared.search.Find.{Find}
 use Rattle.hunt_search.specs.Hunts.{IsFind, IsWanted}
 use Rattle.interleave.specs.declared.schedule.Schedule.{Schedule}

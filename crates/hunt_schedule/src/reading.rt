@@ -6,8 +6,9 @@ ghost use Rattle.model.specs.declared.limits.TheConstants.{MAX_THREADS};
 
 use crate::headline::headline;
 use driver_set::DriverSet;
+use hunt_bounds::bounds::Bounds;
 use hunt_ends::ending::ending_of;
-use hunt_search::search::{Bounds, is_wanted};
+use hunt_search::search::is_wanted;
 use interleave::events::Events;
 use interleave::parse::parse_schedule;
 use interleave::schedule::ScheduleKind;

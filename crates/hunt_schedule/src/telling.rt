@@ -9,8 +9,9 @@ use crate::appending::{add, add_number};
 use crate::headline::headline;
 use crate::writing::schedule_text;
 use driver_set::DriverSet;
+use hunt_bounds::bounds::Bounds;
 use hunt_ends::ending::Ending;
-use hunt_search::search::{Bounds, Find, Hunted, hunt};
+use hunt_search::search::{Find, Hunted, hunt};
 use std::alloc::{AllocError, Global};
 
 /// What is told of a hunt.

@@ -5,8 +5,8 @@ ghost use Rattle.model.specs.declared.limits.TheConstants.{MAX_THREADS};
 
 use crate::headline::headline;
 use driver_set::DriverSet;
+use hunt_bounds::bounds::Bounds;
 use hunt_ends::ending::ending_of;
-use hunt_search::search::Bounds;
 use model::event::Event;
 use std::alloc::{AllocError, Global};
 use tell_uses::standing::thread_of;

@@ -3,8 +3,8 @@
 ghost use Rattle.std.specs.Prelude.{◌≡◌, ◌≤◌, IfOk};
 ghost use Rattle.model.specs.declared.limits.TheConstants.{MAX_THREADS};
 
-use crate::search::Bounds;
 use driver_set::DriverSet;
+use hunt_bounds::bounds::Bounds;
 use hunt_keys::facts::Facts;
 use std::alloc::{AllocError, Global};
 use std::marker::Model;
@@ -18,7 +18,7 @@ pub(crate) struct Plan {
 
 impl Model for Plan {
     ghost use Rattle.std.specs.Prelude.{◌≤◌};
-    ghost use Rattle.hunt_search.specs.declared.search.Bounds.{Bounds};
+    ghost use Rattle.hunt_bounds.specs.declared.bounds.Bounds.{Bounds};
     ghost use Rattle.model.specs.declared.limits.TheConstants.{MAX_THREADS};
 
     ghost Value = { Bounds };

@@ -1,7 +1,7 @@
 //! A shortest run that ends amiss, or else one that is stuck.
 
 ghost use Rattle.std.specs.Prelude.{◌≤◌, IfOk, IfSome, IsTrue};
-ghost use Rattle.hunt_search.specs.declared.search.Bounds.{Bounds};
+ghost use Rattle.hunt_bounds.specs.declared.bounds.Bounds.{Bounds};
 ghost use Rattle.hunt_search.specs.Hunts.{IsFind, IsHunted, IsWanted};
 ghost use Rattle.model.specs.declared.limits.TheConstants.{MAX_THREADS};
 ghost use Rattle.model.specs.Set.{Set};
@@ -10,35 +10,10 @@ use crate::expanding::{expand, machine_at};
 use crate::plan::Plan;
 use crate::worlds::Worlds;
 use driver_set::DriverSet;
+use hunt_bounds::bounds::{Bounds, Goal};
 use hunt_ends::ending::{Ending, ending_of};
 use model::event::Event;
 use std::alloc::{AllocError, Global};
-
-/// What a search looks for.
-#[derive(Clone, Copy)]
-pub enum Goal {
-    /// A run that ends amiss.
-    Amiss,
-    /// Or else one from whose end no run within the bounds comes to rest.
-    AmissOrStuck,
-}
-
-/// How far a search goes.
-#[derive(Clone, Copy)]
-pub struct Bounds {
-    /// Threads, 1 to 64.
-    pub threads: u8,
-    /// Packets that live at once.
-    pub packets: usize,
-    /// Worlds that are kept.
-    pub worlds: usize,
-    /// Events of a run, where these are bounded.
-    pub events: Option<u64>,
-    /// One more argument that every request is tried with.
-    pub argument: Option<u64>,
-    /// What it looks for.
-    pub goal: Goal,
-}
 
 /// A run that was looked for.
 #[derive(Drop)]

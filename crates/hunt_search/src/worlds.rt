@@ -1,8 +1,8 @@
 //! The worlds that were seen, each by its key, and how each was reached.
 
 use crate::graph::{Graph, Stand};
-use crate::search::Goal;
 use checked::Checked;
+use hunt_bounds::bounds::Goal;
 use hunt_keys::facts::Facts;
 use hunt_keys::keys::write_key;
 use hunt_keys::writer::Writer;

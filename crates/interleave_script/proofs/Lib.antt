@@ -1,2 +1,3 @@
 pub mod Cancels
 pub mod Meanings
+pub mod Usual

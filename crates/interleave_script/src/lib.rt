@@ -5,4 +5,5 @@
 #![tactic(auto)]
 
 pub mod parse;
+mod quick;
 pub mod read;

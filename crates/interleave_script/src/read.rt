@@ -3,6 +3,7 @@
 ghost use Rattle.std.specs.Prelude.{◌≡◌};
 ghost use Rattle.interleave_script.specs.Script.{cancel_line, cancel_of, cancels, command_line, command_of, interrupt_line, interrupt_of, interrupts, name_at, request_line, request_of, requests};
 
+use crate::quick::usual_line;
 use interleave::read::{byte, checked_tokens, number_within};
 use interleave::schedule::ScheduleKind;
 use model::history::{Command, Name};
@@ -14,7 +15,8 @@ use text::token::Tokens;
 /// The submitter of a script's commands: it has but one.
 const SUBMITTER: u32 = 0;
 
-/// The command that a line gives after these commands, or `None` if the line is blank.
+/// The command that a line gives after these commands, or `None` if the line is blank. Most lines
+/// have the usual form; any other one, and each fault, is read token by token.
 ///
 /// # Errors
 ///
@@ -22,6 +24,9 @@ const SUBMITTER: u32 = 0;
 pub fn command_line(commands: &[Command], line: &[u8]) -> Result<Option<Command>, ScheduleKind>
     ensures { result ≡ command_line commands.now line.now }
 {
+    if let Some(command) = usual_line(commands, line) {
+        return Ok(Some(command));
+    }
     command_of(commands, checked_tokens(line)?)
 }
 
@@ -123,7 +128,7 @@ fn cancels(commands: &[Command], count: &[u8], level: &[u8]) -> Option<Command>
 }
 
 /// The name of the command of this number, counted from 0, if that is a request.
-fn name_at(commands: &[Command], count: u64) -> Option<Name>
+pub(crate) fn name_at(commands: &[Command], count: u64) -> Option<Name>
     ensures { result ≡ name_at commands.now count }
 {
     match commands.get(count as usize) {

@@ -5,8 +5,8 @@ use Rattle.drvhost_devices.specs.declared.verification.Verification.TheVariants.
 use Rattle.drvhost_devices.specs.Answer.{Answer, IsRuleExplained}
 use Rattle.drvhost_devices.specs.Device.{Bytes}
 use Rattle.drvhost_devices.specs.Ends.{IsTraceOf}
-use Rattle.drvhost_sets.specs.declared.explaining.Extent.{Extent}
-use Rattle.drvhost_sets.specs.declared.explaining.Extent.TheVariants.{First, Each}
+use Rattle.drvhost_options.specs.declared.extent.Extent.{Extent}
+use Rattle.drvhost_options.specs.declared.extent.Extent.TheVariants.{First, Each}
 use Rattle.drvhost_sets.specs.Explained.{IsExplainedOf}
 use Rattle.model.specs.declared.abs.Rule.{Rule}
 use Rattle.model.specs.declared.memory.OutOfMemory.{OutOfMemory}

@@ -5,7 +5,8 @@ ghost use Rattle.std.specs.Prelude.{◌≡◌};
 
 use crate::texts::{put, verification_of, wrong};
 use drvhost_devices::verification::Verification;
-use drvhost_views::tell::{Detail, Manner, Strictness, Telling};
+use drvhost_options::manner::{Detail, Manner, Strictness};
+use drvhost_views::tell::Telling;
 use pafteis_parts::answers;
 use std::alloc::Global;
 

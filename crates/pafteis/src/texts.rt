@@ -7,7 +7,7 @@ ghost use Rattle.drvhost_devices.specs.Ends.{IsCheckOf, IsListOf, IsRewriteOf};
 ghost use Rattle.pafteis.specs.Called.{Answers, ExplainsRule, ExplainsSet, IsCheckedAs, Puts, Traces, verification_named};
 
 use drvhost_devices::verification::Verification;
-use drvhost_sets::explaining::Extent;
+use drvhost_options::extent::Extent;
 use model::memory::OutOfMemory;
 use pafteis_parts::answers;
 use pafteis_parts::delivery::deliver;

@@ -11,7 +11,9 @@ ghost use Rattle.drvhost_views.specs.Told.{IsDrawOf, IsTellOf};
 use crate::returned::{Told, collected};
 use drvhost_devices::device::{Reader, Source, Writer};
 use drvhost_devices::verification::Verification;
-use drvhost_sets::explaining::Extent;
+use drvhost_options::extent::Extent;
+use drvhost_options::figure::Figure;
+use drvhost_views::draw::Drawing;
 use drvhost_views::tell::Telling;
 use model::abs::Rule;
 use model::memory::OutOfMemory;
@@ -111,17 +113,21 @@ pub fn draw(
     schedule: &[u8],
     verification: Verification,
 ) -> Result<Told, OutOfMemory>
-    ensures { IfOk result (IsDrawOf verification (Bytes set.now) (Bytes schedule.now)) }
+    ensures { IfOk result (IsDrawOf verification Figure.Picture (Bytes set.now) (Bytes schedule.now)) }
 {
     let mut source = Reader::new(Some(set));
     let mut events = Reader::new(Some(schedule));
     let mut output = Writer::new(Vec::new(alloc));
     let mut errors = Writer::new(Vec::new(alloc));
+    let drawing = Drawing {
+        verification,
+        figure: Figure::Picture,
+    };
     let exit = drvhost_views::draw::draw(
         alloc,
+        drawing,
         &mut source,
         &mut events,
-        verification,
         &mut output,
         &mut errors,
     );

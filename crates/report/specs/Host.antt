@@ -10,7 +10,3 @@ left_line number = line_of (decimal number ∷ codes "left" ∷ [])
 -- the line of a history of so many entries that the replay of its events agrees with
 abbrev pub agrees_line : ℕ → List ℕ
 agrees_line entries = line_of (codes "history" ∷ decimal entries ∷ codes "agrees" ∷ [])
-
--- the line of a history of so many entries that the replay of its events differs from
-abbrev pub differs_line : ℕ → List ℕ
-differs_line entries = line_of (codes "history" ∷ decimal entries ∷ codes "differs" ∷ [])

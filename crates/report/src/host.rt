@@ -1,14 +1,11 @@
 //! The lines of a host's run: commands that no worker took, and the verdict on its history.
 
-ghost use Rattle.std.specs.Prelude.{◌≡◌, ◌≤◌, ◌++◌, codes, decimal, length};
-ghost use Rattle.report.specs.Host.{agrees_line, differs_line, left_line};
+ghost use Rattle.std.specs.Prelude.{◌≡◌, ◌++◌};
+ghost use Rattle.report.specs.Host.{agrees_line, left_line};
 ghost use Rattle.report.specs.Lines.{HasRoom};
 
 use crate::event_number::EventNumber;
 use crate::lines::Lines;
-
-/// Bytes of the verdict on a history, at most.
-const LONGEST_VERDICT: usize = 16;
 
 impl Lines {
     /// Adds the line of the command of a number that no worker took: the number, and that it is
@@ -26,25 +23,8 @@ impl Lines {
         requires { HasRoom self.old }
         ensures { self.new ≡ self.old ++ agrees_line entries }
     {
-        self.history(entries, b" agrees\n");
-    }
-
-    /// Adds the line of a history of so many entries that the replay of its events differs from.
-    pub fn differs(&mut self, entries: usize)
-        requires { HasRoom self.old }
-        ensures { self.new ≡ self.old ++ differs_line entries }
-    {
-        self.history(entries, b" differs\n");
-    }
-
-    /// Adds how many entries a history has, and the rest of its line.
-    fn history(&mut self, entries: usize, rest: &[u8])
-        requires room { HasRoom self.old }
-        requires short { length rest.now ≤ LONGEST_VERDICT }
-        ensures { self.new ≡ self.old ++ (codes "history " ++ (decimal entries ++ rest.now)) }
-    {
         self.text(b"history ");
         self.number(entries as u64);
-        self.text(rest);
+        self.text(b" agrees\n");
     }
 }

@@ -3,8 +3,9 @@
 use drvhost_commands::job::{Job, JobFault, Page, Task, Way, refuse_words};
 use drvhost_devices::device::Writer;
 use drvhost_devices::verification::Verification;
-use drvhost_sets::explaining::Extent;
-use drvhost_views::tell::{Detail, Manner, Strictness};
+use drvhost_options::extent::Extent;
+use drvhost_options::figure::Figure;
+use drvhost_options::manner::{Detail, Manner, Strictness};
 use model::abs::Rule;
 use std::alloc::Global;
 use std::test::Fail;
@@ -95,7 +96,9 @@ fn runs_that_are_shown(rt: HostRuntime) -> Result<(), Fail> {
     assert!(rt; is_to_tell(&job, Verification::Required, manner));
     assert!(rt; Job::of(alloc, &["tell", "a", "b", "--quiet", "--every"]).is_err());
     let job = Job::of(alloc, &["draw", "--unchecked", "a", "b"])?;
-    assert!(rt; is_to_draw(&job, Verification::Skipped));
+    assert!(rt; is_to_draw(&job, Verification::Skipped, Figure::Picture));
+    let job = Job::of(alloc, &["draw", "a", "b", "--format", "perfetto"])?;
+    assert!(rt; is_to_draw(&job, Verification::Required, Figure::Tracks));
     Ok(())
 }
 
@@ -172,14 +175,15 @@ fn is_to_tell(job: &Job<'_>, run: Verification, told: Manner) -> bool {
     }
 }
 
-/// Whether a job is to draw a run of the set of a file by the schedule of another one so.
-fn is_to_draw(job: &Job<'_>, run: Verification) -> bool {
+/// Whether a job is to draw a run of the set of a file by the schedule of another one so, and as
+/// this.
+fn is_to_draw(job: &Job<'_>, run: Verification, figure: Figure) -> bool {
     match *job {
         Job::OnRun {
             set,
             input,
-            way: Way::Draw(verification),
-        } => set == "a" && input == "b" && verification == run,
+            way: Way::Draw(verification, drawn),
+        } => set == "a" && input == "b" && verification == run && drawn == figure,
         _ => false,
     }
 }

@@ -1,7 +1,7 @@
 //! The program's answers in memory, and in a buffer, as the library for C has them.
 
 use drvhost_devices::verification::Verification;
-use drvhost_sets::explaining::Extent;
+use drvhost_options::extent::Extent;
 use model::abs::Rule;
 use model::memory::OutOfMemory;
 use pafteis_parts::answers::{check, explain, explain_rule, list, rewrite, trace, version};

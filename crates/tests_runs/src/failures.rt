@@ -6,15 +6,18 @@ ghost use Rattle.std.specs.Prelude.{◌≡◌};
 use crate::devices::{Narrow, Slow, have_taken};
 use drvhost_devices::device::{Reader, Sink, Source};
 use drvhost_devices::verification::Verification;
+use drvhost_options::extent::Extent;
+use drvhost_options::figure::Figure;
+use drvhost_options::manner::{Detail, Manner, Strictness};
 use drvhost_runs::host::{Hosting, host};
 use drvhost_runs::trace::trace;
 use drvhost_sets::check::check;
-use drvhost_sets::explaining::{Extent, explain};
+use drvhost_sets::explaining::explain;
 use drvhost_sets::list::list;
 use drvhost_sets::rewriting::rewrite;
 use drvhost_sets::version::version;
-use drvhost_views::draw::draw;
-use drvhost_views::tell::{Detail, Manner, Strictness, Telling, tell};
+use drvhost_views::draw::{Drawing, draw};
+use drvhost_views::tell::{Telling, tell};
 use std::alloc::Global;
 use std::sync::Wait;
 use std::thread::Threads;
@@ -78,6 +81,10 @@ struct Open;
 
 impl Gate for Open {
     fn before(&self, _worker: u32, _count: u64) -> bool {
+        true
+    }
+
+    fn at_once(&self, _worker: u32, _count: u64) -> bool {
         true
     }
 }
@@ -394,7 +401,14 @@ fn answer<R: Threads + Wait + Sync>(
         }
         Job::Draw(schedule, verification) => {
             let mut schedule = Slow::new(schedule, devices.step, devices.orders);
-            draw(alloc, set, &mut schedule, verification, out, err)
+            draw(
+                alloc,
+                picture_by(verification),
+                set,
+                &mut schedule,
+                out,
+                err,
+            )
         }
         Job::Host(script) => {
             let mut script = Slow::new(script, devices.step, devices.orders);
@@ -559,14 +573,22 @@ fn each_write_of_a_run_fails_in_turn(rt: HostRuntime) {
     }
 }
 
+/// A run that is drawn as a picture.
+fn picture_by(verification: Verification) -> Drawing {
+    Drawing {
+        verification,
+        figure: Figure::Picture,
+    }
+}
+
 /// The picture of a run, as sinks take it that don't fail.
 fn picture_of(alloc: Global) -> Narrow {
     let mut set = Slow::new(ONE_READ_TEXT, 1, None);
     let mut schedule = Slow::new(SCHEDULE, 1, None);
     let mut out = Narrow::new(alloc, 100, None);
     let mut err = Narrow::new(alloc, 1, None);
-    let how = Verification::Required;
-    let _status = draw(alloc, &mut set, &mut schedule, how, &mut out, &mut err);
+    let how = picture_by(Verification::Required);
+    let _status = draw(alloc, how, &mut set, &mut schedule, &mut out, &mut err);
     out
 }
 

@@ -18,6 +18,10 @@ impl Gate for Open {
     fn before(&self, _worker: u32, _count: u64) -> bool {
         true
     }
+
+    fn at_once(&self, _worker: u32, _count: u64) -> bool {
+        true
+    }
 }
 
 /// What is told of a script that one worker serves, where nothing goes out and the status is 2.

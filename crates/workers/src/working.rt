@@ -15,13 +15,26 @@ use std::sync::{Mutex, Wait};
 pub trait Gate {
     /// Whether the worker of this number, which has counted so many entries, takes its turn now.
     fn before(&self, worker: u32, count: u64) -> bool;
+
+    /// The same of a turn that follows an entry of this worker, for which it keeps the lock that all
+    /// of them share: no other worker goes on meanwhile, so this must not wait for one. A turn that
+    /// is refused here is asked for again by [`Gate::before`], without the lock.
+    fn at_once(&self, _worker: u32, _count: u64) -> bool {
+        false
+    }
 }
 
-/// A turn of a worker under the lock: the one place where it is taken.
-fn locked_turn<B: Beginning, R: Wait>(
+/// The most turns that a worker takes with the lock in one go: taking it costs as much as some of
+/// a turn, and whoever waits for it should not wait for long.
+const MOST_TURNS: u32 = 64;
+
+/// A turn of a worker under the lock, and those that it takes at once behind it: the one place where
+/// they are taken. Answers what the last one came to.
+fn locked_turns<B: Beginning, G: Gate, R: Wait>(
     rt: &R,
     service: &Mutex<Service<B>>,
     intake: &Intake,
+    gate: &G,
     number: usize,
 ) -> Progress
     requires number { number < length B.takers }
@@ -29,7 +42,18 @@ fn locked_turn<B: Beginning, R: Wait>(
     requires takers { AreTakersOf intake.now B.takers }
     ensures { EndsFor number result }
 {
-    lock_when_free(rt, service).turn(rt, intake, number)
+    let mut held = lock_when_free(rt, service);
+    for _ in 1..MOST_TURNS {
+        match held.turn(rt, intake, number) {
+            Progress::Advanced(count) => {
+                if !gate.at_once(number as u32, count) {
+                    return Progress::Advanced(count);
+                }
+            }
+            other => return other,
+        }
+    }
+    held.turn(rt, intake, number)
 }
 
 /// The work of the worker of a number, up to its end.
@@ -51,7 +75,7 @@ pub(crate) fn work<B: Beginning, G: Gate, R: Wait>(
         if !gate.before(number as u32, counted) {
             continue;
         }
-        match locked_turn(rt, service, intake, number) {
+        match locked_turns(rt, service, intake, gate, number) {
             Progress::Advanced(count) => {
                 counted = count;
                 stalled = 0;

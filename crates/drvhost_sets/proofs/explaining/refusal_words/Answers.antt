@@ -1,7 +1,7 @@
 use Rattle.std.proofs.lemmas.Result.{IfOk-weaker}
 use Rattle.verifier_words.specs.Faults.{AreFaults, refusals}
 use Rattle.drvhost_sets.specs.Explained.{AreWordsOf, AreWordsOn}
-use Rattle.drvhost_sets.specs.declared.explaining.Extent.TheVariants.{Each}
+use Rattle.drvhost_options.specs.declared.extent.Extent.TheVariants.{Each}
 use Rattle.drvhost_sets.proofs.explaining.refusal_words.Goals as goal
 
 pub returns-in_ok-explanation-in-First : goal.returns-in_ok-explanation-in-First

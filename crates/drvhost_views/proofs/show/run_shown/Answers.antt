@@ -3,5 +3,5 @@ use Rattle.drvhost_views.proofs.show.run_shown.Goals as goal
 pub returns-in-InWords : goal.returns-in-InWords
 returns-in-InWords c = rw c.in-InWords.is c.tell_run.ensures
 
-pub returns-in-AsPicture : goal.returns-in-AsPicture
-returns-in-AsPicture c = rw c.in-AsPicture.is c.draw_run.ensures
+pub returns-in-Drawn : goal.returns-in-Drawn
+returns-in-Drawn c = rw c.in-Drawn.is c.draw_run.ensures

@@ -3,7 +3,7 @@
 ghost use Rattle.std.specs.Prelude.{◌≡◌, ◌≤◌};
 ghost use Rattle.model.specs.declared.limits.TheConstants.{MAX_THREADS};
 
-use hunt_search::search::Bounds;
+use crate::bounds::Bounds;
 use std::marker::Model;
 
 /// Packets that may live at once in a hunt, at most.
@@ -29,7 +29,7 @@ pub struct Reach {
 
 impl Model for Reach {
     ghost use Rattle.std.specs.Prelude.{◌≤◌};
-    ghost use Rattle.hunt_search.specs.declared.search.Bounds.{Bounds};
+    ghost use Rattle.hunt_bounds.specs.declared.bounds.Bounds.{Bounds};
     ghost use Rattle.model.specs.declared.limits.TheConstants.{MAX_THREADS};
 
     ghost Value = { Bounds };

@@ -1,0 +1,8 @@
+//! What the options of commands choose among: values alone, so that what reads a command line stands
+//! on no job.
+#![tactic(auto)]
+
+pub mod extent;
+pub mod figure;
+pub mod manner;
+pub mod tries;

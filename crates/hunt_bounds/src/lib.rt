@@ -1,0 +1,5 @@
+//! How far a hunt goes.
+#![tactic(auto)]
+
+pub mod bounds;
+pub mod reach;
