@@ -3,5 +3,6 @@ pub mod Locks
 pub mod Reply
 pub mod Rule
 pub mod Shape
+pub mod Shared
 pub mod Verdict
 pub mod View

@@ -1,5 +1,5 @@
 -- What the header tells of an accepted set.
-use Rattle.std.specs.Prelude.{ℕ, List, Option, None, Some, length, option_and_then, option_map, slice_get, unwrap_or}
+use Rattle.std.specs.Prelude.{ℕ, Option, length, option_and_then, option_map, slice_get, unwrap_or}
 use Rattle.model.specs.Certificate.{certificate_of}
 use Rattle.model.specs.Set.{Set, dpc_of, serving, startio_of}
 use Rattle.model.specs.declared.set.Device.{Device}

@@ -7,5 +7,6 @@ pub mod locks;
 pub mod reply;
 pub mod rule;
 pub mod shape;
+pub mod shared;
 pub mod verdict;
 pub mod view;
