@@ -1,9 +1,9 @@
 -- One event more of many.
-use Rattle.std.proofs.Common.{ℕ, ◌≡◌, ◌∙◌, ◌++◌, ◌+◌, ◌<◌, List, [], ◌∷◌, Some, suc, ap, arith, drop, inl, inr, length, map, refl, subst, sym, take}
+use Rattle.std.proofs.Common.{ℕ, ◌≡◌, ◌∙◌, ◌++◌, ◌+◌, ◌<◌, List, [], ◌∷◌, Some, suc, ap, arith, drop, inr, length, map, refl, subst, sym, take}
 use Rattle.std.proofs.lemmas.List.{append_assoc, length-map, map-append}
 use Rattle.std.proofs.lemmas.Option.{slice_get-get_or}
 use Rattle.std.proofs.Math.Seq.{drop-cons, set-append_seam, take-suc}
-use Rattle.std.specs.Prelude.{◌⊎◌, None, Option, get_or, set}
+use Rattle.std.specs.Prelude.{None, Option, get_or, set}
 use Rattle.model.specs.declared.event.Event.{Event}
 use Rattle.model.specs.declared.event.Reply.{Reply}
 use Rattle.model.specs.Shown.{Shown}

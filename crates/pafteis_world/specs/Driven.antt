@@ -14,7 +14,7 @@ use Rattle.laws_runs.specs.Rules.{KeepsTheRules}
 use Rattle.pafteis_values.specs.declared.verdict.Verdict.{Verdict}
 use Rattle.pafteis_values.specs.declared.verdict.Verdict.TheVariants.{Accepted, Refused, Text, Image, NoMemory}
 use Rattle.pafteis_world.specs.declared.handle.Handle.{Handle}
-use Rattle.pafteis_world.specs.Judged.{Names}
+use Rattle.pafteis_world.specs.Judged.{IsJudged, Names}
 
 -- what the world of a handle shows, if one is there
 abbrev pub shown_if : Bool → Shown → Option Shown
@@ -42,6 +42,22 @@ Opens bytes threads (Refused refusal) before after = after ≡ before
 Opens bytes threads (Text fault) before after = after ≡ before
 Opens bytes threads (Image fault) before after = after ≡ before
 Opens bytes threads NoMemory before after = after ≡ before
+
+-- a handle that had no world has one where the set is accepted, and none else
+abbrev pub OpensFree : List ℕ → ℕ → Verdict → Handle → Type 0
+OpensFree bytes threads Accepted after = Holds (IsOpened bytes threads) (world_in after)
+OpensFree bytes threads (Refused refusal) after = after.live ≡ false
+OpensFree bytes threads (Text fault) after = after.live ≡ false
+OpensFree bytes threads (Image fault) after = after.live ≡ false
+OpensFree bytes threads NoMemory after = after.live ≡ false
+
+-- a handle without a world has one then where the set is accepted, with the verdict; one that has a
+-- world keeps it
+abbrev pub OpensEmpty : List ℕ → ℕ → Option Verdict → Handle → Handle → Type 0
+OpensEmpty bytes threads None before after =
+    (before.live ≡ true) × (world_in after ≡ world_in before)
+OpensEmpty bytes threads (Some verdict) before after =
+    (before.live ≡ false) × IsJudged bytes verdict × OpensFree bytes threads verdict after
 
 -- what is done to the world of a handle, and what is answered: nothing where there is none
 abbrev pub Does : {A : Type 0} → (Shown → A → Shown → Type 0) → Option Shown → Option A

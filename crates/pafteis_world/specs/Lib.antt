@@ -4,3 +4,5 @@ pub mod Held
 pub mod Shape
 pub mod Driven
 pub mod Batch
+pub mod Read
+pub mod Again

@@ -4,7 +4,7 @@
 ghost use Rattle.std.specs.Prelude.{◌≡◌, ◌≤◌, false, option_map};
 ghost use Rattle.model.specs.declared.limits.TheConstants.{MAX_THREADS};
 ghost use Rattle.model.specs.View.{due_at, packet_at, thread_at};
-ghost use Rattle.pafteis_world.specs.Driven.{Drives, Opens, StepsOn, Tells, world_in};
+ghost use Rattle.pafteis_world.specs.Driven.{Drives, Opens, OpensEmpty, StepsOn, Tells, world_in};
 ghost use Rattle.pafteis_world.specs.Judged.{IsJudged};
 
 use crate::admitting::admit;
@@ -42,8 +42,20 @@ pub fn open(alloc: Global, bytes: &[u8], threads: u8, handle: &mut Handle) -> Ve
     }
 }
 
+/// The same for a handle that has no world; nothing is done where it has one.
+pub fn open_empty(alloc: Global, bytes: &[u8], threads: u8, handle: &mut Handle) -> Option<Verdict>
+    requires some { 1 ≤ threads }
+    requires few { threads ≤ MAX_THREADS }
+    ensures { OpensEmpty bytes.now threads result handle.old handle.new }
+{
+    if stands(alloc, handle) {
+        return None;
+    }
+    Some(open(alloc, bytes, threads, handle))
+}
+
 /// Takes the world out of a handle, which is empty then.
-fn taken(alloc: Global, handle: &mut Handle) -> Option<Box<World>>
+pub(crate) fn taken(alloc: Global, handle: &mut Handle) -> Option<Box<World>>
     ensures { (option_map (λ world. world.value) result ≡ world_in handle.old) × (handle.new.live ≡ false) }
 {
     replace(handle, Handle::empty()).into_world(alloc)
@@ -98,6 +110,21 @@ pub fn due(alloc: Global, handle: &mut Handle, device: u8) -> Option<(bool, bool
     let told = world.due(device);
     *handle = Handle::of(world);
     Some(told)
+}
+
+/// Whether a handle has a world, which stays there.
+pub fn stands(alloc: Global, handle: &mut Handle) -> bool
+    ensures same { world_in handle.new ≡ world_in handle.old }
+    ensures live { handle.new.live ≡ handle.old.live }
+    ensures is { result ≡ handle.old.live }
+{
+    match taken(alloc, handle) {
+        Some(world) => {
+            *handle = Handle::of(world);
+            true
+        }
+        None => false,
+    }
 }
 
 /// Frees the world of a handle, which is empty then, and answers whether there was one.

@@ -3,9 +3,11 @@
 #![tactic(auto)]
 
 pub mod admitting;
+pub mod again;
 pub mod batch;
 pub mod driving;
 pub mod handle;
 pub mod locks;
 mod loose;
+pub mod reading;
 pub mod shape;

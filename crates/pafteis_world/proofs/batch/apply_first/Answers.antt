@@ -1,4 +1,4 @@
-use Rattle.std.proofs.Common.{arith, length, ◌<◌, ◌≡◌}
+use Rattle.std.proofs.Common.{arith}
 use Rattle.pafteis_world.proofs.Batches.{applies_more, applies_none, ended_wrong}
 use Rattle.pafteis_world.proofs.batch.apply_first.Goals as goal
 

@@ -1,4 +1,4 @@
-use Rattle.std.proofs.Common.{◌-◌, ◌≡◌, ◌≤◌, length}
+use Rattle.std.proofs.Common.{◌-◌}
 use Rattle.pafteis_world.specs.Batch.{AppliesFirst}
 use Rattle.pafteis_world.proofs.batch.apply_first.Given as goal
 
