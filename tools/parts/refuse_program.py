@@ -103,6 +103,20 @@ why: no path leads to this instruction
 see: this bytecode's form
 mend it: take it out, or jump to it
 '''
+MENDED = '''refused V5 DoubleCompletion driver 0 routine 1 at 5
+mend 1 of the whole: sure, cost 0.87
+take out line 27 "complete r0 SUCCESS": the packet is completed once
+--- set
++++ mended
+@@ -24,7 +24,6 @@
+ disarm r0 none
+ release l0
+ complete r0 SUCCESS
+-complete r0 SUCCESS
+ ret void
+ none: release l0
+ ret void
+'''
 RULE = '''V20 Memory
 The verifier found no memory. The program tells it as `out of memory` on standard
 error, with status 3, and says nothing of the set. No text mends it.
@@ -133,6 +147,9 @@ CASES = [
     ('rewrite set out', 0, '', ''),
     ('rewrite image out', 0, '', ''),
     ('rewrite open out', 2, '', 'text fault 6 Unclosed line 2\n'),
+    ('mend image', 0, 'accepted: nothing to mend\n', ''),
+    ('mend twice --tries 60', 0, MENDED, ''),
+    ('mend open', 2, '', 'text fault 6 Unclosed line 2\n'),
     ('version', 0, 'drvhost 1.0.0\n', ''),
     ('trace set schedule', 0, TRACED, ''),
     ('trace set schedule --unchecked', 0, TRACED, ''),

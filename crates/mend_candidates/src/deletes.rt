@@ -1,11 +1,11 @@
 //! Deletions, alone or with what belongs to the instruction.
 
-use crate::candidate::{Candidates, Manner};
-use crate::form::{are_pair, form_of};
 use crate::scene::Scene;
 use absstate::Rule;
 use driver_set::{Instr, Return};
 use mend_changes::Change;
+use mend_reading::candidate::{Candidates, Manner};
+use mend_reading::form::{are_pair, form_of};
 use model::status::Status;
 use std::alloc::AllocError;
 
@@ -38,6 +38,7 @@ impl<'a> Scene<'a> {
             return if early { cost.saturating_add(60) } else { cost };
         }
         let more = match self.fault.rule {
+            Rule::Malformed if !self.is_doubled(at, instr) => 45,
             Rule::WrongKind if self.stands_before(at, instr, 4) => 0,
             Rule::WrongKind if matches!(*instr, Instr::Complete(..)) => 0,
             Rule::WrongKind => 80,
@@ -67,6 +68,16 @@ impl<'a> Scene<'a> {
             Rule::Malformed => instr.label().is_none(),
             _ => false,
         }
+    }
+
+    /// Whether the same instruction stands beside a position, or it is no half of a loop.
+    fn is_doubled(&self, at: u16, instr: &Instr) -> bool {
+        let half = matches!(*instr, Instr::Loop(_) | Instr::End);
+        let again = match self.code.get(at.saturating_add(1) as usize) {
+            Some(behind) => form_of(behind) == form_of(instr),
+            None => false,
+        };
+        !half || again || self.stands_before(at, instr, 1)
     }
 
     /// Whether the same instruction stands among so many before a position.

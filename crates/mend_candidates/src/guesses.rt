@@ -8,9 +8,9 @@ use std::alloc::AllocError;
 
 /// An instruction that may stand at a place, and what it costs more than others.
 #[derive(Clone, Copy)]
-pub(crate) struct Guess {
-    pub(crate) instr: Instr,
-    pub(crate) extra: u32,
+pub struct Guess {
+    pub instr: Instr,
+    pub extra: u32,
 }
 
 /// Adds a guess.

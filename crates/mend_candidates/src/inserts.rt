@@ -1,11 +1,11 @@
 //! Insertions of one instruction, led by the state that arrives there.
 
-use crate::candidate::{Candidates, Manner};
 use crate::guesses::{Guess, add_guess};
 use crate::scene::{Scene, is_packet, registers};
 use absstate::{Abs, Kind, Rule, Stage, Tracked};
 use driver_set::{Cell, Field, Instr, Register, Sort};
 use mend_changes::{Change, Landing, with_label};
+use mend_reading::candidate::{Candidates, Manner};
 use std::alloc::{AllocError, Global};
 
 impl<'a> Scene<'a> {
@@ -176,7 +176,7 @@ impl<'a> Scene<'a> {
             return Ok(());
         }
         // a condition on a constant is no condition
-        let decides = matches!(self.bad, Instr::JumpIfZero(..) | Instr::JumpIfLess(..));
+        let decides = matches!(self.bad, Instr::JumpIfZero(..));
         let made_up = if decides { 60 } else { 0 };
         add_guess(list, Instr::Const(register, 0), made_up)?;
         add_guess(list, Instr::Const(register, 1), made_up + 20)?;
@@ -227,7 +227,7 @@ impl<'a> Scene<'a> {
     }
 
     /// Adds an insertion, with each label that it may have.
-    fn add_insert(
+    pub fn add_insert(
         &self,
         at: u16,
         landing: Landing,

@@ -1,11 +1,11 @@
 //! Moves of one instruction.
 
-use crate::candidate::{Candidates, Manner};
-use crate::operands::interfere;
 use crate::scene::Scene;
 use absstate::Rule;
 use driver_set::{Instr, Register};
 use mend_changes::{Change, Landing};
+use mend_reading::candidate::{Candidates, Manner};
+use mend_reading::operands::interfere;
 use std::alloc::AllocError;
 
 /// How many instructions one is moved over, at most.

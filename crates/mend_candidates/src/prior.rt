@@ -1,10 +1,10 @@
 //! How likely an insertion is, by the rule that is broken.
 
-use crate::form::same_lock;
-use crate::operands::names;
 use crate::scene::Scene;
 use absstate::Rule;
 use driver_set::{Instr, Register};
+use mend_reading::form::same_lock;
+use mend_reading::operands::names;
 
 impl<'a> Scene<'a> {
     /// What an insertion of an instruction before a position costs.
@@ -39,13 +39,15 @@ impl<'a> Scene<'a> {
                 Instr::IfCancel(..)
                     | Instr::Disarm(..)
                     | Instr::JumpIfZero(..)
+                    | Instr::JumpIfLess(..)
                     | Instr::Remove(..)
                     | Instr::Take(..)
             ),
             Rule::StatesDiffer => self.levels(instr),
-            Rule::WrongKind => {
-                matches!(*instr, Instr::Const(..) | Instr::Load(..) | Instr::Get(..))
-            }
+            Rule::WrongKind => matches!(
+                *instr,
+                Instr::Const(..) | Instr::Load(..) | Instr::Get(..) | Instr::Remove(..)
+            ),
             Rule::DoubleCompletion => matches!(*instr, Instr::Ret(_) | Instr::Jump(_)),
             Rule::MarkIrpPending => match *instr {
                 Instr::Mark(register) => returns || names(&self.bad, register),

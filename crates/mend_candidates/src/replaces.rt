@@ -1,13 +1,13 @@
 //! Replacements of a word or an operand.
 
-use crate::candidate::{Candidates, Manner};
-use crate::form::form_of;
 use crate::guesses::{Guess, add_guess};
-use crate::operands::{names, registers_of, with_first, with_second};
 use crate::scene::{Scene, registers};
 use absstate::{Rule, Tracked};
 use driver_set::{Instr, Register, Return, Sort, SpinLock, Turns};
 use mend_changes::{Change, with_label};
+use mend_reading::candidate::{Candidates, Manner};
+use mend_reading::form::form_of;
+use mend_reading::operands::{names, registers_of, with_first, with_second};
 use std::alloc::{AllocError, Global};
 
 impl<'a> Scene<'a> {
@@ -148,7 +148,7 @@ impl<'a> Scene<'a> {
     }
 
     /// The lock of the queue that the faulty instruction uses without it.
-    pub(crate) fn guard_wanted(&self) -> Option<SpinLock> {
+    pub fn guard_wanted(&self) -> Option<SpinLock> {
         if self.fault.rule != Rule::Guard {
             return None;
         }

@@ -1,9 +1,9 @@
 //! What the candidates for a fault of a routine are made from.
 
-use crate::candidate::Candidates;
-use crate::reading::{Fault, Reading, Subject};
 use absstate::{Abs, Kind, Rule};
 use driver_set::{Driver, Instr, Register, Return, SpinLock};
+use mend_reading::candidate::Candidates;
+use mend_reading::reading::{Fault, Reading, Subject};
 use model::limits::{REGISTERS, SPIN_LOCKS};
 use model::status::Status;
 use std::alloc::{AllocError, Global};
@@ -18,17 +18,17 @@ pub struct Scene<'a> {
     pub touched: &'a [bool],
     pub fault: Fault,
     /// The instruction at the fault.
-    pub(crate) bad: Instr,
+    pub bad: Instr,
     /// The spin locks that the driver names.
-    pub(crate) locks: Vec<SpinLock>,
+    pub locks: Vec<SpinLock>,
     /// The statuses that it names.
-    pub(crate) statuses: Vec<Status>,
+    pub statuses: Vec<Status>,
     /// Which positions jumps lead to.
-    pub(crate) targets: Vec<bool>,
+    pub targets: Vec<bool>,
     /// The registers in which states that arrive at the fault differ.
-    pub(crate) differing: Vec<Register>,
+    pub differing: Vec<Register>,
     /// Whether they differ in nothing else, and no packet is in them.
-    pub(crate) are_numbers: bool,
+    pub are_numbers: bool,
 }
 
 impl<'a> Scene<'a> {
@@ -66,15 +66,12 @@ impl<'a> Scene<'a> {
         Ok(Some(scene))
     }
 
-    /// Adds all candidates, in order.
-    pub fn add_all(&self, alloc: Global, out: &mut Candidates) -> Result<(), AllocError> {
+    /// Adds the edits of one instruction, in order.
+    pub fn add_singles(&self, alloc: Global, out: &mut Candidates) -> Result<(), AllocError> {
         self.add_inserts(alloc, out)?;
         self.add_deletes(out)?;
         self.add_moves(out)?;
-        self.add_replaces(alloc, out)?;
-        self.add_blocks(out)?;
-        self.add_templates(alloc, out)?;
-        self.add_lines(out)
+        self.add_replaces(alloc, out)
     }
 
     /// Notes in what the states at the fault differ.
@@ -101,69 +98,69 @@ impl<'a> Scene<'a> {
     }
 
     /// The number of its instructions.
-    pub(crate) fn len(&self) -> u16 {
+    pub fn len(&self) -> u16 {
         u16::try_from(self.code.len()).unwrap_or(u16::MAX)
     }
 
     /// The position of the fault, or the last one.
-    pub(crate) fn last(&self) -> u16 {
+    pub fn last(&self) -> u16 {
         self.fault.at.min(self.len().saturating_sub(1))
     }
 
     /// The instruction at a position.
-    pub(crate) fn instr(&self, at: u16) -> Option<Instr> {
+    pub fn instr(&self, at: u16) -> Option<Instr> {
         self.code.get(at as usize).copied()
     }
 
     /// The one before it.
-    pub(crate) fn instr_before(&self, at: u16) -> Option<Instr> {
+    pub fn instr_before(&self, at: u16) -> Option<Instr> {
         self.instr(at.checked_sub(1)?)
     }
 
     /// The state that arrives at a position.
-    pub(crate) fn state(&self, at: u16) -> Option<Abs> {
+    pub fn state(&self, at: u16) -> Option<Abs> {
         self.reading.state(at as usize)
     }
 
     /// Whether a jump leads to a position.
-    pub(crate) fn is_target(&self, at: u16) -> bool {
+    pub fn is_target(&self, at: u16) -> bool {
         self.targets.get(at as usize).copied().unwrap_or(false)
     }
 
     /// Whether nothing leads to a position: the jump there may be lost.
-    pub(crate) fn is_dead(&self, at: u16) -> bool {
+    pub fn is_dead(&self, at: u16) -> bool {
         let left = matches!(self.instr_before(at), Some(Instr::Ret(_) | Instr::Jump(_)));
         left && !self.is_target(at)
     }
 
     /// Whether an instruction may be edited: none was put there or changed.
-    pub(crate) fn is_fresh(&self, at: u16) -> bool {
+    pub fn is_fresh(&self, at: u16) -> bool {
         !self.touched.get(at as usize).copied().unwrap_or(true)
     }
 
     /// Whether the same loops are round two positions.
-    pub(crate) fn are_in_same_loops(&self, one: u16, other: u16) -> bool {
+    pub fn are_in_same_loops(&self, one: u16, other: u16) -> bool {
         let loops = &self.reading.loops;
         loops.round(one as usize) == loops.round(other as usize)
     }
 
     /// What an edit costs for how far it is from the fault.
-    pub(crate) fn near(&self, at: u16) -> u32 {
+    pub fn near(&self, at: u16) -> u32 {
         u32::from(at.abs_diff(self.fault.at)).saturating_mul(4)
     }
 
     /// Whether a rule is broken that is one of these.
-    pub(crate) fn breaks(&self, rules: &[Rule]) -> bool {
+    pub fn breaks(&self, rules: &[Rule]) -> bool {
         rules.contains(&self.fault.rule)
     }
 
     /// The driver.
-    pub(crate) fn driver(&self) -> Option<&Driver> {
+    pub fn driver(&self) -> Option<&Driver> {
         self.subject.its_driver()
     }
 
     /// The numbers of the driver's queues.
-    pub(crate) fn queues(&self) -> u8 {
+    pub fn queues(&self) -> u8 {
         let queues = self
             .driver()
             .map_or(0, |driver| driver.queues.as_slice().len());
@@ -172,12 +169,12 @@ impl<'a> Scene<'a> {
 }
 
 /// Whether a register of a kind holds a packet.
-pub(crate) fn is_packet(kind: Kind) -> bool {
+pub fn is_packet(kind: Kind) -> bool {
     !matches!(kind, Kind::Blank | Kind::Num | Kind::Lower)
 }
 
 /// All registers, by number.
-pub(crate) fn registers() -> [Register; REGISTERS] {
+pub fn registers() -> [Register; REGISTERS] {
     let mut all = [Register::FIRST; REGISTERS];
     for number in 0..REGISTERS {
         if let Some(register) = Register::of(number as u8) {

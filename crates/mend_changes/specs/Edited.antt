@@ -1,7 +1,10 @@
 -- What edits make of a driver set.
-use Rattle.std.specs.Prelude.{ℕ, Bool, true, false, ◌≡◌, ◌+◌, ◌-◌, ◌||◌, ◌<◌, List, [], ◌∷◌, ◌++◌, length, map, take, drop, Option, None, Some, nat_eq, nat_lt, nat_le, option_and_then, option_map, slice_get, slice_set, if◌then◌else◌}
+use Rattle.std.specs.Prelude.{ℕ, Bool, ◌≡◌, ◌+◌, ◌-◌, ◌||◌, List, [], ◌∷◌, ◌++◌}
+use Rattle.std.specs.Prelude.{length, map, take, drop, Option, None, Some, nat_eq, nat_lt, nat_le}
+use Rattle.std.specs.Prelude.{⊤, ◌⊎◌, option_and_then, option_map, slice_get, slice_set, if◌then◌else◌}
 use Rattle.model.specs.declared.instr.Instr.{Instr}
-use Rattle.model.specs.declared.instr.Instr.TheVariants.{JumpIfZero, JumpIfLess, Jump, Remove, Disarm, IfCancel, Take, IfPending}
+use Rattle.model.specs.declared.instr.Instr.TheVariants.{JumpIfZero, JumpIfLess, Jump, Remove}
+use Rattle.model.specs.declared.instr.Instr.TheVariants.{Disarm, IfCancel, Take, IfPending}
 use Rattle.model.specs.declared.set.Device.{Device}
 use Rattle.model.specs.declared.set.Driver.{Driver}
 use Rattle.model.specs.declared.set.Queue.{Queue}
@@ -9,8 +12,11 @@ use Rattle.model.specs.declared.set.QueueName.{QueueName}
 use Rattle.model.specs.declared.set.QueueName.TheVariants.{Declared, DeviceQueue}
 use Rattle.model.specs.declared.set.Routine.{Routine}
 use Rattle.model.specs.Set.{Set, label_of}
+use Rattle.model.specs.Sound.{IsSound}
 use Rattle.mend_changes.specs.declared.edit.Change.{Change}
-use Rattle.mend_changes.specs.declared.edit.Change.TheVariants.{Insert, Delete, Replace, Move, Guard, Cancel, StartIo, Stack, Lower}
+use Rattle.mend_changes.specs.declared.edit.Change.TheVariants.{Insert, Delete, Replace, Move}
+use Rattle.mend_changes.specs.declared.edit.Change.TheVariants.{Guard, Cancel, StartIo, Stack}
+use Rattle.mend_changes.specs.declared.edit.Change.TheVariants.{Lower}
 use Rattle.mend_changes.specs.declared.edit.Edit.{Edit}
 use Rattle.mend_changes.specs.declared.edit.Landing.{Landing}
 use Rattle.mend_changes.specs.declared.edit.Landing.TheVariants.{Kept, Taken}
@@ -145,7 +151,8 @@ driver_edited d number at (Lower device lower) = None
 abbrev pub edited_in_driver : Set → Edit → Option Set
 edited_in_driver set e =
     option_map (λ d. record set { drivers = slice_set set.drivers e.driver d })
-    (option_and_then (λ d. driver_edited d e.routine e.at e.change) (slice_get set.drivers e.driver))
+    (option_and_then (λ d. driver_edited d e.routine e.at e.change)
+    (slice_get set.drivers e.driver))
 
 -- a set whose device of a number is another one
 abbrev pub with_device : Set → ℕ → Device → Set
@@ -170,7 +177,22 @@ edited_at set e (Lower number lower) =
 abbrev pub edited : Set → Edit → Option Set
 edited set e = edited_at set e e.change
 
+-- that nothing is made, or nothing that is a driver set
+abbrev pub IsNoSet : Option Set → Type 0
+IsNoSet None = ⊤
+IsNoSet (Some set) = IsSound set → ⊥
+
 -- what edits make of a set, one after another
 abbrev pub edited_by : Set → List Edit → Option Set
 edited_by set [] = Some set
 edited_by set (e ∷ es) = option_and_then (λ next. edited_by next es) (edited set e)
+
+-- that one of them makes nothing, or nothing that is a driver set, of what those before it make
+abbrev pub IsStopped : Set → List Edit → Type 0
+IsStopped set [] = ⊥
+IsStopped set (e ∷ es) =
+    IsNoSet (edited set e) ⊎ ((next : Set) × (edited set e ≡ Some next) × IsStopped next es)
+
+-- that each of them makes a driver set
+abbrev pub EachMakes : Set → List Edit → Type 0
+EachMakes set es = IsStopped set es → ⊥

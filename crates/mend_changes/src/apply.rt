@@ -1,8 +1,9 @@
 //! What edits make of a driver set.
 
-ghost use Rattle.std.specs.Prelude.{◌≡◌, Some, IfOk, IfSome, option_map};
-ghost use Rattle.mend_changes.specs.Edited.{code_edited_in, driver_edited, edited, edited_by};
-ghost use Rattle.mend_changes.specs.Edited.{edited_in_driver, with_cancel, with_device, with_queue};
+ghost use Rattle.std.specs.Prelude.{◌≡◌, Some, IfNone, IfOk, IfSome, option_map};
+ghost use Rattle.mend_changes.specs.Edited.{EachMakes, IsNoSet, IsStopped, code_edited_in};
+ghost use Rattle.mend_changes.specs.Edited.{driver_edited, edited, edited_by, edited_in_driver};
+ghost use Rattle.mend_changes.specs.Edited.{with_cancel, with_device, with_queue};
 
 use crate::code::edit_code;
 use crate::copying::{copied_driver, copied_drivers, copied_routines};
@@ -15,13 +16,16 @@ use std::alloc::{AllocError, Global};
 /// # Errors
 ///
 /// When memory runs out.
-#[tactic(auto, using(crate::proofs::Turns::edit_on, crate::proofs::Turns::edit_end))]
+#[tactic(auto, using(crate::proofs::Turns::edit_on, crate::proofs::Turns::edit_end, crate::proofs::Turns::stopped_on, crate::proofs::Turns::stopped_here, crate::proofs::Turns::goes_on, crate::proofs::Turns::goes_end))]
 pub fn edited_by(
     alloc: Global,
     set: &DriverSet,
     edits: &[Edit],
 ) -> Result<Option<DriverSet>, AllocError>
-    ensures { IfOk result (λ made. IfSome made (λ next. edited_by set.now edits.now ≡ Some next)) }
+    ensures made { IfOk result
+        (λ made. IfSome made (λ next. edited_by set.now edits.now ≡ Some next)) }
+    ensures each { IfOk result (λ made. IfSome made (λ _. EachMakes set.now edits.now)) }
+    ensures none { IfOk result (λ made. IfNone made (IsStopped set.now edits.now)) }
 {
     let Ok(mut made) = set.copy(alloc) else {
         return Err(AllocError);
@@ -30,6 +34,7 @@ pub fn edited_by(
         let Some(next) = edited(alloc, &made, edit)? else {
             return Ok(None);
         };
+        let _sound = next.drivers();
         made = next;
     }
     Ok(Some(made))
@@ -41,7 +46,8 @@ pub fn edited_by(
 ///
 /// When memory runs out.
 pub fn edited(alloc: Global, set: &DriverSet, edit: &Edit) -> Result<Option<DriverSet>, AllocError>
-    ensures { IfOk result (λ made. IfSome made (λ next. edited set.now edit.now ≡ Some next)) }
+    ensures made { IfOk result (λ made. IfSome made (λ next. edited set.now edit.now ≡ Some next)) }
+    ensures none { IfOk result (λ made. IfNone made (IsNoSet (edited set.now edit.now))) }
 {
     match edit.change {
         Change::Stack(number, stack) => {
@@ -68,13 +74,15 @@ fn with_device(
     number: u8,
     device: Device,
 ) -> Result<Option<DriverSet>, AllocError>
-    ensures { IfOk result (λ made. IfSome made (λ next. with_device set.now number device ≡ next)) }
+    ensures made { IfOk result
+        (λ made. IfSome made (λ next. with_device set.now number device ≡ next)) }
+    ensures none { IfOk result
+        (λ made. IfNone made (IsNoSet (Some (with_device set.now number device)))) }
 {
     let drivers = copied_drivers(alloc, set.drivers())?;
     let mut devices: Vec<Device> = Vec::from_slice(alloc, set.devices())?;
-    match devices.get_mut(number as usize) {
-        Some(place) => *place = device,
-        None => return Ok(None),
+    if let Some(place) = devices.get_mut(number as usize) {
+        *place = device;
     }
     Ok(DriverSet::of(drivers, devices).ok())
 }
@@ -85,8 +93,10 @@ fn edited_in_driver(
     set: &DriverSet,
     edit: &Edit,
 ) -> Result<Option<DriverSet>, AllocError>
-    ensures { IfOk result
+    ensures made { IfOk result
         (λ made. IfSome made (λ next. edited_in_driver set.now edit.now ≡ Some next)) }
+    ensures none { IfOk result
+        (λ made. IfNone made (IsNoSet (edited_in_driver set.now edit.now))) }
 {
     let Some(driver) = set.drivers().get(edit.driver as usize) else {
         return Ok(None);
@@ -103,8 +113,7 @@ fn edited_in_driver(
 /// What an edit makes of its driver.
 fn driver_edited(alloc: Global, driver: &Driver, edit: &Edit) -> Result<Option<Driver>, AllocError>
     ensures { IfOk result
-        (λ made. IfSome made
-        (λ next. driver_edited driver.now edit.now.routine edit.now.at edit.now.change ≡ Some next)) }
+        (λ made. made ≡ driver_edited driver.now edit.now.routine edit.now.at edit.now.change) }
 {
     match edit.change {
         Change::Stack(..) | Change::Lower(..) => Ok(None),
@@ -112,7 +121,7 @@ fn driver_edited(alloc: Global, driver: &Driver, edit: &Edit) -> Result<Option<D
             let Some(old) = driver.queues.as_slice().get(queue as usize) else {
                 return Ok(None);
             };
-            with_queue(alloc, driver, queue, Queue { guard, ..*old })
+            Ok(Some(with_queue(alloc, driver, queue, Queue { guard, ..*old })?))
         }
         Change::Cancel(name, number) => with_cancel(alloc, driver, name, number),
         Change::StartIo(number) => {
@@ -131,8 +140,7 @@ fn with_cancel(
     name: QueueName,
     number: u8,
 ) -> Result<Option<Driver>, AllocError>
-    ensures { IfOk result
-        (λ made. IfSome made (λ next. with_cancel driver.now name number ≡ Some next)) }
+    ensures { IfOk result (λ made. made ≡ with_cancel driver.now name number) }
 {
     let cancel = Some(number);
     match name {
@@ -140,7 +148,7 @@ fn with_cancel(
             let Some(old) = driver.queues.as_slice().get(queue as usize) else {
                 return Ok(None);
             };
-            with_queue(alloc, driver, queue, Queue { cancel, ..*old })
+            Ok(Some(with_queue(alloc, driver, queue, Queue { cancel, ..*old })?))
         }
         QueueName::DeviceQueue => {
             let mut made = copied_driver(alloc, driver)?;
@@ -150,32 +158,28 @@ fn with_cancel(
     }
 }
 
-/// A driver whose queue of a number is another one, if it has one of that number.
+/// A driver whose queue of a number, if it has one, is another one.
 fn with_queue(
     alloc: Global,
     driver: &Driver,
     number: u8,
     queue: Queue,
-) -> Result<Option<Driver>, AllocError>
-    ensures { IfOk result
-        (λ made. IfSome made (λ next. with_queue driver.now number queue ≡ next)) }
+) -> Result<Driver, AllocError>
+    ensures { IfOk result (λ made. made ≡ with_queue driver.now number queue) }
 {
     let mut queues: Vec<Queue> = Vec::from_slice(alloc, driver.queues.as_slice())?;
-    match queues.get_mut(number as usize) {
-        Some(place) => *place = queue,
-        None => return Ok(None),
+    if let Some(place) = queues.get_mut(number as usize) {
+        *place = queue;
     }
     let mut made = copied_driver(alloc, driver)?;
     made.queues = Items::of(queues);
-    Ok(Some(made))
+    Ok(made)
 }
 
 /// What an edit of code makes of its driver.
 fn code_edited_in(alloc: Global, driver: &Driver, edit: &Edit) -> Result<Option<Driver>, AllocError>
     ensures { IfOk result
-        (λ made. IfSome made
-        (λ next. code_edited_in driver.now edit.now.routine edit.now.at edit.now.change
-        ≡ Some next)) }
+        (λ made. made ≡ code_edited_in driver.now edit.now.routine edit.now.at edit.now.change) }
 {
     let number = edit.routine as usize;
     let Some(routine) = driver.routines.as_slice().get(number) else {

@@ -59,7 +59,8 @@ pub fn edit_code(
     change: &Change,
     made: &mut Vec<Instr>,
 ) -> Result<bool, AllocError>
-    ensures { IfOk result (λ done. as_option done made.new.items ≡ code_edited code.now at change.now) }
+    ensures { IfOk result
+        (λ done. as_option done made.new.items ≡ code_edited code.now at change.now) }
 {
     made.clear();
     let place = at as usize;

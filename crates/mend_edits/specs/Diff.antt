@@ -1,8 +1,10 @@
--- What a unified diff makes of a text. A diff is hunks, one behind another. The head of a hunk tells
--- which lines of both texts it shows: the number of the first, and how many. Each line of its body
--- has a sign before it: a space where the line stays, `-` where it is taken out, `+` where it is put
--- in. Lines that no hunk shows stay.
-use Rattle.std.specs.Prelude.{ℕ, zero, suc, ◌+◌, ◌-◌, ◌&&◌, ◌++◌, Bool, false, if◌then◌else◌, List, [], ◌∷◌, nat_eq, nat_lt, bytes_eq, codes, take, drop, Option, Some, None}
+-- What a unified diff makes of a text. A diff is hunks, one behind another. The head of a hunk
+-- tells which lines of both texts it shows: the number of the first, and how many. Each line of its
+-- body has a sign before it: a space where the line stays, `-` where it is taken out, `+` where it
+-- is put in. Lines that no hunk shows stay.
+use Rattle.std.specs.Prelude.{ℕ, zero, suc, ◌+◌, ◌-◌, ◌&&◌, ◌++◌, Bool, false, if◌then◌else◌, List}
+use Rattle.std.specs.Prelude.{[], ◌∷◌, nat_eq, nat_lt, bytes_eq, codes, take, drop, Option, Some}
+use Rattle.std.specs.Prelude.{None}
 use Rattle.std.specs.List.{position}
 use Rattle.text.specs.Cut.{lines_of, tokens_of}
 use Rattle.text.specs.Number.{numbered_in}
@@ -53,7 +55,8 @@ abbrev pub before : Range → ℕ
 before range = if nat_eq range.count 0 then range.first else range.first - 1
 
 -- how far a diff has been followed: the lines of the text that are left, and how many were passed;
--- what was made so far, and of how many lines; and how many lines of both texts its hunk still shows
+-- what was made so far, and of how many lines; and how many lines of both texts its hunk still
+-- shows
 pub record Progress : Type 0 where
   pub left : List (List ℕ)
   pub passed : ℕ

@@ -2,7 +2,9 @@
 
 ghost use Rattle.std.specs.Prelude.{◌≡◌, ◌+◌, ◌++◌, IfOk, IfSome, OnOk, Some};
 ghost use Rattle.text.specs.Cut.{lines_of};
-ghost use Rattle.mend_edits.specs.Diff.{all_ended, at_start, finished, followed, is_between, kept, kept_times, line_followed, made_by, opened, put, shown, taken};
+ghost use Rattle.mend_edits.specs.Diff.{all_ended, at_start, finished, followed, is_between, kept};
+ghost use Rattle.mend_edits.specs.Diff.{kept_times, line_followed, made_by, opened, put, shown};
+ghost use Rattle.mend_edits.specs.Diff.{taken};
 
 use crate::head::{Head, head_in};
 use crate::patching::write_line;
@@ -30,8 +32,8 @@ impl From<AllocError> for Broken {
     }
 }
 
-/// What a unified diff makes of a text: the bytes behind its `---` and `+++` lines, where they are a
-/// diff of this text. Each line ends with LF, the last one too.
+/// What a unified diff makes of a text: the bytes behind its `---` and `+++` lines, where they are
+/// a diff of this text. Each line ends with LF, the last one too.
 ///
 /// # Errors
 ///

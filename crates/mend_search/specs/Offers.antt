@@ -1,9 +1,12 @@
 -- What the offers of mends for a driver set are worth.
-use Rattle.std.specs.Prelude.{ℕ, ◌≡◌, ◌<◌, ◌≤◌, ◌⊎◌, List, [], ◌∷◌, All, length, Option, None, Some, unwrap_or}
+use Rattle.std.specs.Prelude.{ℕ, ◌≡◌, ◌+◌, ◌<◌, ◌≤◌, ◌⊎◌, List, [], ◌∷◌, All, length, Option, None, Some}
+use Rattle.std.specs.Prelude.{unwrap_or}
 use Rattle.model.specs.declared.abs.Refusal.{Refusal}
 use Rattle.model.specs.Set.{Set}
 use Rattle.model.specs.Typable.{IsFirstFault, IsTypable}
-use Rattle.mend_changes.specs.Edited.{edited_by}
+use Rattle.mend_changes.specs.declared.edit.Change.TheVariants.{Delete}
+use Rattle.mend_changes.specs.declared.edit.Edit.{Edit}
+use Rattle.mend_changes.specs.Edited.{EachMakes, IsStopped, edited_by}
 use Rattle.mend_search.specs.declared.offers.Ending.{Ending}
 use Rattle.mend_search.specs.declared.offers.Ending.TheVariants.{Accepted, Refused}
 use Rattle.mend_search.specs.declared.offers.Mending.{Mending}
@@ -16,8 +19,8 @@ IsLater later refusal =
     (refusal.driver < later.driver)
     ⊎ ((later.driver ≡ refusal.driver) × (refusal.routine < later.routine))
 
--- what is left of a set's faults where that of a refusal is mended: none, or its first fault is in a
--- later routine
+-- what is left of a set's faults where that of a refusal is mended: none, or its first fault is in
+-- a later routine
 abbrev pub IsLeft : Set → Refusal → Option Refusal → Type 0
 IsLeft set refusal None = IsTypable set
 IsLeft set refusal (Some left) = IsFirstFault set left × IsLater left refusal
@@ -27,12 +30,41 @@ abbrev pub Leaves : Option Set → Refusal → Option Refusal → Type 0
 Leaves None refusal left = ⊥
 Leaves (Some made) refusal left = IsLeft made refusal left
 
-abbrev pub IsOffer : Set → Refusal → Offer → Type 0
-IsOffer set refusal offer = Leaves (edited_by set offer.edits) refusal offer.left
+pub record IsOffer (set : Set) (refusal : Refusal) (offer : Offer) : Type 0 where
+  pub each : EachMakes set offer.edits
+  pub leaves : Leaves (edited_by set offer.edits) refusal offer.left
+
+-- a set has its first fault in the routine of a refusal, or before it
+abbrev pub IsKept : Set → Refusal → Type 0
+IsKept made refusal =
+    (left : Refusal) × IsFirstFault made left × (IsLater left refusal → ⊥)
+
+-- edits make no set, or one in which a fault is kept
+abbrev pub IsUnmended : Set → Refusal → List Edit → Type 0
+IsUnmended set refusal edits =
+    IsStopped set edits ⊎ ((made : Set) × (edited_by set edits ≡ Some made) × IsKept made refusal)
+
+-- an instruction of the routine of a refusal is taken out
+abbrev pub taken_out : Refusal → ℕ → List Edit
+taken_out refusal at =
+    record { driver = refusal.driver; routine = refusal.routine; at = at; change = Delete } ∷ []
+
+-- none of its first ones can be taken out alone to mend it, nor any up to the fault
+abbrev pub IsUnmendedBelow : Set → Refusal → ℕ → Type 0
+IsUnmendedBelow set refusal count =
+    (at : ℕ) → at < count → IsUnmended set refusal (taken_out refusal at)
+
+abbrev pub NoneTakenOut : Set → Refusal → Type 0
+NoneTakenOut set refusal = IsUnmendedBelow set refusal (refusal.at + 1)
 
 -- at most three of them, each of which is one
 abbrev pub AreOffers : Set → Refusal → List Offer → Type 0
 AreOffers set refusal offers = All (IsOffer set refusal) offers × (length offers ≤ 3)
+
+-- where nothing is offered, nothing can be taken out alone either
+pub record IsWhole (set : Set) (refusal : Refusal) (offers : List Offer) : Type 0 where
+  pub are : AreOffers set refusal offers
+  pub none : offers ≡ [] → NoneTakenOut set refusal
 
 -- the set that the first offer makes of a set, if there is an offer
 abbrev pub after_first : Set → List Offer → Set
@@ -44,7 +76,7 @@ abbrev pub Lead : Set → List Mending → Set → Type 0
 Lead set [] last = set ≡ last
 Lead set (mending ∷ mendings) last =
     IsFirstFault set mending.refusal
-    × AreOffers set mending.refusal mending.offers
+    × IsWhole set mending.refusal mending.offers
     × Lead (after_first set mending.offers) mendings last
 
 -- the set behind all first offers, and what the verifier says of it

@@ -1,8 +1,8 @@
 //! A routine's code while it is edited.
 
 use driver_set::Instr;
-use mend_candidates::Placed;
 use mend_changes::{Change, edit_code};
+use mend_reading::Placed;
 use std::alloc::{AllocError, Global};
 
 /// Code with edits.

@@ -3,7 +3,7 @@
 
 use crate::pairs::Made;
 use driver_set::DriverSet;
-use mend_candidates::{Manner, Placed};
+use mend_reading::{Manner, Placed};
 use std::alloc::{AllocError, Global};
 use std::collections::{BTreeSet, BinaryHeap};
 

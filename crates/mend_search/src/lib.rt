@@ -7,7 +7,5 @@ pub mod offers;
 mod pairs;
 mod search;
 mod spread;
-mod table;
-mod usual;
 
 pub use offers::{Ending, Mending, Offer, Offers, Standing, find_offers};

@@ -1,15 +1,17 @@
 //! Mends of a refused driver set: small edits after which the verifier accepts it.
 
-ghost use Rattle.std.specs.Prelude.{◌≡◌, ◌≢◌, ◌↔◌, ◌<◌, All, IsTrue, IfOk, IfSome, OnOk, length};
+ghost use Rattle.std.specs.Prelude.{◌≡◌, ◌↔◌, [], All, IsTrue, IfNone, IfOk, IfSome, Some};
+ghost use Rattle.mend_changes.specs.Edited.{edited_by};
 ghost use Rattle.model.specs.Typable.{IsFirstFault};
-ghost use Rattle.mend_search.specs.Offers.{AreOffers, AreOffersOf, IsLater, IsLeft, IsOffer};
-ghost use Rattle.mend_search.specs.Offers.{after_first};
+ghost use Rattle.mend_search.specs.Offers.{AreOffers, AreOffersOf, IsKept, IsLater, IsLeft, IsOffer};
+ghost use Rattle.mend_search.specs.Offers.{IsUnmended, IsUnmendedBelow, IsWhole, NoneTakenOut};
+ghost use Rattle.mend_search.specs.Offers.{after_first, taken_out};
 
 use crate::ledger::MAX_OFFERS;
 use crate::search::Found;
 use crate::spread::mends;
 use driver_set::{DriverSet, Items};
-use mend_changes::{Edit, edited_by};
+use mend_changes::{Change, Edit, edited_by};
 use std::alloc::{AllocError, Global};
 use verifier::{Accepted, Refusal, Rule, verify};
 
@@ -65,6 +67,9 @@ const SURE: u32 = 300;
 
 const LEAD: u32 = 40;
 
+/// What it costs to take out an instruction that the search wouldn't.
+const TAKEN_OUT: u32 = 400;
+
 /// The mends of a set: none where it is accepted. So many edits are tried for each routine with a
 /// fault, at most.
 ///
@@ -118,7 +123,7 @@ fn offers_at(
     ensures { IfOk result (AreOffersOf set) }
 {
     let offers = offers_of(alloc, &set, &refusal, tries)?;
-    let Some(next) = first_made(alloc, &set, offers.as_slice())? else {
+    let Some(next) = first_made(alloc, &set, &refusal, offers.as_slice())? else {
         return unmended(alloc, set, refusal);
     };
     let rest = offers_for(alloc, next, tries, turns)?;
@@ -136,7 +141,8 @@ fn offers_at(
 
 /// That nothing is offered for a set with this first fault.
 fn unmended(alloc: Global, set: DriverSet, refusal: Refusal) -> Result<Offers, AllocError>
-    requires { IsFirstFault set refusal }
+    requires first { IsFirstFault set refusal }
+    requires none { NoneTakenOut set refusal }
     ensures { IfOk result (AreOffersOf set) }
 {
     let mut mendings = Vec::new(alloc);
@@ -154,18 +160,98 @@ fn unmended(alloc: Global, set: DriverSet, refusal: Refusal) -> Result<Offers, A
 fn first_made(
     alloc: Global,
     set: &DriverSet,
+    refusal: &Refusal,
     offers: &[Offer],
 ) -> Result<Option<DriverSet>, AllocError>
-    ensures { IfOk result (λ made. IfSome made (λ next. next ≡ after_first set.now offers.now)) }
+    requires { All (IsOffer set.now refusal.now) offers.now }
+    ensures made { IfOk result
+        (λ made. IfSome made (λ next. next ≡ after_first set.now offers.now)) }
+    ensures none { IfOk result (λ made. IfNone made (offers.now ≡ [])) }
 {
-    match offers.first() {
-        Some(offer) => edited_by(alloc, set, offer.edits.as_slice()),
-        None => Ok(None),
+    let Some(offer) = offers.first() else {
+        return Ok(None);
+    };
+    Ok(Some(made_by(alloc, set, refusal, offer)?))
+}
+
+/// What an offer makes of a set.
+fn made_by(
+    alloc: Global,
+    set: &DriverSet,
+    refusal: &Refusal,
+    offer: &Offer,
+) -> Result<DriverSet, AllocError>
+    requires { IsOffer set.now refusal.now offer.now }
+    ensures { IfOk result (λ made. edited_by set.now offer.now.edits ≡ Some made) }
+{
+    match edited_by(alloc, set, offer.edits.as_slice())? {
+        Some(made) => Ok(made),
+        None => unreachable!(),
     }
 }
 
-/// The offers for the first fault of a set, each of which was judged.
+/// The offers for the first fault of a set, each of which was judged: where the search finds none,
+/// that one instruction is taken out, if that mends it.
 fn offers_of(
+    alloc: Global,
+    set: &DriverSet,
+    refusal: &Refusal,
+    tries: u64,
+) -> Result<Vec<Offer>, AllocError>
+    ensures { IfOk result (λ offers. IsWhole set.now refusal.now offers.items) }
+{
+    let mut offers = offers_found(alloc, set, refusal, tries)?;
+    if offers.is_empty() {
+        if let Some(offer) = offer_to_take_out(alloc, set, refusal)? {
+            offers.push(offer)?;
+        }
+    }
+    Ok(offers)
+}
+
+/// An offer to take out one instruction, at the fault or before it, if there is one.
+fn offer_to_take_out(
+    alloc: Global,
+    set: &DriverSet,
+    refusal: &Refusal,
+) -> Result<Option<Offer>, AllocError>
+    ensures offer { IfOk result (λ offer. IfSome offer (IsOffer set.now refusal.now)) }
+    ensures none { IfOk result (λ offer. IfNone offer (NoneTakenOut set.now refusal.now)) }
+{
+    for at in 0..refusal.at {
+        if let Some(offer) = taken_out(alloc, set, refusal, at)? {
+            return Ok(Some(offer));
+        }
+    }
+    taken_out(alloc, set, refusal, refusal.at)
+}
+
+/// An offer to take out the instruction at a position, if it is one.
+fn taken_out(
+    alloc: Global,
+    set: &DriverSet,
+    refusal: &Refusal,
+    at: u16,
+) -> Result<Option<Offer>, AllocError>
+    ensures offer { IfOk result (λ offer. IfSome offer (IsOffer set.now refusal.now)) }
+    ensures none { IfOk result
+        (λ offer. IfNone offer (IsUnmended set.now refusal.now (taken_out refusal.now at))) }
+{
+    let edit = Edit {
+        driver: refusal.driver,
+        routine: refusal.routine,
+        at,
+        change: Change::Delete,
+    };
+    let price = Price {
+        cost: TAKEN_OUT,
+        standing: Standing::Guess,
+    };
+    judged(alloc, set, refusal, &[edit], price)
+}
+
+/// The offers that the search finds for the first fault of a set, each of which was judged.
+fn offers_found(
     alloc: Global,
     set: &DriverSet,
     refusal: &Refusal,
@@ -179,10 +265,14 @@ fn offers_of(
         if offers.len() >= MAX_OFFERS {
             break;
         }
-        let standing = standing_of(found.as_slice(), place);
-        if let Some(offer) = judged(alloc, set, refusal, one, standing)? {
-            offers.push(offer)?;
-        }
+        let price = Price {
+            cost: one.cost,
+            standing: standing_of(found.as_slice(), place),
+        };
+        let Some(offer) = judged(alloc, set, refusal, one.edits.as_slice(), price)? else {
+            continue;
+        };
+        offers.push(offer)?;
     }
     Ok(offers)
 }
@@ -203,18 +293,26 @@ fn standing_of(found: &[Found], place: usize) -> Standing {
     }
 }
 
-/// An offer of edits that were found, if the verifier finds no fault in the routine of a refusal, nor
-/// in one before it, behind them.
+/// What an offer costs, and how it stands among the others.
+#[derive(Clone, Copy)]
+struct Price {
+    cost: u32,
+    standing: Standing,
+}
+
+/// An offer of edits, if the verifier finds no fault in the routine of a refusal, nor in one before
+/// it, behind them.
 fn judged(
     alloc: Global,
     set: &DriverSet,
     refusal: &Refusal,
-    found: &Found,
-    standing: Standing,
+    edits: &[Edit],
+    price: Price,
 ) -> Result<Option<Offer>, AllocError>
-    ensures { IfOk result (λ offer. IfSome offer (IsOffer set.now refusal.now)) }
+    ensures offer { IfOk result (λ offer. IfSome offer (IsOffer set.now refusal.now)) }
+    ensures none { IfOk result
+        (λ offer. IfNone offer (IsUnmended set.now refusal.now edits.now)) }
 {
-    let edits = found.edits.as_slice();
     let Some(made) = edited_by(alloc, set, edits)? else {
         return Ok(None);
     };
@@ -223,8 +321,8 @@ fn judged(
     };
     Ok(Some(Offer {
         edits: Items::of(Vec::from_slice(alloc, edits)?),
-        cost: found.cost,
-        standing,
+        cost: price.cost,
+        standing: price.standing,
         left,
     }))
 }
@@ -236,7 +334,8 @@ fn left_of(
     made: DriverSet,
     refusal: &Refusal,
 ) -> Result<Option<Option<Refusal>>, AllocError>
-    ensures { IfOk result (λ left. IfSome left (IsLeft made refusal.now)) }
+    ensures left { IfOk result (λ left. IfSome left (IsLeft made refusal.now)) }
+    ensures kept { IfOk result (λ left. IfNone left (IsKept made refusal.now)) }
 {
     match verify(alloc, made) {
         Ok(_accepted) => Ok(Some(None)),

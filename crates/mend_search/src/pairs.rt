@@ -1,8 +1,8 @@
 //! Edits that complete one another, and cost less together.
 
 use driver_set::Instr;
-use mend_candidates::form::{are_pair, form_of, same_lock};
-use mend_candidates::{Candidate, Manner};
+use mend_reading::form::{are_pair, form_of, same_lock};
+use mend_reading::{Candidate, Manner};
 
 /// An edit that was made: what kind it is, and the instructions that came and went.
 #[derive(Clone, Copy)]

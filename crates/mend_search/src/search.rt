@@ -3,12 +3,14 @@
 use crate::draft::{Draft, first_changed, followed};
 use crate::ledger::{Ledger, MAX_EDITS, Node};
 use crate::pairs::{Made, rebate};
-use crate::usual::{Usual, empties, mismatches};
 use absstate::Rule;
 use driver_set::{DriverSet, Instr, Items};
-use mend_candidates::form::form_of;
-use mend_candidates::{Candidate, Candidates, Fault, Manner, Placed, Reading, Scene, Subject};
+use mend_candidates::Scene;
 use mend_changes::{Edit, edited};
+use mend_groups::add_all;
+use mend_reading::form::form_of;
+use mend_reading::usual::{Usual, empties, mismatches};
+use mend_reading::{Candidate, Candidates, Fault, Manner, Placed, Reading, Subject};
 use std::alloc::{AllocError, Global};
 use verifier::check_routine;
 
@@ -67,8 +69,8 @@ struct Tried<'a> {
     code: &'a [Instr],
 }
 
-/// Mends of a routine of a set, by number, the best first. So many edits are tried, at most. Routines
-/// before it may have faults behind edits of lines.
+/// Mends of a routine of a set, by number, the best first. So many edits are tried, at most.
+/// Routines before it may have faults behind edits of lines.
 pub(crate) fn search(
     alloc: Global,
     set: &DriverSet,
@@ -180,7 +182,7 @@ fn expand(
     bench.list.clear();
     let touched = bench.draft.touched.as_slice();
     if let Some(scene) = Scene::of(task.alloc, &subject, code, &bench.reading, touched)? {
-        scene.add_all(task.alloc, &mut bench.list)?;
+        add_all(task.alloc, &scene, &mut bench.list)?;
     }
     for place in 0..bench.list.as_slice().len() {
         if !ledger.uses_try() {

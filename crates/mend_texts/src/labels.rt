@@ -2,25 +2,8 @@
 
 use crate::rows::{How, Row};
 use driver_set::Instr;
+use mend_sentences::{Label, add_label};
 use std::alloc::{AllocError, Global};
-use text::add_bytes;
-
-/// The name of a label.
-#[derive(Clone, Copy)]
-pub(crate) enum Label<'a> {
-    /// One that the text has.
-    Given(&'a [u8]),
-    /// One of a number that it hasn't.
-    Made(u16),
-}
-
-/// Adds the name of a label.
-pub(crate) fn add_label(prose: &mut String, label: Label<'_>) -> Result<(), AllocError> {
-    match label {
-        Label::Given(name) => add_bytes(prose, name),
-        Label::Made(number) => write!(prose, "new{number}"),
-    }
-}
 
 /// The labels of a routine behind edits, by positions.
 #[derive(Drop)]

@@ -1,13 +1,12 @@
 //! An edited routine as changes of lines, with a sentence for each.
 
-use crate::labels::{Label, Labels};
+use crate::labels::Labels;
 use crate::layout::{Parts, laid_out, line_of, parts_of};
 use crate::page::{Page, number_of};
 use crate::rows::{How, Row};
-use crate::sentences::{guessed, inserted, moved, replaced, taken_out};
 use crate::texts::Mended;
-use crate::wording::instruction_text;
 use driver_set::Instr;
+use mend_sentences::{Label, guessed, inserted, instruction_text, moved, replaced, taken_out};
 use model::abs::Rule;
 use model::items::Items;
 use std::alloc::{AllocError, Global};

@@ -5,7 +5,7 @@ use std::alloc::{AllocError, Global};
 
 /// The loops round the positions of a routine.
 #[derive(Drop)]
-pub(crate) struct Loops {
+pub struct Loops {
     /// The innermost loop that is open before each position. Nothing is kept of a routine that has
     /// no loop.
     opened: Vec<Option<u16>>,
@@ -15,7 +15,7 @@ pub(crate) struct Loops {
 
 impl Loops {
     /// Those of no routine.
-    pub(crate) fn new(alloc: Global) -> Loops {
+    pub fn new(alloc: Global) -> Loops {
         Loops {
             opened: Vec::new(alloc),
             closed: Vec::new(alloc),
@@ -23,7 +23,7 @@ impl Loops {
     }
 
     /// Reads a routine.
-    pub(crate) fn read(&mut self, code: &[Instr]) -> Result<(), AllocError> {
+    pub fn read(&mut self, code: &[Instr]) -> Result<(), AllocError> {
         self.opened.clear();
         self.closed.clear();
         if !has_loop(code) {
@@ -54,17 +54,17 @@ impl Loops {
     }
 
     /// The innermost loop that is open before a position.
-    pub(crate) fn opened_at(&self, at: usize) -> Option<u16> {
+    pub fn opened_at(&self, at: usize) -> Option<u16> {
         self.opened.get(at).copied().flatten()
     }
 
     /// Whether the loop that starts at a position has an `end`.
-    pub(crate) fn is_closed(&self, at: usize) -> bool {
+    pub fn is_closed(&self, at: usize) -> bool {
         self.closed.get(at).copied().unwrap_or(false)
     }
 
     /// The innermost loop with an `end` round a position.
-    pub(crate) fn round(&self, at: usize) -> Option<u16> {
+    pub fn round(&self, at: usize) -> Option<u16> {
         let mut innermost = self.opened_at(at);
         for _ in 0..self.opened.len() {
             match innermost {
@@ -78,7 +78,7 @@ impl Loops {
     }
 
     /// How many loops with an `end` are round a position, and how often they turn it.
-    pub(crate) fn turns(&self, code: &[Instr], at: usize) -> (usize, u64) {
+    pub fn turns(&self, code: &[Instr], at: usize) -> (usize, u64) {
         let (mut depth, mut turns) = (0_usize, 1_u64);
         let mut innermost = self.round(at);
         for _ in 0..self.opened.len() {

@@ -43,7 +43,7 @@ pub struct Candidate {
 
 impl Candidate {
     /// The candidate at another cost.
-    pub(crate) fn at_cost(self, cost: u32) -> Candidate {
+    pub fn at_cost(self, cost: u32) -> Candidate {
         Candidate { cost, ..self }
     }
 }
@@ -83,7 +83,7 @@ impl Candidates {
 
     /// Begins a candidate, of one instruction in place of another where it is of such: the changes
     /// that are added from now on are its.
-    pub(crate) fn begin(
+    pub fn begin(
         &self,
         manner: Manner,
         cost: u32,
@@ -101,32 +101,27 @@ impl Candidates {
     }
 
     /// Adds a change to the candidate that was begun.
-    pub(crate) fn change(&mut self, at: u16, change: Change) -> Result<(), AllocError> {
+    pub fn change(&mut self, at: u16, change: Change) -> Result<(), AllocError> {
         self.changes.push(Placed { at, change })?;
         Ok(())
     }
 
     /// Ends the candidate that was begun.
-    pub(crate) fn end(&mut self, candidate: Candidate) -> Result<(), AllocError> {
+    pub fn end(&mut self, candidate: Candidate) -> Result<(), AllocError> {
         let count = self.changes.len().saturating_sub(candidate.first);
         self.list.push(Candidate { count, ..candidate })?;
         Ok(())
     }
 
     /// Adds a candidate of one change.
-    pub(crate) fn add(
-        &mut self,
-        candidate: Candidate,
-        at: u16,
-        change: Change,
-    ) -> Result<(), AllocError> {
+    pub fn add(&mut self, candidate: Candidate, at: u16, change: Change) -> Result<(), AllocError> {
         self.change(at, change)?;
         self.end(candidate)
     }
 
     /// Adds instructions that are put before a position together. Their labels count from the
     /// first of them; those behind the last are of what stood at the position.
-    pub(crate) fn add_template(
+    pub fn add_template(
         &mut self,
         cost: u32,
         at: u16,

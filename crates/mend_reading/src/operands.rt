@@ -3,7 +3,7 @@
 use driver_set::{Instr, Register, Return};
 
 /// The registers that an instruction names, two at most.
-pub(crate) fn registers_of(instr: &Instr) -> (Option<Register>, Option<Register>) {
+pub fn registers_of(instr: &Instr) -> (Option<Register>, Option<Register>) {
     match *instr {
         Instr::Move(r, s)
         | Instr::Add(r, s)
@@ -47,18 +47,18 @@ pub(crate) fn registers_of(instr: &Instr) -> (Option<Register>, Option<Register>
 }
 
 /// Whether an instruction names a register.
-pub(crate) fn names(instr: &Instr, register: Register) -> bool {
+pub fn names(instr: &Instr, register: Register) -> bool {
     let (one, other) = registers_of(instr);
     is_register(one, register) || is_register(other, register)
 }
 
 /// Whether a register is one of a number.
-pub(crate) fn is_register(named: Option<Register>, register: Register) -> bool {
+pub fn is_register(named: Option<Register>, register: Register) -> bool {
     named.is_some_and(|named| named.index() == register.index())
 }
 
 /// The instruction with another register in the place of its first.
-pub(crate) fn with_first(instr: Instr, r: Register) -> Instr {
+pub fn with_first(instr: Instr, r: Register) -> Instr {
     match instr {
         Instr::Const(_, number) => Instr::Const(r, number),
         Instr::Move(_, s) => Instr::Move(r, s),
@@ -93,7 +93,7 @@ pub(crate) fn with_first(instr: Instr, r: Register) -> Instr {
 }
 
 /// The instruction with another register in the place of its second.
-pub(crate) fn with_second(instr: Instr, s: Register) -> Instr {
+pub fn with_second(instr: Instr, s: Register) -> Instr {
     match instr {
         Instr::Move(r, _) => Instr::Move(r, s),
         Instr::Add(r, _) => Instr::Add(r, s),
@@ -134,7 +134,7 @@ fn uses(instr: &Instr, register: Register) -> bool {
 }
 
 /// Whether the order of two instructions matters for the numbers in registers.
-pub(crate) fn interfere(one: &Instr, other: &Instr) -> bool {
+pub fn interfere(one: &Instr, other: &Instr) -> bool {
     let first = set_by(one).is_some_and(|r| is_register(set_by(other), r) || uses(other, r));
     first || set_by(other).is_some_and(|r| uses(one, r))
 }

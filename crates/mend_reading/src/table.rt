@@ -1,7 +1,7 @@
 //! Which words stand beside which in the drivers of the examples.
 
 /// A token, the one behind it, and how often the examples have them so.
-pub(crate) const EXAMPLES: [(u8, u8, u8); 150] = [
+pub const EXAMPLES: [(u8, u8, u8); 150] = [
     (0, 3, 4),
     (0, 4, 2),
     (0, 5, 1),

@@ -1,19 +1,19 @@
 //! How usual it is which words stand beside which.
 
+use crate::form::{TOKENS, are_pair, differ, start, token};
 use crate::table::EXAMPLES;
 use driver_set::{Driver, DriverSet, Instr, Sort};
-use mend_candidates::form::{TOKENS, are_pair, differ, start, token};
 use std::alloc::{AllocError, Global};
 
 /// How often each word stands behind each, or first in a routine of a sort.
 #[derive(Drop)]
-pub(crate) struct Usual {
+pub struct Usual {
     counts: Vec<u32>,
 }
 
 impl Usual {
     /// As in the examples and in the routines of a set.
-    pub(crate) fn of(alloc: Global, set: &DriverSet) -> Result<Usual, AllocError> {
+    pub fn of(alloc: Global, set: &DriverSet) -> Result<Usual, AllocError> {
         let counts = vec![in alloc; 0; TOKENS * TOKENS]?;
         let mut usual = Usual { counts };
         for (before, word, count) in EXAMPLES {
@@ -50,7 +50,7 @@ impl Usual {
     }
 
     /// How unusual the neighbours in a routine are, in hundredths of a half.
-    pub(crate) fn strangeness(&self, sort: Sort, code: &[Instr]) -> u32 {
+    pub fn strangeness(&self, sort: Sort, code: &[Instr]) -> u32 {
         let mut sum = 0_u32;
         let mut before = start(sort);
         for instr in code {
@@ -71,7 +71,7 @@ fn place(before: u8, word: u8) -> usize {
 }
 
 /// How many returns have another status than the completion before them.
-pub(crate) fn mismatches(code: &[Instr]) -> u32 {
+pub fn mismatches(code: &[Instr]) -> u32 {
     let mut count = 0_u32;
     for (one, other) in code.iter().zip(code.iter().skip(1)) {
         if differ(one, other) {
@@ -82,7 +82,7 @@ pub(crate) fn mismatches(code: &[Instr]) -> u32 {
 }
 
 /// How many locks are released where they were acquired, or acquired where they were released.
-pub(crate) fn empties(code: &[Instr]) -> u32 {
+pub fn empties(code: &[Instr]) -> u32 {
     let mut count = 0_u32;
     for (one, other) in code.iter().zip(code.iter().skip(1)) {
         if are_pair(one, other) || are_pair(other, one) {

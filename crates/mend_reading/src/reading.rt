@@ -1,5 +1,5 @@
-//! A routine read as the verifier reads it, with the states on the way. What is found here leads the
-//! search; it is the verifier who judges what is offered.
+//! A routine read as the verifier reads it, with the states on the way. What is found here leads
+//! the search; it is the verifier who judges what is offered.
 
 use crate::loops::Loops;
 use absstate::{Abs, Rule, Tracked, are_same, broken_rule, transfer};
@@ -58,7 +58,7 @@ pub struct Reading {
     falls: Vec<Option<Abs>>,
     /// Another one that arrives there.
     others: Vec<Option<Abs>>,
-    pub(crate) loops: Loops,
+    pub loops: Loops,
     certificate: u64,
     pub fault: Option<Fault>,
 }

@@ -1,20 +1,26 @@
 //! Edits of lines that are no instructions: of queues, of the StartIo routine and of devices.
 
-use crate::candidate::{Candidates, Manner};
-use crate::scene::Scene;
 use absstate::Rule;
 use driver_set::{Device, Driver, Instr, QueueName, Sort};
+use mend_candidates::scene::Scene;
 use mend_changes::Change;
+use mend_reading::candidate::{Candidates, Manner};
 use model::limits::MAX_STACK;
 use std::alloc::AllocError;
 
-impl<'a> Scene<'a> {
+/// Edits of lines, for a scene.
+#[derive(Clone, Copy)]
+pub(crate) struct Lines<'a> {
+    pub(crate) scene: &'a Scene<'a>,
+}
+
+impl<'a> Lines<'a> {
     /// Adds the edits of lines that the rule may ask for.
     pub(crate) fn add_lines(&self, out: &mut Candidates) -> Result<(), AllocError> {
-        let Some(driver) = self.driver() else {
+        let Some(driver) = self.scene.driver() else {
             return Ok(());
         };
-        match self.fault.rule {
+        match self.scene.fault.rule {
             Rule::StackTooSmall | Rule::NoLower => {
                 self.add_stacks(out)?;
                 self.add_lowers(out)
@@ -31,7 +37,7 @@ impl<'a> Scene<'a> {
     /// Adds one edit of a line.
     fn add_line(&self, out: &mut Candidates, cost: u32, change: Change) -> Result<(), AllocError> {
         let one = out.begin(Manner::Line, cost, None, None);
-        out.add(one, self.fault.at, change)
+        out.add(one, self.scene.fault.at, change)
     }
 
     /// Adds the stack sizes that are wanted, from the lowest device up, as one edit.
@@ -39,7 +45,7 @@ impl<'a> Scene<'a> {
         let mut sizes = [0_u8; 256];
         let mut count = 0_u32;
         let one = out.begin(Manner::Line, 80, None, None);
-        for (number, device) in self.subject.set.devices().iter().enumerate() {
+        for (number, device) in self.scene.subject.set.devices().iter().enumerate() {
             let number = number.min(255);
             sizes[number] = device.stack;
             let Some(lower) = device.lower else {
@@ -48,7 +54,7 @@ impl<'a> Scene<'a> {
             let wanted = self.stack_wanted(device, sizes[lower as usize]);
             if device.stack < wanted && wanted as usize <= MAX_STACK {
                 sizes[number] = wanted;
-                out.change(self.fault.at, Change::Stack(number as u8, wanted))?;
+                out.change(self.scene.fault.at, Change::Stack(number as u8, wanted))?;
                 count = count.saturating_add(10);
             }
         }
@@ -61,7 +67,7 @@ impl<'a> Scene<'a> {
 
     /// The stack size that a device needs over one of a stack size: 0 where it sends nothing down.
     fn stack_wanted(&self, device: &Device, below: u8) -> u8 {
-        let Some(driver) = self.subject.set.drivers().get(device.driver as usize) else {
+        let Some(driver) = self.scene.subject.set.drivers().get(device.driver as usize) else {
             return 0;
         };
         if does(driver, |instr| matches!(*instr, Instr::Call(..))) {
@@ -75,9 +81,9 @@ impl<'a> Scene<'a> {
 
     /// Adds lower devices for those of the driver that have none.
     fn add_lowers(&self, out: &mut Candidates) -> Result<(), AllocError> {
-        let devices = self.subject.set.devices();
+        let devices = self.scene.subject.set.devices();
         for (number, device) in devices.iter().enumerate() {
-            if device.driver == self.subject.driver && device.lower.is_none() {
+            if device.driver == self.scene.subject.driver && device.lower.is_none() {
                 let number = number.min(255) as u8;
                 self.add_lowers_of(number, device, out)?;
             }
@@ -92,13 +98,13 @@ impl<'a> Scene<'a> {
         device: &Device,
         out: &mut Candidates,
     ) -> Result<(), AllocError> {
-        let devices = self.subject.set.devices();
-        let calls = u8::from(matches!(self.bad, Instr::Call(..)));
+        let devices = self.scene.subject.set.devices();
+        let calls = u8::from(matches!(self.scene.bad, Instr::Call(..)));
         for lower in 0..number {
             let Some(below) = devices.get(lower as usize) else {
                 continue;
             };
-            if below.driver == self.subject.driver {
+            if below.driver == self.scene.subject.driver {
                 continue;
             }
             let used = devices.iter().any(|other| other.lower == Some(lower));
@@ -109,8 +115,8 @@ impl<'a> Scene<'a> {
             if device.stack < wanted && wanted as usize <= MAX_STACK {
                 let cost = cost.saturating_add(40);
                 let one = out.begin(Manner::Line, cost, None, None);
-                out.change(self.fault.at, Change::Lower(number, lower))?;
-                out.change(self.fault.at, Change::Stack(number, wanted))?;
+                out.change(self.scene.fault.at, Change::Lower(number, lower))?;
+                out.change(self.scene.fault.at, Change::Stack(number, wanted))?;
                 out.end(one)?;
             }
         }
@@ -157,7 +163,7 @@ impl<'a> Scene<'a> {
     fn add_guards(&self, driver: &Driver, out: &mut Candidates) -> Result<(), AllocError> {
         for (q, queue) in driver.queues.as_slice().iter().enumerate() {
             let q = q.min(255) as u8;
-            for lock in self.locks.as_slice() {
+            for lock in self.scene.locks.as_slice() {
                 if lock.index() != queue.guard.index() {
                     self.add_line(out, 200, Change::Guard(q, *lock))?;
                 }

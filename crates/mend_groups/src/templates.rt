@@ -1,18 +1,24 @@
 //! Several instructions that belong together, as a rule asks for them.
 
-use crate::candidate::Candidates;
-use crate::form::same_lock;
-use crate::scene::{Scene, registers};
 use absstate::{Abs, Kind, Rule, Settled, Stage};
 use driver_set::{Instr, QueueName, Register, Return, Sort, SpinLock};
+use mend_candidates::scene::{Scene, registers};
 use mend_changes::Landing;
+use mend_reading::candidate::Candidates;
+use mend_reading::form::same_lock;
 use model::status::Status;
 use std::alloc::{AllocError, Global};
 
 /// What a dispatch routine returns that keeps its packet.
 const PENDING: Instr = Instr::Ret(Return::WithStatus(Status::Pending));
 
-impl<'a> Scene<'a> {
+/// Instructions that belong together, for a scene.
+#[derive(Clone, Copy)]
+pub(crate) struct Templates<'a> {
+    pub(crate) scene: &'a Scene<'a>,
+}
+
+impl<'a> Templates<'a> {
     /// Adds the templates before each position up to the fault.
     pub(crate) fn add_templates(
         &self,
@@ -20,10 +26,10 @@ impl<'a> Scene<'a> {
         out: &mut Candidates,
     ) -> Result<(), AllocError> {
         let mut lines = Vec::new(alloc);
-        for at in 0..=self.last() {
-            if let Some(state) = self.state(at) {
+        for at in 0..=self.scene.last() {
+            if let Some(state) = self.scene.state(at) {
                 self.add_templates_at(at, Landing::Kept, &state, &mut lines, out)?;
-                if self.is_target(at) {
+                if self.scene.is_target(at) {
                     self.add_templates_at(at, Landing::Taken, &state, &mut lines, out)?;
                 }
             }
@@ -68,12 +74,12 @@ impl<'a> Scene<'a> {
         register: Register,
         out: &mut Candidates,
     ) -> Result<(), AllocError> {
-        if self.fault.rule != Rule::Completion || state.settled != Settled::Open {
+        if self.scene.fault.rule != Rule::Completion || state.settled != Settled::Open {
             return Ok(());
         }
         let (look, mark) = (Instr::IfPending(register, 2), Instr::Mark(register));
-        let near = self.near(at);
-        if matches!(self.instr(at), Some(Instr::Ret(_))) {
+        let near = self.scene.near(at);
+        if matches!(self.scene.instr(at), Some(Instr::Ret(_))) {
             let lines = [look, Instr::Ret(Return::Continue), mark];
             return out.add_template(near.saturating_add(120), at, landing, lines.as_slice());
         }
@@ -93,13 +99,13 @@ impl<'a> Scene<'a> {
         let (register, q) = packet;
         let rules = [Rule::CancelState, Rule::Dropped];
         match self.guard_of(q) {
-            Some(guard) if self.breaks(rules.as_slice()) && !state.locks[guard.index()] => {
+            Some(guard) if self.scene.breaks(rules.as_slice()) && !state.locks[guard.index()] => {
                 let lines = [
                     Instr::Acquire(guard),
                     Instr::Unlink(register, q),
                     Instr::Release(guard),
                 ];
-                let cost = self.near(at).saturating_add(120);
+                let cost = self.scene.near(at).saturating_add(120);
                 out.add_template(cost, at, landing, lines.as_slice())
             }
             _ => Ok(()),
@@ -115,9 +121,9 @@ impl<'a> Scene<'a> {
         out: &mut Candidates,
     ) -> Result<(), AllocError> {
         let (register, q) = packet;
-        let dispatch = matches!(self.subject.sort, Sort::Dispatch);
+        let dispatch = matches!(self.scene.subject.sort, Sort::Dispatch);
         match self.guard_of(q) {
-            Some(guard) if dispatch && self.fault.rule == Rule::Guard => {
+            Some(guard) if dispatch && self.scene.fault.rule == Rule::Guard => {
                 let lines = armed(register, q, guard, 0);
                 let lines = lines.get(..9).unwrap_or_default();
                 let cost = if self.asks_cancel(register) { 180 } else { 90 };
@@ -129,7 +135,7 @@ impl<'a> Scene<'a> {
 
     /// Whether an instruction asks if the packet in a register is cancelled.
     fn asks_cancel(&self, register: Register) -> bool {
-        self.code.iter().any(|instr| match *instr {
+        self.scene.code.iter().any(|instr| match *instr {
             Instr::IfCancel(asked, _) => asked.index() == register.index(),
             _ => false,
         })
@@ -152,10 +158,10 @@ impl<'a> Scene<'a> {
             Rule::Guard,
             Rule::DoubleCompletion,
         ];
-        if !self.breaks(rules.as_slice()) {
+        if !self.scene.breaks(rules.as_slice()) {
             return Ok(());
         }
-        for q in 0..self.queues() {
+        for q in 0..self.scene.queues() {
             let Some(guard) = self.guard_of(q) else {
                 continue;
             };
@@ -187,9 +193,10 @@ impl<'a> Scene<'a> {
             return Ok(());
         };
         if self
+            .scene
             .subject
             .set
-            .cancel_routine(self.subject.driver, q)
+            .cancel_routine(self.scene.subject.driver, q)
             .is_some()
         {
             let first = u16::try_from(lines.len()).unwrap_or(0);
@@ -205,9 +212,9 @@ impl<'a> Scene<'a> {
     /// What the keeping of a packet costs.
     fn keeping_cost(&self, at: u16, guard: SpinLock, held: bool, lines: usize) -> u32 {
         let long = u32::try_from(lines).unwrap_or(100).saturating_mul(12);
-        let cost = self.near(at).saturating_add(long).saturating_add(110);
+        let cost = self.scene.near(at).saturating_add(long).saturating_add(110);
         let lock = Instr::Acquire(guard);
-        let before = self.code.get(..at as usize).unwrap_or_default();
+        let before = self.scene.code.get(..at as usize).unwrap_or_default();
         let released = match before.last() {
             Some(instr) => same_lock(instr, &lock),
             None => false,
@@ -228,25 +235,31 @@ impl<'a> Scene<'a> {
         out: &mut Candidates,
     ) -> Result<(), AllocError> {
         let waits = self
+            .scene
             .driver()
             .is_some_and(|driver| driver.startio_cancel.is_some());
-        let returns = matches!(self.bad, Instr::Ret(_));
-        if self.fault.rule != Rule::Token || !returns || !waits || state.cancel || !state.token {
+        let returns = matches!(self.scene.bad, Instr::Ret(_));
+        if self.scene.fault.rule != Rule::Token
+            || !returns
+            || !waits
+            || state.cancel
+            || !state.token
+        {
             return Ok(());
         }
         let lines = [Instr::AcquireCancel, Instr::Next, Instr::ReleaseCancel];
-        let cost = self.near(at).saturating_add(110);
+        let cost = self.scene.near(at).saturating_add(110);
         out.add_template(cost, at, landing, lines.as_slice())
     }
 
     /// Adds that a packet is completed, and its status returned, before a label.
     fn add_leaving(&self, at: u16, out: &mut Candidates) -> Result<(), AllocError> {
         let rules = [Rule::StatesDiffer, Rule::Dropped];
-        let dispatch = matches!(self.subject.sort, Sort::Dispatch);
-        if !dispatch || !self.breaks(rules.as_slice()) || !self.is_target(at) {
+        let dispatch = matches!(self.scene.subject.sort, Sort::Dispatch);
+        if !dispatch || !self.scene.breaks(rules.as_slice()) || !self.scene.is_target(at) {
             return Ok(());
         }
-        let Some(state) = self.reading.fall(at as usize) else {
+        let Some(state) = self.scene.reading.fall(at as usize) else {
             return Ok(());
         };
         for register in registers() {
@@ -255,7 +268,7 @@ impl<'a> Scene<'a> {
                     Instr::Complete(register, Status::Success),
                     Instr::Ret(Return::WithStatus(Status::Success)),
                 ];
-                let cost = self.near(at).saturating_add(180);
+                let cost = self.scene.near(at).saturating_add(180);
                 out.add_template(cost, at, Landing::Kept, lines.as_slice())?;
             }
         }
@@ -264,7 +277,7 @@ impl<'a> Scene<'a> {
 
     /// The lock that guards a queue.
     fn guard_of(&self, q: u8) -> Option<SpinLock> {
-        self.subject.set.guard(self.subject.driver, q)
+        self.scene.subject.set.guard(self.scene.subject.driver, q)
     }
 }
 

@@ -8,7 +8,11 @@ use std::alloc::{AllocError, Global};
 use text::add_bytes;
 
 /// That lines are put in before the line of a number.
-pub(crate) fn inserted(
+///
+/// # Errors
+///
+/// When memory runs out.
+pub fn inserted(
     alloc: Global,
     words: &[String],
     before: u64,
@@ -28,7 +32,11 @@ pub(crate) fn inserted(
 }
 
 /// That the words of a line are others.
-pub(crate) fn replaced(
+///
+/// # Errors
+///
+/// When memory runs out.
+pub fn replaced(
     alloc: Global,
     number: u64,
     old: &[u8],
@@ -43,19 +51,22 @@ pub(crate) fn replaced(
 }
 
 /// That a line is taken out.
-pub(crate) fn taken_out(
-    alloc: Global,
-    number: u64,
-    old: &[u8],
-    rule: Rule,
-) -> Result<String, AllocError> {
+///
+/// # Errors
+///
+/// When memory runs out.
+pub fn taken_out(alloc: Global, number: u64, old: &[u8], rule: Rule) -> Result<String, AllocError> {
     let mut prose = about_line(alloc, "take out", number, old)?;
     add_reason(&mut prose, rule)?;
     Ok(prose)
 }
 
 /// That a line stands before the one of another number.
-pub(crate) fn moved(
+///
+/// # Errors
+///
+/// When memory runs out.
+pub fn moved(
     alloc: Global,
     number: u64,
     old: &[u8],
@@ -89,7 +100,11 @@ fn add_reason(prose: &mut String, rule: Rule) -> Result<(), AllocError> {
 }
 
 /// What was guessed where an instruction was made up.
-pub(crate) fn guessed(alloc: Global, instr: Instr) -> Result<Option<String>, AllocError> {
+///
+/// # Errors
+///
+/// When memory runs out.
+pub fn guessed(alloc: Global, instr: Instr) -> Result<Option<String>, AllocError> {
     let mut prose = String::new(alloc);
     match instr {
         Instr::Complete(_, status) | Instr::Ret(Return::WithStatus(status)) => {

@@ -1,6 +1,6 @@
 //! Instructions written with the names of a text.
 
-use crate::labels::{Label, add_label};
+use crate::label::{Label, add_label};
 use asm_listing::Entry;
 use driver_set::{Instr, QueueName};
 use std::alloc::{AllocError, Global};
@@ -19,7 +19,11 @@ enum Named {
 }
 
 /// An instruction, which leads to this label if it is a jump.
-pub(crate) fn instruction_text(
+///
+/// # Errors
+///
+/// When memory runs out.
+pub fn instruction_text(
     alloc: Global,
     names: Names<'_, '_>,
     instr: Instr,
@@ -38,22 +42,21 @@ pub(crate) fn instruction_text(
         if index > 0 {
             prose.push_str(" ")?;
         }
-        add_word(&mut prose, names, &instr, index, label, word)?;
+        add_word(&mut prose, names, name_at(&instr, index), label, word)?;
         index = index.saturating_add(1);
     }
     Ok(prose)
 }
 
-/// Adds the word of an index of an instruction, or the name that stands for it.
+/// Adds a word, or the name that stands for it.
 fn add_word(
     prose: &mut String,
     names: Names<'_, '_>,
-    instr: &Instr,
-    index: usize,
+    named: Named,
     label: Option<Label<'_>>,
     word: &[u8],
 ) -> Result<(), AllocError> {
-    match name_at(instr, index) {
+    match named {
         Named::Label => match label {
             Some(label) => add_label(prose, label),
             None => add_bytes(prose, word),

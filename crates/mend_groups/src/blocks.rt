@@ -1,41 +1,129 @@
 //! Several edits that belong together.
 
-use crate::candidate::{Candidates, Manner};
-use crate::form::{are_pair, same_lock};
-use crate::scene::Scene;
 use absstate::{Abs, Kind, Rule};
 use driver_set::{Instr, Register, SpinLock, Turns};
+use mend_candidates::scene::{Scene, registers};
 use mend_changes::{Change, Landing, with_label};
+use mend_reading::candidate::{Candidates, Manner};
+use mend_reading::form::{are_pair, same_lock};
 use std::alloc::AllocError;
 
-impl<'a> Scene<'a> {
+/// Several edits that belong together, for a scene.
+#[derive(Clone, Copy)]
+pub(crate) struct Blocks<'a> {
+    pub(crate) scene: &'a Scene<'a>,
+}
+
+impl<'a> Blocks<'a> {
     /// Adds the blocks that the rule asks for.
     pub(crate) fn add_blocks(&self, out: &mut Candidates) -> Result<(), AllocError> {
-        if self.are_numbers && self.differing.len() > 1 {
+        if self.scene.are_numbers && self.scene.differing.len() > 1 {
             self.add_clears(out)?;
         }
-        match self.fault.rule {
+        self.add_swaps(out)?;
+        match self.scene.fault.rule {
             Rule::Guard => {
                 self.add_kept_locks(out)?;
                 self.add_right_locks(out)
             }
-            Rule::Malformed => match self.bad.label() {
-                Some(label) if label > self.fault.at => self.add_turn_end(label, out),
-                Some(label) if label < self.fault.at => self.add_loop(label, out),
-                _ => Ok(()),
+            Rule::Malformed => match self.scene.bad.label() {
+                Some(label) if label > self.scene.fault.at => self.add_turn_end(label, out),
+                Some(label) if label < self.scene.fault.at => self.add_loop(label, out),
+                _ => self.add_halves(out),
             },
             _ => Ok(()),
         }
     }
 
+    /// Adds that two neighbours change places, and labels stay where they are.
+    fn add_swaps(&self, out: &mut Candidates) -> Result<(), AllocError> {
+        for at in 0..=self.scene.last() {
+            self.add_swap(at, out)?;
+        }
+        match self.scene.bad.label() {
+            Some(label) if label > self.scene.fault.at => {
+                self.add_swap(label.saturating_sub(1), out)
+            }
+            _ => Ok(()),
+        }
+    }
+
+    /// Adds that an instruction and the one behind it change places, where a label is between.
+    fn add_swap(&self, at: u16, out: &mut Candidates) -> Result<(), AllocError> {
+        let behind = at.saturating_add(1);
+        let Some(first) = self.scene.code.get(at as usize) else {
+            return Ok(());
+        };
+        let Some(second) = self.scene.code.get(behind as usize) else {
+            return Ok(());
+        };
+        let fresh = self.scene.is_fresh(at) && self.scene.is_fresh(behind);
+        if !fresh || !self.scene.is_target(behind) {
+            return Ok(());
+        }
+        let cost = self.scene.near(at).saturating_add(125);
+        let one = out.begin(Manner::Block, cost, None, None);
+        out.change(at, Change::Replace(*second))?;
+        out.change(behind, Change::Replace(*first))?;
+        out.end(one)
+    }
+
+    /// Adds the other half of a loop, where one of its ends is missing.
+    fn add_halves(&self, out: &mut Candidates) -> Result<(), AllocError> {
+        match self.scene.bad {
+            Instr::Loop(_) => {
+                for at in self.scene.fault.at.saturating_add(2)..self.scene.len() {
+                    self.add_half(at, &Instr::End, out)?;
+                }
+                Ok(())
+            }
+            Instr::End => {
+                let Some(turns) = self.usual_turns() else {
+                    return Ok(());
+                };
+                let start = Instr::Loop(turns);
+                for at in 0..self.scene.fault.at {
+                    self.add_half(at, &start, out)?;
+                }
+                Ok(())
+            }
+            _ => Ok(()),
+        }
+    }
+
+    /// Adds one half of a loop before a position.
+    fn add_half(&self, at: u16, half: &Instr, out: &mut Candidates) -> Result<(), AllocError> {
+        let cost = self.scene.near(at).saturating_add(90);
+        let one = out.begin(Manner::Block, cost, None, None);
+        out.add(one, at, Change::Insert(*half, Landing::Kept))?;
+        if self.scene.is_target(at) {
+            let one = out.begin(Manner::Block, cost, None, None);
+            out.add(one, at, Change::Insert(*half, Landing::Taken))?;
+        }
+        Ok(())
+    }
+
+    /// The turns of another loop of the routine, or else 100.
+    fn usual_turns(&self) -> Option<Turns> {
+        for instr in self.scene.code {
+            if let Instr::Loop(turns) = *instr {
+                return Some(turns);
+            }
+        }
+        Turns::of(100)
+    }
+
     /// Adds clears of all registers that differ.
     fn add_clears(&self, out: &mut Candidates) -> Result<(), AllocError> {
-        for at in 1..=self.last() {
-            let falls = !matches!(self.instr_before(at), Some(Instr::Ret(_) | Instr::Jump(_)));
+        for at in 1..=self.scene.last() {
+            let falls = !matches!(
+                self.scene.instr_before(at),
+                Some(Instr::Ret(_) | Instr::Jump(_))
+            );
             if falls {
                 self.add_clears_at(at, Landing::Kept, out)?;
             }
-            if self.is_target(at) {
+            if self.scene.is_target(at) {
                 self.add_clears_at(at, Landing::Taken, out)?;
             }
         }
@@ -48,9 +136,9 @@ impl<'a> Scene<'a> {
         landing: Landing,
         out: &mut Candidates,
     ) -> Result<(), AllocError> {
-        let cost = self.near(at).saturating_add(90);
+        let cost = self.scene.near(at).saturating_add(90);
         let one = out.begin(Manner::Block, cost, None, None);
-        for register in self.differing.iter().rev() {
+        for register in self.scene.differing.iter().rev() {
             out.change(at, Change::Insert(Instr::Clear(*register), landing))?;
         }
         out.end(one)
@@ -58,11 +146,11 @@ impl<'a> Scene<'a> {
 
     /// Adds that a lock is kept: a release and the acquisition behind it go.
     fn add_kept_locks(&self, out: &mut Candidates) -> Result<(), AllocError> {
-        for at in 0..=self.last() {
-            let end = at.saturating_add(5).min(self.len());
+        for at in 0..=self.scene.last() {
+            let end = at.saturating_add(5).min(self.scene.len());
             for behind in at.saturating_add(1)..end {
                 if self.are_needless(at, behind) {
-                    let cost = self.near(at).saturating_add(110);
+                    let cost = self.scene.near(at).saturating_add(110);
                     let one = out.begin(Manner::Block, cost, None, None);
                     out.change(behind, Change::Delete)?;
                     out.change(at, Change::Delete)?;
@@ -76,29 +164,37 @@ impl<'a> Scene<'a> {
     /// Whether a lock is released at one position and acquired at another on the only way from
     /// there.
     fn are_needless(&self, at: u16, behind: u16) -> bool {
-        let (Some(release), Some(lock)) = (self.instr(at), self.instr(behind)) else {
+        let (Some(release), Some(lock)) = (self.scene.instr(at), self.scene.instr(behind)) else {
             return false;
         };
         if !are_pair(&lock, &release) {
             return false;
         }
         let passed = self
+            .scene
             .code
             .get(at as usize..behind as usize)
             .unwrap_or_default();
         let leaves = passed
             .iter()
             .any(|instr| matches!(*instr, Instr::Ret(_) | Instr::Jump(_)));
-        let led = (at.saturating_add(1)..=behind).any(|place| self.is_target(place));
+        let led = (at.saturating_add(1)..=behind).any(|place| self.scene.is_target(place));
         !leaves && !led
     }
 
     /// Adds that the right lock is taken for another one, throughout.
     fn add_right_locks(&self, out: &mut Candidates) -> Result<(), AllocError> {
-        let (Some(right), Some(state)) = (self.guard_wanted(), self.state(self.fault.at)) else {
+        let (Some(right), Some(state)) = (
+            self.scene.guard_wanted(),
+            self.scene.state(self.scene.fault.at),
+        ) else {
             return Ok(());
         };
-        let before = self.code.get(..self.fault.at as usize).unwrap_or_default();
+        let before = self
+            .scene
+            .code
+            .get(..self.scene.fault.at as usize)
+            .unwrap_or_default();
         for (at, instr) in before.iter().enumerate() {
             let Instr::Acquire(wrong) = *instr else {
                 continue;
@@ -119,10 +215,16 @@ impl<'a> Scene<'a> {
         out: &mut Candidates,
     ) -> Result<(), AllocError> {
         let place = u16::try_from(at).unwrap_or(u16::MAX);
-        let cost = self.near(place).saturating_add(110);
+        let cost = self.scene.near(place).saturating_add(110);
         let one = out.begin(Manner::Block, cost, None, None);
         out.change(place, Change::Replace(Instr::Acquire(right)))?;
-        for (behind, instr) in self.code.iter().enumerate().skip(at.saturating_add(1)) {
+        for (behind, instr) in self
+            .scene
+            .code
+            .iter()
+            .enumerate()
+            .skip(at.saturating_add(1))
+        {
             if !same_lock(instr, wrong) {
                 continue;
             }
@@ -137,15 +239,15 @@ impl<'a> Scene<'a> {
 
     /// Adds that the jumps out of a loop lead to its end, where what a turn acquired is released.
     fn add_turn_end(&self, label: u16, out: &mut Candidates) -> Result<(), AllocError> {
-        let loops = &self.reading.loops;
-        let Some(start) = loops.round(self.fault.at as usize) else {
+        let loops = &self.scene.reading.loops;
+        let Some(start) = loops.round(self.scene.fault.at as usize) else {
             return Ok(());
         };
         if loops.round(label as usize) == Some(start) {
             return Ok(());
         }
-        let ends = (self.fault.at..self.len()).find(|at| {
-            let ends = matches!(self.instr(*at), Some(Instr::End));
+        let ends = (self.scene.fault.at..self.scene.len()).find(|at| {
+            let ends = matches!(self.scene.instr(*at), Some(Instr::End));
             ends && loops.opened_at(*at as usize) == Some(start)
         });
         match ends {
@@ -161,7 +263,10 @@ impl<'a> Scene<'a> {
         out: &mut Candidates,
     ) -> Result<(), AllocError> {
         let one = out.begin(Manner::Block, 130, None, None);
-        let kept = match (self.state(self.fault.at), self.state(start)) {
+        let kept = match (
+            self.scene.state(self.scene.fault.at),
+            self.scene.state(start),
+        ) {
             (Some(here), Some(before)) => self.releases(&here, &before),
             _ => 0,
         };
@@ -173,9 +278,13 @@ impl<'a> Scene<'a> {
         self.add_releases(start, end, out)?;
         for at in start..end {
             let leaves = self
+                .scene
                 .instr(at)
                 .filter(|instr| instr.label().is_some_and(|to| to > end));
-            if let (Some(instr), true) = (leaves, self.are_in_same_loops(at, self.fault.at)) {
+            if let (Some(instr), true) = (
+                leaves,
+                self.scene.are_in_same_loops(at, self.scene.fault.at),
+            ) {
                 out.change(at, Change::Replace(with_label(instr, to)))?;
             }
         }
@@ -185,6 +294,7 @@ impl<'a> Scene<'a> {
     /// How many spin locks are held here that weren't before.
     fn releases(&self, here: &Abs, before: &Abs) -> usize {
         let kept = self
+            .scene
             .locks
             .iter()
             .filter(|lock| is_acquired(here, before, lock));
@@ -193,11 +303,14 @@ impl<'a> Scene<'a> {
 
     /// Adds the releases of what a turn acquired before the end of its loop, and a jump past them.
     fn add_releases(&self, start: u16, end: u16, out: &mut Candidates) -> Result<(), AllocError> {
-        let (Some(here), Some(before)) = (self.state(self.fault.at), self.state(start)) else {
+        let (Some(here), Some(before)) = (
+            self.scene.state(self.scene.fault.at),
+            self.scene.state(start),
+        ) else {
             return Ok(());
         };
         let mut count = 0_u16;
-        for lock in self.locks.as_slice() {
+        for lock in self.scene.locks.as_slice() {
             if is_acquired(&here, &before, lock) {
                 out.change(end, Change::Insert(Instr::Release(*lock), Landing::Kept))?;
                 count = count.saturating_add(1);
@@ -212,24 +325,27 @@ impl<'a> Scene<'a> {
 
     /// Adds a loop of 100 turns round what a jump back leads to.
     fn add_loop(&self, label: u16, out: &mut Candidates) -> Result<(), AllocError> {
-        let jumps = matches!(self.bad, Instr::JumpIfZero(..) | Instr::JumpIfLess(..));
+        let jumps = matches!(
+            self.scene.bad,
+            Instr::JumpIfZero(..) | Instr::JumpIfLess(..)
+        );
         let Some(turns) = Turns::of(100) else {
             return Ok(());
         };
-        if !jumps || !self.are_in_same_loops(label, self.fault.at) {
+        if !jumps || !self.scene.are_in_same_loops(label, self.scene.fault.at) {
             return Ok(());
         }
-        let behind = self.fault.at.saturating_add(1);
+        let behind = self.scene.fault.at.saturating_add(1);
         let one = out.begin(Manner::Block, 90, None, None);
         out.change(behind, Change::Insert(Instr::End, Landing::Kept))?;
-        for register in crate::scene::registers().into_iter().rev() {
+        for register in registers().into_iter().rev() {
             if self.is_set_in(register, label) {
                 let clear = Instr::Clear(register);
                 out.change(behind, Change::Insert(clear, Landing::Kept))?;
             }
         }
-        let jump = with_label(self.bad, behind);
-        out.change(self.fault.at, Change::Replace(jump))?;
+        let jump = with_label(self.scene.bad, behind);
+        out.change(self.scene.fault.at, Change::Replace(jump))?;
         out.change(label, Change::Insert(Instr::Loop(turns), Landing::Taken))?;
         out.end(one)
     }
@@ -237,11 +353,13 @@ impl<'a> Scene<'a> {
     /// Whether a number is put into a register, blank before, between a position and the fault.
     fn is_set_in(&self, register: Register, first: u16) -> bool {
         let blank = self
+            .scene
             .state(first)
             .is_some_and(|state| state.kinds[register.index()] == Kind::Blank);
         let body = self
+            .scene
             .code
-            .get(first as usize..self.fault.at as usize)
+            .get(first as usize..self.scene.fault.at as usize)
             .unwrap_or_default();
         blank
             && body.iter().any(|instr| match *instr {

@@ -1,0 +1,6 @@
+use Rattle.mend_search.specs.Offers.{IsUnmendedBelow}
+use Rattle.mend_search.proofs.offers.offer_to_take_out.Given as goal
+
+-- none of those before the position mends anything
+abbrev pub invariant-loop-at : goal.invariant-loop-at
+invariant-loop-at l = IsUnmendedBelow l.set l.refusal l.at
