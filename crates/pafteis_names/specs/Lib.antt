@@ -1,0 +1,2 @@
+pub mod Named
+pub mod Constants
