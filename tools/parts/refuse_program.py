@@ -88,7 +88,7 @@ what is known where it arrives:
 r0 went blank, since its packet was completed, at 4, line 26: complete r0 SUCCESS
 why: the register is blank: its packet was completed or given away before
 see: Static Driver Verifier, DoubleCompletion; IoCompleteRequest; bug check 0x44
-mend it: complete a packet once, and before it is handed on
+mend it: take out line 27 "complete r0 SUCCESS": the packet is completed once
 '''
 EXPLAINED_EACH = EXPLAINED + '''
 refused V2 Unreachable driver 0 routine 2 at 6
@@ -101,7 +101,7 @@ in driver d, routine gone (cancel), position 6, line 39:
     41  endd
 why: no path leads to this instruction
 see: this bytecode's form
-mend it: take it out, or jump to it
+mend it: take out line 39 "ret void": a path leads to each instruction
 '''
 MENDED = '''refused V5 DoubleCompletion driver 0 routine 1 at 5
 mend 1 of the whole: sure, cost 0.87

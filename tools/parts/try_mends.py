@@ -11,7 +11,7 @@ with --each every break is. The last line counts. With --store a break of each r
 is told of it, and, where the mend is followed, the mended text with its verdict: crates/tests_stored/runs/mends.txt is
 written anew.
 
-Where a mend speaks of a label L, the place that it names is made: the guard of the queue is released there, and the routine
+A mend that was searched names lines, and is followed by these. Where another one speaks of a label L, the place that it names is made: the guard of the queue is released there, and the routine
 returns. Where it leaves open which status, SUCCESS is taken. Mends that ask for a decision of the author (states that differ,
 another register) aren't followed."""
 import concurrent.futures, os, re, subprocess, sys
@@ -147,6 +147,42 @@ def breaks(name, lines):
 def quoted(words):
     return re.findall(r'`([^`]*)`', words)
 
+# The sentences of a mend that was searched, which name lines of the text as it was.
+PUT = re.compile(r'insert ((?:"[^"]*"(?:, )?)+) before line (\d+)')
+REPLACED = re.compile(r'replace line (\d+) "[^"]*" by "([^"]*)"')
+TAKEN = re.compile(r'take out line (\d+) "[^"]*"')
+LABELLED = re.compile(r'put the label "(\w+)" on line (\d+)')
+MOVED = re.compile(r'move line (\d+) "([^"]*)" before line (\d+)')
+
+def is_searched(mend):
+    return any(form.match(mend) for form in (PUT, REPLACED, TAKEN, LABELLED, MOVED))
+
+def labelled(words):
+    label, colon, rest = words.partition(': ')
+    return Line(rest, label) if colon else Line(words)
+
+def follow_searched(lines, mend):
+    """Follows a mend that was searched. What is inserted stands before a line and its label, unless it has that label itself."""
+    before = {int(at) - 1: [labelled(words) for words in re.findall(r'"([^"]*)"', put)] for put, at in PUT.findall(mend)}
+    replaced = {int(at) - 1: words for at, words in REPLACED.findall(mend)}
+    taken = {int(at) - 1 for at in TAKEN.findall(mend)}
+    named = {int(at) - 1: label for label, at in LABELLED.findall(mend)}
+    for at, words, to in MOVED.findall(mend):
+        before.setdefault(int(to) - 1, []).append(Line(words))
+        taken.add(int(at) - 1)
+    made, label = [], ''
+    for at, line in enumerate(lines):
+        put = before.get(at, [])
+        made += put
+        own = '' if line.label in [other.label for other in put] else line.label
+        if at in taken:
+            label = label or own
+            continue
+        made.append(Line(replaced.get(at, line.words), named.get(at) or own or label))
+        label = ''
+    lines[:] = made
+    return True
+
 def with_label(lines, at, words):
     """Instructions with a label for L, of a place at the routine's end where the lock is released and the routine returns."""
     if not any(re.search(r'\bL\b', word) for word in words):
@@ -220,6 +256,8 @@ def follow(lines, told):
     at, mend = told.at, told.mend
     if at < 0:
         return False
+    if is_searched(mend):
+        return follow_searched(lines, mend)
     if own_words(lines, told, mend):
         return True
     if re.match(r'take (it|this) out', mend):
@@ -288,7 +326,9 @@ def store(program, firsts):
         file.write('\n'.join(lines) + '\n')
 
 def plain(words):
-    """Words without the names of registers, queues, locks and labels."""
+    """Words without the names of registers, queues, locks and labels; of a mend that was searched what it is for alone."""
+    if is_searched(words):
+        words = re.sub(r'^.*(?:"|line \d+): ', '', words)
     return re.sub(r'\b(r\d+|l\d+)\b|(?<=queue )\w+', '_', words)
 
 def firsts_of(all_told):

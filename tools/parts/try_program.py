@@ -48,7 +48,7 @@ what is known where it arrives:
 r0 went blank, since its packet was completed, at 0, line 4: complete r0 SUCCESS
 why: the register is blank: its packet was completed or given away before
 see: Static Driver Verifier, DoubleCompletion; IoCompleteRequest; bug check 0x44
-mend it: complete a packet once, and before it is handed on
+mend it: take out line 5 "complete r0 SUCCESS": the packet is completed once
 '''
 EXPLAINED_EACH = EXPLAINED + b'''
 refused V2 Unreachable driver 0 routine 1 at 1
@@ -61,7 +61,7 @@ in driver d, routine g (dpc), position 1, line 10:
     12  endd
 why: no path leads to this instruction
 see: this bytecode's form
-mend it: take it out, or jump to it
+mend it: take out line 10 "ret void": a path leads to each instruction
 '''
 RULE = b'''V2 Unreachable
 A path leads to each instruction.

@@ -1,1 +1,2 @@
+pub mod Applied
 pub mod Mends

@@ -1,5 +1,5 @@
 -- Answers on the bytes of a file as answers on its source, and offers one behind another.
-use Rattle.std.proofs.Common.{◌≡◌, ℕ, suc, ◌+◌, ◌++◌, ◌||◌, ◌⊎◌, inl, inr, Bool, List, [], Option, Some, None, Result, Ok, Err, IfOk, IfSome, OnOk, ◌∙◌, append_assoc, refl, ap, sym, subst}
+use Rattle.std.proofs.Common.{◌≡◌, ℕ, suc, ◌+◌, ◌++◌, ◌||◌, ◌⊎◌, inl, inr, Bool, List, [], true, Option, Some, None, Result, Ok, Err, IfOk, IfSome, OnOk, ◌∙◌, append_assoc, refl, ap, sym, subst}
 use Rattle.drvhost_devices.specs.declared.fault.Fault.{Fault}
 use Rattle.drvhost_devices.specs.declared.fault.Fault.TheVariants.{Read, Memory}
 use Rattle.drvhost_devices.specs.Answer.{Answer, FileSays, IsOfFile}
@@ -7,17 +7,17 @@ use Rattle.drvhost_devices.specs.Device.{Bytes, Holds, Supply}
 use Rattle.drvhost_devices.specs.Ends.{IsOfSupply}
 use Rattle.drvhost_devices.specs.Fault.{Goes, ReadsSet}
 use Rattle.drvhost_devices.proofs.Writing.{keeps_same}
-use Rattle.mend_edits.specs.Diff.{made_by}
 use Rattle.model.specs.declared.abs.Refusal.{Refusal}
 use Rattle.model.specs.declared.abs.Rule.TheVariants as Rule
 use Rattle.model.specs.Set.{Set}
 use Rattle.model.specs.Typable.{IsFirstFault, at_start}
 use Rattle.std.proofs.Math.Numerals.{suc-eq-add-one}
 use Rattle.std.specs.Prelude.{◌≢◌}
+use Rattle.text.specs.Cut.{lines_of}
 use Rattle.drvhost_mends.specs.declared.judging.Extent.{Extent}
 use Rattle.drvhost_mends.specs.declared.judging.Extent.TheVariants.{Part}
 use Rattle.drvhost_mends.specs.declared.mend.Asked.{Asked}
-use Rattle.drvhost_mends.specs.Mend.{AreOffers, IsMend, IsLater, IsMendOf, IsOf, IsOffer, Mends, is_whole}
+use Rattle.drvhost_mends.specs.Mend.{AreOffers, IsMend, IsLater, IsMendOf, IsOf, IsOffer, Makes, NamesOf, are_words, is_whole, offer_text}
 
 -- nothing goes out where a read fails or memory runs out
 pub unread : (R : Answer → Type 0) (b : Option (List ℕ)) (fault : Fault)
@@ -41,22 +41,31 @@ pub one_more : (refusal : Refusal) (text : List ℕ) (count : ℕ) (whole : Bool
     → IsOffer refusal text extent (count + 1) last
     → AreOffers refusal text (count + 1) (whole || is_whole extent) (written ++ last)
 one_more refusal text count whole written extent last all offer =
-    let P : ℕ → Type 0 = λ n. AreOffers refusal text n (whole || is_whole extent) (written ++ last) in
-    let next : AreOffers refusal text (suc count) (whole || is_whole extent) (written ++ last) =
-    (whole, written, extent, last, all, offer, refl, refl) in
+    let P : ℕ → Type 0 =
+    λ n. AreOffers refusal text n (whole || is_whole extent) (written ++ last) in
+    let next : P (suc count) = (whole, written, extent, last, all, offer, refl, refl) in
     subst P (suc-eq-add-one count) next
 
--- what is so of the set that a diff names is so of the diff
-pub judged_on : {E : Type 0} (refusal : Refusal) (text diff made : List ℕ) (set : Set)
-    (judged : Result (Option Extent) E) → made_by diff text ≡ Some made
-    → ReadsSet (Bytes made) (Ok set)
+-- which is shown by its diff, behind words
+pub shown_more : (refusal : Refusal) (text : List ℕ) (count : ℕ) (whole : Bool)
+    (written : List ℕ) (extent : Extent) (words diff made : List ℕ)
+    → AreOffers refusal text count whole written → are_words (lines_of words) ≡ true
+    → Makes extent refusal text diff made
+    → AreOffers refusal text (count + 1) (whole || is_whole extent)
+    (written ++ offer_text extent (count + 1) words diff)
+shown_more refusal text count whole written extent words diff made all worded makes =
+    one_more refusal text count whole written extent (offer_text extent (count + 1) words diff) all
+    (record { words = words; worded = worded; diff = diff; mends = (made, makes); is = refl })
+
+-- what is so of the set that a text names is so of the text
+pub named_of : {E : Type 0} (refusal : Refusal) (made : List ℕ) (set : Set)
+    (judged : Result (Option Extent) E) → ReadsSet (Bytes made) (Ok set)
     → IfOk judged (λ j. IfSome j (λ extent. IsOf extent refusal set))
-    → IfOk judged (λ j. IfSome j (λ extent. Mends extent refusal text diff))
-judged_on refusal text diff made set (Ok None) is read of = tt
-judged_on refusal text diff made set (Ok (Some extent)) is (bytes, same, says) of =
-    let P : List ℕ → Type 0 = λ b. FileSays b (Ok set) in
-    (set, (made, is, subst P same says), of)
-judged_on refusal text diff made set (Err e) is read of = tt
+    → IfOk judged (λ j. IfSome j (λ extent. NamesOf extent refusal made))
+named_of refusal made set (Ok None) read of = tt
+named_of refusal made set (Ok (Some extent)) (bytes, same, says) of =
+    let P : List ℕ → Type 0 = λ b. FileSays b (Ok set) in (set, subst P same says, of)
+named_of refusal made set (Err e) read of = tt
 
 -- a refusal that isn't for want of memory tells the first fault
 pub first_fault : (set : Set) (refusal : Refusal)

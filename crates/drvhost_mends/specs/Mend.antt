@@ -21,11 +21,6 @@ abbrev pub text_of : Bool → List ℕ → Set → List ℕ
 text_of true bytes set = listing set
 text_of false bytes set = bytes
 
--- what a diff makes of a text names a set
-abbrev pub Names : List ℕ → List ℕ → Set → Type 0
-Names text diff set =
-    (made : List ℕ) × (made_by diff text ≡ Some made) × FileSays made (Ok set)
-
 -- a refusal speaks of a later routine than another one
 abbrev pub IsLater : Refusal → Refusal → Type 0
 IsLater later refusal =
@@ -37,9 +32,17 @@ abbrev pub IsOf : Extent → Refusal → Set → Type 0
 IsOf Whole refusal set = IsTypable set
 IsOf Part refusal set = (left : Refusal) × IsFirstFault set left × IsLater left refusal
 
--- a diff mends so much of a text: by the set that the text names then
+-- a text mends so much of a refused set: by the set that it names
+abbrev pub NamesOf : Extent → Refusal → List ℕ → Type 0
+NamesOf extent refusal made = (set : Set) × FileSays made (Ok set) × IsOf extent refusal set
+
+-- a diff makes this text of another one, and mends so much by it
+abbrev pub Makes : Extent → Refusal → List ℕ → List ℕ → List ℕ → Type 0
+Makes extent refusal text diff made =
+    (made_by diff text ≡ Some made) × NamesOf extent refusal made
+
 abbrev pub Mends : Extent → Refusal → List ℕ → List ℕ → Type 0
-Mends extent refusal text diff = (set : Set) × Names text diff set × IsOf extent refusal set
+Mends extent refusal text diff = (made : List ℕ) × Makes extent refusal text diff made
 
 -- words that can be told from a diff behind them: no line of theirs begins as the head of one does
 abbrev pub begins_diff : List ℕ → Bool
@@ -85,11 +88,11 @@ AreOffers refusal text (suc count) whole written =
     × (whole ≡ before || is_whole extent) × (written ≡ earlier ++ last)
 
 -- offers, or that there is none
-abbrev pub none_told : Asked → List ℕ
-none_told asked = codes "no mend found in " ++ (decimal asked.tries ++ codes " tries\n")
+abbrev pub none_told : ℕ → List ℕ
+none_told tries = codes "no mend found in " ++ (decimal tries ++ codes " tries\n")
 
-abbrev pub told : Asked → ℕ → List ℕ → List ℕ
-told asked count offers = if nat_eq count 0 then none_told asked else offers
+abbrev pub told : ℕ → ℕ → List ℕ → List ℕ
+told tries count offers = if nat_eq count 0 then none_told tries else offers
 
 -- the exit status is 0 where the whole is mended
 abbrev pub end_of : Bool → End
@@ -104,7 +107,7 @@ pub record IsMended (asked : Asked) (text : List ℕ) (set : Set) (answer : Answ
   pub whole : Bool
   pub offers : List ℕ
   pub are : AreOffers refusal text count whole offers
-  pub is : answer ≡ ended (end_of whole) (refusal_line refusal ++ told asked count offers)
+  pub is : answer ≡ ended (end_of whole) (refusal_line refusal ++ told asked.tries count offers)
 
 -- an accepted set has nothing to mend
 abbrev pub nothing_told : List ℕ

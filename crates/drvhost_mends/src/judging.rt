@@ -1,13 +1,14 @@
 //! What a diff of a text mends.
 
 ghost use Rattle.std.specs.Prelude.{◌≡◌, ◌≢◌, IfOk, IfSome, OnOk, true};
-ghost use Rattle.drvhost_mends.specs.Mend.{IsLater, IsOf, Mends, is_whole};
+ghost use Rattle.drvhost_mends.specs.Mend.{IsLater, IsOf, Makes, NamesOf, is_whole};
 
 use drvhost_devices::fault::Fault;
 use drvhost_devices::reading::set_of;
 use image::DriverSet;
 use mend_edits::made_by;
 use model::abs::{Refusal, Rule};
+use model::items::Items;
 use std::alloc::{AllocError, Global};
 use verifier::verify;
 
@@ -29,21 +30,38 @@ impl Extent {
     }
 }
 
-/// How much a diff of a text mends, by the set that the text names then, and why the set that it
-/// names without it is refused.
+/// What a diff makes of a text, and how much that mends.
+#[derive(Drop)]
+pub(crate) struct Judged {
+    pub extent: Extent,
+    pub made: Items<u8>,
+}
+
+/// What a diff makes of a text, if it mends anything, by the set that the text names then, and why
+/// the set that it names without it is refused.
 pub(crate) fn judge(
     alloc: Global,
     text: &[u8],
     refusal: &Refusal,
     diff: &[u8],
-) -> Result<Option<Extent>, AllocError>
-    ensures { IfOk result
-        (λ judged. IfSome judged (λ extent. Mends extent refusal.now text.now diff.now)) }
+) -> Result<Option<Judged>, AllocError>
+    ensures { IfOk result (λ found. IfSome found
+        (λ judged. Makes judged.extent refusal.now text.now diff.now judged.made)) }
 {
     let Some(made) = made_by(alloc, diff, text)? else {
         return Ok(None);
     };
-    match set_of(alloc, made.as_slice()) {
+    match extent_of(alloc, made.as_slice(), refusal)? {
+        Some(extent) => Ok(Some(Judged { extent, made })),
+        None => Ok(None),
+    }
+}
+
+/// How much is mended where a text is made of one that names a refused set.
+fn extent_of(alloc: Global, made: &[u8], refusal: &Refusal) -> Result<Option<Extent>, AllocError>
+    ensures { IfOk result (λ judged. IfSome judged (λ extent. NamesOf extent refusal.now made.now)) }
+{
+    match set_of(alloc, made) {
         Ok(set) => judge_set(alloc, set, refusal),
         Err(Fault::Memory) => Err(AllocError),
         Err(_) => Ok(None),

@@ -2,8 +2,10 @@
 //! applied, read back and judged before it is written.
 #![tactic(auto)]
 
+pub mod apply;
 mod choosing;
+mod judged_offers;
 mod judging;
 pub mod mend;
-mod offering;
 mod proposing;
+mod reply;

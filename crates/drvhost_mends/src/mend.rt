@@ -1,19 +1,19 @@
 //! Mends of a driver set's text, offered as diffs.
 
-ghost use Rattle.std.specs.Prelude.{◌≡◌, ◌+◌, ◌++◌, ◌⊎◌, [], IfOk, OnOk, string_bytes};
+ghost use Rattle.std.specs.Prelude.{◌≡◌, ◌+◌, ◌⊎◌, [], IfOk};
 ghost use Rattle.model.specs.Typable.{IsFirstFault, at_start};
-ghost use Rattle.drvhost_devices.specs.Answer.{ended, is_image};
+ghost use Rattle.drvhost_devices.specs.Answer.{ended};
 ghost use Rattle.drvhost_devices.specs.Device.{Bytes, CanCount, Says};
 ghost use Rattle.drvhost_devices.specs.Ends.{Answers, IsOfSupply};
 ghost use Rattle.drvhost_devices.specs.Fault.{Goes, reads_failed, writes_failed};
-ghost use Rattle.drvhost_mends.specs.Mend.{IsMend, IsMended, IsMendOf, end_of, none_told, nothing_told, text_of, told};
+ghost use Rattle.drvhost_mends.specs.Mend.{IsMend, IsMended, IsMendOf};
 
+use crate::judged_offers::offer;
 use crate::judging::verdict;
-use crate::offering::{Offered, offer};
-use asm_listing::listing;
+use crate::reply::{Reply, end_of, nothing, text_of, told};
 use drvhost_devices::device::{Sink, Source};
 use drvhost_devices::fault::{End, Fault, finish, no_memory};
-use drvhost_devices::reading::{begins_image, set_of};
+use drvhost_devices::reading::set_of;
 use drvhost_devices::transfer::{read_whole, write_bytes};
 use image::DriverSet;
 use model::abs::{Refusal, Rule};
@@ -90,13 +90,6 @@ fn mend_bytes<O: Sink>(alloc: Global, asked: Asked, bytes: &[u8], out: &mut O) -
     Ok(reply.end)
 }
 
-/// What is answered, and how the job ends.
-#[derive(Drop)]
-struct Reply {
-    end: End,
-    text: Vec<u8>,
-}
-
 /// What is answered on the set that the bytes of a file name.
 fn reply_on(alloc: Global, asked: Asked, bytes: &[u8], set: DriverSet) -> Result<Reply, AllocError>
     ensures { IfOk result
@@ -109,31 +102,6 @@ fn reply_on(alloc: Global, asked: Asked, bytes: &[u8], set: DriverSet) -> Result
             reply_on_refused(alloc, asked, text.as_slice(), &set, &refusal)
         }
     }
-}
-
-/// That a set is accepted already.
-fn nothing(alloc: Global) -> Result<Reply, AllocError>
-    ensures { IfOk result (λ reply. ended reply.end reply.text.items ≡ ended End.Complete nothing_told) }
-{
-    let mut text = Vec::new(alloc);
-    text.extend_from_slice(b"accepted: nothing to mend\n")?;
-    Ok(Reply {
-        end: End::Complete,
-        text,
-    })
-}
-
-/// The text that is mended: the file's own, or of an image the listing of its set.
-fn text_of(alloc: Global, bytes: &[u8], set: &DriverSet) -> Result<Vec<u8>, AllocError>
-    ensures { IfOk result
-        (λ text. text.items ≡ text_of (is_image bytes.now) bytes.now set.now) }
-{
-    if begins_image(bytes) {
-        return Ok(listing(alloc, set)?.into_bytes());
-    }
-    let mut text = Vec::new(alloc);
-    text.extend_from_slice(bytes)?;
-    Ok(text)
 }
 
 /// What is answered on a refused set.
@@ -149,48 +117,9 @@ fn reply_on_refused(
         (λ reply. IsMended asked text.now set.now (ended reply.end reply.text.items)) }
 {
     verdict(refusal)?;
-    let offered = offer(alloc, asked.tries, text, set, refusal)?;
-    let mut line = Lines::new(alloc)?;
-    line.refusal(refusal);
-    let mut written = Vec::new(alloc);
-    written.extend_from_slice(line.bytes())?;
-    add_told(alloc, &mut written, asked, &offered)?;
+    let offered = offer(alloc, asked.tries, None, text, set, refusal)?;
     Ok(Reply {
         end: end_of(offered.whole),
-        text: written,
+        text: told(alloc, asked.tries, refusal, &offered)?,
     })
-}
-
-/// Adds offers, or that there is none.
-fn add_told(
-    alloc: Global,
-    text: &mut Vec<u8>,
-    asked: Asked,
-    offered: &Offered,
-) -> Result<(), AllocError>
-    ensures { OnOk result (text.new.items
-        ≡ text.old.items ++ told asked offered.now.count offered.now.text.items) }
-{
-    if offered.count == 0 {
-        return add_none(alloc, text, asked);
-    }
-    text.extend_from_slice(offered.text.as_slice())?;
-    Ok(())
-}
-
-/// Adds that there is none.
-fn add_none(alloc: Global, text: &mut Vec<u8>, asked: Asked) -> Result<(), AllocError>
-    ensures { OnOk result (text.new.items ≡ text.old.items ++ none_told asked) }
-{
-    let mut none = String::new(alloc);
-    write!(none, "no mend found in {} tries\n", asked.tries)?;
-    text.extend_from_slice(none.as_bytes())?;
-    Ok(())
-}
-
-/// How the job ends: rightly where the whole is mended.
-fn end_of(whole: bool) -> End
-    ensures { result ≡ end_of whole }
-{
-    if whole { End::Complete } else { End::Stopped }
 }

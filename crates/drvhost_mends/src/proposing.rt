@@ -12,6 +12,7 @@ use std::alloc::{AllocError, Global};
 pub(crate) struct Proposal {
     pub words: String,
     pub diff: String,
+    pub is_sure: bool,
 }
 
 /// What is proposed by offers that are chosen, if they can be made of the text.
@@ -100,7 +101,11 @@ fn written(
     let steps = steps_of(alloc, text, mended.changes.as_slice())?;
     let mut shown = String::new(alloc);
     diff(&mut shown, text, steps.as_slice())?;
-    Ok(Proposal { words, diff: shown })
+    Ok(Proposal {
+        words,
+        diff: shown,
+        is_sure: summed.standing == Standing::Sure,
+    })
 }
 
 /// Adds what was guessed.

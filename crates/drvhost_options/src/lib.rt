@@ -6,3 +6,4 @@ pub mod extent;
 pub mod figure;
 pub mod manner;
 pub mod tries;
+pub mod wanted;

@@ -5,11 +5,13 @@ ghost use Rattle.model.specs.Typable.{IsFirstFault, at_start};
 ghost use Rattle.drvhost_devices.specs.Device.{Bytes, CanCount, Says};
 ghost use Rattle.drvhost_devices.specs.Ends.{Answers};
 ghost use Rattle.drvhost_devices.specs.Fault.{Goes, TellsLine, reads_failed, writes_failed};
+ghost use Rattle.mend_search.specs.Offers.{AreOffersOf};
 ghost use Rattle.verifier_words.specs.Faults.{refusals};
 ghost use Rattle.report.specs.Fault.{image_fault_line, text_fault_line};
 ghost use Rattle.report.specs.Verdict.{refusal_line};
 ghost use Rattle.drvhost_sets.specs.Explained.{AreWordsOf, AreWordsOn, IsAcceptanceExplained, IsBlock, IsExplained, IsExplainedOf, IsRefusalExplained};
 
+use crate::advising::Advisor;
 use crate::check::{accept, refuse};
 use crate::image_words::image_words;
 use asm::AsmFault;
@@ -269,10 +271,18 @@ fn refusal_words(
     requires { (refusal.now ≡ at_start Rule.Memory) ⊎ IsFirstFault set.now refusal.now }
     ensures { IfOk result (λ words. AreWordsOf asked.entry.extent set.now words.items) }
 {
-    let origin = asked.origin;
-    match asked.extent {
-        Extent::First => one_block(alloc, explanation(alloc, origin, set, refusal)?.as_bytes()),
-        Extent::Each => one_by_one(alloc, explanations(alloc, origin, set)?.as_slice()),
+    let Asked { extent, origin } = asked;
+    let advisor = Advisor::of(alloc, extent, origin, set)?;
+    match extent {
+        Extent::First => {
+            let told = explanation(alloc, origin, set, refusal)?;
+            let words = advisor.advised(alloc, set, refusal, told.as_str())?;
+            one_block(alloc, words.as_bytes())
+        }
+        Extent::Each => {
+            let all = explanations(alloc, origin, set)?;
+            one_by_one(alloc, &advisor, set, all.as_slice())
+        }
     }
 }
 
@@ -287,31 +297,43 @@ fn one_block(alloc: Global, told: &[u8]) -> Result<Vec<u8>, AllocError>
 
 /// The words on several refusals. The line of the first stands before them; before the words on
 /// each other stands its own, behind an empty one.
-fn one_by_one(alloc: Global, all: &[Told]) -> Result<Vec<u8>, AllocError>
+fn one_by_one(
+    alloc: Global,
+    advisor: &Advisor<'_>,
+    set: &DriverSet,
+    all: &[Told],
+) -> Result<Vec<u8>, AllocError>
+    requires { AreOffersOf set.now advisor.now.offers }
     ensures { IfOk result (λ words. AreWordsOn (refusals all.now) words.items) }
 {
     let Some((first, others)) = all.split_first() else {
         return Ok(Vec::new(alloc));
     };
-    let mut words = one_block(alloc, first.words.as_bytes())?;
+    let told = advisor.advised(alloc, set, &first.refusal, first.words.as_str())?;
+    let mut words = one_block(alloc, told.as_bytes())?;
     let mut line = Lines::new(alloc)?;
-    for told in others {
-        add_further(&mut words, &mut line, told)?;
+    for other in others {
+        let told = advisor.advised(alloc, set, &other.refusal, other.words.as_str())?;
+        add_further(&mut words, &mut line, &other.refusal, told.as_bytes())?;
     }
     Ok(words)
 }
 
 /// Adds an empty line, the line of a refusal, and the words on it.
-fn add_further(words: &mut Vec<u8>, line: &mut Lines, told: &Told) -> Result<(), AllocError>
+fn add_further(
+    words: &mut Vec<u8>,
+    line: &mut Lines,
+    refusal: &Refusal,
+    told: &[u8],
+) -> Result<(), AllocError>
     ensures { OnOk result ((block : List ℕ) × IsBlock block
-        × (words.new.items ≡ words.old.items
-        ++ ((0x0A ∷ refusal_line told.now.refusal) ++ block))) }
+        × (words.new.items ≡ words.old.items ++ ((0x0A ∷ refusal_line refusal.now) ++ block))) }
 {
     line.clear();
-    line.refusal(&told.refusal);
+    line.refusal(refusal);
     words.push(b'\n')?;
     words.extend_from_slice(line.bytes())?;
-    add_block(words, told.words.as_bytes())
+    add_block(words, told)
 }
 
 /// Adds the words on one refusal, with a line feed at their end.

@@ -79,10 +79,28 @@ const TAKEN_OUT: u32 = 400;
 pub fn find_offers(alloc: Global, set: &DriverSet, tries: u64) -> Result<Offers, AllocError>
     ensures { IfOk result (AreOffersOf set.now) }
 {
+    find_some(alloc, set, tries, MAX_MENDINGS)
+}
+
+/// The mends of the first routine with a fault alone, as [`find_offers`] finds them.
+///
+/// # Errors
+///
+/// When memory runs out.
+pub fn find_first_offers(alloc: Global, set: &DriverSet, tries: u64) -> Result<Offers, AllocError>
+    ensures { IfOk result (AreOffersOf set.now) }
+{
+    find_some(alloc, set, tries, 1)
+}
+
+/// The mends of so many routines at most.
+fn find_some(alloc: Global, set: &DriverSet, tries: u64, turns: u16) -> Result<Offers, AllocError>
+    ensures { IfOk result (AreOffersOf set.now) }
+{
     let Ok(copy) = set.copy(alloc) else {
         return Err(AllocError);
     };
-    offers_for(alloc, copy, tries, MAX_MENDINGS)
+    offers_for(alloc, copy, tries, turns)
 }
 
 /// The mends of a set, of so many routines at most.

@@ -8,5 +8,6 @@ pub mod sentences;
 pub mod wording;
 
 pub use label::{Label, add_label};
-pub use sentences::{guessed, inserted, moved, replaced, taken_out};
+pub use reasons::reason;
+pub use sentences::{guessed, inserted, labels_line, moved, replaced, taken_out};
 pub use wording::instruction_text;

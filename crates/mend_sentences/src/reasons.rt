@@ -3,7 +3,7 @@
 use model::abs::Rule;
 
 /// What is so behind a mend of a broken rule.
-pub(crate) fn reason(rule: Rule) -> &'static str {
+pub fn reason(rule: Rule) -> &'static str {
     match rule {
         Rule::Malformed => "the routine is whole: it ends by a ret, and loops are closed",
         Rule::Unreachable => "a path leads to each instruction",

@@ -1,5 +1,6 @@
 //! Changes of a text in plain words.
 
+use crate::label::{Label, add_label};
 use crate::reasons::reason;
 use asm_line::status_text;
 use driver_set::{Instr, Return};
@@ -75,6 +76,25 @@ pub fn moved(
 ) -> Result<String, AllocError> {
     let mut prose = about_line(alloc, "move", number, old)?;
     write!(prose, " before line {before}")?;
+    add_reason(&mut prose, rule)?;
+    Ok(prose)
+}
+
+/// That a line has a label that is new.
+///
+/// # Errors
+///
+/// When memory runs out.
+pub fn labels_line(
+    alloc: Global,
+    number: u64,
+    label: Label<'_>,
+    rule: Rule,
+) -> Result<String, AllocError> {
+    let mut prose = String::new(alloc);
+    prose.push_str("put the label \"")?;
+    add_label(&mut prose, label)?;
+    write!(prose, "\" on line {number}")?;
     add_reason(&mut prose, rule)?;
     Ok(prose)
 }

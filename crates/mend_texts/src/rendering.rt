@@ -6,7 +6,9 @@ use crate::page::{Page, number_of};
 use crate::rows::{How, Row};
 use crate::texts::Mended;
 use driver_set::Instr;
-use mend_sentences::{Label, guessed, inserted, instruction_text, moved, replaced, taken_out};
+use mend_sentences::{
+    Label, add_label, guessed, inserted, instruction_text, labels_line, moved, replaced, taken_out,
+};
 use model::abs::Rule;
 use model::items::Items;
 use std::alloc::{AllocError, Global};
@@ -197,6 +199,7 @@ fn go_on(
         mended.delete(edited.alloc, line)?;
         mended.insert(edited.alloc, walk.next, line_of(new))?;
         tell_replaced(edited, position, line, mended)?;
+        tell_label(edited, position, line, mended)?;
     }
     Ok(())
 }
@@ -234,8 +237,19 @@ fn put_in(
     let as_line = edited.bare_near(position);
     let line = laid_out(edited.alloc, as_line, label, words.as_bytes())?;
     mended.insert(edited.alloc, walk.next, line_of(line))?;
-    walk.put.push(words)?;
+    walk.put.push(labelled(edited.alloc, label, words)?)?;
     note_guess(edited, position, mended)
+}
+
+/// Words behind the label that their line has, if it has one.
+fn labelled(alloc: Global, label: Option<Label<'_>>, words: String) -> Result<String, AllocError> {
+    let Some(label) = label else {
+        return Ok(words);
+    };
+    let mut line = String::new(alloc);
+    add_label(&mut line, label)?;
+    write!(line, ": {}", words.as_str())?;
+    Ok(line)
 }
 
 /// Tells which lines were put in before a line.
@@ -276,6 +290,20 @@ fn tell_replaced(
     )?;
     mended.sentences.push(told)?;
     note_guess(edited, position, mended)
+}
+
+/// Tells that a line has a label that is new.
+fn tell_label(
+    edited: Edited<'_, '_>,
+    position: usize,
+    line: usize,
+    mended: &mut Mended,
+) -> Result<(), AllocError> {
+    if let Some(label @ Label::Made(_)) = edited.labels.at(position) {
+        let told = labels_line(edited.alloc, number_of(line), label, edited.rule)?;
+        mended.sentences.push(told)?;
+    }
+    Ok(())
 }
 
 /// Notes what was guessed of an instruction that is new.

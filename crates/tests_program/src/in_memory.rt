@@ -49,7 +49,7 @@ const FIRST_TOLD: &[u8] = b"refused V13 Dropped driver 0 routine 0 at 0\n\
       \x20 owed: the packet that was handed in, with which nothing was done\n\
       why: the routine returns while r0 still has a packet, which would be lost\n\
       see: the Driver Kit on dispatch routines\n\
-      mend it: `complete r0` with the returned status, `pass` it on, or `mark` and `insert` it\n";
+      mend it: insert \"complete r0 SUCCESS\" before line 4: the packet isn't lost\n";
 
 /// What is told of the other one, behind that.
 const OTHER_TOLD: &[u8] = b"\n\
@@ -68,7 +68,8 @@ const OTHER_TOLD: &[u8] = b"\n\
       the system cancel spin lock wasn't acquired on this path\n\
       why: the lock isn't held where it is released\n\
       see: Static Driver Verifier, SpinLock and CancelSpinLock; bug checks 0x0F and 0x10\n\
-      mend it: `acqc` before what the lock guards, or take it out\n";
+      mend it: take out line 7 \"relc\": the system cancel spin lock is taken once, and given back \
+      on every path\n";
 
 const ONE_READ: &[u8] = b"threads 1\nissue 0 0 READ 7\nstep 0 3\n";
 

@@ -6,7 +6,7 @@ use Rattle.drvhost_sets.proofs.explaining.add_further.Goals as goal
 
 pub returns : goal.returns
 returns c =
-    let line = refusal_line c.args.told.now.refusal in
+    let line = refusal_line c.args.refusal.now in
     let shown : c.bytes.result.now ≡ line =
     c.bytes.ensures ∙ c.refusal.ensures ∙ ap (λ x. x ++ line) c.clear.ensures in
     on_ok_weaker c.add_block.result

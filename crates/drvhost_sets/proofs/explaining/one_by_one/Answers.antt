@@ -5,19 +5,19 @@ use Rattle.drvhost_sets.proofs.explaining.one_by_one.Goals as goal
 pub returns-in_default : goal.returns-in_default
 returns-in_default c = words_on_none c.args.all.now _ c.in_default.ensures.cases c.new.ensures.items
 
-pub loop-told-init : goal.loop-told-init
-loop-told-init c =
+pub loop-other-init : goal.loop-other-init
+loop-other-init c =
     words_on_first c.args.all.now c.in-Some.others.now c.in-Some.first.now _
     c.in-Some.ensures.cases.0 c.in_ok-words.ensures
 
-pub loop-told-preserved : goal.loop-told-preserved
-loop-told-preserved c =
+pub loop-other-preserved : goal.loop-other-preserved
+loop-other-preserved c =
     let added = c.in_ok-add_further.ensures in
-    words_on_next c.args.all.now c.in-Some.others.now c.in-Some.first.now c.told-item.result
-    c.loop-told.told-index _ added.0 _ c.in-Some.ensures.cases.0 c.loop-told-test.true
-    c.told-item.is c.loop-told.invariant added.1 added.2
+    words_on_next c.args.all.now c.in-Some.others.now c.in-Some.first.now c.other-item.result
+    c.loop-other.other-index _ added.0 _ c.in-Some.ensures.cases.0 c.loop-other-test.true
+    c.other-item.is c.loop-other.invariant added.1 added.2
 
 pub returns : goal.returns
 returns c =
     words_on_all c.args.all.now _ _
-    (omega (arith, c.in-Some.ensures.cases.1, c.loop-told-test.false)) c.loop-told.invariant
+    (omega (arith, c.in-Some.ensures.cases.1, c.loop-other-test.false)) c.loop-other.invariant

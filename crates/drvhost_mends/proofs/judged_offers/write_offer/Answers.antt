@@ -1,6 +1,6 @@
 use Rattle.drvhost_mends.specs.Mend.{diff_shown, offer_head}
 use Rattle.drvhost_mends.proofs.Mends.{offer_added}
-use Rattle.drvhost_mends.proofs.offering.write_offer.Goals as goal
+use Rattle.drvhost_mends.proofs.judged_offers.write_offer.Goals as goal
 
 pub returns : goal.returns
 returns c =

@@ -1,7 +1,7 @@
 use Rattle.std.proofs.Common.{◌≡◌, length}
 use Rattle.text.specs.Cut.{lines_of}
 use Rattle.drvhost_mends.specs.Mend.{are_words}
-use Rattle.drvhost_mends.proofs.offering.are_words.Given as goal
+use Rattle.drvhost_mends.proofs.judged_offers.are_words.Given as goal
 
 -- the lines so far are fine
 abbrev pub invariant-loop-line : goal.invariant-loop-line

@@ -1,20 +1,32 @@
 //! Offers, each of which was judged by its diff.
 
-ghost use Rattle.std.specs.Prelude.{◌≡◌, ◌++◌, ◌||◌, IfOk, OnOk};
+ghost use Rattle.std.specs.Prelude.{◌≡◌, ◌++◌, ◌||◌, IfOk, OnOk, Some, true};
 ghost use Rattle.text.specs.Cut.{lines_of};
 ghost use Rattle.drvhost_mends.specs.Mend.{AreOffers, are_words, diff_shown, extent_text, is_whole, offer_head, offer_text};
+ghost use Rattle.drvhost_mends.specs.Apply.{Applies, IsWanted};
 
 use crate::choosing::choices;
 use crate::judging::{Extent, judge};
-use crate::proposing::propose;
+use crate::proposing::{Proposal, propose};
 use driver_set::DriverSet;
+use drvhost_options::wanted::Wanted;
 use mend_search::offers::find_offers;
 use model::abs::Refusal;
+use model::items::Items;
 use std::alloc::{AllocError, Global};
 use text::cut::Lines;
 
 /// How many offers are made at most.
 const MOST: u64 = 3;
+
+/// An offer that is to be applied, by its number.
+#[derive(Drop)]
+pub(crate) struct Applied {
+    pub number: u64,
+    pub extent: Extent,
+    /// What its diff makes of the text.
+    pub made: Items<u8>,
+}
 
 /// Offers, written one behind another.
 #[derive(Drop)]
@@ -24,31 +36,36 @@ pub(crate) struct Offered {
     pub count: u64,
     /// Whether one of them is of the whole.
     pub whole: bool,
+    /// The one that is wanted, if it is there.
+    pub applied: Option<Applied>,
 }
 
 /// Offers mends of a text that names a refused set.
 pub(crate) fn offer(
     alloc: Global,
     tries: u64,
+    wanted: Option<Wanted>,
     text: &[u8],
     set: &DriverSet,
     refusal: &Refusal,
 ) -> Result<Offered, AllocError>
-    ensures { IfOk result (λ offered. AreOffers refusal.now text.now offered.count offered.whole
+    ensures are { IfOk result (λ offered. AreOffers refusal.now text.now offered.count offered.whole
         offered.text.items) }
+    ensures applied { IfOk result (λ offered. Applies wanted refusal.now text.now
+        offered.text.items offered.applied) }
 {
     let found = find_offers(alloc, set, tries)?;
     let mut offered = Offered {
         text: Vec::new(alloc),
         count: 0,
         whole: false,
+        applied: None,
     };
     let all = choices(alloc, &found)?;
     for choice in all {
         if offered.count < MOST {
             if let Some(proposal) = propose(alloc, text, set, &found, choice)? {
-                let (words, diff) = (proposal.words.as_bytes(), proposal.diff.as_bytes());
-                add_judged(alloc, &mut offered, text, refusal, words, diff)?;
+                add_judged(alloc, &mut offered, text, refusal, &proposal, wanted)?;
             }
         }
     }
@@ -61,28 +78,52 @@ fn add_judged(
     offered: &mut Offered,
     text: &[u8],
     refusal: &Refusal,
-    words: &[u8],
-    diff: &[u8],
+    proposal: &Proposal,
+    wanted: Option<Wanted>,
 ) -> Result<(), AllocError>
-    requires { AreOffers refusal.now text.now offered.old.count offered.old.whole
+    requires are { AreOffers refusal.now text.now offered.old.count offered.old.whole
         offered.old.text.items }
-    ensures { OnOk result (AreOffers refusal.now text.now offered.new.count offered.new.whole
+    requires applied { Applies wanted refusal.now text.now offered.old.text.items
+        offered.old.applied }
+    ensures are { OnOk result (AreOffers refusal.now text.now offered.new.count offered.new.whole
         offered.new.text.items) }
+    ensures applied { OnOk result (Applies wanted refusal.now text.now offered.new.text.items
+        offered.new.applied) }
 {
     if offered.count >= MOST {
         return Ok(());
     }
-    let Some(extent) = judge(alloc, text, refusal, diff)? else {
+    let (words, diff) = (proposal.words.as_bytes(), proposal.diff.as_bytes());
+    let Some(judged) = judge(alloc, text, refusal, diff)? else {
         return Ok(());
     };
     if !are_words(words) {
         return Ok(());
     }
     let number = offered.count + 1;
-    write_offer(alloc, &mut offered.text, extent, number, words, diff)?;
+    write_offer(alloc, &mut offered.text, judged.extent, number, words, diff)?;
     offered.count = number;
-    offered.whole = either(offered.whole, extent);
+    offered.whole = either(offered.whole, judged.extent);
+    if !is_wanted(wanted, number, proposal.is_sure) {
+        return Ok(());
+    }
+    offered.applied = Some(Applied {
+        number,
+        extent: judged.extent,
+        made: judged.made,
+    });
     Ok(())
+}
+
+/// Whether the offer of a number is the one that is wanted.
+fn is_wanted(wanted: Option<Wanted>, number: u64, is_sure: bool) -> bool
+    ensures { result ≡ true → IsWanted wanted number }
+{
+    match wanted {
+        Some(Wanted::Sure) => is_sure && number == 1,
+        Some(Wanted::Number(other)) => number == other,
+        None => false,
+    }
 }
 
 /// Whether an offer is of the whole, or one of those before it.
