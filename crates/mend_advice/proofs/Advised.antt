@@ -25,7 +25,7 @@ pub advised : (set last : Set) (mendings : List Mending) (place : ℕ) (mending 
 advised set last [] place mending offer lead is first sure = absurd (cc is)
 advised set last (m ∷ ms) zero mending offer (fault, are, lead) is first sure =
     let same : m ≡ mending = cc in
-    let offers = subst (λ (m : Mending). All (IsOffer set m.refusal) m.offers) same are.0.0 in (
+    let offers = subst (λ (m : Mending). All (IsOffer set m.refusal) m.offers) same are.are.0 in (
       [],
       set,
       refl,
