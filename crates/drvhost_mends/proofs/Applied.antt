@@ -1,6 +1,5 @@
 -- Offers that are applied, and how a job goes that writes what one makes.
 use Rattle.std.proofs.Common.{◌≡◌, ℕ, ◌++◌, ◌∙◌, ◌⊎◌, inl, inr, Bool, false, List, [], Option, Some, None, Result, Ok, Err, append_assoc, append-nil, refl, ap, sym, subst}
-use Rattle.std.specs.Io.KnownBytes.{Appends}
 use Rattle.drvhost_devices.specs.Answer.{Answer, FileSays, IsOfFile, end_status, ended}
 use Rattle.drvhost_devices.specs.Device.{Bytes, Holds, Supply}
 use Rattle.drvhost_devices.specs.Ends.{IsOfSupply}

@@ -96,8 +96,8 @@ LeavesFor asked supply shown_before shown_after status =
     ⊎ ((answer : Answer) × IsApplyWith asked supply None answer × (status ≡ answer.status)
     × Appends shown_before shown_after answer.output)
 
--- or it has taken the text that the diff of an offer makes which was shown before, or a beginning of
--- it where a write failed
+-- or it has taken the text that the diff of an offer makes which was shown before, or a beginning
+-- of it where a write failed
 pub record TakesMade (asked : Asked) (supply : Supply)
     (shown_before shown_after before after : Option (List ℕ)) (status : ℕ) : Type 0 where
   pub answer : Answer

@@ -33,8 +33,8 @@ pub struct Asked {
 }
 
 /// Writes mends of the text of a driver set as [`mend`](crate::mend::mend) does, and which of them
-/// is applied; and then the text that this one makes to the target. The answer is the exit status: 0
-/// where the set is accepted already or the whole text is mended so, 1 where a part of it is or
+/// is applied; and then the text that this one makes to the target. The answer is the exit status:
+/// 0 where the set is accepted already or the whole text is mended so, 1 where a part of it is or
 /// nothing is applied, as with an image, and 2 and 3 as of `mend`. Nothing is done with the target
 /// before its whole text stands in memory and the diff was written.
 pub fn apply<S: Source, O: Sink, W: Sink, E: Sink>(

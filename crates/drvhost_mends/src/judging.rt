@@ -59,7 +59,8 @@ pub(crate) fn judge(
 
 /// How much is mended where a text is made of one that names a refused set.
 fn extent_of(alloc: Global, made: &[u8], refusal: &Refusal) -> Result<Option<Extent>, AllocError>
-    ensures { IfOk result (λ judged. IfSome judged (λ extent. NamesOf extent refusal.now made.now)) }
+    ensures { IfOk result
+        (λ judged. IfSome judged (λ extent. NamesOf extent refusal.now made.now)) }
 {
     match set_of(alloc, made) {
         Ok(set) => judge_set(alloc, set, refusal),

@@ -1,5 +1,5 @@
 -- What a page is right for, once it is written.
-use Rattle.std.proofs.Common.{◌≡◌, ◌+◌, ℕ, List, Option, arith, refl, subst, sym}
+use Rattle.std.proofs.Common.{◌≡◌, ℕ, List, Option, arith, refl, subst, sym}
 use Rattle.drvhost_devices.specs.Answer.{Answer, ended}
 use Rattle.drvhost_devices.specs.declared.fault.End.TheVariants.{Complete}
 use Rattle.drvhost_devices.specs.declared.fault.Fault.TheVariants.{Memory}

@@ -39,11 +39,12 @@ struct Asked<'a> {
 
 /// Writes whether a driver set is accepted, as [`check`](crate::check::check) does, and then words
 /// on it: the names of its routines, and in which order or cycle each driver takes its locks, with
-/// what follows for threads that run them; or what leads to the place of its refusal and why the rule is
-/// broken there; and, if asked for, the same of the first fault of each other routine. The answer
-/// is the exit status, as that of `check`: 0 accepted, 1 refused, 2 where its text or its image is
-/// faulty or a read or a write failed, 3 where memory ran out. Faults are told on the error writer,
-/// those of a text and of an image with words on them behind their line.
+/// what follows for threads that run them; or what leads to the place of its refusal, why the rule
+/// is broken there, and how to mend it, by a mend that was tried where one is sure; and, if asked
+/// for, the same of the first fault of each other routine. The answer is the exit status, as that of
+/// `check`: 0 accepted, 1 refused, 2 where its text or its image is faulty or a read or a write
+/// failed, 3 where memory ran out. Faults are told on the error writer, those of a text and of an
+/// image with words on them behind their line.
 pub fn explain<S: Source, O: Sink, E: Sink>(
     alloc: Global,
     extent: Extent,

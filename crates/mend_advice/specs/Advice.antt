@@ -8,8 +8,8 @@ use Rattle.mend_search.specs.declared.offers.Offer.{Offer}
 use Rattle.mend_search.specs.declared.offers.Standing.TheVariants.{Sure}
 use Rattle.mend_search.specs.Offers.{IsOffer, Lead}
 
--- mendings lead from a set to one whose first fault a refusal tells; and of that one an offer that is
--- sure makes a set which is accepted, or whose first fault is in a later routine
+-- mendings lead from a set to one whose first fault a refusal tells; and of that one an offer that
+-- is sure makes a set which is accepted, or whose first fault is in a later routine
 abbrev pub IsAdvised : Set → Refusal → Offer → Type 0
 IsAdvised set refusal offer =
     (before : List Mending) × (at : Set) × Lead set before at × IsFirstFault at refusal

@@ -1,4 +1,4 @@
-use Rattle.std.proofs.Common.{rules, [], Ok, refl, subst}
+use Rattle.std.proofs.Common.{rules, [], subst}
 use Rattle.std.proofs.lemmas.Result.{err_from_is_err_and}
 use Rattle.std.specs.Prelude.{List, ℕ}
 use Rattle.drvhost_devices.specs.Answer.{ended}
