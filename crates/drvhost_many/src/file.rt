@@ -39,11 +39,7 @@ pub(crate) fn answer_file<F: Files>(
 }
 
 /// What is answered for a file.
-fn answer_alone<F: Files>(
-    alloc: Global,
-    one: One<'_>,
-    files: &mut F,
-) -> Result<Told, AllocError>
+fn answer_alone<F: Files>(alloc: Global, one: One<'_>, files: &mut F) -> Result<Told, AllocError>
     requires opened { F.opened files.old + 1 < 2 ^ 64 }
     requires files { CanCount (F.failures files.old) }
     ensures answer { IsToldOne one.entry.judging one.entry.name.now
