@@ -1,9 +1,10 @@
 -- How commands end, with all that they tell.
-use Rattle.std.proofs.Common.{◌≡◌, ◌∙◌, ◌+◌, ◌++◌, ◌×◌, ℕ, List, [], Option, ap, append_assoc, arith, inl, inr, refl, subst, sym}
+use Rattle.std.proofs.Common.{◌≡◌, ◌∙◌, ◌+◌, ◌++◌, ℕ, List, [], Option, ap, append_assoc, arith, codes, inl, inr, refl, subst, sym}
+use Rattle.std.proofs.KnownBytes.{Keeps-refl}
 use Rattle.drvhost_devices.specs.Answer.{Answer}
 use Rattle.drvhost_devices.specs.Device.{Says}
 use Rattle.drvhost_devices.specs.Ends.{Answers, Ends}
-use Rattle.drvhost_many.specs.All.{Counted}
+use Rattle.drvhost_many.specs.All.{Counted, IsUnfound}
 use Rattle.drvhost_words.specs.Program.{EndsTelling, EndsWarned}
 use Rattle.drvhost_words.specs.Unread.{IsNamedUnread, SaysAround, SaysMore}
 
@@ -142,4 +143,33 @@ counted_warned R Warns Such Opens count o p k m w x e f b n c d status opens are
           told_is = refl;
         },
       );
+    }
+
+-- memory ran out before a file was opened
+pub counted_unfound
+    : (E : ℕ → ℕ → ℕ → Option (List ℕ) → Option (List ℕ) → ℕ → List ℕ → Type 0) (o k w : ℕ)
+    (b : Option (List ℕ)) (Tells : List ℕ → Type 0) (status : ℕ) → status ≡ 3
+    → Tells (codes "out of memory\n")
+    → (IsUnfound 0 0 0 b b status (codes "out of memory\n")
+    → E 0 0 0 b b status (codes "out of memory\n"))
+    → Counted E o o k k w w b b Tells status
+counted_unfound E o k w b Tells status is tells on =
+    record {
+      opened = 0;
+      reads = 0;
+      writes = 0;
+      told = codes "out of memory\n";
+      opened_are = omega arith;
+      reads_are = omega arith;
+      writes_are = omega arith;
+      tells = tells;
+      ends =
+          on (record {
+            opened_are = refl;
+            reads_are = refl;
+            writes_are = refl;
+            status_is = is;
+            told_is = refl;
+            keeps = Keeps-refl b;
+          });
     }

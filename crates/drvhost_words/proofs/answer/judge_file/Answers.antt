@@ -1,7 +1,4 @@
 use Rattle.std.proofs.Common.{◌≡◌, refl}
-use Rattle.drvhost_devices.specs.Ends.{IsCheckOf}
-use Rattle.drvhost_words.specs.Program.{IsOfWork}
-use Rattle.drvhost_words.specs.declared.work.Work.TheVariants.{Judge}
 use Rattle.drvhost_words.proofs.Ending.{counted_alone, counted_telling}
 use Rattle.drvhost_words.proofs.answer.judge_file.Goals as goal
 

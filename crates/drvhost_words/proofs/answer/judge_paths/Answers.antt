@@ -1,5 +1,40 @@
 use Rattle.std.proofs.Common.{inl, inr}
-use Rattle.drvhost_many.specs.All.{EachEnds, IsUnfound}
+use Rattle.drvhost_many.specs.All.{EachEnds}
 use Rattle.drvhost_words.specs.Program.{FileEnds, PathsEnd}
-use Rattle.drvhost_words.proofs.Ending.{counted_as}
+use Rattle.drvhost_words.proofs.Ending.{counted_as, counted_unfound}
 use Rattle.drvhost_words.proofs.answer.judge_paths.Goals as goal
+
+pub returns-in-Some-clause-answers : goal.returns-in-Some-clause-answers
+returns-in-Some-clause-answers g c =
+    let stands = g.F.Files.stands c.args.files.now in
+    let supply = g.F.Files.supply c.args.files.now in
+    let judging = c.args.judging in
+    counted_as (FileEnds judging supply c.in-Some.path.now)
+    (PathsEnd stands supply c.args.paths.now judging) _ _ _ _ _ _ _ _ _ _
+    (λ opened reads writes told ends. inl (
+      c.in-Ok.names.items,
+      c.in-Ok.ensures,
+      inl (c.in-Some.path.now, rw c.as_slice.ensures.value at c.in-Some.ensures.some, ends),
+    ))
+    c.judge_file.ensures.answers
+
+pub returns-in-None-clause-answers : goal.returns-in-None-clause-answers
+returns-in-None-clause-answers g c =
+    let stands = g.F.Files.stands c.args.files.now in
+    let supply = g.F.Files.supply c.args.files.now in
+    let judging = c.args.judging in
+    counted_as (EachEnds judging supply c.in-Ok.names.items)
+    (PathsEnd stands supply c.args.paths.now judging) _ _ _ _ _ _ _ _ _ _
+    (λ opened reads writes told ends. inl (
+      c.in-Ok.names.items,
+      c.in-Ok.ensures,
+      inr (rw c.as_slice.ensures.value at c.in-None.ensures.none, ends),
+    ))
+    (rw c.as_slice-in-None.ensures.value at c.answer_each.ensures.answers)
+
+pub returns-in-Err-clause-answers : goal.returns-in-Err-clause-answers
+returns-in-Err-clause-answers g c =
+    let stands = g.F.Files.stands c.args.files.now in
+    let supply = g.F.Files.supply c.args.files.now in
+    counted_unfound (PathsEnd stands supply c.args.paths.now c.args.judging) _ _ _ _ _ _
+    c.no_memory.ensures.status c.no_memory.ensures.told (λ unfound. inr unfound)
