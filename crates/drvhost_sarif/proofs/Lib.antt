@@ -1,0 +1,3 @@
+pub mod Placing
+pub mod Adding
+pub mod Ending

@@ -1,0 +1,42 @@
+-- Where the lines of a text stand, as regions of SARIF.
+use Rattle.std.specs.Prelude.{ℕ, ◌+◌, ◌-◌, if◌then◌else◌, nat_lt, List, [], ◌∷◌, Option, None, slice_get}
+use Rattle.std.specs.Option.{option_and_then, option_map}
+use Rattle.asm_places.specs.Source.{instruction_lines}
+use Rattle.model.specs.declared.abs.Refusal.{Refusal}
+use Rattle.report_sarif.specs.declared.log.Region.{Region}
+use Rattle.text.specs.Cut.{is_blank, lines_of}
+use Rattle.drvhost_devices.specs.Answer.{is_image}
+
+-- how many units of UTF-16 the character takes that a byte of UTF-8 begins: none, where the byte
+-- begins none
+abbrev pub units_of_byte : ℕ → ℕ
+units_of_byte b =
+    if nat_lt b 0x80 then 1 else (if nat_lt b 0xC0 then 0 else (if nat_lt b 0xF0 then 1 else 2))
+
+abbrev pub units : List ℕ → ℕ
+units [] = 0
+units (b ∷ bs) = units_of_byte b + units bs
+
+-- how many blanks a line begins with
+abbrev pub indent : List ℕ → ℕ
+indent [] = 0
+indent (b ∷ bs) = if is_blank b then 1 + indent bs else 0
+
+-- a line from its first byte that is no blank to its end
+abbrev pub region_on : ℕ → List ℕ → Region
+region_on number raw = record { line = number; start = 1 + indent raw; end = 1 + units raw }
+
+-- that of the line of a number of a text, from 1, if there is one
+abbrev pub region_at : List ℕ → ℕ → Option Region
+region_at text number = option_map (region_on number) (slice_get (lines_of text) (number - 1))
+
+-- that of the instruction of a position of a routine of a driver
+abbrev pub instruction_region : List ℕ → Refusal → Option Region
+instruction_region text refusal =
+    option_and_then (region_at text)
+    (slice_get (instruction_lines refusal.driver refusal.routine text) refusal.at)
+
+-- where a refusal is in the bytes of a file: an image has no lines
+abbrev pub refusal_region : List ℕ → Refusal → Option Region
+refusal_region bytes refusal =
+    if is_image bytes then None else instruction_region bytes refusal

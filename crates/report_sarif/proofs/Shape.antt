@@ -1,0 +1,69 @@
+-- The text of a log: how deep it nests, and that no number in it is a float.
+use Rattle.std.proofs.Common.{◌≡◌, ◌≤◌, ℕ, List, [], ◌∷◌, map, Option, None, Some, IfOk, Result, Ok, Err, String, false, refl, arith, string_bytes, subst}
+use Rattle.std.specs.Global.{Global}
+use Rattle.serde_json.specs.Data.{Data, depth, items_depth}
+use Rattle.serde_json.specs.Read.{max_depth, read}
+use Rattle.serde_json.specs.View.{items_of}
+use Rattle.serde_json.specs.Written.{compact_text, has_float, items_have_float}
+use Rattle.report_sarif.specs.declared.log.Finding.{Finding}
+use Rattle.report_sarif.specs.declared.log.Region.{Region}
+use Rattle.report_sarif.specs.declared.log.RuleText.{RuleText}
+use Rattle.report_sarif.specs.Log.{log_data, physical_data, result_data, rule_data}
+
+rules_shallow : (rules : List RuleText) → items_depth (items_of (map rule_data rules)) ≤ 2
+rules_shallow [] = omega arith
+rules_shallow (words ∷ rules) = omega (arith, rules_shallow rules)
+
+physical_shallow : (file : List ℕ) (region : Option Region) → depth (physical_data file region) ≤ 2
+physical_shallow file None = omega arith
+physical_shallow file (Some region) = omega arith
+
+results_shallow : (findings : List Finding)
+    → items_depth (items_of (map result_data findings)) ≤ 6
+results_shallow [] = omega arith
+results_shallow (finding ∷ findings) =
+    omega
+    (arith, physical_shallow (string_bytes finding.file) finding.region, results_shallow findings)
+
+log_shallow : (rules : List RuleText) (findings : List Finding)
+    → depth (log_data rules findings) ≤ max_depth
+log_shallow rules findings = omega (arith, rules_shallow rules, results_shallow findings)
+
+rules_plain : (rules : List RuleText) → items_have_float (items_of (map rule_data rules)) ≡ false
+rules_plain [] = refl
+rules_plain (words ∷ rules) = rules_plain rules
+
+physical_plain : (file : List ℕ) (region : Option Region)
+    → has_float (physical_data file region) ≡ false
+physical_plain file None = refl
+physical_plain file (Some region) = refl
+
+results_plain : (findings : List Finding)
+    → items_have_float (items_of (map result_data findings)) ≡ false
+results_plain [] = refl
+results_plain (finding ∷ findings) =
+    rw (physical_plain (string_bytes finding.file) finding.region, results_plain findings) refl
+
+log_plain : (rules : List RuleText) (findings : List Finding)
+    → has_float (log_data rules findings) ≡ false
+log_plain rules findings = rw (results_plain findings, rules_plain rules) refl
+
+-- what is written for a value that is a log
+pub written : {E : Type 0} (rules : List RuleText) (findings : List Finding) (value : Data)
+    (r : Result (String Global) E) → value ≡ log_data rules findings
+    → IfOk r (λ s. has_float value ≡ false → string_bytes s ≡ compact_text value)
+    → IfOk r (λ s. string_bytes s ≡ compact_text (log_data rules findings))
+written rules findings value (Ok s) is text =
+    let P : Data → Type 0 = λ d. has_float d ≡ false → string_bytes s ≡ compact_text d in
+    subst P is text (log_plain rules findings)
+written rules findings value (Err e) is text = tt
+
+-- and read back
+pub reads_back : {E : Type 0} (rules : List RuleText) (findings : List Finding) (value : Data)
+    (r : Result (String Global) E) → value ≡ log_data rules findings
+    → IfOk r (λ s. depth value ≤ max_depth → read (string_bytes s) ≡ Some value)
+    → IfOk r (λ s. read (string_bytes s) ≡ Some (log_data rules findings))
+reads_back rules findings value (Ok s) is back =
+    let P : Data → Type 0 = λ d. depth d ≤ max_depth → read (string_bytes s) ≡ Some d in
+    subst P is back (log_shallow rules findings)
+reads_back rules findings value (Err e) is back = tt

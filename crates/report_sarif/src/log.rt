@@ -1,0 +1,197 @@
+//! A log of SARIF.
+
+ghost use Rattle.std.specs.Prelude.{◌≡◌, ◌∷◌, [], IfOk, Some, map, string_bytes};
+ghost use Rattle.serde_json.specs.Data.{array};
+ghost use Rattle.serde_json.specs.Read.{read};
+ghost use Rattle.serde_json.specs.View.{items_of, view};
+ghost use Rattle.serde_json.specs.Written.{compact_text};
+ghost use Rattle.report_sarif.specs.Log.{driver_data, log_data, physical_data, region_data, result_data, rule_data, run_data, text_data, tool_data};
+
+use crate::uri::uri_of;
+use serde_json::{Value, json};
+use std::alloc::{AllocError, Global};
+
+/// What can be wrong with a file, in words: a rule, or a kind of fault.
+#[derive(Drop)]
+pub struct RuleText {
+    /// Under which it is found.
+    pub id: String,
+    pub name: String,
+    pub page: String,
+}
+
+/// A part of a line of a text: the number of the line, and the columns in it, in units of UTF-16,
+/// all from 1. The end isn't counted in.
+#[derive(Clone, Copy)]
+pub struct Region {
+    pub line: u64,
+    pub start: u64,
+    pub end: u64,
+}
+
+/// What is wrong with the file of a name.
+#[derive(Drop)]
+pub struct Finding {
+    pub file: String,
+    /// The rule that is broken, or the kind of fault.
+    pub rule: String,
+    pub message: String,
+    /// Where; an image has no lines.
+    pub region: Option<Region>,
+    /// What is the same of two of them that are one, wherever their lines were moved.
+    pub fingerprint: String,
+}
+
+/// The log of what was found in files, or not, by these rules.
+///
+/// # Errors
+///
+/// When memory runs out.
+pub fn log(alloc: Global, rules: &[RuleText], findings: &[Finding]) -> Result<String, AllocError>
+    ensures text { IfOk result
+        (λ log. string_bytes log ≡ compact_text (log_data rules.now findings.now)) }
+    ensures reads_back { IfOk result
+        (λ log. read (string_bytes log) ≡ Some (log_data rules.now findings.now)) }
+{
+    let value = log_value(alloc, rules, findings)?;
+    value.to_string(alloc)
+}
+
+/// The value of the log.
+fn log_value(alloc: Global, rules: &[RuleText], findings: &[Finding]) -> Result<Value, AllocError>
+    ensures { IfOk result (λ value. view value ≡ log_data rules.now findings.now) }
+{
+    let run = run_value(alloc, rules, findings)?;
+    let runs = only(alloc, run)?;
+    json!(in alloc; {
+        "$schema": "https://json.schemastore.org/sarif-2.1.0.json",
+        "runs": runs,
+        "version": "2.1.0",
+    })
+}
+
+/// A list of one value.
+fn only(alloc: Global, value: Value) -> Result<Value, AllocError>
+    ensures { IfOk result (λ list. view list ≡ array (items_of (view value ∷ []))) }
+{
+    let mut list = Vec::new(alloc);
+    list.push(value)?;
+    Ok(Value::Array(list))
+}
+
+/// The run.
+fn run_value(alloc: Global, rules: &[RuleText], findings: &[Finding]) -> Result<Value, AllocError>
+    ensures { IfOk result (λ value. view value ≡ run_data rules.now findings.now) }
+{
+    let tool = tool_value(alloc, rules)?;
+    let results = results_value(alloc, findings)?;
+    json!(in alloc; {"columnKind": "utf16CodeUnits", "results": results, "tool": tool})
+}
+
+/// The tool.
+fn tool_value(alloc: Global, rules: &[RuleText]) -> Result<Value, AllocError>
+    ensures { IfOk result (λ value. view value ≡ tool_data rules.now) }
+{
+    let driver = driver_value(alloc, rules)?;
+    json!(in alloc; {"driver": driver})
+}
+
+/// The program that it is, with its rules.
+fn driver_value(alloc: Global, rules: &[RuleText]) -> Result<Value, AllocError>
+    ensures { IfOk result (λ value. view value ≡ driver_data rules.now) }
+{
+    let list = rules_value(alloc, rules)?;
+    json!(in alloc; {"name": "drvhost", "rules": list, "version": "1.0.0"})
+}
+
+/// The rules.
+fn rules_value(alloc: Global, rules: &[RuleText]) -> Result<Value, AllocError>
+    ensures { IfOk result (λ value. view value ≡ array (items_of (map rule_data rules.now))) }
+{
+    let mut list = Vec::new(alloc);
+    for words in rules {
+        list.push(rule_value(alloc, words)?)?;
+    }
+    Ok(Value::Array(list))
+}
+
+/// A rule.
+fn rule_value(alloc: Global, words: &RuleText) -> Result<Value, AllocError>
+    ensures { IfOk result (λ value. view value ≡ rule_data words.now) }
+{
+    let level = json!(in alloc; {"level": "error"})?;
+    let full = text_value(alloc, words.page.as_str())?;
+    let help = text_value(alloc, words.page.as_str())?;
+    let short = text_value(alloc, words.name.as_str())?;
+    json!(in alloc; {
+        "defaultConfiguration": level,
+        "fullDescription": full,
+        "help": help,
+        "id": &words.id,
+        "name": &words.name,
+        "shortDescription": short,
+    })
+}
+
+/// A text.
+fn text_value(alloc: Global, text: &str) -> Result<Value, AllocError>
+    ensures { IfOk result (λ value. view value ≡ text_data text.now) }
+{
+    json!(in alloc; {"text": text})
+}
+
+/// The results.
+fn results_value(alloc: Global, findings: &[Finding]) -> Result<Value, AllocError>
+    ensures { IfOk result (λ value. view value ≡ array (items_of (map result_data findings.now))) }
+{
+    let mut list = Vec::new(alloc);
+    for finding in findings {
+        list.push(result_value(alloc, finding)?)?;
+    }
+    Ok(Value::Array(list))
+}
+
+/// A result.
+fn result_value(alloc: Global, finding: &Finding) -> Result<Value, AllocError>
+    ensures { IfOk result (λ value. view value ≡ result_data finding.now) }
+{
+    let physical = physical_value(alloc, finding.file.as_str(), finding.region)?;
+    let location = json!(in alloc; {"physicalLocation": physical})?;
+    let locations = only(alloc, location)?;
+    let message = text_value(alloc, finding.message.as_str())?;
+    let fingerprints = json!(in alloc; {"pafteis/v1": &finding.fingerprint})?;
+    json!(in alloc; {
+        "level": "error",
+        "locations": locations,
+        "message": message,
+        "partialFingerprints": fingerprints,
+        "ruleId": &finding.rule,
+    })
+}
+
+/// Where a result is.
+fn physical_value(alloc: Global, file: &str, region: Option<Region>) -> Result<Value, AllocError>
+    ensures { IfOk result (λ value. view value ≡ physical_data file.now region) }
+{
+    let uri = uri_of(alloc, file)?;
+    let artifact = json!(in alloc; {"uri": &uri})?;
+    match region {
+        Some(region) => {
+            let region = region_value(alloc, region)?;
+            json!(in alloc; {"artifactLocation": artifact, "region": region})
+        }
+        None => json!(in alloc; {"artifactLocation": artifact}),
+    }
+}
+
+/// A region of a text.
+fn region_value(alloc: Global, region: Region) -> Result<Value, AllocError>
+    ensures { IfOk result (λ value. view value ≡ region_data region) }
+{
+    json!(in alloc; {
+        "endColumn": region.end,
+        "endLine": region.line,
+        "startColumn": region.start,
+        "startLine": region.line,
+    })
+}
