@@ -1,4 +1,5 @@
-use Rattle.std.proofs.Common.{◌≡◌, ◌∙◌, List, ℕ, ap, arith, get_or, refl, rules, string_bytes, sym}
+use Rattle.std.proofs.Common.{◌≡◌, ◌∙◌, List, ℕ, ap, arith, get_or, refl, rules, string_bytes, sym, true}
+use Rattle.std.proofs.lemmas.Slice.Eq.{bytes_eq-Decides}
 use Rattle.drvhost_many.proofs.Alone.{first_is, one_is}
 use Rattle.drvhost_many.proofs.paths.alone.Goals as goal
 
@@ -16,8 +17,11 @@ returns-then-eq-clause-some c =
 
 pub returns-else-eq-clause-none : goal.returns-else-eq-clause-none
 returns-else-eq-clause-none c = λ path alone.
-    let one = first_is (λ given. given.now) c.args.paths.now _ path alone.one in
     let other : c.as_str.result.now ≡ path =
     c.as_str.ensures.value ∙ ap string_bytes c.index-names-0.is
     ∙ first_is string_bytes c.args.names.now c.index-names-0.result path alone.itself in
-    search rules
+    let equal : c.eq.result ≡ true =
+    c.eq.ensures
+    ∙ (bytes_eq-Decides _ _).1
+    (other ∙ sym (first_is (λ given. given.now) c.args.paths.now _ path alone.one)) in
+    absurd (cc (equal, c.if-eq.false))
