@@ -1,0 +1,3 @@
+pub mod Pasts
+pub mod Playings
+pub mod Stepping

@@ -1,0 +1,8 @@
+use Rattle.std.proofs.Common.{◌≡◌, drop}
+use Rattle.scenario_run.specs.Acting.{played}
+use Rattle.scenario_run.proofs.play.play.Given as goal
+
+-- what is left plays as all did
+abbrev pub invariant-loop-step : goal.invariant-loop-step
+invariant-loop-step l =
+    played l.playing (drop l.step-index l.steps) ≡ played l.initial.playing l.steps

@@ -1,0 +1,4 @@
+pub mod Acting
+pub mod Holding
+pub mod Past
+pub mod Playing

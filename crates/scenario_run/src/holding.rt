@@ -1,0 +1,264 @@
+//! Whether what is expected holds in a run.
+
+ghost use Rattle.std.specs.Prelude.{◌≡◌, IfOk};
+ghost use Rattle.hunt_ends.specs.Ends.{Rehearses, amiss_in};
+ghost use Rattle.std.specs.List.{list_any};
+ghost use Rattle.model.specs.History.{top_out_of};
+ghost use Rattle.model.specs.Words.{bug_check_code};
+ghost use Rattle.scenario_run.specs.Holding.{device_holds, has_information, has_status, holds, is_bug, is_busy, is_cancelled, is_clean, is_idle, is_live, packet_holds, thread_holds, topped_as};
+ghost use Rattle.scenario_run.specs.Past.{events_of, told_of};
+ghost use Rattle.scenario_run.specs.Playing.{number_of, replies_of, run_of, world_of};
+
+use crate::playing::{Happened, Playing};
+use hunt_ends::amiss::Amiss;
+use hunt_ends::rehearsal::Rehearsal;
+use model::event::{BugCheck, Event, Reply};
+use model::history::TopOut;
+use model::status::Status;
+use model::view::{PacketView, ThreadView};
+use scenario_text::scenario::{DeviceState, Expectation, PacketState, ThreadState};
+use std::alloc::{AllocError, Global};
+use tell_audit::ring::waits_for;
+
+/// Whether what is expected holds.
+///
+/// # Errors
+///
+/// When memory runs out.
+pub fn holds(
+    alloc: Global,
+    playing: &Playing,
+    expectation: &Expectation,
+) -> Result<bool, AllocError>
+    ensures { IfOk result (λ yes. yes ≡ holds playing.now expectation.now) }
+{
+    match *expectation {
+        Expectation::Clean => is_clean(alloc, playing),
+        Expectation::Bug(number) => Ok(has_bug(playing, number)),
+        Expectation::Packet { packet, state } => Ok(packet_holds(playing, packet, state)),
+        Expectation::Thread { thread, state } => Ok(thread_holds(playing, thread, state)),
+        Expectation::Device { device, state } => Ok(device_holds(playing, device, state)),
+    }
+}
+
+/// Whether the run goes on, and its audit finds nothing amiss.
+fn is_clean(alloc: Global, playing: &Playing) -> Result<bool, AllocError>
+    ensures { IfOk result (λ yes. yes ≡ is_clean playing.now.set (run_of playing.now)) }
+{
+    if playing.machine().stopped() {
+        return Ok(false);
+    }
+    Ok(amiss(alloc, playing)?.is_none())
+}
+
+/// What an audit finds amiss in a run, first.
+///
+/// # Errors
+///
+/// When memory runs out.
+pub fn amiss(alloc: Global, playing: &Playing) -> Result<Option<Amiss>, AllocError>
+    ensures { IfOk result (λ amiss. amiss ≡ amiss_in playing.now.set (run_of playing.now)) }
+{
+    let run = replay(alloc, playing)?;
+    run.amiss(&Reply::Stepped)
+}
+
+/// The run once more, with what its audit needs.
+fn replay(alloc: Global, playing: &Playing) -> Result<Rehearsal, AllocError>
+    ensures { IfOk result (Rehearses playing.now.set playing.now.threads playing.now.events) }
+{
+    let events = events_of(alloc, playing.past())?;
+    let set = playing.machine().set();
+    Rehearsal::replay(alloc, set, playing.threads(), events.as_slice())
+}
+
+/// The events of what has happened.
+///
+/// # Errors
+///
+/// When memory runs out.
+#[tactic(auto, using(crate::proofs::Pasts::events_further))]
+pub fn events_of(alloc: Global, past: &[Happened]) -> Result<Vec<Event>, AllocError>
+    ensures { IfOk result (λ events. events.items ≡ events_of past.now) }
+{
+    let mut events = Vec::new(alloc);
+    for happened in past {
+        events.push(happened.event)?;
+    }
+    Ok(events)
+}
+
+/// Whether the bug check of a number has stopped the run.
+fn has_bug(playing: &Playing, number: u8) -> bool
+    ensures { result ≡ list_any (is_bug number) (replies_of playing.now) }
+{
+    is_told(number, playing.past())
+}
+
+fn is_told(number: u8, past: &[Happened]) -> bool
+    ensures { result ≡ list_any (is_bug number) (told_of past.now) }
+{
+    for happened in past {
+        if is_bug(number, &happened.reply) {
+            return true;
+        }
+    }
+    false
+}
+
+fn is_bug(number: u8, reply: &Reply) -> bool
+    ensures { result ≡ is_bug number reply.now }
+{
+    match reply {
+        Reply::Bug(bug) => code_of(bug.check) == number,
+        _ => false,
+    }
+}
+
+/// The number of a bug check in the bug check reference.
+fn code_of(check: BugCheck) -> u8
+    ensures { result ≡ bug_check_code check }
+{
+    match check {
+        BugCheck::IrqlNotLessOrEqual => 0x0A,
+        BugCheck::SpinLockAlreadyOwned => 0x0F,
+        BugCheck::SpinLockNotOwned => 0x10,
+        BugCheck::NoMoreIrpStackLocations => 0x35,
+        BugCheck::MultipleIrpCompleteRequests => 0x44,
+        BugCheck::CancelStateInCompletedIrp => 0x48,
+    }
+}
+
+/// Whether this holds of a packet of the scenario.
+fn packet_holds(playing: &Playing, packet: usize, state: PacketState) -> bool
+    ensures { result ≡ packet_holds (world_of playing.now) (replies_of playing.now)
+        (number_of playing.now packet) state }
+{
+    let Some(number) = playing.number_of(packet) else {
+        return false;
+    };
+    match state {
+        PacketState::Live => is_live(&playing.machine().packet(number)),
+        PacketState::Cancelled => is_cancelled(&playing.machine().packet(number)),
+        PacketState::Topped {
+            status,
+            information,
+        } => topped_as(status, information, top_out_of(playing.past(), number)),
+    }
+}
+
+fn is_live(view: &PacketView) -> bool
+    ensures { result ≡ is_live view.now }
+{
+    match view {
+        PacketView::Live(_) => true,
+        PacketView::Never | PacketView::Topped => false,
+    }
+}
+
+fn is_cancelled(view: &PacketView) -> bool
+    ensures { result ≡ is_cancelled view.now }
+{
+    match view {
+        PacketView::Live(live) => live.cancel,
+        PacketView::Never | PacketView::Topped => false,
+    }
+}
+
+/// How a packet topped out, if it has.
+pub fn top_out_of(past: &[Happened], number: u64) -> Option<TopOut>
+    ensures { result ≡ top_out_of (told_of past.now) number }
+{
+    for happened in past {
+        if let Reply::Topped {
+            packet,
+            status,
+            info,
+        } = happened.reply
+        {
+            if packet == number {
+                return Some(TopOut {
+                    packet,
+                    status,
+                    info,
+                });
+            }
+        }
+    }
+    None
+}
+
+fn topped_as(status: Option<Status>, information: Option<u64>, top: Option<TopOut>) -> bool
+    ensures { result ≡ topped_as status information top }
+{
+    match top {
+        Some(top) => has_status(status, top.status) && has_information(information, top.info),
+        None => false,
+    }
+}
+
+fn has_status(given: Option<Status>, status: Status) -> bool
+    ensures { result ≡ has_status given status }
+{
+    match given {
+        Some(given) => given.code() == status.code(),
+        None => true,
+    }
+}
+
+fn has_information(given: Option<u64>, info: u64) -> bool
+    ensures { result ≡ has_information given info }
+{
+    match given {
+        Some(given) => given == info,
+        None => true,
+    }
+}
+
+/// Whether this holds of a thread.
+fn thread_holds(playing: &Playing, thread: u8, state: ThreadState) -> bool
+    ensures { result ≡ thread_holds playing.now.set (world_of playing.now) thread state }
+{
+    let machine = playing.machine();
+    match state {
+        ThreadState::Idle => is_idle(&machine.thread(thread)),
+        ThreadState::Busy => is_busy(&machine.thread(thread)),
+        ThreadState::Waiting => waits_for(machine, thread).is_some(),
+    }
+}
+
+fn is_idle(view: &Option<ThreadView>) -> bool
+    ensures { result ≡ is_idle view.now }
+{
+    match view {
+        Some(view) => view.frames == 0,
+        None => false,
+    }
+}
+
+fn is_busy(view: &Option<ThreadView>) -> bool
+    ensures { result ≡ is_busy view.now }
+{
+    match view {
+        Some(view) => view.frames != 0,
+        None => false,
+    }
+}
+
+/// Whether this holds of a device.
+fn device_holds(playing: &Playing, device: u8, state: DeviceState) -> bool
+    ensures { result ≡ device_holds (world_of playing.now) device state }
+{
+    let shared = playing.machine().shared();
+    match state {
+        DeviceState::Idle => match shared.start_of(device) {
+            Some(start) => !start.is_busy(),
+            None => false,
+        },
+        DeviceState::Busy => match shared.start_of(device) {
+            Some(start) => start.is_busy(),
+            None => false,
+        },
+        DeviceState::DpcQueued => shared.is_queued(device),
+    }
+}

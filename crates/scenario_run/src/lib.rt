@@ -1,0 +1,7 @@
+//! Scenarios as they run: what each step makes happen on the reference machine, by the run so far,
+//! and whether what is expected holds there.
+#![tactic(auto)]
+
+pub mod holding;
+pub mod play;
+pub mod playing;

@@ -1,0 +1,352 @@
+//! A scenario as it plays on the reference machine.
+
+ghost use Rattle.std.specs.Prelude.{◌≡◌, ◌≤◌, IfOk};
+ghost use Rattle.model.specs.declared.limits.TheConstants.{MAX_THREADS};
+ghost use Rattle.model.specs.History.{started_by};
+ghost use Rattle.model.specs.View.{busy_at, thread_at};
+ghost use Rattle.scenario_run.specs.Past.{events_of, told_of};
+ghost use Rattle.scenario_run.specs.Playing.{begun, cancelled, happened, is_at, issued, most_of, number_of, one, outcome_of, outcome_of_cancel, replies_of, reply_in, reply_of, run_of, run_thread, running, running_to, stands_at, stepping, with_event, world_of};
+
+use checked::Checked;
+use driver_set::DriverSet;
+use interleave::schedule::MAX_EVENTS;
+use model::event::{Event, Reply};
+use model::view::FrameView;
+use scenario_text::names::Spot;
+use std::alloc::{AllocError, Global};
+use std::marker::Model;
+
+/// How a step of a scenario went.
+#[derive(Clone, Copy)]
+pub enum Outcome {
+    /// It did what it says.
+    Done,
+    /// Its thread waits for a lock.
+    Waits,
+    /// It was refused, found nothing to do, or stopped the run; or what is expected doesn't hold.
+    Fails,
+}
+
+/// An event that happened, and the reply of the run.
+#[derive(Clone, Copy)]
+pub struct Happened {
+    pub event: Event,
+    pub reply: Reply,
+}
+
+/// A scenario as it plays.
+#[derive(Drop)]
+pub struct Playing {
+    machine: Checked,
+    threads: u8,
+    past: Vec<Happened>,
+    /// For each issue so far the number of its packet, if it wasn't refused.
+    packets: Vec<Option<u64>>,
+}
+
+impl Model for Playing {
+    ghost use Rattle.std.specs.Prelude.{◌≡◌, ◌≤◌};
+    ghost use Rattle.model.specs.declared.limits.TheConstants.{MAX_THREADS};
+    ghost use Rattle.scenario_run.specs.Playing.{Playing};
+    ghost use Rattle.scenario_run.specs.Past.{IsPast, events_of};
+
+    ghost Value = { Playing };
+
+    ghost view = { λ p. record {
+      set = p.machine.set;
+      threads = p.threads;
+      events = events_of p.past.items;
+      packets = p.packets.items;
+    } };
+
+    ghost invariant = { λ p. IsPast p.machine p.threads p.past.items };
+}
+
+impl Playing {
+    /// A scenario over a set, on 1 to 64 threads, before its first step.
+    ///
+    /// # Errors
+    ///
+    /// When memory runs out.
+    pub fn new(alloc: Global, set: &DriverSet, threads: u8) -> Result<Playing, AllocError>
+        requires some { 1 ≤ threads }
+        requires few { threads ≤ MAX_THREADS }
+        ensures { IfOk result (λ p. p ≡ begun set.now threads) }
+    {
+        let Ok(set) = set.copy(alloc) else {
+            return Err(AllocError);
+        };
+        let Ok(machine) = Checked::new(alloc, set, threads) else {
+            return Err(AllocError);
+        };
+        Ok(Playing {
+            machine,
+            threads,
+            past: Vec::new(alloc),
+            packets: Vec::new(alloc),
+        })
+    }
+
+    /// An event happens.
+    fn apply(&mut self, event: Event) -> Result<Reply, AllocError>
+        ensures { IfOk result (λ reply. (self.new ≡ with_event self.old event)
+            × (reply ≡ reply_in self.old event)) }
+    {
+        let place = self.past.len();
+        self.past.push(Happened {
+            event,
+            reply: Reply::Refused,
+        })?;
+        let reply = self.machine.apply(&event);
+        self.past[place] = Happened { event, reply };
+        Ok(reply)
+    }
+
+    /// An event happens, if there is room for it.
+    fn happen(&mut self, event: Event) -> Result<Reply, AllocError>
+        ensures { IfOk result (λ reply. (self.new ≡ happened self.old event)
+            × (reply ≡ reply_of self.old event)) }
+    {
+        if self.past.len() < MAX_EVENTS {
+            self.apply(event)
+        } else {
+            Ok(Reply::Refused)
+        }
+    }
+
+    /// One event.
+    pub(crate) fn one(&mut self, event: Event) -> Result<Outcome, AllocError>
+        ensures { IfOk result (λ outcome.
+            record { now = self.new; outcome = outcome } ≡ one self.old event) }
+    {
+        let reply = self.happen(event)?;
+        Ok(outcome_of(&reply))
+    }
+
+    /// A request, whose packet is the next one of the scenario.
+    pub(crate) fn issue(&mut self, event: Event) -> Result<Outcome, AllocError>
+        ensures { IfOk result (λ outcome.
+            record { now = self.new; outcome = outcome } ≡ issued self.old event) }
+    {
+        let reply = self.happen(event)?;
+        self.packets.push(started_by(&event, &reply))?;
+        Ok(outcome_of(&reply))
+    }
+
+    /// IoCancelIrp is called for a packet of the scenario.
+    pub(crate) fn cancel(
+        &mut self,
+        thread: u8,
+        packet: usize,
+        level: u8,
+    ) -> Result<Outcome, AllocError>
+        ensures { IfOk result (λ outcome. record { now = self.new; outcome = outcome }
+            ≡ cancelled self.old thread level (number_of self.old packet)) }
+    {
+        let Some(packet) = self.number_of(packet) else {
+            return Ok(Outcome::Fails);
+        };
+        let reply = self.happen(Event::Cancel {
+            thread,
+            packet,
+            level,
+        })?;
+        Ok(outcome_of_cancel(&reply))
+    }
+
+    /// So many steps of a thread, up to one that fails.
+    #[tactic(auto, using(crate::proofs::Stepping::steps_done, crate::proofs::Stepping::steps_waited, crate::proofs::Stepping::steps_failed))]
+    pub(crate) fn steps(&mut self, thread: u8, count: u64) -> Result<Outcome, AllocError>
+        ensures { IfOk result (λ outcome.
+            record { now = self.new; outcome = outcome } ≡ stepping thread count self.old) }
+    {
+        let mut left = count;
+        while left > 0 {
+            match self.one(Event::Step { thread })? {
+                Outcome::Fails => return Ok(Outcome::Fails),
+                Outcome::Done | Outcome::Waits => {}
+            }
+            left -= 1;
+        }
+        Ok(Outcome::Done)
+    }
+
+    /// So many steps may a run of a thread have, and one that fails for want of room.
+    fn most(&self) -> usize
+        ensures { result ≡ most_of self.now }
+    {
+        (MAX_EVENTS + 1).saturating_sub(self.past.len())
+    }
+
+    /// Steps of a thread until it is idle or waits.
+    pub(crate) fn run(&mut self, thread: u8) -> Result<Outcome, AllocError>
+        ensures { IfOk result (λ outcome.
+            record { now = self.new; outcome = outcome } ≡ run_thread thread self.old) }
+    {
+        if thread >= self.threads {
+            return Ok(Outcome::Fails);
+        }
+        let most = self.most();
+        self.run_on(thread, most)
+    }
+
+    /// The same by at most so many steps.
+    #[tactic(auto, using(crate::proofs::Stepping::run_idle, crate::proofs::Stepping::run_done, crate::proofs::Stepping::run_waited, crate::proofs::Stepping::run_failed))]
+    fn run_on(&mut self, thread: u8, most: usize) -> Result<Outcome, AllocError>
+        ensures { IfOk result (λ outcome.
+            record { now = self.new; outcome = outcome } ≡ running thread most self.old) }
+    {
+        let mut left = most;
+        while left > 0 {
+            if !self.is_busy(thread) {
+                return Ok(Outcome::Done);
+            }
+            match self.one(Event::Step { thread })? {
+                Outcome::Done => {}
+                Outcome::Waits => return Ok(Outcome::Waits),
+                Outcome::Fails => return Ok(Outcome::Fails),
+            }
+            left -= 1;
+        }
+        Ok(Outcome::Fails)
+    }
+
+    /// Steps of a thread until its next one is that of an instruction.
+    pub(crate) fn run_to(&mut self, thread: u8, spot: Spot) -> Result<Outcome, AllocError>
+        ensures { IfOk result (λ outcome. record { now = self.new; outcome = outcome }
+            ≡ running_to thread spot (most_of self.old) self.old) }
+    {
+        let most = self.most();
+        self.run_up_to(thread, spot, most)
+    }
+
+    /// The same by at most so many steps.
+    #[tactic(auto, using(crate::proofs::Stepping::to_there, crate::proofs::Stepping::to_done, crate::proofs::Stepping::to_waited, crate::proofs::Stepping::to_failed))]
+    fn run_up_to(&mut self, thread: u8, spot: Spot, most: usize) -> Result<Outcome, AllocError>
+        ensures { IfOk result (λ outcome. record { now = self.new; outcome = outcome }
+            ≡ running_to thread spot most self.old) }
+    {
+        let mut left = most;
+        while left > 0 {
+            if self.stands_at(thread, spot) {
+                return Ok(Outcome::Done);
+            }
+            match self.one(Event::Step { thread })? {
+                Outcome::Done => {}
+                Outcome::Waits | Outcome::Fails => return Ok(Outcome::Fails),
+            }
+            left -= 1;
+        }
+        Ok(Outcome::Fails)
+    }
+
+    /// Whether a thread's next step is that of an instruction.
+    fn stands_at(&self, thread: u8, spot: Spot) -> bool
+        ensures { result ≡ stands_at spot (thread_at (world_of self.now) thread) }
+    {
+        match self.machine.thread(thread) {
+            Some(view) => is_at(spot, view.top),
+            None => false,
+        }
+    }
+
+    /// Whether a thread has frames.
+    fn is_busy(&self, thread: u8) -> bool
+        ensures { result ≡ busy_at (world_of self.now) thread }
+    {
+        match self.machine.thread(thread) {
+            Some(view) => view.frames > 0,
+            None => false,
+        }
+    }
+
+    /// The number of a packet of the scenario, if it was issued.
+    pub fn number_of(&self, packet: usize) -> Option<u64>
+        ensures { result ≡ number_of self.now packet }
+    {
+        match self.packets.get(packet) {
+            Some(number) => *number,
+            None => None,
+        }
+    }
+
+    /// The machine.
+    pub fn machine(&self) -> &Checked
+        ensures set { result.now.set ≡ self.now.set }
+        ensures world { result.now.world ≡ world_of self.now }
+        ensures stopped { result.now.stopped ≡ (run_of self.now).stopped }
+    {
+        &self.machine
+    }
+
+    /// How many threads there are.
+    pub fn threads(&self) -> u8
+        ensures threads { result ≡ self.now.threads }
+        ensures some { 1 ≤ self.now.threads }
+        ensures few { self.now.threads ≤ MAX_THREADS }
+    {
+        self.threads
+    }
+
+    /// What has happened.
+    pub fn past(&self) -> &[Happened]
+        ensures events { events_of result.now ≡ self.now.events }
+        ensures replies { told_of result.now ≡ replies_of self.now }
+    {
+        self.past.as_slice()
+    }
+}
+
+/// Whether a frame stands before an instruction.
+fn is_at(spot: Spot, top: Option<FrameView>) -> bool
+    ensures { result ≡ is_at spot top }
+{
+    match top {
+        Some(
+            FrameView::Routine {
+                driver,
+                routine,
+                position,
+                device: _,
+            },
+        ) => {
+            u64::from(driver) == spot.driver
+                && u64::from(routine) == spot.routine
+                && u64::from(position) == spot.position
+        }
+        _ => false,
+    }
+}
+
+/// The packet that an event starts, if it is a request's.
+fn started_by(event: &Event, reply: &Reply) -> Option<u64>
+    ensures { result ≡ started_by event.now reply.now }
+{
+    match (event, reply) {
+        (Event::Issue { .. }, Reply::Started(packet)) => Some(*packet),
+        _ => None,
+    }
+}
+
+/// How an event went that has this reply.
+fn outcome_of(reply: &Reply) -> Outcome
+    ensures { result ≡ outcome_of reply.now }
+{
+    match reply {
+        Reply::Started(_) | Reply::Stepped | Reply::Finished | Reply::Topped { .. } => {
+            Outcome::Done
+        }
+        Reply::Waited => Outcome::Waits,
+        Reply::Idle | Reply::Refused | Reply::Bug(_) | Reply::Wrong(_) => Outcome::Fails,
+    }
+}
+
+/// How a cancel went that has this reply.
+fn outcome_of_cancel(reply: &Reply) -> Outcome
+    ensures { result ≡ outcome_of_cancel reply.now }
+{
+    match reply {
+        Reply::Finished => Outcome::Fails,
+        _ => outcome_of(reply),
+    }
+}
