@@ -1,5 +1,5 @@
 -- Lists of one element.
-use Rattle.std.proofs.Common.{◌≡◌, ◌∙◌, ℕ, List, [], ◌∷◌, ap, arith, get_or, length, map, refl, sym}
+use Rattle.std.proofs.Common.{◌≡◌, ◌∙◌, List, [], ◌∷◌, ap, get_or, length, map, refl}
 
 one_mapped : {A B : Type 0} (f : A → B) (xs : List A) (d : A) → length xs ≡ 1
     → map f xs ≡ f (get_or xs 0 d) ∷ []

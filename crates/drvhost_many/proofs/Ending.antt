@@ -10,7 +10,7 @@ use Rattle.drvhost_many.specs.declared.many.Halt.{Halt}
 use Rattle.drvhost_many.specs.declared.many.Halt.TheVariants.{Memory, Write}
 use Rattle.drvhost_commands.specs.declared.job.Judging.{Judging}
 use Rattle.drvhost_commands.specs.declared.job.Judging.TheVariants.{Check, CheckJson, Explain}
-use Rattle.drvhost_many.specs.All.{Answered, AnswersEach, AreOf, EachEnds, OutOfMemory, WriteFailed, nothing}
+use Rattle.drvhost_many.specs.All.{Answered, AnswersEach, AreOf, OutOfMemory, WriteFailed, nothing}
 use Rattle.drvhost_many.specs.Marked.{gap, marked, named_answer, noted}
 use Rattle.drvhost_many.specs.One.{GoesOne, IsOfOne, halt_status}
 use Rattle.drvhost_many.proofs.Joining.{of_more}

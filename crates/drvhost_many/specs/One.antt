@@ -11,7 +11,7 @@ use Rattle.drvhost_formats.specs.Told.{IsUnopenedJson}
 use Rattle.drvhost_sets.specs.Explained.{IsExplainedOf}
 use Rattle.drvhost_many.specs.declared.many.Halt.{Halt}
 use Rattle.drvhost_many.specs.declared.many.Halt.TheVariants.{Memory, Write}
-use Rattle.drvhost_many.specs.Marked.{marked, named_answer, noted}
+use Rattle.drvhost_many.specs.Marked.{named_answer, noted}
 
 -- what is answered for a set that is judged, where its file has this name and this to give
 abbrev pub IsJudged : Judging → List ℕ → Supply → Answer → Type 0

@@ -1,4 +1,4 @@
-use Rattle.std.proofs.Common.{◌≡◌, ◌∙◌, List, ℕ, ap, arith, get_or, refl, rules, string_bytes, sym, true}
+use Rattle.std.proofs.Common.{◌≡◌, ◌∙◌, ap, arith, get_or, refl, rules, string_bytes, sym, true}
 use Rattle.std.proofs.lemmas.Slice.Eq.{bytes_eq-Decides}
 use Rattle.drvhost_many.proofs.Alone.{first_is, one_is}
 use Rattle.drvhost_many.proofs.paths.alone.Goals as goal
