@@ -18,8 +18,8 @@ returns-in-Some-clause-answers g c =
     ))
     c.judge_file.ensures.answers
 
-pub returns-in-None-clause-answers : goal.returns-in-None-clause-answers
-returns-in-None-clause-answers g c =
+pub returns-in-Ok-clause-answers : goal.returns-in-Ok-clause-answers
+returns-in-Ok-clause-answers g c =
     let stands = g.F.Files.stands c.args.files.now in
     let supply = g.F.Files.supply c.args.files.now in
     let judging = c.args.judging in
@@ -32,8 +32,8 @@ returns-in-None-clause-answers g c =
     ))
     (rw c.as_slice-in-None.ensures.value at c.answer_each.ensures.answers)
 
-pub returns-in-Err-clause-answers : goal.returns-in-Err-clause-answers
-returns-in-Err-clause-answers g c =
+pub returns-clause-answers : goal.returns-clause-answers
+returns-clause-answers g c =
     let stands = g.F.Files.stands c.args.files.now in
     let supply = g.F.Files.supply c.args.files.now in
     counted_unfound (PathsEnd stands supply c.args.paths.now c.args.judging) _ _ _ _ _ _
