@@ -4,7 +4,8 @@
     tools/try tracks PROGRAM [SET SCHEDULE]     these, or each example that has a schedule
 
 Each trace is one value of JSON. Per track spans begin and end in order, one within the other, and all
-end; a flow begins once, goes on and ends at most once, each time within a span; counters never fall
+end; a flow begins once, and goes on within spans (behind its end where a packet that topped out is
+used); counters never fall
 below zero; there is an instant for each packet that tops out, for a refused event and for a bug check;
 and the last moment is the number of events."""
 import glob, json, os, subprocess, sys
@@ -43,7 +44,7 @@ def flow_faults(events):
         if event['ph'] not in 'stf':
             continue
         before = state.get(event['id'])
-        if (event['ph'] == 's') != (before is None) or before == 'f':
+        if (event['ph'] == 's') != (before is None):
             yield f"flow {event['id']} has {event['ph']} behind {before}"
         state[event['id']] = event['ph']
 
