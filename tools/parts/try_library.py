@@ -100,7 +100,7 @@ schedule 0: 2 threads, 14 events; fault 0 line 0
 schedule 2: 0 threads, 0 events; fault 2 line 2
 4 steps: cell 0, lock owned, packet 0: 3 7 0
 6 steps: cell 1, lock free, packet 0: 3 7 1
-4 steps: cell 1, lock free, packet 4: 0 0 0
+2 steps: cell 1, lock free, packet 4: 0 0 0
 new 6, another 0, again 6
 1 steps: cell 0, lock free, packet 4: 0 0 0
 reset 0, with no threads 4
