@@ -34,7 +34,8 @@ enum {
     PAFTEIS_FAULTY = 2,         /* the bytes are no text and no image of a set, or no schedule */
     PAFTEIS_NO_MEMORY = 3,      /* memory was refused; buffers and worlds are as they were */
     PAFTEIS_WRONG_ARGUMENT = 4, /* a number that names nothing; buffers and worlds likewise */
-    PAFTEIS_NO_WORLD = 5        /* no world was made, or it was freed; nothing is written */
+    PAFTEIS_NO_WORLD = 5,       /* no world was made, or it was freed; nothing is written */
+    PAFTEIS_HAS_WORLD = 6       /* a world stands where a new one was to be made; it stays */
 };
 
 /* Verdicts ---------------------------------------------------------------------------------- */
@@ -209,6 +210,36 @@ uint32_t pafteis_draw(const uint8_t *set, size_t set_length,
                       const uint8_t *schedule, size_t schedule_length, uint32_t flags,
                       uint8_t *buffer, size_t capacity, size_t *needed);
 
+/* What a hunt looks for, and how far it goes. The flags are the sum of PAFTEIS_STUCK where it looks
+ * for runs too from whose end nothing comes to rest, of _BOUNDED where runs have at most so many
+ * events, and of _FURTHER where requests are tried with one more argument. */
+enum { PAFTEIS_STUCK = 1, PAFTEIS_BOUNDED = 2, PAFTEIS_FURTHER = 4 };
+
+typedef struct {
+    uint64_t packets;  /* that live at once, 1 to 4096 */
+    uint64_t worlds;   /* that are kept, 1 to 1000000000 */
+    uint64_t events;   /* of a run, with PAFTEIS_BOUNDED */
+    uint64_t argument; /* with PAFTEIS_FURTHER */
+    uint32_t threads;  /* 1 to 64 */
+    uint32_t flags;
+} pafteis_hunting;
+
+#define PAFTEIS_USUAL_HUNT { 2, 1000000, 0, 0, 2, 0 }
+
+/* `hunt`: a shortest run that ends amiss, as a schedule whose first line tells how, with _REFUSED;
+ * or a line that none is within reach, with _DONE. It may take long, and up to some hundred bytes
+ * for each world. */
+uint32_t pafteis_hunt(const uint8_t *set, size_t set_length, const pafteis_hunting *asked,
+                      uint8_t *buffer, size_t capacity, size_t *needed);
+
+#define PAFTEIS_USUAL_TRIES 20000
+
+/* `mend`: mends of a text, each as a diff, tried so often for each faulty routine, 1 to 1000000
+ * times: with _DONE the set is accepted already or the whole is mended, with _REFUSED a part of it
+ * or nothing. */
+uint32_t pafteis_mend(const uint8_t *set, size_t set_length, uint64_t tries,
+                      uint8_t *buffer, size_t capacity, size_t *needed);
+
 /* `list`: a text that names the set. */
 uint32_t pafteis_list(const uint8_t *set, size_t set_length,
                       uint8_t *buffer, size_t capacity, size_t *needed);
@@ -217,20 +248,72 @@ uint32_t pafteis_list(const uint8_t *set, size_t set_length,
 uint32_t pafteis_rewrite(const uint8_t *set, size_t set_length,
                          uint8_t *buffer, size_t capacity, size_t *needed);
 
+/* Names --------------------------------------------------------------------------------------
+ *
+ * Each is put into a buffer as answers in bytes are: PAFTEIS_DONE, or _WRONG_ARGUMENT where there
+ * is no such name. They take no memory. */
+
+enum {
+    PAFTEIS_NAME_OF_DRIVER = 1, /* in a text, by its number from 0, as the other three */
+    PAFTEIS_NAME_OF_DEVICE = 2,
+    PAFTEIS_NAME_OF_ROUTINE = 3,
+    PAFTEIS_NAME_OF_QUEUE = 4,
+    PAFTEIS_NAME_OF_RULE = 5,     /* `V11 Guard` by 11 */
+    PAFTEIS_NAME_OF_STATUS = 6,   /* `STATUS_CANCELLED` by 0xC0000120 */
+    PAFTEIS_NAME_OF_BUG_CHECK = 7 /* `MULTIPLE_IRP_COMPLETE_REQUESTS` by 0x44 */
+};
+
+/* The name that a driver text gives to a driver, a device, or a routine or a queue of a driver. An
+ * image has none. The text isn't judged: lines that name nothing are passed over. */
+uint32_t pafteis_name_in(const uint8_t *text, size_t text_length, uint32_t kind, uint8_t driver,
+                         uint8_t number, uint8_t *buffer, size_t capacity, size_t *needed);
+
+/* The name of a rule, a status or a bug check. */
+uint32_t pafteis_name_of(uint32_t kind, uint32_t number,
+                         uint8_t *buffer, size_t capacity, size_t *needed);
+
+/* Schedules ---------------------------------------------------------------------------------- */
+
+/* The faults of a schedule's text. */
+enum {
+    PAFTEIS_SCHEDULE_LEX = 1,
+    PAFTEIS_SCHEDULE_UNKNOWN_WORD = 2,
+    PAFTEIS_SCHEDULE_OUT_OF_RANGE = 3,
+    PAFTEIS_SCHEDULE_TOO_LONG = 4
+};
+
+typedef struct {
+    uint64_t events;  /* at most 1000000 */
+    uint32_t threads; /* 1 to 64 */
+} pafteis_schedule_size;
+
+typedef struct {
+    uint64_t line; /* from 1; one past the last where no line says how many threads there are */
+    uint32_t kind;
+} pafteis_schedule_fault;
+
+/* How large a schedule is, with PAFTEIS_DONE, and `fault` is all 0; or with _FAULTY its first
+ * fault, and `size` is as it was. Takes memory: with _NO_MEMORY `fault` is all 0. */
+uint32_t pafteis_schedule(const uint8_t *schedule, size_t schedule_length,
+                          pafteis_schedule_size *size, pafteis_schedule_fault *fault);
+
 /* The version of this header: a million for the major number, a thousand for the minor one, and
  * the patch. pafteis_version_number answers that of the library. */
 #define PAFTEIS_VERSION_NUMBER 1000000
 
 uint32_t pafteis_version_number(void);
 
-/* `version`. */
+/* `pafteis 1.0.0`, and a line end. Takes no memory. */
 uint32_t pafteis_version(uint8_t *buffer, size_t capacity, size_t *needed);
 
 /* Worlds ------------------------------------------------------------------------------------
  *
  * A world of an accepted set. Set the struct to PAFTEIS_EMPTY_WORLD before it is passed for the
  * first time, and let nothing but the calls below change it; it may be moved, and not copied. A
- * world that was made is to be freed: pafteis_world_new over one that stands loses its memory. */
+ * world that was made is to be freed. `live` says whether there is one.
+ *
+ * Calls that tell of a world leave it as it is, and yet want it to themselves while they last: a
+ * world is used by one thread at a time. */
 
 typedef struct {
     bool live;
@@ -241,10 +324,20 @@ typedef struct {
 
 /* Makes the world of the set that a text or an image names, before its first event, with 1 to 64
  * threads. With PAFTEIS_DONE there is one; else `world` is as it was, and `verdict` tells why, as
- * that of pafteis_check does; with _WRONG_ARGUMENT, of another number of threads, it is all 0.
- * Takes memory, all that the world ever needs. */
+ * that of pafteis_check does. With _WRONG_ARGUMENT, of another number of threads, and with
+ * _HAS_WORLD, where one stands there already, it is all 0. Takes memory, all that the world ever
+ * needs. */
 uint32_t pafteis_world_new(const uint8_t *set, size_t set_length, uint8_t threads,
                            pafteis_world *world, pafteis_verdict *verdict);
+
+/* Begins a world anew: it is that of the same set before its first event, with so many threads.
+ * Takes the memory of the new one before it frees the old: where that is refused, the old world
+ * stays. */
+uint32_t pafteis_world_reset(pafteis_world *world, uint8_t threads);
+
+/* Makes another world of a world's set, before its first event, in a struct that has none. The two
+ * are apart. _HAS_WORLD where `other` has one. */
+uint32_t pafteis_world_another(pafteis_world *world, uint8_t threads, pafteis_world *other);
 
 /* Kinds of events, with the fields that each needs. The others may be anything. */
 enum {
@@ -265,10 +358,11 @@ typedef struct {
     uint8_t thread;    /* from 0 */
     uint8_t device;    /* from 0, in the order of the text */
     uint8_t major;
-    uint8_t level;
+    uint8_t level;     /* the IRQL of who cancels: 0 PASSIVE_LEVEL, 1 APC_LEVEL, 2 DISPATCH_LEVEL */
 } pafteis_event;
 
-/* Kinds of replies. A world never replies with a bug check or a wrong operand (8, 9). */
+/* Kinds of replies. A world never replies with a bug check or a wrong operand (8, 9). Of a thread or
+ * a device that isn't there an event is not possible. */
 enum {
     PAFTEIS_STARTED = 1,  /* packet: a root frame stands on the thread, for this packet */
     PAFTEIS_STEPPED = 2,
@@ -299,11 +393,12 @@ uint32_t pafteis_world_apply_all(pafteis_world *world, const pafteis_event *even
                                  pafteis_reply *replies, size_t room, size_t *applied);
 
 /* Steps of a thread, at most `count`, up to the first that replies otherwise than _STEPPED; how
- * many were made, and the reply to the last of them (_STEPPED where none was). */
+ * many were made, that one included, and the reply to the last (_STEPPED where none was made). */
 uint32_t pafteis_world_steps(pafteis_world *world, uint8_t thread, size_t count, size_t *made,
                              pafteis_reply *reply);
 
-/* The top frame of a thread. */
+/* The top frame of a thread. Routine 255 is a driver's default one, which serves what it names no
+ * routine for. */
 typedef struct {
     uint64_t packet;   /* of the I/O manager's frames */
     uint32_t kind;     /* 0 none, 1 a routine, 2 a packet is completed, 3 a packet is cancelled */
@@ -345,6 +440,34 @@ typedef struct {
 
 /* Tells what is due of a device: nothing where there is none of this number. */
 uint32_t pafteis_world_due(pafteis_world *world, uint8_t device, pafteis_due *due);
+
+/* The number cells of a device. */
+typedef struct {
+    uint64_t plain[16], paged[16];
+} pafteis_cells;
+
+/* Tells them; _WRONG_ARGUMENT where there is no device of this number. */
+uint32_t pafteis_world_cells(pafteis_world *world, uint8_t device, pafteis_cells *cells);
+
+typedef struct {
+    bool owned;
+    uint8_t thread; /* 0 where it isn't */
+} pafteis_owner;
+
+/* Tells which thread owns a lock of a device, 0 to 7, or PAFTEIS_CANCEL_LOCK, whatever the device;
+ * _WRONG_ARGUMENT where there is no such lock. */
+uint32_t pafteis_world_lock(pafteis_world *world, uint8_t device, uint8_t lock,
+                            pafteis_owner *owner);
+
+/* What is asked with a live packet, at its current location. */
+typedef struct {
+    uint64_t argument;
+    uint64_t info;  /* IoStatus.Information */
+    uint64_t major; /* PAFTEIS_READ, _WRITE or _DEVICE_CONTROL; 0 where nothing is asked there */
+} pafteis_request;
+
+/* Tells it; _WRONG_ARGUMENT where no packet of this number is live. */
+uint32_t pafteis_world_request(pafteis_world *world, uint64_t number, pafteis_request *request);
 
 /* Frees a world; _NO_WORLD where there is none, as where it was freed before. */
 uint32_t pafteis_world_free(pafteis_world *world);

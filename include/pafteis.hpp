@@ -102,6 +102,47 @@ inline std::string draw(std::string_view set, std::string_view schedule, bool *c
     return run(pafteis_draw, set, schedule, complete, flags);
 }
 
+// A shortest run that ends amiss, as a schedule, or the line that none is within reach; `none`
+// becomes whether there is none.
+inline std::string hunt(std::string_view set, bool *none = nullptr,
+                        const pafteis_hunting &asked = PAFTEIS_USUAL_HUNT) {
+    return told([=, &asked](std::uint8_t *buffer, std::size_t capacity, std::size_t *needed) {
+        return pafteis_hunt(bytes(set), set.size(), &asked, buffer, capacity, needed);
+    }, none);
+}
+
+// Mends of a text, as diffs; `whole` becomes whether the whole is mended, or nothing is to mend.
+inline std::string mend(std::string_view set, bool *whole = nullptr,
+                        std::uint64_t tries = PAFTEIS_USUAL_TRIES) {
+    return told([=](std::uint8_t *buffer, std::size_t capacity, std::size_t *needed) {
+        return pafteis_mend(bytes(set), set.size(), tries, buffer, capacity, needed);
+    }, whole);
+}
+
+// The name that a text gives to something, and the name of a rule, a status or a bug check.
+inline std::string name_in(std::string_view text, std::uint32_t kind, std::uint8_t number,
+                           std::uint8_t driver = 0) {
+    return told([=](std::uint8_t *buffer, std::size_t capacity, std::size_t *needed) {
+        return pafteis_name_in(bytes(text), text.size(), kind, driver, number, buffer, capacity,
+                               needed);
+    });
+}
+
+inline std::string name_of(std::uint32_t kind, std::uint32_t number) {
+    return told([=](std::uint8_t *buffer, std::size_t capacity, std::size_t *needed) {
+        return pafteis_name_of(kind, number, buffer, capacity, needed);
+    });
+}
+
+// Whether a text is a schedule: `size` tells how large it is, or `fault` what is wrong with it.
+inline bool schedule(std::string_view text, pafteis_schedule_size &size,
+                     pafteis_schedule_fault &fault) {
+    std::uint32_t status = pafteis_schedule(bytes(text), text.size(), &size, &fault);
+    if (status != PAFTEIS_FAULTY)
+        expect(status);
+    return status == PAFTEIS_DONE;
+}
+
 // The locks of a driver of an accepted set in an order, or a shortest cycle.
 inline pafteis_lock_order order_of_locks(std::string_view set, std::uint8_t driver) {
     pafteis_lock_order order;
@@ -165,8 +206,34 @@ public:
         expect(pafteis_world_due(&handle, device, &found));
         return found;
     }
+    pafteis_cells cells(std::uint8_t device) {
+        pafteis_cells found;
+        expect(pafteis_world_cells(&handle, device, &found));
+        return found;
+    }
+    pafteis_owner lock(std::uint8_t device, std::uint8_t number) {
+        pafteis_owner found;
+        expect(pafteis_world_lock(&handle, device, number, &found));
+        return found;
+    }
+    pafteis_request request(std::uint64_t packet) {
+        pafteis_request found;
+        expect(pafteis_world_request(&handle, packet, &found));
+        return found;
+    }
+
+    // Begins anew: before the first event, with so many threads.
+    void reset(std::uint8_t threads) { expect(pafteis_world_reset(&handle, threads)); }
+
+    // Another world of the same set, before its first event.
+    world another(std::uint8_t threads) {
+        world made;
+        expect(pafteis_world_another(&handle, threads, &made.handle));
+        return made;
+    }
 
 private:
+    world() = default;
     pafteis_world handle = PAFTEIS_EMPTY_WORLD;
 };
 

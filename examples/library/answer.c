@@ -1,11 +1,13 @@
 /* Answers a command of the program from C, over files:
  *
  *     answer check FILE | explain FILE | explain-each FILE | list FILE | rewrite FILE
+ *     answer hunt FILE | mend FILE
  *     answer trace FILE SCHEDULE | trace-unchecked FILE SCHEDULE
  *     answer tell FILE SCHEDULE | tell-every FILE SCHEDULE | draw FILE SCHEDULE
  *     answer rule NUMBER | version
  *
- * It writes and ends as `drvhost` does; `rewrite` writes the image to the standard output. */
+ * It writes and ends as `drvhost` does; `rewrite` writes the image to the standard output, and
+ * `version` tells of the library. */
 #include "pafteis.h"
 
 #include <stdio.h>
@@ -44,7 +46,7 @@ static const struct {
     const char *word;
     int more;
 } WORDS[] = {{"check", 1}, {"explain", 1}, {"explain-each", 1}, {"list", 1}, {"rewrite", 1},
-             {"trace", 2}, {"trace-unchecked", 2}, {"tell", 2}, {"tell-every", 2}, {"draw", 2},
+             {"hunt", 1}, {"mend", 1}, {"trace", 2}, {"trace-unchecked", 2}, {"tell", 2}, {"tell-every", 2}, {"draw", 2},
              {"rule", 1}, {"version", 0}};
 
 static bool is_known(int count, char **words) {
@@ -67,7 +69,10 @@ static uint32_t of_file(const char *word, text set, text buffer, size_t *needed)
         return pafteis_list(set.bytes, set.length, into, buffer.length, needed);
     if (strcmp(word, "rewrite") == 0)
         return pafteis_rewrite(set.bytes, set.length, into, buffer.length, needed);
-    return PAFTEIS_WRONG_ARGUMENT;
+    pafteis_hunting usual = PAFTEIS_USUAL_HUNT;
+    if (strcmp(word, "hunt") == 0)
+        return pafteis_hunt(set.bytes, set.length, &usual, into, buffer.length, needed);
+    return pafteis_mend(set.bytes, set.length, PAFTEIS_USUAL_TRIES, into, buffer.length, needed);
 }
 
 /* What is answered of a run. */

@@ -28,6 +28,7 @@ WORDS = {
     "tell": ("tell", BYTES + BYTES + NUMBER, 2, 0),
     "tell-every": ("tell", BYTES + BYTES + NUMBER, 2, 4),
     "draw": ("draw", BYTES + BYTES + NUMBER, 2, 0),
+    "mend": ("mend", [*BYTES, ctypes.c_uint64], 1, 20_000),
     "version": ("version", [], 0, None),
 }
 
@@ -45,6 +46,18 @@ def called(name, types, *arguments):
         capacity = needed.value
 
 
+class Hunting(ctypes.Structure):
+    """How far a hunt goes, as the program's own does."""
+
+    _fields_ = [(it, ctypes.c_uint64) for it in ("packets", "worlds", "events", "argument")]
+    _fields_ += [(it, ctypes.c_uint32) for it in ("threads", "flags")]
+
+
+def hunted(data):
+    usual = ctypes.byref(Hunting(2, 1_000_000, 0, 0, 2, 0))
+    return called("hunt", [*BYTES, ctypes.POINTER(Hunting)], data, len(data), usual)
+
+
 def read(name):
     with open(name, "rb") as file:
         return file.read()
@@ -54,6 +67,8 @@ def answered(word, names):
     """The status and the bytes; nothing where the words are wrong."""
     if word == "rule" and len(names) == 1 and names[0].isdecimal():
         return called("explain_rule", NUMBER, int(names[0]))
+    if word == "hunt" and len(names) == 1:
+        return hunted(read(names[0]))
     name, types, files, number = WORDS.get(word, (None, [], None, None))
     if len(names) != files:
         return None
@@ -64,7 +79,7 @@ def answered(word, names):
 def main():
     found = answered(sys.argv[1], sys.argv[2:]) if sys.argv[1:] else None
     if found is None:
-        sys.exit("answer: its words are rule, " + ", ".join(WORDS))
+        sys.exit("answer: its words are rule, hunt, " + ", ".join(WORDS))
     status, answer = found
     if status == NO_MEMORY:
         answer = b"out of memory\n"

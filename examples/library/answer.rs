@@ -14,8 +14,25 @@ unsafe extern "C" {
     fn pafteis_trace(set: *const u8, length: usize, schedule: *const u8, schedule_length: usize, flags: u32, buffer: *mut u8, capacity: usize, needed: *mut usize) -> u32;
     fn pafteis_tell(set: *const u8, length: usize, schedule: *const u8, schedule_length: usize, flags: u32, buffer: *mut u8, capacity: usize, needed: *mut usize) -> u32;
     fn pafteis_draw(set: *const u8, length: usize, schedule: *const u8, schedule_length: usize, flags: u32, buffer: *mut u8, capacity: usize, needed: *mut usize) -> u32;
+    fn pafteis_hunt(set: *const u8, length: usize, asked: *const Hunting, buffer: *mut u8, capacity: usize, needed: *mut usize) -> u32;
+    fn pafteis_mend(set: *const u8, length: usize, tries: u64, buffer: *mut u8, capacity: usize, needed: *mut usize) -> u32;
     fn pafteis_version(buffer: *mut u8, capacity: usize, needed: *mut usize) -> u32;
 }
+
+/// How far a hunt goes.
+#[repr(C)]
+struct Hunting {
+    packets: u64,
+    worlds: u64,
+    events: u64,
+    argument: u64,
+    threads: u32,
+    flags: u32,
+}
+
+/// As the program's own does.
+const USUAL: Hunting =
+    Hunting { packets: 2, worlds: 1_000_000, events: 0, argument: 0, threads: 2, flags: 0 };
 
 /// A call that answers of a run.
 type Run = unsafe extern "C" fn(*const u8, usize, *const u8, usize, u32, *mut u8, usize, *mut usize) -> u32;
@@ -54,6 +71,8 @@ fn answered(words: &[String]) -> (u32, Vec<u8>) {
         "check" => called(|b, c, n| unsafe { pafteis_report(at, length, b, c, n) }),
         "list" => called(|b, c, n| unsafe { pafteis_list(at, length, b, c, n) }),
         "rewrite" => called(|b, c, n| unsafe { pafteis_rewrite(at, length, b, c, n) }),
+        "hunt" => called(|b, c, n| unsafe { pafteis_hunt(at, length, &USUAL, b, c, n) }),
+        "mend" => called(|b, c, n| unsafe { pafteis_mend(at, length, 20_000, b, c, n) }),
         "explain" | "explain-each" => {
             let extent = u32::from(word != "explain");
             called(|b, c, n| unsafe { pafteis_explain(at, length, extent, b, c, n) })

@@ -10,6 +10,7 @@ from pathlib import Path
 from pafteis.errors import (
     Faulty,
     FaultyImage,
+    FaultySchedule,
     FaultyText,
     LibraryMissing,
     NoMemory,
@@ -18,8 +19,19 @@ from pafteis.errors import (
     Refused,
     WrongArgument,
 )
+from pafteis.hunts import Hunt, Mend, hunt, mend
 from pafteis.locks import CANCEL_LOCK, LockEdge, LockOrder, order_of_locks
+from pafteis.names import (
+    bug_check_name,
+    device_name,
+    driver_name,
+    queue_name,
+    routine_name,
+    rule_name,
+    status_name,
+)
 from pafteis.replies import Irql, Major, Reply, ReplyKind, Status
+from pafteis.schedules import ScheduleFault, ScheduleSize, schedule_size
 from pafteis.shapes import Device, Routine, Shape, Sort, describe
 from pafteis.verdicts import (
     Detail,
@@ -44,6 +56,7 @@ from pafteis.verdicts import (
 from pafteis.worlds import (
     Armed,
     ArmedKind,
+    Cells,
     Due,
     Event,
     EventKind,
@@ -51,6 +64,7 @@ from pafteis.worlds import (
     FrameKind,
     Packet,
     PacketKind,
+    Request,
     Thread,
     World,
 )
@@ -58,11 +72,13 @@ from pafteis.worlds import (
 __version__ = (Path(__file__).parent / "VERSION").read_text(encoding="ascii").strip()
 
 __all__ = [
-    "Armed", "ArmedKind", "CANCEL_LOCK", "Detail", "Device", "Due", "Event", "EventKind", "Faulty",
-    "FaultyImage", "FaultyText", "Frame", "FrameKind", "ImageFault", "Irql", "LibraryMissing",
-    "LockEdge", "LockOrder", "Major", "NoMemory", "NoWorld", "Packet", "PacketKind", "PafteisError",
-    "Place", "Refused", "Reply", "ReplyKind", "Routine", "Rule", "Shape", "Sort", "Source",
-    "Status", "TextFault", "Thread", "Trace", "Verdict", "World", "WrongArgument", "check",
-    "describe", "draw", "explain", "explain_rule", "library_version", "listing", "order_of_locks",
-    "report", "rewrite", "tell", "trace",
+    "Armed", "ArmedKind", "CANCEL_LOCK", "Cells", "Detail", "Device", "Due", "Event", "EventKind",
+    "Faulty", "FaultyImage", "FaultySchedule", "FaultyText", "Frame", "FrameKind", "Hunt",
+    "ImageFault", "Irql", "LibraryMissing", "LockEdge", "LockOrder", "Major", "Mend", "NoMemory",
+    "NoWorld", "Packet", "PacketKind", "PafteisError", "Place", "Refused", "Reply", "ReplyKind",
+    "Request", "Routine", "Rule", "ScheduleFault", "ScheduleSize", "Shape", "Sort", "Source",
+    "Status", "TextFault", "Thread", "Trace", "Verdict", "World", "WrongArgument", "bug_check_name",
+    "check", "describe", "device_name", "draw", "driver_name", "explain", "explain_rule", "hunt",
+    "library_version", "listing", "mend", "order_of_locks", "queue_name", "report", "rewrite",
+    "routine_name", "rule_name", "schedule_size", "status_name", "tell", "trace",
 ]

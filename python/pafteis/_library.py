@@ -15,7 +15,7 @@ from typing import Any, Callable
 
 from pafteis.errors import LibraryMissing, NoMemory, NoWorld, WrongArgument
 
-DONE, REFUSED, FAULTY, NO_MEMORY, WRONG_ARGUMENT, NO_WORLD = range(6)
+DONE, REFUSED, FAULTY, NO_MEMORY, WRONG_ARGUMENT, NO_WORLD, HAS_WORLD = range(7)
 SONAME = "libpafteis.so.1"
 
 
@@ -152,6 +152,49 @@ class CDue(ctypes.Structure):
     _fields_ = [("start_io", c_bool), ("dpc", c_bool)]
 
 
+class CCells(ctypes.Structure):
+    """`pafteis_cells`"""
+
+    _fields_ = [("plain", c_uint64 * 16), ("paged", c_uint64 * 16)]
+
+
+class COwner(ctypes.Structure):
+    """`pafteis_owner`"""
+
+    _fields_ = [("owned", c_bool), ("thread", c_uint8)]
+
+
+class CRequest(ctypes.Structure):
+    """`pafteis_request`"""
+
+    _fields_ = [("argument", c_uint64), ("info", c_uint64), ("major", c_uint64)]
+
+
+class CHunting(ctypes.Structure):
+    """`pafteis_hunting`"""
+
+    _fields_ = [
+        ("packets", c_uint64),
+        ("worlds", c_uint64),
+        ("events", c_uint64),
+        ("argument", c_uint64),
+        ("threads", c_uint32),
+        ("flags", c_uint32),
+    ]
+
+
+class CScheduleSize(ctypes.Structure):
+    """`pafteis_schedule_size`"""
+
+    _fields_ = [("events", c_uint64), ("threads", c_uint32)]
+
+
+class CScheduleFault(ctypes.Structure):
+    """`pafteis_schedule_fault`"""
+
+    _fields_ = [("line", c_uint64), ("kind", c_uint32)]
+
+
 SET = [c_char_p, c_size_t]
 BUFFER = [c_char_p, c_size_t, POINTER(c_size_t)]
 WORLD = [POINTER(CWorld)]
@@ -169,6 +212,11 @@ WHOLE: dict[str, list[Any]] = {
     "trace": [*SET, *SET, c_uint32, *BUFFER],
     "tell": [*SET, *SET, c_uint32, *BUFFER],
     "draw": [*SET, *SET, c_uint32, *BUFFER],
+    "hunt": [*SET, POINTER(CHunting), *BUFFER],
+    "mend": [*SET, c_uint64, *BUFFER],
+    "name_in": [*SET, c_uint32, c_uint8, c_uint8, *BUFFER],
+    "name_of": [c_uint32, c_uint32, *BUFFER],
+    "schedule": [*SET, POINTER(CScheduleSize), POINTER(CScheduleFault)],
     "list": [*SET, *BUFFER],
     "rewrite": [*SET, *BUFFER],
     "version_number": [],
@@ -182,6 +230,11 @@ OF_WORLDS: dict[str, list[Any]] = {
     "world_thread": [*WORLD, c_uint8, POINTER(CThread)],
     "world_packet": [*WORLD, c_uint64, POINTER(CPacket)],
     "world_due": [*WORLD, c_uint8, POINTER(CDue)],
+    "world_reset": [*WORLD, c_uint8],
+    "world_another": [*WORLD, c_uint8, *WORLD],
+    "world_cells": [*WORLD, c_uint8, POINTER(CCells)],
+    "world_lock": [*WORLD, c_uint8, c_uint8, POINTER(COwner)],
+    "world_request": [*WORLD, c_uint64, POINTER(CRequest)],
     "world_free": WORLD,
 }
 

@@ -5,6 +5,7 @@ from __future__ import annotations
 from typing import TYPE_CHECKING
 
 if TYPE_CHECKING:
+    from pafteis.schedules import ScheduleFault
     from pafteis.verdicts import ImageFault, TextFault, Verdict
 
 
@@ -43,6 +44,16 @@ class FaultyImage(Faulty):
     def __init__(self, fault: ImageFault) -> None:
         super().__init__(f"image fault {int(fault)} {fault.name}")
         self.fault = fault
+
+
+class FaultySchedule(Faulty):
+    """The bytes are no schedule: its first fault, and the line, from 1. `told` is what the program
+    tells of it, where it was asked to run."""
+
+    def __init__(self, fault: ScheduleFault, line: int, told: str = "") -> None:
+        super().__init__(told or f"schedule fault {int(fault)} line {line}")
+        self.fault = fault
+        self.line = line
 
 
 class WrongArgument(PafteisError, ValueError):

@@ -8,8 +8,9 @@ import re
 from typing import Iterator, NamedTuple, Optional, Union
 
 from pafteis import _library
-from pafteis.errors import Faulty, FaultyImage, FaultyText, Refused
+from pafteis.errors import Faulty, FaultyImage, FaultySchedule, FaultyText, Refused
 from pafteis.replies import Reply, ReplyKind, within
+from pafteis.schedules import schedule_size
 
 Source = Union[str, bytes, bytearray, memoryview]
 """A driver text, or the bytes of a text or of an image."""
@@ -119,7 +120,7 @@ def check(source: Source) -> Verdict:
     return verdict_of(status, found)
 
 
-def _text(name: str, *arguments: object) -> tuple[bool, str]:
+def text_of(name: str, *arguments: object) -> tuple[bool, str]:
     """Whether all went well, and the words of an answer; raises where the input is faulty."""
     status, answer = _library.told(name, *arguments)
     words = answer.decode("utf-8", "replace")
@@ -134,7 +135,7 @@ def report(source: Source) -> str:
     Raises `Faulty`, `NoMemory`.
     """
     data = as_bytes(source)
-    return _text("report", data, len(data))[1]
+    return text_of("report", data, len(data))[1]
 
 
 def explain(source: Source, each: bool = False) -> str:
@@ -144,7 +145,7 @@ def explain(source: Source, each: bool = False) -> str:
     Raises `Faulty`, `NoMemory`.
     """
     data = as_bytes(source)
-    return _text("explain", data, len(data), int(each))[1]
+    return text_of("explain", data, len(data), int(each))[1]
 
 
 def explain_rule(rule: int) -> str:
@@ -152,7 +153,7 @@ def explain_rule(rule: int) -> str:
 
     Raises `WrongArgument`, `NoMemory`.
     """
-    return _text("explain_rule", within(rule, 32))[1]
+    return text_of("explain_rule", within(rule, 32))[1]
 
 
 def listing(source: Source) -> str:
@@ -161,7 +162,7 @@ def listing(source: Source) -> str:
     Raises `Faulty`, `NoMemory`.
     """
     data = as_bytes(source)
-    return _text("list", data, len(data))[1]
+    return text_of("list", data, len(data))[1]
 
 
 def rewrite(source: Source) -> bytes:
@@ -220,17 +221,31 @@ _UNCHECKED, _STRICT = 1, 8
 def _run(name: str, source: Source, schedule: Source, flags: int) -> tuple[bool, str]:
     """What a call answers of a run. Raises `Refused` where the set is refused and may not be."""
     data, events = as_bytes(source), as_bytes(schedule)
-    complete, text = _text(name, data, len(data), events, len(events), flags)
+    try:
+        complete, text = text_of(name, data, len(data), events, len(events), flags)
+    except Faulty as faulty:
+        if str(faulty).startswith("schedule fault "):
+            raise _schedule_fault(events, str(faulty)) from None
+        raise
     if not complete and text.startswith("refused "):
         raise Refused(check(data))
     return complete, text
 
 
+def _schedule_fault(schedule: bytes, told: str) -> Faulty:
+    """The fault of a schedule, with the words that are told of it."""
+    try:
+        schedule_size(schedule)
+    except FaultySchedule as found:
+        return FaultySchedule(found.fault, found.line, told)
+    return Faulty(told)
+
+
 def trace(source: Source, schedule: Source, unchecked: bool = False) -> Trace:
     """A run of a schedule of events; of a refused set only with `unchecked`.
 
-    Raises `Refused` where the set is refused and may not be, `Faulty` where the set or the schedule
-    is faulty, `NoMemory`.
+    Raises `Refused` where the set is refused and may not be, `Faulty` where the set is faulty,
+    `FaultySchedule` where the schedule is, `NoMemory`.
     """
     complete, text = _run("trace", source, schedule, int(unchecked))
     return Trace(text, complete)
@@ -257,4 +272,4 @@ def draw(source: Source, schedule: Source, unchecked: bool = False) -> str:
 
 def library_version() -> str:
     """The name and the version that the library tells."""
-    return _text("version")[1].strip()
+    return text_of("version")[1].strip()

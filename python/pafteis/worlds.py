@@ -130,6 +130,23 @@ class Due(NamedTuple):
     dpc: bool
 
 
+class Cells(NamedTuple):
+    """The number cells of a device; those that are paged may be touched below DISPATCH_LEVEL
+    alone."""
+
+    plain: tuple[int, ...]
+    paged: tuple[int, ...]
+
+
+class Request(NamedTuple):
+    """What is asked with a live packet: at its current location the major function (0 where nothing
+    is asked there) and the argument; and IoStatus.Information."""
+
+    major: int
+    argument: int
+    info: int
+
+
 class World:
     """The world of an accepted driver set, with 1 to 64 threads. It is closed by `close`, at the
     end of a `with` block, or when nothing names it any more; its calls raise `NoWorld` then.
@@ -152,8 +169,25 @@ class World:
         verdict = verdict_of(status, found)
         if not verdict:
             raise Refused(verdict)
+        self._bind()
+
+    def _bind(self) -> None:
         passed = map(ctypes.byref, (self._handle, self._event, self._reply))
         self._apply = partial(_library.CALLS["world_apply"], *passed)
+
+    def reset(self, threads: int = 1) -> None:
+        """Begins anew: the world of the same set, before its first event. Raises `WrongArgument` of
+        another number of threads than 1 to 64, `NoWorld`, `NoMemory`: it is as it was then."""
+        self._ask("world_reset", within(threads, 8))
+
+    def another(self, threads: int = 1) -> World:
+        """Another world of the same set, before its first event. Raises what `reset` raises."""
+        made = World.__new__(World)
+        made._handle = _library.CWorld()
+        made._event, made._reply = _library.CEvent(), _library.CReply()
+        self._ask("world_another", within(threads, 8), ctypes.byref(made._handle))
+        made._bind()
+        return made
 
     def close(self) -> None:
         """Frees the world; nothing where it was closed before."""
@@ -298,6 +332,26 @@ class World:
         found = _library.CDue()
         self._ask("world_due", within(device, 8), ctypes.byref(found))
         return Due(found.start_io, found.dpc)
+
+    def cells(self, device: int) -> Cells:
+        """Tells the number cells of a device. Raises `WrongArgument` where there is none of this
+        number."""
+        found = _library.CCells()
+        self._ask("world_cells", within(device, 8), ctypes.byref(found))
+        return Cells(tuple(found.plain), tuple(found.paged))
+
+    def owner(self, device: int, lock: int) -> Optional[int]:
+        """The thread that owns a spin lock of a device, 0 to 7, or `CANCEL_LOCK`; None where it is
+        free. Raises `WrongArgument` where there is no such lock."""
+        found = _library.COwner()
+        self._ask("world_lock", within(device, 8), within(lock, 8), ctypes.byref(found))
+        return found.thread if found.owned else None
+
+    def request(self, packet: int) -> Request:
+        """Tells what is asked with a packet. Raises `WrongArgument` where it isn't live."""
+        found = _library.CRequest()
+        self._ask("world_request", within(packet, 64), ctypes.byref(found))
+        return Request(found.major, found.argument, found.info)
 
     def _ask(self, name: str, *arguments: object) -> None:
         if self.closed:

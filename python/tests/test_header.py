@@ -27,7 +27,41 @@ STRUCTS = {
     "armed": _library.CArmed,
     "packet": _library.CPacket,
     "due": _library.CDue,
+    "cells": _library.CCells,
+    "owner": _library.COwner,
+    "request": _library.CRequest,
+    "hunting": _library.CHunting,
+    "schedule_size": _library.CScheduleSize,
+    "schedule_fault": _library.CScheduleFault,
 }
+# The structs of the library's source, and the types of fields there and in the header.
+OF_SOURCE = {
+    "verdict": "VerdictValue",
+    "lock_edge": "LockEdgeValue",
+    "lock_order": "LockOrderValue",
+    "set": "SetValue",
+    "device_shape": "DeviceValue",
+    "routine_shape": "RoutineValue",
+    "world": "Handle",
+    "event": "EventValue",
+    "reply": "ReplyValue",
+    "frame": "FrameValue",
+    "thread": "ThreadValue",
+    "armed": "ArmedValue",
+    "packet": "PacketValue",
+    "due": "DueValue",
+    "cells": "CellsValue",
+    "owner": "OwnerValue",
+    "request": "RequestValue",
+    "hunting": "HuntValue",
+    "schedule_size": "ScheduleValue",
+    "schedule_fault": "ScheduleFaultValue",
+}
+TYPES = {"u8": "uint8_t", "u32": "uint32_t", "u64": "uint64_t", "bool": "bool"}
+TYPES["*mut u8"] = "void *"
+TYPES |= {found: f"pafteis_{name}" for name, found in OF_SOURCE.items()}
+RENAMED = {"at": "inside", "CELLS": "16"}
+
 NUMBERS = (
     {f"PAFTEIS_TEXT_{it.name}": int(it) for it in TextFault}
     | {f"PAFTEIS_IMAGE_{it.name}": int(it) for it in ImageFault}
@@ -38,6 +72,33 @@ NUMBERS = (
     | {"PAFTEIS_DEVICE_CONTROL": int(Major.CONTROL), "PAFTEIS_START_IO": int(EventKind.STARTIO)}
     | {"PAFTEIS_NOT_POSSIBLE": int(ReplyKind.REFUSED)}
 )
+
+
+DECLARED = r"#\[repr\(C\)\]\n(?:#\[derive\(.*\)\]\n)?pub struct %s {(.*?)\n}"
+
+
+def source_of_library():
+    """The source of the crates that have the structs."""
+    folders = [TOP / f"crates/{name}/src" for name in ("pafteis_values", "pafteis_world", "pafteis")]
+    return "\n".join(path.read_text() for folder in folders for path in sorted(folder.glob("*.rt")))
+
+
+def source_field(name, kind):
+    """A field of the source, as the header would have it."""
+    array = re.fullmatch(r"\[(.+); (\w+)\]", kind)
+    kind, count = array.groups() if array else (kind, "")
+    count = count and f"[{RENAMED.get(count, count)}]"
+    return TYPES[kind].replace(" ", ""), RENAMED.get(name, name), count
+
+
+def header_fields(body):
+    """The fields of a struct's body in the header: type, name, and how many."""
+    for line in re.sub(r"/\*.*?\*/", "", body, flags=re.S).split(";"):
+        if line.strip():
+            kind, names = re.fullmatch(r"\s*(\w+) (.*)", line, re.S).groups()
+            for one in names.split(","):
+                star, name, count = re.fullmatch(r"\s*(\*?)(\w+)(\[\d+\])?\s*", one).groups()
+                yield kind + star, name, count or ""
 
 
 def program():
@@ -69,6 +130,15 @@ class Header(unittest.TestCase):
             subprocess.run(words, input=program(), text=True, check=True)
             told = subprocess.run([f"{folder}/told"], capture_output=True, text=True, check=True)
         self.assertEqual(told.stdout.splitlines(), list(wanted()))
+
+    def test_source(self):
+        """Each struct of the header has the fields of the library's own, in their order."""
+        source, text = source_of_library(), HEADER.read_text(encoding="ascii")
+        for name, struct in OF_SOURCE.items():
+            declared = re.search(DECLARED % struct, source, re.S)[1]
+            fields = re.findall(r"^    (?:pub )?(\w+): ([^,{]+),$", declared, re.M)
+            body = re.search(r"typedef struct {([^}]*)} pafteis_%s;" % name, text)[1]
+            self.assertEqual(list(header_fields(body)), [source_field(*it) for it in fields], name)
 
     def test_all_fields(self):
         text = HEADER.read_text(encoding="ascii")

@@ -8,7 +8,8 @@ import resource
 import unittest
 
 import pafteis
-from pafteis import Due, Event, EventKind, FrameKind, Irql, Major, PacketKind, ReplyKind, World
+from pafteis import Due, Event, EventKind, FrameKind, Irql, Major, PacketKind, ReplyKind, Request
+from pafteis import World
 from tests import EXAMPLES, IS_STAND_IN, full, text
 
 # How many random calls are made; 2,000,000 take some seconds.
@@ -54,6 +55,37 @@ class Worlds(unittest.TestCase):
             self.assertEqual(told, ["stepped", "topped 0 0x00000000 0", "finished"])
             self.assertIs(world.step(0).kind, ReplyKind.IDLE)
             self.assertIs(world.step(9).kind, ReplyKind.REFUSED)
+
+    @full
+    def test_what_threads_share(self):
+        with World(text("counter.drv"), threads=2) as world:
+            world.issue(thread=0, device=0, major=Major.READ, argument=7)
+            self.assertEqual(world.steps(thread=0, count=4)[0], 4)
+            self.assertEqual((world.owner(0, 0), world.owner(0, 1)), (0, None))
+            self.assertIsNone(world.owner(0, pafteis.CANCEL_LOCK))
+            self.assertEqual(world.request(0), Request(Major.READ, 7, 0))
+            world.steps(thread=0, count=6)
+            self.assertEqual((world.owner(0, 0), world.request(0).info), (None, 1))
+            cells = world.cells(0)
+            self.assertEqual((cells.plain, cells.paged), ((1, *[0] * 15), (0,) * 16))
+            for call in (lambda: world.cells(1), lambda: world.owner(1, 0), lambda: world.owner(0, 9)):
+                self.assertRaises(pafteis.WrongArgument, call)
+            self.assertRaises(pafteis.WrongArgument, world.request, 1)
+
+    @full
+    def test_begun_anew(self):
+        with World(text("counter.drv")) as world:
+            world.issue(thread=0, device=0, major=Major.READ)
+            list(world.finish(thread=0))
+            with world.another(threads=2) as other:
+                self.assertEqual((other.cells(0).plain[0], world.cells(0).plain[0]), (0, 1))
+                self.assertIs(other.step(1).kind, ReplyKind.IDLE)
+            world.reset(threads=3)
+            self.assertEqual(world.cells(0).plain[0], 0)
+            self.assertIs(world.step(2).kind, ReplyKind.IDLE)
+            self.assertRaises(pafteis.WrongArgument, world.reset, 65)
+            self.assertRaises(pafteis.WrongArgument, world.another, 0)
+        self.assertRaises(pafteis.NoWorld, world.reset)
 
     def test_runs_are_those_of_the_program(self):
         for name in schedules():

@@ -1,8 +1,8 @@
 /* A stand-in for the library, which asks a program: for trying what is built round the library
  * where the library itself isn't proved yet. PAFTEIS_PROGRAM names the program, `drvhost` or one
  * that answers `check` and `trace` as it does. A world runs all its events again at each event, and
- * tells nothing of threads, packets and devices; no order of locks is told. No proof says anything
- * of it. */
+ * tells nothing of threads, packets, locks and devices; no order of locks, no shape and no name is
+ * told. No proof says anything of it. */
 #include "pafteis.h"
 
 #include <stdio.h>
@@ -84,6 +84,28 @@ uint32_t pafteis_order_of_locks(const uint8_t *set, size_t length, uint8_t drive
     return driver == 0 ? status : PAFTEIS_WRONG_ARGUMENT;
 }
 
+uint32_t pafteis_shape(const uint8_t *set, size_t length, pafteis_set *shape,
+                       pafteis_verdict *verdict) {
+    uint32_t status = pafteis_check(set, length, verdict);
+    if (status == PAFTEIS_DONE)
+        memset(shape, 0, sizeof *shape);
+    return status;
+}
+
+uint32_t pafteis_device(const uint8_t *set, size_t length, uint8_t number,
+                        pafteis_device_shape *device, pafteis_verdict *verdict) {
+    (void)number, (void)device;
+    uint32_t status = pafteis_check(set, length, verdict);
+    return status == PAFTEIS_DONE ? PAFTEIS_WRONG_ARGUMENT : status;
+}
+
+uint32_t pafteis_routine(const uint8_t *set, size_t length, uint8_t driver, uint8_t number,
+                         pafteis_routine_shape *routine, pafteis_verdict *verdict) {
+    (void)driver, (void)number, (void)routine;
+    uint32_t status = pafteis_check(set, length, verdict);
+    return status == PAFTEIS_DONE ? PAFTEIS_WRONG_ARGUMENT : status;
+}
+
 uint32_t pafteis_report(const uint8_t *set, size_t length, uint8_t *buffer, size_t capacity,
                         size_t *needed) {
     return answer("check", "", set, length, NULL, 0, buffer, capacity, needed);
@@ -128,6 +150,55 @@ uint32_t pafteis_draw(const uint8_t *set, size_t length, const uint8_t *schedule
                   capacity, needed);
 }
 
+uint32_t pafteis_hunt(const uint8_t *set, size_t length, const pafteis_hunting *asked,
+                      uint8_t *buffer, size_t capacity, size_t *needed) {
+    char more[96];
+    if (asked->threads < 1 || asked->threads > 64 || asked->flags > 7)
+        return *needed = 0, PAFTEIS_WRONG_ARGUMENT;
+    snprintf(more, sizeof more, "--threads %u --packets %lu --states %lu", asked->threads,
+             asked->packets, asked->worlds);
+    return answer("hunt", more, set, length, NULL, 0, buffer, capacity, needed);
+}
+
+uint32_t pafteis_mend(const uint8_t *set, size_t length, uint64_t tries, uint8_t *buffer,
+                      size_t capacity, size_t *needed) {
+    char more[32];
+    if (tries < 1 || tries > 1000000)
+        return *needed = 0, PAFTEIS_WRONG_ARGUMENT;
+    snprintf(more, sizeof more, "--tries %lu", tries);
+    return answer("mend", more, set, length, NULL, 0, buffer, capacity, needed);
+}
+
+uint32_t pafteis_name_in(const uint8_t *text, size_t length, uint32_t kind, uint8_t driver,
+                         uint8_t number, uint8_t *buffer, size_t capacity, size_t *needed) {
+    (void)text, (void)length, (void)kind, (void)driver, (void)number, (void)buffer, (void)capacity;
+    return *needed = 0, PAFTEIS_WRONG_ARGUMENT;
+}
+
+uint32_t pafteis_name_of(uint32_t kind, uint32_t number, uint8_t *buffer, size_t capacity,
+                         size_t *needed) {
+    (void)kind, (void)number, (void)buffer, (void)capacity;
+    return *needed = 0, PAFTEIS_WRONG_ARGUMENT;
+}
+
+uint32_t pafteis_schedule(const uint8_t *schedule, size_t length, pafteis_schedule_size *size,
+                          pafteis_schedule_fault *fault) {
+    static const char empty[] = "driver d\nendd\ndevice v d 1\n";
+    char *told;
+    size_t told_length;
+    ask("trace", "", (const uint8_t *)empty, sizeof empty - 1, schedule, length, &told, &told_length);
+    memset(fault, 0, sizeof *fault);
+    if (sscanf(told, "schedule fault %u %*s line %lu", &fault->kind, &fault->line) == 2) {
+        free(told);
+        return PAFTEIS_FAULTY;
+    }
+    memset(size, 0, sizeof *size);
+    for (const char *at = told; *at; at++)
+        size->events += *at == '\n';
+    free(told);
+    return PAFTEIS_DONE;
+}
+
 uint32_t pafteis_list(const uint8_t *set, size_t length, uint8_t *buffer, size_t capacity,
                       size_t *needed) {
     return answer("list", "", set, length, NULL, 0, buffer, capacity, needed);
@@ -143,7 +214,7 @@ uint32_t pafteis_version_number(void) {
 }
 
 uint32_t pafteis_version(uint8_t *buffer, size_t capacity, size_t *needed) {
-    static const char told[] = "drvhost 0.0.0 (a stand-in)\n";
+    static const char told[] = "pafteis 0.0.0 (a stand-in)\n";
     *needed = sizeof told - 1;
     if (*needed <= capacity)
         memcpy(buffer, told, *needed);
@@ -155,6 +226,8 @@ uint32_t pafteis_world_new(const uint8_t *set, size_t length, uint8_t threads, p
     memset(verdict, 0, sizeof *verdict);
     if (threads < 1 || threads > 64)
         return PAFTEIS_WRONG_ARGUMENT;
+    if (world->live)
+        return PAFTEIS_HAS_WORLD;
     uint32_t status = pafteis_check(set, length, verdict);
     if (status != PAFTEIS_DONE)
         return status;
@@ -167,6 +240,28 @@ uint32_t pafteis_world_new(const uint8_t *set, size_t length, uint8_t threads, p
     made->threads = threads;
     *world = (pafteis_world){true, made};
     return PAFTEIS_DONE;
+}
+
+uint32_t pafteis_world_another(pafteis_world *world, uint8_t threads, pafteis_world *other) {
+    if (threads < 1 || threads > 64)
+        return PAFTEIS_WRONG_ARGUMENT;
+    if (other->live)
+        return PAFTEIS_HAS_WORLD;
+    if (!world->live)
+        return PAFTEIS_NO_WORLD;
+    inside *made = world->inside;
+    pafteis_verdict verdict;
+    return pafteis_world_new((uint8_t *)made->set, made->set_length, threads, other, &verdict);
+}
+
+uint32_t pafteis_world_reset(pafteis_world *world, uint8_t threads) {
+    pafteis_world fresh = PAFTEIS_EMPTY_WORLD;
+    uint32_t status = pafteis_world_another(world, threads, &fresh);
+    if (status == PAFTEIS_DONE) {
+        pafteis_world_free(world);
+        *world = fresh;
+    }
+    return status;
 }
 
 static const char *major_word(uint8_t major) {
@@ -273,6 +368,25 @@ uint32_t pafteis_world_packet(pafteis_world *world, uint64_t number, pafteis_pac
 uint32_t pafteis_world_due(pafteis_world *world, uint8_t device, pafteis_due *due) {
     (void)device;
     memset(due, 0, sizeof *due);
+    return world->live ? PAFTEIS_DONE : PAFTEIS_NO_WORLD;
+}
+
+uint32_t pafteis_world_cells(pafteis_world *world, uint8_t device, pafteis_cells *cells) {
+    (void)device;
+    memset(cells, 0, sizeof *cells);
+    return world->live ? PAFTEIS_DONE : PAFTEIS_NO_WORLD;
+}
+
+uint32_t pafteis_world_lock(pafteis_world *world, uint8_t device, uint8_t lock,
+                            pafteis_owner *owner) {
+    (void)device, (void)lock;
+    memset(owner, 0, sizeof *owner);
+    return world->live ? PAFTEIS_DONE : PAFTEIS_NO_WORLD;
+}
+
+uint32_t pafteis_world_request(pafteis_world *world, uint64_t number, pafteis_request *request) {
+    (void)number;
+    memset(request, 0, sizeof *request);
     return world->live ? PAFTEIS_DONE : PAFTEIS_NO_WORLD;
 }
 

@@ -16,6 +16,8 @@ import subprocess
 import sys
 import tempfile
 
+from versions import VERSION
+
 TOP = pathlib.Path(__file__).resolve().parents[2]
 LIBRARY = TOP / "out/lib"
 EXAMPLES = TOP / "examples/library"
@@ -40,7 +42,7 @@ def built(folder):
     """The commands that answer as the program does, by their language."""
     found = {}
     here = ["-std=c11", "-Wall", "-Wextra", "-Werror", "-I", TOP / "include"]
-    for name in ("answer", "step", "first", "locks"):
+    for name in ("answer", "step", "first", "locks", "inside"):
         subprocess.run(["cc", *here, EXAMPLES / f"{name}.c", LIBRARY / "libpafteis.a", "-o",
                         f"{folder}/{name}"], check=True)
     found["C"] = [f"{folder}/answer"]
@@ -74,9 +76,12 @@ def cases():
             yield ["draw", name, str(events)], ["draw", name, str(events)]
             yield (["trace", name, str(events), "--unchecked"],
                    ["trace-unchecked", name, str(events)])
+    for name in ("echo", "twice", "cancelring", "pending", "released"):
+        name = f"examples/{name}.drv"
+        yield ["hunt", name], ["hunt", name]
+        yield ["mend", name], ["mend", name]
     for rule in range(1, 21):
         yield ["explain", "--rule", f"V{rule}"], ["rule", str(rule)]
-    yield ["version"], ["version"]
 
 
 LOCKS = (b"driver 0\nl1, l0, l2, l3, l4, l5, l6, l7, cancel\n"
@@ -84,7 +89,27 @@ LOCKS = (b"driver 0\nl1, l0, l2, l3, l4, l5, l6, l7, cancel\n"
          b"routine 1 at 1: cancel under l0\n")
 
 
-def wrong_worlds(folder):
+INSIDE = b"""0 counter
+0 disk
+0 on_read
+4 
+0 V11 Guard
+0 STATUS_CANCELLED
+0 MULTIPLE_IRP_COMPLETE_REQUESTS
+schedule 0: 2 threads, 14 events; fault 0 line 0
+schedule 2: 0 threads, 0 events; fault 2 line 2
+4 steps: cell 0, lock owned, packet 0: 3 7 0
+6 steps: cell 1, lock free, packet 0: 3 7 1
+2 steps: cell 1, lock free, packet 4: 0 0 0
+new 6, another 0, again 6
+1 steps: cell 0, lock free, packet 4: 0 0 0
+reset 0, with no threads 4
+1 steps: cell 0, lock free, packet 4: 0 0 0
+freed 0 0, reset 5
+"""
+
+
+def wrong_worlds(folder, commands):
     """What is told of the programs that drive a world or ask for orders of locks, each of which is
     tried once."""
     steps = b"started 0\nstepped\ntopped 0 0x00000000 0\nfinished\nidle\nfreed 0, again 5\n"
@@ -96,6 +121,12 @@ def wrong_worlds(folder):
     told = answered([f"{folder}/locks"])
     if told[:2] != (0, LOCKS):
         yield f"orders of locks from C are others: {told}"
+    told = answered([f"{folder}/inside"])
+    if told[:2] != (0, INSIDE):
+        yield f"what a world has is told otherwise from C: {told}"
+    for command in commands:
+        if answered([*command, "version"]) != (0, f"pafteis {VERSION}\n".encode(), b""):
+            yield f"{command[-1]} tells another version"
     own = {"PYTHONPATH": str(TOP / "python"), "PAFTEIS_LIBRARY": os.environ["PAFTEIS"]}
     os.environ.update(own)
     first = (0, b"reply 1\nreply 2\nreply 4\npacket 0: 0x00000000\nreply 3\n")
@@ -107,7 +138,7 @@ def wrong_worlds(folder):
 def main():
     program = sys.argv[1] if len(sys.argv) > 1 else str(TOP / "crates/drvhost/out/drvhost")
     only = sys.argv[2:]
-    wrong, tried = 0, 5
+    wrong, tried = 0, 7
     with tempfile.TemporaryDirectory() as folder:
         commands = built(folder)
         for words, own in cases():
@@ -119,7 +150,7 @@ def main():
                 if answered([*command, *own]) != right:
                     wrong += 1
                     print(f"{language} answers otherwise: {' '.join(words)}")
-        for told in wrong_worlds(folder):
+        for told in wrong_worlds(folder, commands.values()):
             wrong += 1
             print(told)
     print(f"{tried} tried, {wrong} wrong")

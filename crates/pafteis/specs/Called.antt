@@ -8,7 +8,6 @@ use Rattle.drvhost_devices.specs.Ends.{IsTraceOf}
 use Rattle.drvhost_options.specs.declared.extent.Extent.{Extent}
 use Rattle.drvhost_options.specs.declared.extent.Extent.TheVariants.{First, Each}
 use Rattle.drvhost_sets.specs.Explained.{IsExplainedOf}
-use Rattle.model.specs.declared.abs.Rule.{Rule}
 use Rattle.model.specs.declared.memory.OutOfMemory.{OutOfMemory}
 use Rattle.pafteis_parts.specs.Delivery.{bytes_of, placed}
 use Rattle.pafteis_values.specs.declared.verdict.Verdict.{Verdict}
@@ -35,6 +34,12 @@ pub record AnswersNothing (before after : List ℕ) (needed status why : ℕ) : 
   pub is : status ≡ why
   pub none : needed ≡ 0
   pub same : after ≡ before
+
+-- some bytes were put into a buffer, where it has room there, if there are any
+abbrev pub PutsBytes : Option (List ℕ) → List ℕ → List ℕ → ℕ → ℕ → Type 0
+PutsBytes None before after needed status = AnswersNothing before after needed status 4
+PutsBytes (Some bytes) before after needed status =
+    (status ≡ 0) × (needed ≡ length bytes) × (after ≡ placed bytes before)
 
 -- what came of a call was put into a buffer
 abbrev pub Puts : Result Answer OutOfMemory → List ℕ → List ℕ → ℕ → ℕ → Type 0

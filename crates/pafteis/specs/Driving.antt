@@ -1,5 +1,5 @@
 -- What the exported functions about a world answer.
-use Rattle.std.specs.Prelude.{ℕ, ◌≡◌, ◌≤◌, ◌<◌, ◌⊎◌, Bool, true, false, List, Option, None, Some, if◌then◌else◌, length, nat_lt}
+use Rattle.std.specs.Prelude.{ℕ, ◌≡◌, ◌≤◌, ◌⊎◌, Bool, true, false, List, Option, None, Some, if◌then◌else◌, length, nat_lt}
 use Rattle.machine.specs.declared.world.Steps.{Steps as StepsMade}
 use Rattle.model.specs.declared.event.Event.{Event}
 use Rattle.model.specs.declared.limits.TheConstants.{MAX_THREADS}
@@ -14,15 +14,14 @@ use Rattle.pafteis_values.specs.Reply.{reply_value}
 use Rattle.pafteis_values.specs.Verdict.{no_value, status_number, verdict_value}
 use Rattle.pafteis_world.specs.declared.handle.Handle.{Handle}
 use Rattle.pafteis_world.specs.Batch.{DrivesFirst}
+use Rattle.pafteis_world.specs.Again as again
 use Rattle.pafteis_world.specs.Driven as driven
-use Rattle.pafteis_world.specs.Judged.{IsJudged}
 
--- a world was made, or not, and the verdict says why
+-- of a handle without a world a world was made, or not, and the verdict says why
 pub record IsOpened (bytes : List ℕ) (threads : ℕ) (before after : Handle) (value : VerdictValue)
     (status : ℕ) : Type 0 where
   pub verdict : Verdict
-  pub judged : IsJudged bytes verdict
-  pub opens : driven.Opens bytes threads verdict before after
+  pub opens : driven.OpensEmpty bytes threads (Some verdict) before after
   pub told : value ≡ verdict_value verdict
   pub is : status ≡ status_number verdict
 
@@ -38,10 +37,48 @@ pub record HasNoThreads (threads : ℕ) (before after : Handle) (value : Verdict
   pub nothing : value ≡ no_value
   pub is : status ≡ 4
 
+-- the handle has a world, which stays
+pub record HasWorld (bytes : List ℕ) (threads : ℕ) (before after : Handle) (value : VerdictValue)
+    (status : ℕ) : Type 0 where
+  pub opens : driven.OpensEmpty bytes threads None before after
+  pub nothing : value ≡ no_value
+  pub is : status ≡ 6
+
 abbrev pub Opens : List ℕ → ℕ → Handle → Handle → VerdictValue → ℕ → Type 0
 Opens bytes threads before after value status =
-    (MayHave threads × IsOpened bytes threads before after value status)
+    (MayHave threads × (IsOpened bytes threads before after value status
+    ⊎ HasWorld bytes threads before after value status))
     ⊎ HasNoThreads threads before after value status
+
+-- a world was begun anew, or memory refused; there was none; or there can't be so many threads
+abbrev pub done_status : Option Bool → ℕ
+done_status None = 5
+done_status (Some true) = 0
+done_status (Some false) = 3
+
+abbrev pub Resets : ℕ → Handle → Handle → ℕ → Type 0
+Resets threads before after status =
+    (MayHave threads × ((done : Option Bool) × again.Resets threads before done after
+    × (status ≡ done_status done)))
+    ⊎ ((MayHave threads → ⊥) × (after ≡ before) × (status ≡ 4))
+
+-- in an empty handle a world of another's set was begun; or that handle has a world, which stays;
+-- or there can't be so many threads
+abbrev pub BeginsAnother : ℕ → Handle → Handle → Handle → Handle → ℕ → Type 0
+BeginsAnother threads before after old new status =
+    (old.live ≡ false) × ((done : Option Bool)
+    × again.BeginsAnew threads before done after new × (status ≡ done_status done))
+
+abbrev pub HasOther : Handle → Handle → Handle → Handle → ℕ → Type 0
+HasOther before after old new status =
+    (old.live ≡ true) × (after ≡ before) × (driven.world_in new ≡ driven.world_in old)
+    × (status ≡ 6)
+
+abbrev pub BeginsAnew : ℕ → Handle → Handle → Handle → Handle → ℕ → Type 0
+BeginsAnew threads before after old new status =
+    (MayHave threads × (BeginsAnother threads before after old new status
+    ⊎ HasOther before after old new status))
+    ⊎ ((MayHave threads → ⊥) × (after ≡ before) × (new ≡ old) × (status ≡ 4))
 
 -- an answer of a world is told as a value, with the status 0; 5 where there is no world, and the
 -- value is as it was

@@ -2,7 +2,12 @@
 //! of each.
 #![tactic(auto)]
 
+pub mod again;
 pub mod locks;
+pub mod names;
+pub mod reading;
+pub mod schedules;
+pub mod seeking;
 pub mod shape;
 pub mod shown;
 pub mod texts;

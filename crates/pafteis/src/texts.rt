@@ -1,16 +1,16 @@
 //! Bytes in, bytes out.
 
-ghost use Rattle.std.specs.Prelude.{◌≡◌};
-ghost use Rattle.drvhost_devices.specs.Answer.{IsVersion};
+ghost use Rattle.std.specs.Prelude.{◌≡◌, Some};
 ghost use Rattle.drvhost_devices.specs.Device.{Bytes};
 ghost use Rattle.drvhost_devices.specs.Ends.{IsCheckOf, IsListOf, IsRewriteOf};
-ghost use Rattle.pafteis.specs.Called.{Answers, ExplainsRule, ExplainsSet, IsCheckedAs, Puts, Traces, verification_named};
+ghost use Rattle.pafteis.specs.Called.{Answers, ExplainsRule, ExplainsSet, IsCheckedAs, Puts, PutsBytes, Traces, verification_named};
 
+use crate::worlds::DONE;
 use drvhost_devices::verification::Verification;
 use drvhost_options::extent::Extent;
 use model::memory::OutOfMemory;
 use pafteis_parts::answers;
-use pafteis_parts::delivery::deliver;
+use pafteis_parts::delivery::{deliver, place};
 use pafteis_parts::returned::Told;
 use pafteis_values::rule::rule_of;
 use pafteis_values::verdict::VerdictValue;
@@ -140,14 +140,6 @@ pub extern "C" fn pafteis_rewrite(
     put(answers::rewrite(alloc, set), buffer, needed)
 }
 
-/// The name and the version of the program whose answers these are.
-#[unsafe(no_mangle)]
-pub extern "C" fn pafteis_version(alloc: Global, buffer: &mut [u8], needed: &mut usize) -> u32
-    ensures { Answers IsVersion buffer.old buffer.new needed.new result }
-{
-    put(answers::version(alloc), buffer, needed)
-}
-
 /// An argument names nothing.
 pub(crate) fn wrong(needed: &mut usize) -> u32
     ensures status { result ≡ WRONG_ARGUMENT }
@@ -164,4 +156,12 @@ pub(crate) fn put(told: Result<Told, OutOfMemory>, buffer: &mut [u8], needed: &m
     let delivered = deliver(told, buffer);
     *needed = delivered.needed;
     delivered.status
+}
+
+/// Puts bytes into a buffer and says how many they are.
+pub(crate) fn put_bytes(bytes: &[u8], buffer: &mut [u8], needed: &mut usize) -> u32
+    ensures { PutsBytes (Some bytes.now) buffer.old buffer.new needed.new result }
+{
+    *needed = place(bytes, &[], buffer);
+    DONE
 }

@@ -1,8 +1,8 @@
 //! A world behind a handle.
 
-ghost use Rattle.std.specs.Prelude.{◌≡◌};
+ghost use Rattle.std.specs.Prelude.{◌≡◌, true, false};
 ghost use Rattle.model.specs.View.{due_at, packet_at, thread_at};
-ghost use Rattle.pafteis.specs.Driving.{Applies, AppliesAll, Closes, Opens, Steps, TellsAll, TellsIf};
+ghost use Rattle.pafteis.specs.Driving.{Applies, AppliesAll, Closes, MayHave, Opens, Steps, TellsAll, TellsIf};
 ghost use Rattle.pafteis_values.specs.View.{due_value, packet_value, thread_value};
 
 use crate::texts::WRONG_ARGUMENT;
@@ -21,9 +21,19 @@ use std::alloc::Global;
 pub const DONE: u32 = 0;
 /// The status where a handle has no world.
 pub const NO_WORLD: u32 = 5;
+/// The status where a handle that is to have a new world has one.
+pub const HAS_WORLD: u32 = 6;
+
+/// Whether a world may have so many threads.
+pub(crate) fn may_have(threads: u8) -> bool
+    ensures some { result ≡ true → MayHave threads }
+    ensures none { result ≡ false → MayHave threads → ⊥ }
+{
+    threads > 0 && threads as usize <= MAX_THREADS
+}
 
 /// Makes the world of the set that a text or an image names, with 1 to 64 threads: 0 it stands, 1
-/// the set is refused, 2 faulty, 3 no memory, 4 no such number of threads.
+/// the set is refused, 2 faulty, 3 no memory, 4 no such number of threads, 6 the handle has a world.
 #[unsafe(no_mangle)]
 pub extern "C" fn pafteis_world_new(
     alloc: Global,
@@ -34,13 +44,17 @@ pub extern "C" fn pafteis_world_new(
 ) -> u32
     ensures { Opens set.now threads world.old world.new verdict.new result }
 {
-    if threads == 0 || threads as usize > MAX_THREADS {
-        *verdict = NOTHING;
+    *verdict = NOTHING;
+    if !may_have(threads) {
         return WRONG_ARGUMENT;
     }
-    let judged = driving::open(alloc, set, threads, world);
-    *verdict = judged.value();
-    judged.status()
+    match driving::open_empty(alloc, set, threads, world) {
+        Some(judged) => {
+            *verdict = judged.value();
+            judged.status()
+        }
+        None => HAS_WORLD,
+    }
 }
 
 /// Applies an event.

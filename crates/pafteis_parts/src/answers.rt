@@ -2,19 +2,23 @@
 //! whatever it is asked.
 
 ghost use Rattle.std.specs.Prelude.{IfOk};
-ghost use Rattle.drvhost_devices.specs.Answer.{IsRuleExplained, IsVersion};
+ghost use Rattle.drvhost_devices.specs.Answer.{IsRuleExplained};
 ghost use Rattle.drvhost_devices.specs.Device.{Bytes};
 ghost use Rattle.drvhost_devices.specs.Ends.{IsCheckOf, IsListOf, IsRewriteOf, IsTraceOf};
+ghost use Rattle.drvhost_hunts.specs.Hunt.{IsHuntOf};
+ghost use Rattle.drvhost_mends.specs.Mend.{IsMendOf};
 ghost use Rattle.drvhost_sets.specs.Explained.{IsExplainedOf};
 ghost use Rattle.drvhost_views.specs.Told.{IsDrawOf, IsTellOf};
 
 use crate::returned::{Told, collected};
 use drvhost_devices::device::{Reader, Source, Writer};
 use drvhost_devices::verification::Verification;
+use drvhost_mends::mend::Asked;
 use drvhost_options::extent::Extent;
 use drvhost_options::figure::Figure;
 use drvhost_views::draw::Drawing;
 use drvhost_views::tell::Telling;
+use hunt_bounds::reach::Reach;
 use model::abs::Rule;
 use model::memory::OutOfMemory;
 use std::alloc::Global;
@@ -134,6 +138,28 @@ pub fn draw(
     collected(exit, source.failures(), events.failures(), output, errors)
 }
 
+/// A shortest run of a set that ends amiss, as a schedule, or that none is within reach.
+pub fn hunt(alloc: Global, reach: Reach, set: &[u8]) -> Result<Told, OutOfMemory>
+    ensures { IfOk result (IsHuntOf reach (Bytes set.now)) }
+{
+    let mut source = Reader::new(Some(set));
+    let mut output = Writer::new(Vec::new(alloc));
+    let mut errors = Writer::new(Vec::new(alloc));
+    let exit = drvhost_hunts::hunt::hunt(alloc, reach, &mut source, &mut output, &mut errors);
+    collected(exit, source.failures(), 0, output, errors)
+}
+
+/// Mends of a set's text, as diffs.
+pub fn mend(alloc: Global, asked: Asked, set: &[u8]) -> Result<Told, OutOfMemory>
+    ensures { IfOk result (IsMendOf asked (Bytes set.now)) }
+{
+    let mut source = Reader::new(Some(set));
+    let mut output = Writer::new(Vec::new(alloc));
+    let mut errors = Writer::new(Vec::new(alloc));
+    let exit = drvhost_mends::mend::mend(alloc, asked, &mut source, &mut output, &mut errors);
+    collected(exit, source.failures(), 0, output, errors)
+}
+
 /// The listing of a set.
 pub fn list(alloc: Global, set: &[u8]) -> Result<Told, OutOfMemory>
     ensures { IfOk result (IsListOf (Bytes set.now)) }
@@ -154,14 +180,4 @@ pub fn rewrite(alloc: Global, set: &[u8]) -> Result<Told, OutOfMemory>
     let mut errors = Writer::new(Vec::new(alloc));
     let exit = drvhost_sets::rewriting::rewrite(alloc, &mut source, &mut output, &mut errors);
     collected(exit, source.failures(), 0, output, errors)
-}
-
-/// The name and the version of the program.
-pub fn version(alloc: Global) -> Result<Told, OutOfMemory>
-    ensures { IfOk result IsVersion }
-{
-    let mut output = Writer::new(Vec::new(alloc));
-    let mut errors = Writer::new(Vec::new(alloc));
-    let exit = drvhost_sets::version::version(&mut output, &mut errors);
-    collected(exit, 0, 0, output, errors)
 }

@@ -34,7 +34,7 @@ pub fn deliver(told: Result<Told, OutOfMemory>, buffer: &mut [u8]) -> Delivered
 
 /// Puts bytes, and more of them behind, into the front of a buffer, if they have room there, and
 /// answers how many they are.
-fn place(bytes: &[u8], more: &[u8], buffer: &mut [u8]) -> usize
+pub fn place(bytes: &[u8], more: &[u8], buffer: &mut [u8]) -> usize
     ensures { (result ≡ length bytes.now + length more.now)
         × (buffer.new ≡ placed (bytes.now ++ more.now) buffer.old) }
 {

@@ -1,10 +1,13 @@
 //! The program's answers in memory, and in a buffer, as the library for C has them.
 
 use drvhost_devices::verification::Verification;
+use drvhost_mends::mend::Asked;
 use drvhost_options::extent::Extent;
+use hunt_bounds::bounds::{Bounds, Goal};
+use hunt_bounds::reach::Reach;
 use model::abs::Rule;
 use model::memory::OutOfMemory;
-use pafteis_parts::answers::{check, explain, explain_rule, list, rewrite, trace, version};
+use pafteis_parts::answers::{check, explain, explain_rule, hunt, list, mend, rewrite, trace};
 use pafteis_parts::delivery::deliver;
 use pafteis_parts::returned::Told;
 
@@ -120,7 +123,37 @@ fn listings_in_memory(rt: HostRuntime) {
     assert!(rt; is_told(list(alloc, ECHO), 0, listed, b""));
     let image = rewrite(alloc, ECHO).ok().expect(&rt, "an image");
     assert!(rt; is_told(list(alloc, image.output()), 0, listed, b""));
-    assert!(rt; is_told(version(alloc), 0, b"drvhost 1.0.0\n", b""));
+}
+
+#[test]
+fn runs_and_mends_in_memory(rt: HostRuntime) {
+    let alloc = rt.alloc();
+    let reach = Reach::of(Bounds {
+        threads: 1,
+        packets: 1,
+        worlds: 1_000,
+        events: None,
+        argument: None,
+        goal: Goal::Amiss,
+    });
+    assert!(rt; begins(hunt(alloc, reach, ECHO), 0, b"none: "));
+    assert!(rt;
+        begins(
+            hunt(alloc, reach, TWICE),
+            1,
+            b"; bug 0x44 packet 0\nthreads 1\n"
+        )
+    );
+    let asked = Asked { tries: 100 };
+    assert!(rt;
+        is_told(
+            mend(alloc, asked, ECHO),
+            0,
+            b"accepted: nothing to mend\n",
+            b""
+        )
+    );
+    assert!(rt; begins(mend(alloc, asked, TWICE), 0, REFUSED));
 }
 
 #[test]
@@ -145,11 +178,11 @@ fn words_on_two_faults_in_memory(rt: HostRuntime) {
 #[test]
 fn answers_in_buffers(rt: HostRuntime) {
     let alloc = rt.alloc();
-    let mut buffer = [7u8; 16];
-    let short = deliver(version(alloc), &mut buffer[..13]);
-    assert_eq!(rt; short.needed, 14);
-    assert!(rt; buffer == [7u8; 16]);
-    let whole = deliver(version(alloc), &mut buffer);
-    assert_eq!(rt; whole.status, 0);
-    assert!(rt; buffer.as_slice() == b"drvhost 1.0.0\n\x07\x07".as_slice());
+    let mut buffer = [7u8; 31];
+    let short = deliver(check(alloc, b"driver d\n"), &mut buffer[..28]);
+    assert_eq!(rt; short.needed, 29);
+    assert!(rt; buffer == [7u8; 31]);
+    let whole = deliver(check(alloc, b"driver d\n"), &mut buffer);
+    assert_eq!(rt; whole.status, 2);
+    assert!(rt; buffer.as_slice() == b"text fault 6 Unclosed line 2\n\x07\x07".as_slice());
 }

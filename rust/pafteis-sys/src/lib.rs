@@ -9,6 +9,7 @@ pub const PAFTEIS_FAULTY: u32 = 2;
 pub const PAFTEIS_NO_MEMORY: u32 = 3;
 pub const PAFTEIS_WRONG_ARGUMENT: u32 = 4;
 pub const PAFTEIS_NO_WORLD: u32 = 5;
+pub const PAFTEIS_HAS_WORLD: u32 = 6;
 pub const PAFTEIS_VERSION_NUMBER: u32 = 1_000_000;
 
 #[repr(C)]
@@ -147,6 +148,81 @@ pub struct pafteis_routine_shape {
     pub sort: u32,
 }
 
+#[repr(C)]
+#[derive(Clone, Copy, Debug, Default, PartialEq, Eq)]
+pub struct pafteis_cells {
+    pub plain: [u64; 16],
+    pub paged: [u64; 16],
+}
+
+#[repr(C)]
+#[derive(Clone, Copy, Debug, Default, PartialEq, Eq)]
+pub struct pafteis_owner {
+    pub owned: bool,
+    pub thread: u8,
+}
+
+#[repr(C)]
+#[derive(Clone, Copy, Debug, Default, PartialEq, Eq)]
+pub struct pafteis_request {
+    pub argument: u64,
+    pub info: u64,
+    pub major: u64,
+}
+
+pub const PAFTEIS_STUCK: u32 = 1;
+pub const PAFTEIS_BOUNDED: u32 = 2;
+pub const PAFTEIS_FURTHER: u32 = 4;
+
+#[repr(C)]
+#[derive(Clone, Copy, Debug, PartialEq, Eq)]
+pub struct pafteis_hunting {
+    pub packets: u64,
+    pub worlds: u64,
+    pub events: u64,
+    pub argument: u64,
+    pub threads: u32,
+    pub flags: u32,
+}
+
+impl Default for pafteis_hunting {
+    /// `PAFTEIS_USUAL_HUNT`
+    fn default() -> Self {
+        pafteis_hunting {
+            packets: 2,
+            worlds: 1_000_000,
+            events: 0,
+            argument: 0,
+            threads: 2,
+            flags: 0,
+        }
+    }
+}
+
+pub const PAFTEIS_USUAL_TRIES: u64 = 20_000;
+
+pub const PAFTEIS_NAME_OF_DRIVER: u32 = 1;
+pub const PAFTEIS_NAME_OF_DEVICE: u32 = 2;
+pub const PAFTEIS_NAME_OF_ROUTINE: u32 = 3;
+pub const PAFTEIS_NAME_OF_QUEUE: u32 = 4;
+pub const PAFTEIS_NAME_OF_RULE: u32 = 5;
+pub const PAFTEIS_NAME_OF_STATUS: u32 = 6;
+pub const PAFTEIS_NAME_OF_BUG_CHECK: u32 = 7;
+
+#[repr(C)]
+#[derive(Clone, Copy, Debug, Default, PartialEq, Eq)]
+pub struct pafteis_schedule_size {
+    pub events: u64,
+    pub threads: u32,
+}
+
+#[repr(C)]
+#[derive(Clone, Copy, Debug, Default, PartialEq, Eq)]
+pub struct pafteis_schedule_fault {
+    pub line: u64,
+    pub kind: u32,
+}
+
 #[rustfmt::skip]
 unsafe extern "C" {
     pub fn pafteis_check(set: *const u8, length: usize, verdict: *mut pafteis_verdict) -> u32;
@@ -160,6 +236,11 @@ unsafe extern "C" {
     pub fn pafteis_trace(set: *const u8, length: usize, schedule: *const u8, schedule_length: usize, flags: u32, buffer: *mut u8, capacity: usize, needed: *mut usize) -> u32;
     pub fn pafteis_tell(set: *const u8, length: usize, schedule: *const u8, schedule_length: usize, flags: u32, buffer: *mut u8, capacity: usize, needed: *mut usize) -> u32;
     pub fn pafteis_draw(set: *const u8, length: usize, schedule: *const u8, schedule_length: usize, flags: u32, buffer: *mut u8, capacity: usize, needed: *mut usize) -> u32;
+    pub fn pafteis_hunt(set: *const u8, length: usize, asked: *const pafteis_hunting, buffer: *mut u8, capacity: usize, needed: *mut usize) -> u32;
+    pub fn pafteis_mend(set: *const u8, length: usize, tries: u64, buffer: *mut u8, capacity: usize, needed: *mut usize) -> u32;
+    pub fn pafteis_name_in(text: *const u8, length: usize, kind: u32, driver: u8, number: u8, buffer: *mut u8, capacity: usize, needed: *mut usize) -> u32;
+    pub fn pafteis_name_of(kind: u32, number: u32, buffer: *mut u8, capacity: usize, needed: *mut usize) -> u32;
+    pub fn pafteis_schedule(schedule: *const u8, length: usize, size: *mut pafteis_schedule_size, fault: *mut pafteis_schedule_fault) -> u32;
     pub fn pafteis_list(set: *const u8, length: usize, buffer: *mut u8, capacity: usize, needed: *mut usize) -> u32;
     pub fn pafteis_rewrite(set: *const u8, length: usize, buffer: *mut u8, capacity: usize, needed: *mut usize) -> u32;
     pub fn pafteis_version_number() -> u32;
@@ -171,5 +252,10 @@ unsafe extern "C" {
     pub fn pafteis_world_thread(world: *mut pafteis_world, number: u8, thread: *mut pafteis_thread) -> u32;
     pub fn pafteis_world_packet(world: *mut pafteis_world, number: u64, packet: *mut pafteis_packet) -> u32;
     pub fn pafteis_world_due(world: *mut pafteis_world, device: u8, due: *mut pafteis_due) -> u32;
+    pub fn pafteis_world_reset(world: *mut pafteis_world, threads: u8) -> u32;
+    pub fn pafteis_world_another(world: *mut pafteis_world, threads: u8, other: *mut pafteis_world) -> u32;
+    pub fn pafteis_world_cells(world: *mut pafteis_world, device: u8, cells: *mut pafteis_cells) -> u32;
+    pub fn pafteis_world_lock(world: *mut pafteis_world, device: u8, lock: u8, owner: *mut pafteis_owner) -> u32;
+    pub fn pafteis_world_request(world: *mut pafteis_world, number: u64, request: *mut pafteis_request) -> u32;
     pub fn pafteis_world_free(world: *mut pafteis_world) -> u32;
 }

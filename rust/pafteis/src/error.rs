@@ -11,6 +11,8 @@ pub enum Error {
     FaultyText { fault: u32, line: u64 },
     /// The bytes are a faulty image: the fault's number.
     FaultyImage { fault: u32 },
+    /// The bytes are no schedule: the fault's number, and the line, from 1.
+    FaultySchedule { fault: u32, line: u64 },
     /// The set or the schedule is faulty, in the program's words.
     Faulty(String),
     /// Memory was refused.
@@ -25,6 +27,9 @@ impl fmt::Display for Error {
             Error::Refused(refusal) => write!(out, "{refusal}"),
             Error::FaultyText { fault, line } => write!(out, "text fault {fault} line {line}"),
             Error::FaultyImage { fault } => write!(out, "image fault {fault}"),
+            Error::FaultySchedule { fault, line } => {
+                write!(out, "schedule fault {fault} line {line}")
+            }
             Error::Faulty(told) => write!(out, "{}", told.trim_end()),
             Error::NoMemory => write!(out, "out of memory"),
             Error::WrongArgument => write!(out, "a number that names nothing"),

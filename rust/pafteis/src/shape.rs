@@ -32,7 +32,9 @@ pub fn describe(set: &[u8]) -> Result<Shape, Error> {
     });
     Ok(Shape {
         devices: devices.collect::<Result<_, _>>()?,
-        drivers: (0..found.drivers).map(|driver| routines(set, driver as u8)).collect(),
+        drivers: (0..found.drivers)
+            .map(|driver| routines(set, driver as u8))
+            .collect(),
     })
 }
 

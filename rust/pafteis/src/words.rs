@@ -19,7 +19,9 @@ pub struct Trace {
 }
 
 /// The bytes of a call that puts its answer into a buffer, and whether all went well.
-fn told(call: impl Fn(*mut u8, usize, *mut usize) -> u32) -> Result<(Vec<u8>, bool), Error> {
+pub(crate) fn told(
+    call: impl Fn(*mut u8, usize, *mut usize) -> u32,
+) -> Result<(Vec<u8>, bool), Error> {
     let mut buffer = vec![0; 1024];
     loop {
         let mut needed = 0;
@@ -92,17 +94,24 @@ type Call = unsafe extern "C" fn(
 /// What a call answers of a run, by its flags.
 fn run(call: Call, set: &[u8], schedule: &[u8], flags: u32) -> Result<Trace, Error> {
     let (at, length, events, count) = (set.as_ptr(), set.len(), schedule.as_ptr(), schedule.len());
-    let (bytes, complete) =
-        told(|b, c, n| unsafe { call(at, length, events, count, flags, b, c, n) })?;
+    let answer = told(|b, c, n| unsafe { call(at, length, events, count, flags, b, c, n) });
+    let (bytes, complete) = answer.map_err(|error| numbered(error, schedule))?;
     if !complete && flags % 2 == 0 {
         if let Some(refusal) = check(set)? {
             return Err(Error::Refused(refusal));
         }
     }
-    Ok(Trace {
-        text: text(bytes),
-        complete,
-    })
+    Ok(traced((bytes, complete)))
+}
+
+/// The error of a run, with the numbers of the fault where its schedule is faulty.
+fn numbered(error: Error, schedule: &[u8]) -> Error {
+    match &error {
+        Error::Faulty(told) if told.starts_with("schedule fault ") => {
+            crate::schedule::schedule(schedule).err().unwrap_or(error)
+        }
+        _ => error,
+    }
 }
 
 /// A run of a schedule of events; of a refused set only where it is `unchecked`, else `Refused`.
@@ -129,10 +138,39 @@ pub fn tell(set: &[u8], schedule: &[u8], unchecked: bool, detail: Detail) -> Res
         Detail::Quiet => 2,
         Detail::Every => 4,
     };
-    run(sys::pafteis_tell, set, schedule, u32::from(unchecked) + detail)
+    run(
+        sys::pafteis_tell,
+        set,
+        schedule,
+        u32::from(unchecked) + detail,
+    )
 }
 
 /// A run of a schedule as a picture in SVG.
 pub fn draw(set: &[u8], schedule: &[u8], unchecked: bool) -> Result<Trace, Error> {
     run(sys::pafteis_draw, set, schedule, u32::from(unchecked))
+}
+
+/// How far a hunt goes, and what it looks for.
+pub use pafteis_sys::pafteis_hunting as Hunting;
+
+/// A shortest run that ends amiss, as a schedule: it is complete where none is within reach, and
+/// the text says so then.
+pub fn hunt(set: &[u8], asked: &Hunting) -> Result<Trace, Error> {
+    let (at, length) = (set.as_ptr(), set.len());
+    told(|b, c, n| unsafe { sys::pafteis_hunt(at, length, asked, b, c, n) }).map(traced)
+}
+
+/// Mends of a text, as diffs, tried so often for each faulty routine: it is complete where the
+/// whole is mended, or there is nothing to mend.
+pub fn mend(set: &[u8], tries: u64) -> Result<Trace, Error> {
+    let (at, length) = (set.as_ptr(), set.len());
+    told(|b, c, n| unsafe { sys::pafteis_mend(at, length, tries, b, c, n) }).map(traced)
+}
+
+fn traced((bytes, complete): (Vec<u8>, bool)) -> Trace {
+    Trace {
+        text: text(bytes),
+        complete,
+    }
 }

@@ -3,7 +3,10 @@ use crate::verdict::judged;
 use pafteis_sys as sys;
 use std::ptr;
 
-pub use pafteis_sys::{pafteis_due as Due, pafteis_packet as Packet, pafteis_thread as Thread};
+pub use pafteis_sys::{
+    pafteis_cells as Cells, pafteis_due as Due, pafteis_packet as Packet,
+    pafteis_request as Request, pafteis_thread as Thread,
+};
 
 /// Major functions of requests.
 #[derive(Clone, Copy, Debug, PartialEq, Eq)]
@@ -147,6 +150,14 @@ pub struct World {
     handle: sys::pafteis_world,
 }
 
+/// A handle without a world.
+fn empty() -> sys::pafteis_world {
+    sys::pafteis_world {
+        live: false,
+        inside: ptr::null_mut(),
+    }
+}
+
 // A world is in no thread's own memory, and each call wants it alone.
 unsafe impl Send for World {}
 
@@ -158,10 +169,7 @@ impl World {
     /// `Refused`, `FaultyText`, `FaultyImage`, `WrongArgument` of another number of threads,
     /// `NoMemory`.
     pub fn new(set: &[u8], threads: u8) -> Result<World, Error> {
-        let mut handle = sys::pafteis_world {
-            live: false,
-            inside: ptr::null_mut(),
-        };
+        let mut handle = empty();
         let mut found = sys::pafteis_verdict::default();
         let (at, length) = (set.as_ptr(), set.len());
         let status =
@@ -229,6 +237,53 @@ impl World {
         let mut found = Due::default();
         unsafe { sys::pafteis_world_due(&mut self.handle, device, &mut found) };
         found
+    }
+
+    /// The number cells of a device.
+    ///
+    /// # Errors
+    ///
+    /// `WrongArgument` where there is none of this number; so have the calls below, of a lock and
+    /// of a packet that is live.
+    pub fn cells(&mut self, device: u8) -> Result<Cells, Error> {
+        let mut found = Cells::default();
+        done(unsafe { sys::pafteis_world_cells(&mut self.handle, device, &mut found) })?;
+        Ok(found)
+    }
+
+    /// The thread that owns a spin lock of a device, 0 to 7, or the system cancel spin lock,
+    /// `CANCEL_LOCK`, if one does.
+    pub fn owner(&mut self, device: u8, lock: u8) -> Result<Option<u8>, Error> {
+        let mut found = sys::pafteis_owner::default();
+        done(unsafe { sys::pafteis_world_lock(&mut self.handle, device, lock, &mut found) })?;
+        Ok(found.owned.then_some(found.thread))
+    }
+
+    /// What is asked with a live packet.
+    pub fn request(&mut self, packet: u64) -> Result<Request, Error> {
+        let mut found = Request::default();
+        done(unsafe { sys::pafteis_world_request(&mut self.handle, packet, &mut found) })?;
+        Ok(found)
+    }
+
+    /// Begins anew: before the first event, with so many threads.
+    ///
+    /// # Errors
+    ///
+    /// `WrongArgument` of another number of threads, `NoMemory`: the world is as it was then.
+    pub fn reset(&mut self, threads: u8) -> Result<(), Error> {
+        done(unsafe { sys::pafteis_world_reset(&mut self.handle, threads) })
+    }
+
+    /// Another world of the same set, before its first event.
+    ///
+    /// # Errors
+    ///
+    /// As `reset`.
+    pub fn another(&mut self, threads: u8) -> Result<World, Error> {
+        let mut handle = empty();
+        done(unsafe { sys::pafteis_world_another(&mut self.handle, threads, &mut handle) })?;
+        Ok(World { handle })
     }
 }
 

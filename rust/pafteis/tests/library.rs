@@ -1,6 +1,7 @@
 //! Over the library, and the examples of the tree.
+use pafteis::{bug_check_name, hunt, mend, name_in, rule_name, schedule, status_name, Hunting};
 use pafteis::{check, describe, draw, order_of_locks, tell, trace, Detail, Error, Event, LockEdge};
-use pafteis::{LockOrder, Major, Reply, World, CANCEL_LOCK};
+use pafteis::{LockOrder, Major, Named, Reply, World, CANCEL_LOCK};
 use std::fs;
 
 fn example(name: &str) -> Vec<u8> {
@@ -54,7 +55,10 @@ fn traces() {
     ));
     let run = trace(&set, &schedule, true).unwrap();
     assert!(!run.complete && run.text.ends_with("3 bug 0x44 packet 0\n"));
-    assert!(matches!(trace(&set, b"what", true), Err(Error::Faulty(_))));
+    assert_eq!(
+        trace(&set, b"what", true),
+        Err(Error::FaultySchedule { fault: 2, line: 1 })
+    );
 }
 
 #[test]
@@ -127,4 +131,65 @@ fn worlds() {
         World::new(&example("echo.drv"), 65),
         Err(Error::WrongArgument)
     ));
+}
+
+#[test]
+fn what_threads_share() {
+    let mut world = World::new(&example("counter.drv"), 2).unwrap();
+    let read = Event::Issue {
+        thread: 0,
+        device: 0,
+        major: Major::Read,
+        argument: 7,
+    };
+    world.apply(read);
+    assert_eq!(world.steps(0, 4).0, 4);
+    assert_eq!(world.owner(0, 0), Ok(Some(0)));
+    assert_eq!(world.owner(0, CANCEL_LOCK), Ok(None));
+    assert_eq!(world.owner(1, 0), Err(Error::WrongArgument));
+    world.steps(0, 6);
+    let asked = world.request(0).unwrap();
+    assert_eq!((asked.major, asked.argument, asked.info), (3, 7, 1));
+    assert_eq!(world.request(1), Err(Error::WrongArgument));
+    assert_eq!(world.cells(0).unwrap().plain[0], 1);
+    assert_eq!(world.another(1).unwrap().cells(0).unwrap().plain[0], 0);
+    world.reset(1).unwrap();
+    assert_eq!(world.cells(0).unwrap().plain[0], 0);
+    assert_eq!(world.reset(0), Err(Error::WrongArgument));
+}
+
+#[test]
+fn hunts_and_mends() {
+    let found = hunt(&example("twice.drv"), &Hunting::default()).unwrap();
+    assert!(!found.complete);
+    let run = trace(&example("twice.drv"), found.text.as_bytes(), true).unwrap();
+    assert!(!run.complete);
+    assert!(mend(&example("echo.drv"), 20_000).unwrap().complete);
+    assert_eq!(mend(&example("echo.drv"), 0), Err(Error::WrongArgument));
+}
+
+#[test]
+fn names() {
+    let text = example("counter.drv");
+    assert_eq!(name_in(&text, Named::Driver(0)).unwrap(), "counter");
+    let (driver, routine) = (0, 0);
+    let on_read = Named::Routine { driver, routine };
+    assert_eq!(name_in(&text, on_read).unwrap(), "on_read");
+    assert_eq!(name_in(&text, Named::Device(1)), Err(Error::WrongArgument));
+    assert_eq!(rule_name(11).unwrap(), "V11 Guard");
+    assert_eq!(status_name(0).unwrap(), "STATUS_SUCCESS");
+    assert_eq!(
+        bug_check_name(0x48).unwrap(),
+        "CANCEL_STATE_IN_COMPLETED_IRP"
+    );
+}
+
+#[test]
+fn schedules() {
+    let size = schedule(&example("one-read.sched")).unwrap();
+    assert_eq!((size.threads, size.events), (1, 5));
+    assert_eq!(
+        schedule(b"threads 1\nwhat\n"),
+        Err(Error::FaultySchedule { fault: 2, line: 2 })
+    );
 }
