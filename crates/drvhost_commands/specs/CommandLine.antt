@@ -14,7 +14,7 @@ use Rattle.model.specs.declared.abs.Rule.{Rule as VerdictRule}
 use Rattle.model.specs.declared.limits.TheConstants.{MAX_THREADS}
 use Rattle.report.specs.Rule.{IsRuleWord}
 use Rattle.drvhost_commands.specs.declared.job.Job.{Job}
-use Rattle.drvhost_commands.specs.declared.job.Job.TheVariants.{Page as OfPage, OnPaths, Rewrite, OnSet, OnRun, Host}
+use Rattle.drvhost_commands.specs.declared.job.Job.TheVariants.{Page as OfPage, OnPaths, Log, Rewrite, OnSet, OnRun, Host}
 use Rattle.drvhost_commands.specs.declared.job.Page.{Page}
 use Rattle.drvhost_commands.specs.declared.job.Page.TheVariants.{Rule as PageOfRule, LockOrder, Version}
 use Rattle.drvhost_commands.specs.declared.job.Task.{Task}
@@ -264,6 +264,15 @@ NamesPaths found paths judging =
     (all_of (codes "PATH") found.1 ≡ Some (map (λ path. path.now) paths))
     × NamesJudging found judging
 
+-- one log is asked for, and the paths for which it is
+abbrev pub IsLogAsked : List Row → Type 0
+IsLogAsked rows = first_of (codes "format") rows ≡ Some (codes "sarif")
+
+abbrev pub NamesLog : Text × List Row → List (Bor (List ℕ)) → Type 0
+NamesLog found paths = (found.0 ≡ codes "check")
+    × (all_of (codes "PATH") found.1 ≡ Some (map (λ path. path.now) paths))
+    × IsLogAsked found.1
+
 -- a task with a set
 abbrev pub NamesTask : Text × List Row → Task → Type 0
 NamesTask found (Mend tries) = (found.0 ≡ codes "mend")
@@ -308,6 +317,7 @@ NamesFiles found _ = ⊥
 abbrev pub NamesBy : Text × List Row → Job → Type 0
 NamesBy found (OfPage page) = NamesPage found page
 NamesBy found (OnPaths paths judging) = NamesPaths found paths.items judging
+NamesBy found (Log paths) = NamesLog found paths.items
 NamesBy found (OnSet set task) = NamesSet found set.now task
 NamesBy found (OnRun set input way) = NamesRun found set.now input.now way
 NamesBy found job = NamesFiles found job

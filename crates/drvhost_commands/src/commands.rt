@@ -62,7 +62,15 @@ const COMMANDS: [Entry<'static>; 11] = [
         name: "check",
         about: "Accepts or refuses driver sets",
         usage: None,
-        arguments: &[Argument::Files("PATH", PATHS), FORMAT],
+        arguments: &[
+            Argument::Files("PATH", PATHS),
+            Argument::Value(
+                "format",
+                "format",
+                ValueParser::String,
+                "How the answer is written, text, json or sarif; text where none is given",
+            ),
+        ],
     },
     Entry {
         name: "explain",

@@ -41,6 +41,10 @@ pub enum Job<'a> {
         paths: Vec<&'a str>,
         judging: Judging,
     },
+    /// `check PATH.. --format sarif`: one log of the driver sets that paths stand for
+    Log {
+        paths: Vec<&'a str>,
+    },
     /// `rewrite FILE OUT`
     Rewrite {
         set: &'a str,

@@ -3,7 +3,7 @@
 ghost use Rattle.std.specs.Prelude.{◌≡◌, ◌≤◌, codes, false, map, option_map, IfNone, IfOk, IfSome, IsTrue, ℕ, List};
 ghost use Rattle.std.specs.Borrow.{Bor};
 ghost use Rattle.clap.specs.Words.{all_of, first_of, found_of, rows_of, subcommand_rows_of};
-ghost use Rattle.drvhost_commands.specs.CommandLine.{IsChosen, IsDetail, IsFigure, IsFormat, IsGiven, IsManner, IsReach, Names, NamesBy, NamesFiles, NamesJudging, NamesPage, NamesPaths, NamesRun, NamesSet, NamesTask, NamesWay, any_number_asked, number_asked};
+ghost use Rattle.drvhost_commands.specs.CommandLine.{IsChosen, IsDetail, IsFigure, IsFormat, IsGiven, IsLogAsked, IsManner, IsReach, Names, NamesBy, NamesFiles, NamesJudging, NamesLog, NamesPage, NamesPaths, NamesRun, NamesSet, NamesTask, NamesWay, any_number_asked, number_asked};
 
 use crate::job::{Job, Judging, Page, Task, Way, Workers};
 use clap::ArgMatches;
@@ -52,6 +52,9 @@ fn job_named<'a>(
         return Ok(Some(Job::Page(page)));
     }
     if let Some(job) = paths_named(alloc, command, matches)? {
+        return Ok(Some(job));
+    }
+    if let Some(job) = log_named(alloc, command, matches)? {
         return Ok(Some(job));
     }
     if let Some(job) = set_named(command, matches) {
@@ -153,6 +156,52 @@ fn sets_to_explain(matches: &ArgMatches<'_>) -> Option<Judging>
     match argument(matches, "RULE") {
         Some(_) => None,
         None => Some(Judging::Explain(extent_asked(matches))),
+    }
+}
+
+/// The paths that they name, of which one log is to be written.
+fn log_named<'a>(
+    alloc: Global,
+    command: &str,
+    matches: &ArgMatches<'a>,
+) -> Result<Option<Job<'a>>, AllocError>
+    ensures some { IfOk result (λ named.
+        IfSome named (NamesBy (command.now, rows_of (found_of matches.now)))) }
+    ensures none { IfOk result (λ named. IfNone named ((paths : List (Bor (List ℕ)))
+        → NamesLog (command.now, rows_of (found_of matches.now)) paths → ⊥)) }
+{
+    match command {
+        "check" => sets_to_log(alloc, matches),
+        _ => Ok(None),
+    }
+}
+
+/// The paths of sets to check, if one log of them is asked for.
+fn sets_to_log<'a>(alloc: Global, matches: &ArgMatches<'a>) -> Result<Option<Job<'a>>, AllocError>
+    ensures some { IfOk result (λ named.
+        IfSome named (NamesBy (codes "check", rows_of (found_of matches.now)))) }
+    ensures none { IfOk result (λ named. IfNone named ((paths : List (Bor (List ℕ)))
+        → NamesLog (codes "check", rows_of (found_of matches.now)) paths → ⊥)) }
+{
+    if !is_log_asked(matches) {
+        return Ok(None);
+    }
+    let Some(given) = arguments(matches, "PATH") else {
+        return Ok(None);
+    };
+    let mut paths = Vec::new(alloc);
+    paths.extend_from_slice(given)?;
+    Ok(Some(Job::Log { paths }))
+}
+
+/// Whether one log is asked for.
+fn is_log_asked(matches: &ArgMatches<'_>) -> bool
+    ensures asked { IsTrue result → IsLogAsked (rows_of (found_of matches.now)) }
+    ensures other { result ≡ false → IsLogAsked (rows_of (found_of matches.now)) → ⊥ }
+{
+    match argument(matches, "format") {
+        Some("sarif") => true,
+        _ => false,
     }
 }
 

@@ -21,8 +21,10 @@ const TRACE_USAGE: &str = "drvhost trace [OPTIONS] <FILE> <SCHEDULE>";
 /// How `draw` is used.
 const DRAW_USAGE: &str = "drvhost draw [OPTIONS] <FILE> <SCHEDULE>";
 
-/// The formats of answers, and those of drawn runs.
-const ANSWERS: &str = "text or json";
+/// The formats of verdicts, those of traces, and those of drawn runs.
+const VERDICTS: &str = "text, json or sarif";
+
+const TRACES: &str = "text or json";
 
 const FIGURES: &str = "svg or perfetto";
 
@@ -37,8 +39,8 @@ pub(crate) fn unnamed(
     match matches.subcommand() {
         Some(("explain", inner)) => unexplained(alloc, inner),
         Some(("tell", _)) => untold(alloc),
-        Some(("check", inner)) => unwritten(alloc, inner, ANSWERS, CHECK_USAGE),
-        Some(("trace", inner)) => unwritten(alloc, inner, ANSWERS, TRACE_USAGE),
+        Some(("check", inner)) => unwritten(alloc, inner, VERDICTS, CHECK_USAGE),
+        Some(("trace", inner)) => unwritten(alloc, inner, TRACES, TRACE_USAGE),
         Some(("draw", inner)) => unwritten(alloc, inner, FIGURES, DRAW_USAGE),
         _ => unnumbered(program),
     }

@@ -20,7 +20,7 @@ use Rattle.drvhost_runs.specs.Readiness.{AreWarningsOf}
 use Rattle.drvhost_runs.specs.Served.{IsHostOf}
 use Rattle.drvhost_views.specs.Told.{IsDrawOf, IsTellOf}
 use Rattle.drvhost_commands.specs.declared.job.Job.{Job}
-use Rattle.drvhost_commands.specs.declared.job.Job.TheVariants.{Page as OfPage, OnPaths, Rewrite, OnSet, OnRun, Host}
+use Rattle.drvhost_commands.specs.declared.job.Job.TheVariants.{Page as OfPage, OnPaths, Log, Rewrite, OnSet, OnRun, Host}
 use Rattle.drvhost_commands.specs.declared.job.Page.{Page}
 use Rattle.drvhost_commands.specs.declared.job.Page.TheVariants.{Rule, LockOrder, Version}
 use Rattle.drvhost_commands.specs.declared.job.Task.{Task}
@@ -34,6 +34,7 @@ use Rattle.drvhost_files.specs.Files.{Has}
 use Rattle.drvhost_found.specs.declared.find.Found.{Found}
 use Rattle.drvhost_many.specs.All.{AreFound, EachEnds, IsAlone, IsUnfound}
 use Rattle.drvhost_many.specs.One.{IsJudged, is_in_json as judged_in_json}
+use Rattle.drvhost_sarif.specs.Log.{PathsEnd as LogEnds}
 use Rattle.drvhost_words.specs.declared.work.Work.{Work}
 use Rattle.drvhost_words.specs.declared.work.Work.TheVariants.{Do, Judge}
 use Rattle.drvhost_words.specs.Unread.{IsNamedUnread, IsOneOf}
@@ -178,6 +179,8 @@ JobEnds stands supply (OfPage page) opened reads writes before after status told
     (opened ≡ 0) × Ends (IsPage page) reads writes before after status told
 JobEnds stands supply (OnPaths paths judging) opened reads writes before after status told =
     PathsEnd stands supply paths.items judging opened reads writes before after status told
+JobEnds stands supply (Log paths) opened reads writes before after status told =
+    LogEnds (λ path. stands path.now) supply paths.items opened reads writes before after status told
 JobEnds stands supply (Rewrite set output) opened reads writes before after status told =
     (opened ≡ 1)
     × Ends (IsQuietly (IsRewriteOf (supply set.now))) reads writes before after status told

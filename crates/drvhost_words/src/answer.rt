@@ -28,6 +28,7 @@ use drvhost_many::paths::{alone, find_all};
 use drvhost_mends::mend::{self, mend};
 use drvhost_runs::host::{Hosting, host};
 use drvhost_runs::trace::trace;
+use drvhost_sarif::checking::check_sarif;
 use drvhost_sets::check::check;
 use drvhost_sets::list::list;
 use drvhost_sets::rewriting::rewrite;
@@ -162,6 +163,7 @@ fn perform<F: Files, O: Sink, E: Sink, R: Threads + Wait + Sync>(
         Job::OnPaths { paths, judging } => {
             judge_paths(alloc, *judging, paths.as_slice(), files, out, err)
         }
+        Job::Log { paths } => check_sarif(alloc, paths.as_slice(), files, out, err),
         Job::Rewrite { set, output } => rewrite_file(alloc, set, output, files, err),
         Job::OnSet { set, task } => work_file(alloc, Work::Do(*task), set, files, out, err),
         Job::OnRun { set, input, way } => {
