@@ -16,7 +16,8 @@ def rules():
 def values(flag):
     """What may stand behind a flag; nothing where it takes no value, or any."""
     known = {"--rule RULE": rules(), "--workers N": [str(2 ** power) for power in range(7)],
-             "--format FORMAT": ["text", "json"]}
+             "--format FORMAT": ["text", "json", "sarif"],
+             "--format FIGURE": ["svg", "perfetto"]}
     return known.get(flag, [])
 
 BASH = """\
