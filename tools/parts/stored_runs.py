@@ -27,6 +27,8 @@ EXAMPLES = os.path.join(TOP, 'examples')
 CRATE = os.path.join(TOP, 'crates/tests_stored')
 RUNS, DATA = os.path.join(CRATE, 'runs'), os.path.join(CRATE, 'data')
 LIST, TEXTS, STDOUT = 'data/runs.txt', 'data/texts.txt', 'stdout'
+# What stands before the name of a file in the last line of an explanation.
+HUNT = 'show it: drvhost hunt '
 # What a folder of the gallery has beside answers.
 ASKED = 'driver.drv', 'events.sched', 'mended.drv'
 END = re.compile(r'^status [0-9]+, opened [0-9]+(, failed reads [1-9][0-9]*)?$')
@@ -114,6 +116,7 @@ def stored_group(file):
 def gallery_run(folder, line, answer, *flags):
     """A run of a folder of the gallery, by its command line and the stored answer, which ends with the exit status."""
     words = ['gallery/%s/%s' % (folder, word) if TEXT.search(word) else word for word in line.split()]
+    answer = answer.replace(HUNT + 'driver.drv', HUNT + 'gallery/%s/driver.drv' % folder)
     run = Run(words + list(flags))
     lines = answer.splitlines()
     assert re.match(r'^status [01]$', lines[-1]), (folder, line)

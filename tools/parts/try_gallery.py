@@ -6,9 +6,9 @@ import os, re, subprocess, sys
 
 import gallery
 
-def answer(program, words):
-    """What the program writes, with the exit status."""
-    done = subprocess.run([program, *words], capture_output=True, text=True, timeout=60)
+def answer(program, folder, line):
+    """What the program writes in a folder, with the exit status."""
+    done = subprocess.run([program, *line.split()], cwd=gallery.path(folder, ''), capture_output=True, text=True, timeout=60)
     return '%s%sstatus %d\n' % (done.stdout, done.stderr, done.returncode)
 
 def main():
@@ -16,7 +16,7 @@ def main():
     tried, wrong, rules, bugs = 0, 0, set(), set()
     for folder in gallery.folders():
         for line, stored in gallery.stored(folder).items():
-            told = answer(program, gallery.words(folder, line))
+            told = answer(program, folder, line)
             tried += 1
             rules.update(re.findall(r'^refused (V\d+)', told, re.M))
             bugs.update(re.findall(r'bug (0x\w+)', told))

@@ -8,7 +8,7 @@ use Rattle.drvhost_devices.specs.Device.{MayBeClosed, Supply, TakesBeginning}
 use Rattle.drvhost_devices.specs.Ends.{IsCheckOf}
 use Rattle.drvhost_formats.specs.Check.{IsCheckJsonOf}
 use Rattle.drvhost_formats.specs.Told.{IsUnopenedJson}
-use Rattle.drvhost_sets.specs.Explained.{IsExplainedOf}
+use Rattle.drvhost_sets.specs.Explained.{IsFileExplained}
 use Rattle.drvhost_many.specs.declared.many.Halt.{Halt}
 use Rattle.drvhost_many.specs.declared.many.Halt.TheVariants.{Memory, Write}
 use Rattle.drvhost_many.specs.Marked.{named_answer, noted}
@@ -17,7 +17,7 @@ use Rattle.drvhost_many.specs.Marked.{named_answer, noted}
 abbrev pub IsJudged : Judging → List ℕ → Supply → Answer → Type 0
 IsJudged Check name = IsCheckOf
 IsJudged CheckJson name = IsCheckJsonOf name
-IsJudged (Explain extent) name = IsExplainedOf extent
+IsJudged (Explain extent) name = IsFileExplained extent name
 
 -- whether all that is answered is JSON
 abbrev pub is_in_json : Judging → Bool

@@ -14,7 +14,7 @@ use drvhost_files::files::Files;
 use drvhost_formats::check::check_json;
 use drvhost_formats::unopened::unopened_json;
 use drvhost_sets::check::check;
-use drvhost_sets::explaining::explain;
+use drvhost_sets::showing::explain_file;
 use std::alloc::{AllocError, Global};
 
 /// What is answered for one of several files, told with its name.
@@ -113,6 +113,6 @@ pub fn judge<S: Source, O: Sink, E: Sink>(
     match judging {
         Judging::Check => check(alloc, set, out, err),
         Judging::CheckJson => check_json(alloc, name, set, out, err),
-        Judging::Explain(extent) => explain(alloc, extent, set, out, err),
+        Judging::Explain(extent) => explain_file(alloc, extent, name, set, out, err),
     }
 }

@@ -68,6 +68,22 @@ IsExplainedOf extent supply answer =
     (bytes : List ℕ) × Holds supply bytes
     × ((said : Result Set (List ℕ)) × FileSays bytes said × IsExplainedSaid extent said answer)
 
+-- the command that looks for a run which shows what is wrong with the set of the file of a name
+abbrev pub hunt_line : List ℕ → List ℕ
+hunt_line name = codes "show it: drvhost hunt " ++ (name ++ codes "\n")
+
+-- an answer with that command behind it where its exit status says that the set is refused
+abbrev pub IsShown : List ℕ → Answer → Answer → Type 0
+IsShown name alone answer =
+    ((alone.status ≡ 1)
+    × (answer ≡ record alone { output = alone.output ++ hunt_line name }))
+    ⊎ ((alone.status ≢ 1) × (answer ≡ alone))
+
+-- what `explain` answers for the file of a name: of a refused set that command behind the words
+abbrev pub IsFileExplained : Extent → List ℕ → Supply → Answer → Type 0
+IsFileExplained extent name supply answer =
+    (alone : Answer) × IsExplainedOf extent supply alone × IsShown name alone answer
+
 -- what is answered of the warning on the order of locks: its name, with some words behind it
 abbrev pub IsLockOrderExplained : Answer → Type 0
 IsLockOrderExplained answer =

@@ -13,5 +13,6 @@ pub mod laws;
 pub mod list;
 pub mod rewriting;
 pub mod rule;
+pub mod showing;
 pub mod version;
 pub mod warning;

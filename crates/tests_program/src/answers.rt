@@ -1,84 +1,12 @@
 //! What the program answers where the words of its command line name no job.
 
-ghost use Rattle.std.specs.Prelude.{⊤, ◌≡◌};
-ghost use Rattle.drvhost_devices.specs.Device.{Unknown};
-
-use drvhost_devices::device::{Reader, Sink, Source, Writer};
-use drvhost_files::files::{Files, Output};
-use drvhost_found::find::Found;
+use crate::shelf::{Shelf, given};
+use drvhost_devices::device::Writer;
 use drvhost_words::answer::answer;
-use std::alloc::{AllocError, Global};
+use std::alloc::Global;
 use std::io::ErrorKind;
 use std::sync::Wait;
 use std::thread::Threads;
-
-/// A shelf without files.
-#[derive(Drop)]
-struct Shelf {
-    alloc: Global,
-    opened: u64,
-    failures: u64,
-    created: u64,
-    unwritten: u64,
-}
-
-impl Files for Shelf {
-    type File = Reader<&'static [u8]>;
-
-    type Target = Output<Vec<u8>>;
-
-    ghost supply = { λ _ _. Unknown };
-
-    ghost stands = { λ _ _ _. ⊤ };
-
-    ghost opened = { λ shelf. shelf.opened };
-
-    ghost failures = { λ shelf. shelf.failures };
-
-    ghost created = { λ shelf. shelf.created };
-
-    ghost unwritten = { λ shelf. shelf.unwritten };
-
-    fn find(&self, path: &str) -> Result<Found, AllocError> {
-        let mut files = Vec::new(self.alloc);
-        files.push(String::from_str(self.alloc, path)?)?;
-        Ok(Found {
-            files,
-            unread: Vec::new(self.alloc),
-        })
-    }
-
-    fn open(&self, _name: &str) -> Reader<&'static [u8]> {
-        Reader::new(None)
-    }
-
-    fn is_closed(&self, file: &Reader<&'static [u8]>) -> bool {
-        file.is_closed()
-    }
-
-    fn close(&mut self, file: Reader<&'static [u8]>) {
-        self.opened += 1;
-        self.failures += file.failures();
-    }
-
-    fn create(&self, _name: &str) -> Output<Vec<u8>> {
-        Output::new(None)
-    }
-
-    fn keep(&mut self, _name: &str, target: Output<Vec<u8>>) {
-        self.created += 1;
-        self.unwritten += target.failures();
-    }
-}
-
-/// The words as the system gives them.
-pub(crate) fn given(alloc: Global, words: &[&str]) -> Result<Vec<String>, AllocError> {
-    let mut given = Vec::new(alloc);
-    for word in words {
-        given.push(String::from_str(alloc, word)?)?;
-    }
-    Ok(given)
-}
 
 /// What is told where words name no job: the text for the user alone, and status 2.
 fn told_of<R: Threads + Wait + Sync>(
@@ -87,13 +15,7 @@ fn told_of<R: Threads + Wait + Sync>(
     words: Result<Vec<String>, ErrorKind>,
     status: u8,
 ) -> Vec<u8> {
-    let mut files = Shelf {
-        alloc,
-        opened: 0,
-        failures: 0,
-        created: 0,
-        unwritten: 0,
-    };
+    let mut files = Shelf::new(alloc);
     let mut out = Writer::new(Vec::<u8>::new(alloc));
     let mut err = Writer::new(Vec::<u8>::new(alloc));
     let answered = answer(rt, alloc, words, &mut files, &mut out, &mut err);

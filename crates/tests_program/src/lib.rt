@@ -11,3 +11,5 @@ mod command_lines;
 mod in_memory;
 #[cfg(test)]
 mod rewritten;
+#[cfg(test)]
+mod shelf;

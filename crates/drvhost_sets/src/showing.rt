@@ -1,0 +1,66 @@
+//! The verdict on the driver set of a file, explained, and the command that looks for a run which
+//! shows what is wrong with it.
+
+ghost use Rattle.std.specs.Prelude.{◌≡◌, ◌+◌, IfErr};
+ghost use Rattle.drvhost_devices.specs.Device.{CanCount, Says, Writes};
+ghost use Rattle.drvhost_devices.specs.Ends.{Answers};
+ghost use Rattle.drvhost_devices.specs.Fault.{writes_failed};
+ghost use Rattle.drvhost_sets.specs.Explained.{IsFileExplained, hunt_line};
+
+use crate::explaining::explain;
+use drvhost_devices::device::{Sink, Source};
+use drvhost_devices::fault::Fault;
+use drvhost_devices::transfer::write_bytes;
+use drvhost_devices::unopened::say_behind;
+use drvhost_options::extent::Extent;
+use report::fault::WRITE_FAILED;
+use std::alloc::Global;
+
+/// What stands before the name of a file whose set is refused.
+const HUNT: &str = "show it: drvhost hunt ";
+
+/// Writes the verdict on the set of a file and words on it, as [`explain`] does, and behind those on
+/// a refused one the command that looks for a run which shows what is wrong with it. The answer is
+/// the exit status, as that of `explain`.
+pub fn explain_file<S: Source, O: Sink, E: Sink>(
+    alloc: Global,
+    extent: Extent,
+    name: &str,
+    set: &mut S,
+    out: &mut O,
+    err: &mut E,
+) -> u8
+    requires set { CanCount (S.failures set.old) }
+    requires out { CanCount (O.failures out.old) }
+    requires err { CanCount (E.failures err.old) }
+    ensures { Answers (IsFileExplained extent name.now (S.supply set.old))
+        (S.failures set.old) (S.failures set.new) (O.failures out.old) (O.failures out.new)
+        (O.contents out.old) (O.contents out.new)
+        (Says (E.failures err.old) (E.failures err.new) (E.contents err.old) (E.contents err.new))
+        result }
+{
+    let failures = err.failures();
+    let status = explain(alloc, extent, set, out, err);
+    if status != 1 {
+        return status;
+    }
+    match write_hunt(name, out) {
+        Ok(()) => status,
+        Err(_fault) => {
+            say_behind(WRITE_FAILED.as_bytes(), failures, err);
+            2
+        }
+    }
+}
+
+/// Writes the command that hunts in the file of a name.
+fn write_hunt<O: Sink>(name: &str, out: &mut O) -> Result<(), Fault>
+    requires { CanCount (O.failures out.old) }
+    ensures written { Writes (O.contents out.old) result (O.contents out.new) (hunt_line name.now) }
+    ensures fault { IfErr result (λ fault. fault ≡ Fault.Write) }
+    ensures writes { O.failures out.new ≡ O.failures out.old + writes_failed result }
+{
+    write_bytes(HUNT.as_bytes(), out)?;
+    write_bytes(name.as_bytes(), out)?;
+    write_bytes(b"\n", out)
+}
