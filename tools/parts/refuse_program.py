@@ -103,6 +103,8 @@ why: no path leads to this instruction
 see: this bytecode's form
 mend it: take out line 39 "ret void": a path leads to each instruction
 '''
+# what stands behind the words on a refused set
+HUNT = 'show it: drvhost hunt '
 MENDED = '''refused V5 DoubleCompletion driver 0 routine 1 at 5
 mend 1 of the whole: sure, cost 0.87
 take out line 27 "complete r0 SUCCESS": the packet is completed once
@@ -136,9 +138,9 @@ CASES = [
     ('explain image', 0, 'accepted\ndriver 0 routine 0 dispatch certificate 2\n'
      'driver 0 routine 0: driver d0, routine f0 (dispatch)\n'
      'No threads ever wait for each other in a ring, and every routine ends.\n', ''),
-    ('explain twice', 1, EXPLAINED, ''),
-    ('explain --all twice', 1, EXPLAINED, ''),
-    ('explain --all both', 1, EXPLAINED_EACH, ''),
+    ('explain twice', 1, EXPLAINED + HUNT + 'twice\n', ''),
+    ('explain --all twice', 1, EXPLAINED + HUNT + 'twice\n', ''),
+    ('explain --all both', 1, EXPLAINED_EACH + HUNT + 'both\n', ''),
     ('explain --rule V20', 0, RULE, ''),
     ('explain --rule V21', 2, '', None),  # some text on how the program is used
     ('explain open', 2, '', UNCLOSED),

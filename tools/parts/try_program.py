@@ -90,6 +90,8 @@ device v d 1
 TRACED = b'0 started 0\n1 stepped\n2 topped 0 0x00000000 0\n3 finished\n4 idle\n'
 STOPPED = b'0 started 0\n1 stepped\n2 topped 0 0x00000000 0\n3 bug 0x44 packet 0\n'
 SERVED = b'0 topped 0 0x00000000 0\n1 refused\nhistory 5 agrees\n'
+# what stands behind the words on a refused set
+HUNT = b'show it: drvhost hunt '
 SOME = object()  # some text, whatever it is
 
 # what `explain` tells of an image that ends too early, and `tell` of a schedule without threads
@@ -123,14 +125,14 @@ CASES = [
      b'nothing.drv: read failed\n'),
     ('check empty', 0, b'', b''),
     ('explain good.drv', 0, NAMED, b''),
-    ('explain twice.drv', 1, EXPLAINED, b''),
+    ('explain twice.drv', 1, EXPLAINED + HUNT + b'twice.drv\n', b''),
     ('explain open.drv', 2, b'', UNCLOSED),
     ('explain short.image', 2, b'', SHORT),
     ('explain nothing.drv', 2, b'', b'cannot read nothing.drv\n'),
     ('explain --all good.drv', 0, NAMED, b''),
-    ('explain twice.drv --all', 1, EXPLAINED, b''),
-    ('explain both.drv', 1, EXPLAINED, b''),
-    ('explain --all both.drv', 1, EXPLAINED_EACH, b''),
+    ('explain twice.drv --all', 1, EXPLAINED + HUNT + b'twice.drv\n', b''),
+    ('explain both.drv', 1, EXPLAINED + HUNT + b'both.drv\n', b''),
+    ('explain --all both.drv', 1, EXPLAINED_EACH + HUNT + b'both.drv\n', b''),
     ('explain --all open.drv', 2, b'', UNCLOSED),
     ('explain empty', 0, b'', b''),
     ('explain --all nothing.drv', 2, b'', b'cannot read nothing.drv\n'),
