@@ -6,4 +6,4 @@ pub mod Images
 pub mod Breaks
 pub mod Answering
 pub mod Pages
-pub mod Showing
+pub mod Shown

@@ -1,12 +1,12 @@
 -- How an explanation goes with the command of a hunt behind it.
-use Rattle.std.proofs.Common.{◌≡◌, ◌∙◌, ◌+◌, ◌×◌, ◌⊎◌, ℕ, List, [], ◌++◌, inl, inr, Option, Result, Ok, Err, arith, codes, refl, sym, ap, subst}
+use Rattle.std.proofs.Common.{◌≡◌, ◌∙◌, ◌+◌, ◌⊎◌, ℕ, List, [], ◌++◌, inl, inr, Option, Result, Ok, Err, arith, codes, refl, sym, ap, subst}
 use Rattle.std.specs.Prelude.{◌≢◌}
 use Rattle.std.specs.Io.KnownBytes.{Appends}
 use Rattle.model.specs.Set.{Set}
 use Rattle.drvhost_devices.specs.Answer.{Answer}
-use Rattle.drvhost_devices.specs.Device.{Supply, TakesBeginning}
+use Rattle.drvhost_devices.specs.Device.{Supply, TakesBeginning, Writes}
 use Rattle.drvhost_devices.specs.Ends.{Ends, Rightly, ReadFailed, WriteFailed, OutOfMemory}
-use Rattle.drvhost_devices.proofs.Writing.{appends_more, begins_before, begins_behind}
+use Rattle.drvhost_devices.proofs.Writing.{appends_more, begins_before, writes_behind}
 use Rattle.drvhost_options.specs.declared.extent.Extent.{Extent}
 use Rattle.drvhost_sets.specs.Explained.{IsExplained, IsExplainedOf, IsExplainedSaid, IsFileExplained, hunt_line}
 
@@ -35,7 +35,7 @@ refused a (inl (one, none)) is = none
 refused a (inr other) is = absurd (other is)
 
 -- the answer with the command behind it, where a set is refused
-shown : List ℕ → Answer → Answer
+abbrev shown : List ℕ → Answer → Answer
 shown name a = record a { output = a.output ++ hunt_line name }
 
 -- a beginning of an answer is one of it with the command behind it
@@ -126,4 +126,24 @@ pub ends_unwritten : (extent : Extent) (name : List ℕ) (supply : Supply) (read
 ends_unwritten extent name supply reads writes b m n told h begins =
     WriteFailed (shown name h.alone) (h.alone, h.right, inl (h.one, refl)) h.read
     (ap (λ (x : ℕ). x + 1) h.wrote) refl (ap (λ (x : List ℕ). x ++ codes "write failed\n") h.quiet)
-    (begins_behind b m n h.alone.output (hunt_line name) h.out begins)
+    (writes_behind {T = ℕ} {E = ℕ} (Err 0) b m n h.alone.output (hunt_line name) h.out begins)
+
+-- the command is written in three pieces
+pub first_broken : (b n : Option (List ℕ)) (name : List ℕ)
+    → TakesBeginning b n (codes "show it: drvhost hunt ") → TakesBeginning b n (hunt_line name)
+first_broken b n name begins =
+    begins_before b n (codes "show it: drvhost hunt ") (name ++ codes "\n") begins
+
+pub second_broken : (b m n : Option (List ℕ)) (name : List ℕ)
+    → Appends b m (codes "show it: drvhost hunt ") → TakesBeginning m n name
+    → TakesBeginning b n (hunt_line name)
+second_broken b m n name first begins =
+    writes_behind {T = ℕ} {E = ℕ} (Err 0) b m n (codes "show it: drvhost hunt ")
+    (name ++ codes "\n") first (begins_before m n name (codes "\n") begins)
+
+pub all_written : {T E : Type 0} (r : Result T E) (a b c d : Option (List ℕ)) (name : List ℕ)
+    → Appends a b (codes "show it: drvhost hunt ") → Appends b c name
+    → Writes c r d (codes "\n") → Writes a r d (hunt_line name)
+all_written r a b c d name first second third =
+    writes_behind r a b d (codes "show it: drvhost hunt ") (name ++ codes "\n") first
+    (writes_behind r b c d name (codes "\n") second third)
