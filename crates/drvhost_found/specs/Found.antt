@@ -1,5 +1,5 @@
 -- The files that a path stands for.
-use Rattle.std.specs.Prelude.{ℕ, ◌≡◌, ◌⊎◌, List, [], ◌∷◌, Bool, ◌||◌, IsTrue, All, String, codes, map, nat_eq, string_bytes}
+use Rattle.std.specs.Prelude.{ℕ, ◌≡◌, ◌⊎◌, List, [], ◌∷◌, Bool, true, false, ◌||◌, IsTrue, All, String, codes, map, nat_eq, string_bytes}
 use Rattle.std.specs.List.{ends_with}
 use Rattle.std.specs.List.Sorted.{IsSorted}
 use Rattle.std.specs.String.{string_cmp}
@@ -17,8 +17,10 @@ AreSets paths = All (λ path. IsTrue (is_set_name (string_bytes path))) paths
 abbrev pub IsAlone : {A : Type 0} → List ℕ → List (String A) → Type 0
 IsAlone path paths = map string_bytes paths ≡ path ∷ []
 
--- what may be found for a path: that path alone, or files of driver sets; in order
+-- what may be found for a path: where it is no folder that path alone, and else files of driver
+-- sets; in order
 abbrev pub IsFound : List ℕ → Found → Type 0
 IsFound path found =
-    ((IsAlone path found.files.items × (found.unread.items ≡ [])) ⊎ AreSets found.files.items)
+    (((found.is_folder ≡ false) × IsAlone path found.files.items × (found.unread.items ≡ []))
+    ⊎ ((found.is_folder ≡ true) × AreSets found.files.items))
     × IsSorted string_cmp found.files.items × IsSorted string_cmp found.unread.items

@@ -1,14 +1,13 @@
 //! The files that a path stands for.
 
-ghost use Rattle.std.specs.Prelude.{◌≡◌, [], IfOk, IsTrue, OnOk};
-ghost use Rattle.std.specs.List.Sorted.{IsSorted};
-ghost use Rattle.std.specs.String.{string_cmp};
-ghost use Rattle.drvhost_found.specs.Found.{AreSets, IsAlone, IsFound, is_set_name};
+ghost use Rattle.std.specs.Prelude.{◌≡◌, ◌∷◌, ◌++◌, [], IfOk, List, OnOk, Option, ℕ};
+ghost use Rattle.drvhost_found.specs.declared.folders.Listing.{Listing};
+ghost use Rattle.drvhost_found.specs.Found.{AreSets, IsAlone, IsFound};
+ghost use Rattle.drvhost_found.specs.Below.{AreBelow, Knows, Lists, folder_of, folders_of, set_of, sets_of};
 
+use crate::folders::{Entry, Folders, Kind, Listing, System};
 use crate::set_name::is_set_name;
 use std::alloc::{AllocError, Global};
-use std::fs::{self, FileType};
-use std::io;
 use std::rt::Files;
 
 /// What was found for a path.
@@ -19,17 +18,16 @@ pub struct Found {
     /// The entries of folders that can't be looked at, and the folders of which not all entries can
     /// be had, as where the name of one isn't UTF-8; in that order.
     pub unread: Vec<String>,
+    /// Whether the path is that of a folder.
+    pub is_folder: bool,
 }
 
-/// How far a folder could be looked into.
-#[derive(Clone, Copy)]
-enum Look {
-    /// It can't be opened, or is none.
-    Closed,
-    /// Not all its entries can be had.
-    InPart,
-    /// All of them could.
-    Whole,
+/// What gathers while folders are looked into.
+#[derive(Drop)]
+pub(crate) struct Gathered {
+    waiting: Vec<String>,
+    files: Vec<String>,
+    unread: Vec<String>,
 }
 
 /// The files that a path stands for. A path that is no folder, or none that can be opened, stands
@@ -43,136 +41,143 @@ enum Look {
 pub fn find<R: Files + AllocGlobal + Clone + Drop>(rt: &R, path: &str) -> Result<Found, AllocError>
     ensures { IfOk result (IsFound path.now) }
 {
-    let alloc = rt.alloc();
-    let mut waiting = Vec::new(alloc);
-    let mut found = Found {
+    find_in(rt.alloc(), &System::new(rt), path)
+}
+
+/// The files that a path stands for, by what folders have.
+///
+/// # Errors
+///
+/// When memory runs out.
+pub fn find_in<D: Folders>(alloc: Global, folders: &D, path: &str) -> Result<Found, AllocError>
+    ensures found { IfOk result (IsFound path.now) }
+    ensures below { IfOk result (λ found. (has : List ℕ → Option Listing)
+        → Lists (D.lists folders.now) has → AreBelow has path.now found.files.items) }
+{
+    let Some(listing) = folders.list(alloc, path)? else {
+        return alone(alloc, path);
+    };
+    let mut gathered = Gathered {
+        waiting: Vec::new(alloc),
         files: Vec::new(alloc),
         unread: Vec::new(alloc),
     };
-    match look_into(rt, path, &mut waiting, &mut found)? {
-        Look::Closed => return alone(alloc, path),
-        Look::InPart => found.unread.push(String::from_str(alloc, path)?)?,
-        Look::Whole => {}
-    }
-    look_below(rt, &mut waiting, &mut found)?;
-    found.files.sort()?;
-    found.unread.sort()?;
-    Ok(found)
+    keep_all(alloc, listing, path, &mut gathered)?;
+    look_below(alloc, folders, &mut gathered)?;
+    gathered.files.sort()?;
+    gathered.unread.sort()?;
+    Ok(Found {
+        files: gathered.files,
+        unread: gathered.unread,
+        is_folder: true,
+    })
 }
 
-/// A path that stands for itself.
-fn alone(alloc: Global, path: &str) -> Result<Found, AllocError>
+/// What is found for a path that stands for itself.
+///
+/// # Errors
+///
+/// When memory runs out.
+pub fn alone(alloc: Global, path: &str) -> Result<Found, AllocError>
+    ensures found { IfOk result (IsFound path.now) }
     ensures alone { IfOk result (λ found. IsAlone path.now found.files.items) }
-    ensures files { IfOk result (λ found. IsSorted string_cmp found.files.items) }
-    ensures unread { IfOk result (λ found. found.unread.items ≡ []) }
 {
     let mut files = Vec::new(alloc);
     files.push(String::from_str(alloc, path)?)?;
     Ok(Found {
         files,
         unread: Vec::new(alloc),
+        is_folder: false,
     })
 }
 
 /// Looks into each folder that waits, and into those below it.
-fn look_below<R: Files + AllocGlobal + Clone + Drop>(
-    rt: &R,
-    waiting: &mut Vec<String>,
-    found: &mut Found,
+fn look_below<D: Folders>(
+    alloc: Global,
+    folders: &D,
+    gathered: &mut Gathered,
 ) -> Result<(), AllocError>
-    requires { AreSets found.old.files.items }
-    ensures { OnOk result (AreSets found.new.files.items) }
+    requires { AreSets gathered.old.files.items }
+    ensures sets { OnOk result (AreSets gathered.new.files.items) }
+    ensures below { OnOk result ((has : List ℕ → Option Listing) → (root : List ℕ)
+        → Lists (D.lists folders.now) has
+        → Knows has root gathered.old.waiting.items gathered.old.files.items
+        → Knows has root [] gathered.new.files.items) }
 {
     for _ in 0..u64::MAX {
-        let Some(folder) = waiting.pop() else {
+        let Some(folder) = gathered.waiting.pop() else {
             return Ok(());
         };
-        match look_into(rt, folder.as_str(), waiting, found)? {
-            Look::Closed | Look::InPart => found.unread.push(folder)?,
-            Look::Whole => {}
-        }
+        look_into(alloc, folders, folder, gathered)?;
     }
     // So many folders have no memory.
     Err(AllocError)
 }
 
-/// Looks into a folder: its files are found, and its folders wait.
-fn look_into<R: Files + AllocGlobal + Clone + Drop>(
-    rt: &R,
-    folder: &str,
-    waiting: &mut Vec<String>,
-    found: &mut Found,
-) -> Result<Look, AllocError>
-    requires { AreSets found.old.files.items }
-    ensures { OnOk result (AreSets found.new.files.items) }
+/// Looks into a folder that waited.
+fn look_into<D: Folders>(
+    alloc: Global,
+    folders: &D,
+    folder: String,
+    gathered: &mut Gathered,
+) -> Result<(), AllocError>
+    requires { AreSets gathered.old.files.items }
+    ensures sets { OnOk result (AreSets gathered.new.files.items) }
+    ensures below { OnOk result ((has : List ℕ → Option Listing) → (root : List ℕ)
+        → Lists (D.lists folders.now) has
+        → Knows has root (gathered.old.waiting.items ++ folder ∷ []) gathered.old.files.items
+        → Knows has root gathered.new.waiting.items gathered.new.files.items) }
 {
-    let alloc = rt.alloc();
-    let entries = match fs::read_dir(rt, folder) {
-        Ok(entries) => entries,
-        Err(error) => {
-            pass_over(error)?;
-            return Ok(Look::Closed);
-        }
+    let Some(listing) = folders.list(alloc, folder.as_str())? else {
+        gathered.unread.push(folder)?;
+        return Ok(());
     };
-    let mut looked = Look::Whole;
-    for entry in entries {
-        match entry {
-            Ok(entry) => match entry.file_type() {
-                Ok(kind) => keep(alloc, entry.path().as_str(), kind, waiting, found)?,
-                Err(error) => miss(alloc, entry.path().as_str(), error, found)?,
-            },
-            Err(error) => {
-                pass_over(error)?;
-                looked = Look::InPart;
-            }
-        }
+    keep_all(alloc, listing, folder.as_str(), gathered)?;
+    Ok(())
+}
+
+/// Keeps what a folder has: its folders wait, and its files of driver sets are found.
+fn keep_all(
+    alloc: Global,
+    listing: Listing,
+    folder: &str,
+    gathered: &mut Gathered,
+) -> Result<(), AllocError>
+    requires { AreSets gathered.old.files.items }
+    ensures sets { OnOk result (AreSets gathered.new.files.items) }
+    ensures folders { OnOk result (gathered.new.waiting.items
+        ≡ gathered.old.waiting.items ++ folders_of listing) }
+    ensures files { OnOk result (gathered.new.files.items
+        ≡ gathered.old.files.items ++ sets_of listing) }
+{
+    let is_whole = listing.is_whole;
+    for entry in listing.entries {
+        keep(entry, gathered)?;
     }
-    Ok(looked)
+    if !is_whole {
+        gathered.unread.push(String::from_str(alloc, folder)?)?;
+    }
+    Ok(())
 }
 
 /// Keeps an entry of a folder: a folder waits, and a file of a driver set is found.
-fn keep(
-    alloc: Global,
-    path: &str,
-    kind: FileType,
-    waiting: &mut Vec<String>,
-    found: &mut Found,
-) -> Result<(), AllocError>
-    requires { AreSets found.old.files.items }
-    ensures { OnOk result (AreSets found.new.files.items) }
+fn keep(entry: Entry, gathered: &mut Gathered) -> Result<(), AllocError>
+    requires { AreSets gathered.old.files.items }
+    ensures sets { OnOk result (AreSets gathered.new.files.items) }
+    ensures folders { OnOk result (gathered.new.waiting.items
+        ≡ gathered.old.waiting.items ++ folder_of entry) }
+    ensures files { OnOk result (gathered.new.files.items
+        ≡ gathered.old.files.items ++ set_of entry) }
 {
-    if kind.is_dir() {
-        waiting.push(String::from_str(alloc, path)?)?;
-    } else if kind.is_file() && is_set_name(path) {
-        add(alloc, path, &mut found.files)?;
-    }
-    Ok(())
-}
-
-/// Adds the file of a driver set.
-fn add(alloc: Global, path: &str, files: &mut Vec<String>) -> Result<(), AllocError>
-    requires named { IsTrue (is_set_name path.now) }
-    requires sets { AreSets files.old.items }
-    ensures { OnOk result (AreSets files.new.items) }
-{
-    let path = String::from_str(alloc, path)?;
-    files.push(path)?;
-    Ok(())
-}
-
-/// Notes that something can't be looked at.
-fn miss(alloc: Global, path: &str, error: io::Error, found: &mut Found) -> Result<(), AllocError>
-    ensures { OnOk result (found.new.files ≡ found.old.files) }
-{
-    pass_over(error)?;
-    found.unread.push(String::from_str(alloc, path)?)?;
-    Ok(())
-}
-
-/// Passes over an error, but for want of memory.
-fn pass_over(error: io::Error) -> Result<(), AllocError> {
-    if error.kind() == io::ErrorKind::OutOfMemory {
-        return Err(AllocError);
+    match entry.kind {
+        Kind::Folder => gathered.waiting.push(entry.path)?,
+        Kind::File => {
+            if is_set_name(entry.path.as_str()) {
+                gathered.files.push(entry.path)?;
+            }
+        }
+        Kind::Unknown => gathered.unread.push(entry.path)?,
+        Kind::Other => {}
     }
     Ok(())
 }

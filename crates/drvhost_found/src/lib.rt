@@ -3,4 +3,5 @@
 #![tactic(auto)]
 
 pub mod find;
+pub mod folders;
 pub mod set_name;

@@ -5,7 +5,7 @@ ghost use Rattle.drvhost_devices.specs.Device.{Unknown};
 
 use drvhost_devices::device::{Reader, Sink, Source};
 use drvhost_files::files::{Files, Output};
-use drvhost_found::find::Found;
+use drvhost_found::find::{Found, alone};
 use std::alloc::{AllocError, Global};
 use tests_sets::vectors::{OLD_ONE_READ, ONE_READ, ONE_READ_TEXT};
 
@@ -75,12 +75,7 @@ impl Files for Shelf {
     ghost unwritten = { λ shelf. shelf.unwritten };
 
     fn find(&self, path: &str) -> Result<Found, AllocError> {
-        let mut files = Vec::new(self.alloc);
-        files.push(String::from_str(self.alloc, path)?)?;
-        Ok(Found {
-            files,
-            unread: Vec::new(self.alloc),
-        })
+        alone(self.alloc, path)
     }
 
     fn open(&self, name: &str) -> Reader<&'static [u8]> {
