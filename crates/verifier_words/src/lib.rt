@@ -8,7 +8,9 @@ mod devices;
 mod history;
 mod path;
 mod place;
+mod refused;
 mod state;
 mod telling;
 
+pub use refused::{RefusedRoutine, set_refused};
 pub use telling::{Told, explanation, explanations};

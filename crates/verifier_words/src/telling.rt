@@ -182,13 +182,13 @@ fn fault_words(
 }
 
 /// The routine of a refusal.
-fn routine_of<'s>(set: &'s DriverSet, refusal: &Refusal) -> Option<&'s Routine> {
+pub(crate) fn routine_of<'s>(set: &'s DriverSet, refusal: &Refusal) -> Option<&'s Routine> {
     let driver = set.drivers().get(refusal.driver as usize)?;
     driver.routines.as_slice().get(refusal.routine as usize)
 }
 
 /// The routine of a refusal as its text has it.
-fn scene_of<'t>(
+pub(crate) fn scene_of<'t>(
     alloc: Global,
     origin: Origin<'t>,
     set: &DriverSet,
@@ -235,18 +235,49 @@ fn add_evidence(
     evidence: &Evidence,
 ) -> Result<(), AllocError> {
     scene.add_place(prose)?;
+    add_arrivals(prose, scene, evidence)?;
+    add_reasons(alloc, prose, scene, set, routine, evidence)
+}
+
+/// Adds the paths that lead there, and what is known where they arrive.
+fn add_arrivals(
+    prose: &mut String,
+    scene: &Scene<'_>,
+    evidence: &Evidence,
+) -> Result<(), AllocError> {
+    match evidence {
+        Evidence::Misplaced | Evidence::Unreached | Evidence::NotEntered => Ok(()),
+        Evidence::Broken(path) | Evidence::TooLong(path, _) => {
+            add_arrival(prose, scene, "a path there:\n", path)
+        }
+        Evidence::Differing(one, other) => {
+            add_arrival(prose, scene, "one path there:\n", one)?;
+            add_arrival(prose, scene, "another path there:\n", other)
+        }
+        Evidence::Unlike(start, end) => {
+            add_arrival(prose, scene, "the path to the loop:\n", start)?;
+            add_arrival(prose, scene, "the path to its end:\n", end)
+        }
+    }
+}
+
+/// Adds why the rule is broken, and what led to it.
+pub(crate) fn add_reasons(
+    alloc: Global,
+    prose: &mut String,
+    scene: &Scene<'_>,
+    set: &DriverSet,
+    routine: &Routine,
+    evidence: &Evidence,
+) -> Result<(), AllocError> {
     match evidence {
         Evidence::Misplaced | Evidence::Unreached => add_why(prose, scene, routine),
         Evidence::NotEntered => {
             let driver = set.drivers().get(scene.refusal.driver as usize);
             not_entered(driver, scene.refusal.routine).add(prose, scene.names())
         }
-        Evidence::Broken(path) => {
-            add_arrival(prose, scene, "a path there:\n", path)?;
-            add_breach(prose, scene, set, routine, path)
-        }
+        Evidence::Broken(path) => add_breach(prose, scene, set, routine, path),
         Evidence::TooLong(path, count) => {
-            add_arrival(prose, scene, "a path there:\n", path)?;
             write!(
                 prose,
                 "up to there: {count} instructions, by these loops:\n"
@@ -254,15 +285,8 @@ fn add_evidence(
             add_loops(alloc, prose, scene, routine.code.as_slice(), path.last.at)?;
             add_why(prose, scene, routine)
         }
-        Evidence::Differing(one, other) => {
-            add_arrival(prose, scene, "one path there:\n", one)?;
-            add_arrival(prose, scene, "another path there:\n", other)?;
+        Evidence::Differing(one, other) | Evidence::Unlike(one, other) => {
             add_difference(prose, scene, routine, one, other)
-        }
-        Evidence::Unlike(start, end) => {
-            add_arrival(prose, scene, "the path to the loop:\n", start)?;
-            add_arrival(prose, scene, "the path to its end:\n", end)?;
-            add_difference(prose, scene, routine, start, end)
         }
     }
 }
