@@ -5,7 +5,7 @@ use Rattle.std.specs.Borrow.{Bor}
 use Rattle.clap.specs.Words.{Row, Text}
 use Rattle.drvhost_commands.specs.declared.job.Judging.{Judging}
 use Rattle.drvhost_commands.specs.declared.job.Job.{Job}
-use Rattle.drvhost_commands.specs.declared.job.Job.TheVariants.{Page as OfPage, OnPaths, Log, Rewrite, OnSet, OnRun, Host}
+use Rattle.drvhost_commands.specs.declared.job.Job.TheVariants.{Page as OfPage, OnPaths, Log, Rewrite, Apply, OnSet, OnRun, Host}
 use Rattle.drvhost_commands.specs.declared.job.Page.{Page}
 use Rattle.drvhost_commands.specs.declared.job.Task.{Task}
 use Rattle.drvhost_commands.specs.declared.job.Way.{Way}
@@ -34,6 +34,7 @@ module _ (found : Text × List Row) (page : (p : Page) → NamesPage found p →
   by_none files (OnSet set task) names = on_set set.now task names
   by_none files (OnRun set input way) names = on_run set.now input.now way names
   by_none files (Rewrite set output) names = files (Rewrite set output) names
+  by_none files (Apply set tries wanted) names = files (Apply set tries wanted) names
   by_none files (Host set script workers) names = files (Host set script workers) names
 
   pub named_none : (result : Option Job)

@@ -14,7 +14,7 @@ use Rattle.model.specs.declared.abs.Rule.{Rule as VerdictRule}
 use Rattle.model.specs.declared.limits.TheConstants.{MAX_THREADS}
 use Rattle.report.specs.Rule.{IsRuleWord}
 use Rattle.drvhost_commands.specs.declared.job.Job.{Job}
-use Rattle.drvhost_commands.specs.declared.job.Job.TheVariants.{Page as OfPage, OnPaths, Log, Rewrite, OnSet, OnRun, Host}
+use Rattle.drvhost_commands.specs.declared.job.Job.TheVariants.{Page as OfPage, OnPaths, Log, Rewrite, Apply, OnSet, OnRun, Host}
 use Rattle.drvhost_commands.specs.declared.job.Page.{Page}
 use Rattle.drvhost_commands.specs.declared.job.Page.TheVariants.{Rule as PageOfRule, LockOrder, Version}
 use Rattle.drvhost_commands.specs.declared.job.Task.{Task}
@@ -27,6 +27,9 @@ use Rattle.drvhost_commands.specs.declared.naming.Format.{Format}
 use Rattle.drvhost_commands.specs.declared.naming.Format.TheVariants.{Plain, Json}
 use Rattle.hunt_bounds.specs.declared.reach.TheConstants.{MAX_PACKETS, MAX_WORLDS, USUAL_PACKETS, USUAL_THREADS, USUAL_WORLDS}
 use Rattle.drvhost_options.specs.declared.tries.TheConstants.{MAX_TRIES, USUAL_TRIES}
+use Rattle.drvhost_options.specs.declared.wanted.TheConstants.{MAX_OFFERS}
+use Rattle.drvhost_options.specs.declared.wanted.Wanted.{Wanted}
+use Rattle.drvhost_options.specs.declared.wanted.Wanted.TheVariants.{Sure, Number}
 use Rattle.drvhost_options.specs.declared.extent.Extent.TheVariants.{First, Each}
 use Rattle.drvhost_options.specs.declared.figure.Figure.{Figure}
 use Rattle.drvhost_options.specs.declared.figure.Figure.TheVariants.{Picture, Tracks}
@@ -135,9 +138,12 @@ host_command =
     (file_argument (codes "SCRIPT")
     ∷ required (number_option (codes "workers") MAX_THREADS) ∷ [])
 
--- `mend FILE [--tries N]`
+-- `mend FILE [--tries N] [--apply] [--nth K]`
 abbrev pub mend_command : App
-mend_command = set_command (codes "mend") (number_option (codes "tries") MAX_TRIES ∷ [])
+mend_command =
+    set_command (codes "mend")
+    (number_option (codes "tries") MAX_TRIES ∷ flag (codes "apply")
+    ∷ number_option (codes "nth") MAX_OFFERS ∷ [])
 
 -- all commands, in the order of the texts of help
 abbrev pub commands : List App
@@ -226,6 +232,15 @@ pub record IsReach (rows : List Row) (reach : Bounds) : Type 0 where
   pub argument : any_number_asked (first_of (codes "argument") rows) ≡ Some reach.argument
   pub goal : IsChosen (first_of (codes "stuck") rows) AmissOrStuck Amiss reach.goal
 
+-- which mend is to be applied, by the values of `--apply` and `--nth`: none where neither is given
+abbrev pub IsWanted : List Row → Option Wanted → Type 0
+IsWanted rows None =
+    (first_of (codes "nth") rows ≡ None) × (IsGiven (first_of (codes "apply") rows) → ⊥)
+IsWanted rows (Some Sure) =
+    (first_of (codes "nth") rows ≡ None) × IsGiven (first_of (codes "apply") rows)
+IsWanted rows (Some (Number number)) =
+    option_and_then (number_within 1 MAX_OFFERS) (first_of (codes "nth") rows) ≡ Some number
+
 -- how an answer is written, by the value of `--format`
 abbrev pub IsFormat : Option Text → Format → Type 0
 IsFormat value Plain = (value ≡ None) ⊎ (value ≡ Some (codes "text"))
@@ -277,6 +292,7 @@ NamesLog found paths = (found.0 ≡ codes "check")
 abbrev pub NamesTask : Text × List Row → Task → Type 0
 NamesTask found (Mend tries) = (found.0 ≡ codes "mend")
     × (number_asked USUAL_TRIES MAX_TRIES (first_of (codes "tries") found.1) ≡ Some tries)
+    × IsWanted found.1 None
 NamesTask found Listing = found.0 ≡ codes "list"
 NamesTask found (Hunt reach) = (found.0 ≡ codes "hunt") × IsReach found.1 reach
 
@@ -306,6 +322,10 @@ abbrev pub NamesFiles : Text × List Row → Job → Type 0
 NamesFiles found (Rewrite set output) =
     (found.0 ≡ codes "rewrite") × (first_of (codes "FILE") found.1 ≡ Some set.now)
     × (first_of (codes "OUT") found.1 ≡ Some output.now)
+NamesFiles found (Apply set tries wanted) =
+    (found.0 ≡ codes "mend") × (first_of (codes "FILE") found.1 ≡ Some set.now)
+    × (number_asked USUAL_TRIES MAX_TRIES (first_of (codes "tries") found.1) ≡ Some tries)
+    × IsWanted found.1 (Some wanted)
 NamesFiles found (Host set script workers) =
     (found.0 ≡ codes "host") × (first_of (codes "FILE") found.1 ≡ Some set.now)
     × (first_of (codes "SCRIPT") found.1 ≡ Some script.now)

@@ -11,6 +11,7 @@ use crate::usage::EXPLAIN_USAGE;
 use clap::Command;
 use clap::builder::ValueParser;
 use drvhost_options::tries::MAX_TRIES;
+use drvhost_options::wanted::MAX_OFFERS;
 use hunt_bounds::reach::{MAX_PACKETS, MAX_WORLDS};
 use model::limits::MAX_THREADS;
 use std::alloc::{AllocError, Global};
@@ -98,6 +99,16 @@ const COMMANDS: [Entry<'static>; 11] = [
                 "tries",
                 ValueParser::Signed(1, MAX_TRIES as i64),
                 "Tries for each faulty routine, 1 to 1000000; 20000 where none is given",
+            ),
+            Argument::Flag(
+                "apply",
+                "Writes the text with the first mend, if it is sure",
+            ),
+            Argument::Value(
+                "nth",
+                "nth",
+                ValueParser::Signed(1, MAX_OFFERS as i64),
+                "Writes the text with the mend of a number, 1 to 3",
             ),
         ],
     },

@@ -17,6 +17,7 @@ use drvhost_devices::verification::Verification;
 use drvhost_options::extent::Extent;
 use drvhost_options::figure::Figure;
 use drvhost_options::manner::Manner;
+use drvhost_options::wanted::Wanted;
 use hunt_bounds::reach::Reach;
 use interleave::read::number_within;
 use model::abs::Rule;
@@ -49,6 +50,12 @@ pub enum Job<'a> {
     Rewrite {
         set: &'a str,
         output: &'a str,
+    },
+    /// `mend FILE [--tries N] --apply`, or with `--nth K`
+    Apply {
+        set: &'a str,
+        tries: u64,
+        wanted: Wanted,
     },
     /// A task with the driver set of a file.
     OnSet {

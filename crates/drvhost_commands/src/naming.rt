@@ -1,9 +1,9 @@
 //! Which job the matches of a command line name.
 
-ghost use Rattle.std.specs.Prelude.{◌≡◌, ◌≤◌, codes, false, map, option_map, IfNone, IfOk, IfSome, IsTrue, ℕ, List};
+ghost use Rattle.std.specs.Prelude.{◌≡◌, ◌≤◌, codes, false, map, option_map, IfNone, IfOk, IfSome, IsTrue, None, Some, ℕ, List};
 ghost use Rattle.std.specs.Borrow.{Bor};
 ghost use Rattle.clap.specs.Words.{all_of, first_of, found_of, rows_of, subcommand_rows_of};
-ghost use Rattle.drvhost_commands.specs.CommandLine.{IsChosen, IsDetail, IsFigure, IsFormat, IsGiven, IsLogAsked, IsManner, IsReach, Names, NamesBy, NamesFiles, NamesJudging, NamesLog, NamesPage, NamesPaths, NamesRun, NamesSet, NamesTask, NamesWay, any_number_asked, number_asked};
+ghost use Rattle.drvhost_commands.specs.CommandLine.{IsChosen, IsDetail, IsFigure, IsFormat, IsGiven, IsLogAsked, IsManner, IsReach, IsWanted, Names, NamesBy, NamesFiles, NamesJudging, NamesLog, NamesPage, NamesPaths, NamesRun, NamesSet, NamesTask, NamesWay, any_number_asked, number_asked};
 
 use crate::job::{Job, Judging, Page, Task, Way, Workers};
 use clap::ArgMatches;
@@ -12,6 +12,7 @@ use drvhost_options::extent::Extent;
 use drvhost_options::figure::Figure;
 use drvhost_options::manner::{Detail, Manner, Strictness};
 use drvhost_options::tries::{MAX_TRIES, USUAL_TRIES};
+use drvhost_options::wanted::{MAX_OFFERS, Wanted};
 use hunt_bounds::bounds::{Bounds, Goal};
 use hunt_bounds::reach::{
     MAX_PACKETS, MAX_WORLDS, Reach, USUAL_PACKETS, USUAL_THREADS, USUAL_WORLDS,
@@ -236,7 +237,10 @@ fn set_to_mend(matches: &ArgMatches<'_>) -> Option<Task>
         ((task : Task) → NamesTask (codes "mend", rows_of (found_of matches.now)) task → ⊥) }
 {
     let tries = number_asked(matches, "tries", USUAL_TRIES, MAX_TRIES)?;
-    Some(Task::Mend(tries))
+    match wanted_asked(matches)? {
+        Some(_wanted) => None,
+        None => Some(Task::Mend(tries)),
+    }
 }
 
 fn set_to_hunt(matches: &ArgMatches<'_>) -> Option<Task>
@@ -313,6 +317,7 @@ fn file_named<'a>(command: &str, matches: &ArgMatches<'a>) -> Option<Job<'a>>
 {
     match command {
         "rewrite" => rewrite_named(matches),
+        "mend" => apply_named(matches),
         "host" => host_named(matches),
         _ => None,
     }
@@ -326,6 +331,35 @@ fn rewrite_named<'a>(matches: &ArgMatches<'a>) -> Option<Job<'a>>
     let set = argument(matches, "FILE")?;
     let output = argument(matches, "OUT")?;
     Some(Job::Rewrite { set, output })
+}
+
+/// A mend is to be applied.
+fn apply_named<'a>(matches: &ArgMatches<'a>) -> Option<Job<'a>>
+    ensures some { IfSome result (NamesBy (codes "mend", rows_of (found_of matches.now))) }
+    ensures none { IfNone result
+        ((job : Job) → NamesFiles (codes "mend", rows_of (found_of matches.now)) job → ⊥) }
+{
+    let set = argument(matches, "FILE")?;
+    let tries = number_asked(matches, "tries", USUAL_TRIES, MAX_TRIES)?;
+    let wanted = wanted_asked(matches)??;
+    Some(Job::Apply { set, tries, wanted })
+}
+
+/// Which mend is to be applied, or none, unless its number is none that an offer has.
+fn wanted_asked(matches: &ArgMatches<'_>) -> Option<Option<Wanted>>
+    ensures some { IfSome result (IsWanted (rows_of (found_of matches.now))) }
+    ensures none { IfNone result (IsWanted (rows_of (found_of matches.now)) None → ⊥) }
+    ensures neither { IfNone result ((wanted : Wanted)
+        → IsWanted (rows_of (found_of matches.now)) (Some wanted) → ⊥) }
+{
+    match argument(matches, "nth") {
+        Some(text) => {
+            let number = number_within(1, MAX_OFFERS, text.as_bytes())?;
+            Some(Some(Wanted::Number(number)))
+        }
+        None if is_given(matches, "apply") => Some(Some(Wanted::Sure)),
+        None => Some(None),
+    }
 }
 
 fn host_named<'a>(matches: &ArgMatches<'a>) -> Option<Job<'a>>
