@@ -2,8 +2,9 @@
 """tools/try growths [PROGRAM]: each growth of a whole run of the built program (crates/drvhost/out/drvhost, if none is named)
 is refused in turn, from outside: tools/parts/refuse_growth.c, which the C compiler `cc` builds, stands before the C library and
 refuses the Nth call for memory, or for a thread, for N = 1, 2, .. up to one past the last. Each run has to answer `out of
-memory` with exit status 3 and nothing on standard output, or to give the whole answer, and nothing else. The last line
-counts."""
+memory` with exit status 3 and nothing on standard output, or to give the whole answer, and nothing else. Where it judges several
+files, each read and each write fails in turn too, and the answer has to be that of the files before, what became of the file
+where it fails, and after a read those behind it. The last line counts."""
 import os, subprocess, sys, tempfile
 
 TOP = os.path.dirname(os.path.dirname(os.path.dirname(os.path.abspath(__file__))))
@@ -160,10 +161,70 @@ CASES = [
 ]
 NO_MEMORY = (3, '', 'out of memory\n')
 
-def run(program, words, folder, library, number):
-    """What the program answers, with the growth of this number refused, and how many it asked for."""
+# what is answered for one file, by the command
+ALONE = {
+    'check': {
+        'set': (0, ACCEPTED, ''),
+        'twice': (1, 'refused V5 DoubleCompletion driver 0 routine 1 at 5\n', ''),
+        'open': (2, '', 'text fault 6 Unclosed line 2\n'),
+        'sets/image.image': (0, 'accepted\ndriver 0 routine 0 dispatch certificate 2\n', ''),
+        'sets/twice.drv': (1, 'refused V5 DoubleCompletion driver 0 routine 1 at 5\n', ''),
+    },
+    'explain': {
+        'image': (0, 'accepted\ndriver 0 routine 0 dispatch certificate 2\n'
+                  'driver 0 routine 0: driver d0, routine f0 (dispatch)\n'
+                  'No threads ever wait for each other in a ring, and every routine ends.\n', ''),
+        'twice': (1, EXPLAINED, ''),
+        'open': (2, '', UNCLOSED),
+    },
+}
+
+# commands for several files: their words, and the files that these stand for
+SEVERAL = [
+    ('check', 'set twice', ['set', 'twice']),
+    ('check', 'open set', ['open', 'set']),
+    ('check', 'sets', ['sets/image.image', 'sets/twice.drv']),
+    ('explain', 'twice image', ['twice', 'image']),
+    ('explain', 'open twice', ['open', 'twice']),
+]
+
+def marked(command, name, text):
+    """A text as it is told of a file of a name."""
+    if command == 'check':
+        return ''.join('%s: %s\n' % (name, line) for line in text.splitlines())
+    return text and '%s:\n%s' % (name, text)
+
+def joined(answers):
+    """The answers for files, one behind the other."""
+    return max((one[0] for one in answers), default=0), ''.join(one[1] for one in answers), ''.join(one[2] for one in answers)
+
+def whole_of(command, names):
+    """The answer for each of these files, told with its name."""
+    told = lambda name, answer: (answer[0], marked(command, name, answer[1]), marked(command, name, answer[2]))
+    return [told(name, ALONE[command][name]) for name in names]
+
+def allowed(kind, command, names):
+    """What may be answered where one growth, read or write fails."""
+    answers = whole_of(command, names)
+    yield joined(answers)
+    if kind == 'GROWTH':
+        yield NO_MEMORY
+    for place, name in enumerate(names):
+        before = joined(answers[:place])
+        if kind == 'GROWTH':
+            yield 3, before[1], before[2] + marked(command, name, 'out of memory\n')
+        elif kind == 'READ':
+            unread = 2, '', marked(command, name, 'read failed\n')
+            yield joined(answers[:place] + [unread] + answers[place + 1:])
+        else:
+            yield 2, before[1], before[2] + 'write failed\n'
+            # once the error writer has failed, nothing more is told
+            yield *joined(answers)[:2], before[2]
+
+def run(program, words, folder, library, number, kind='GROWTH'):
+    """What the program answers, with the growth, the read or the write of this number refused, and how many there were."""
     counted = os.path.join(folder, 'counted')
-    how = {**os.environ, 'LD_PRELOAD': library, 'REFUSED_GROWTH': str(number), 'COUNTED_GROWTHS': counted}
+    how = {**os.environ, 'LD_PRELOAD': library, 'REFUSED_' + kind: str(number), 'COUNTED_%sS' % kind: counted}
     if os.path.exists(counted):
         os.remove(counted)
     done = subprocess.run([program, *words.split()], cwd=folder, env=how, stdin=subprocess.DEVNULL, capture_output=True, text=True, timeout=60)
@@ -189,6 +250,20 @@ def sweep(program, folder, library, words, wanted):
             print('drvhost %s, growth %d of %d refused: %r' % (words, number, growths, found))
     return growths, ended, wrong
 
+def sweep_several(program, folder, library, kind, command, words, names):
+    """The same where several files are judged, and growths, reads or writes fail."""
+    words = command + ' ' + words
+    wanted = list(allowed(kind, command, names))
+    _, count = run(program, words, folder, library, 0, kind)
+    ended = wrong = 0
+    for number in range(count + 2):
+        found, _ = run(program, words, folder, library, number, kind)
+        ended += found != wanted[0]
+        if found not in wanted:
+            wrong += 1
+            print('drvhost %s, %s %d of %d refused: %r' % (words, kind.lower(), number, count, found))
+    return count, ended, wrong
+
 def main():
     program = os.path.abspath(sys.argv[1] if len(sys.argv) > 1 else os.path.join(TOP, 'crates/drvhost/out/drvhost'))
     total = [0, 0, 0]
@@ -202,7 +277,16 @@ def main():
             found = sweep(program, folder, library, words, tuple(wanted))
             print('drvhost %-32s %4d growths refused, %4d told as want of memory' % (words, *found[:2]))
             total = [sum(both) for both in zip(total, found)]
-    print('%d growths refused, %d told as want of memory, %d wrong' % tuple(total))
+        os.mkdir(os.path.join(folder, 'sets'))
+        for name, content in ('image.image', 'image'), ('twice.drv', 'twice'):
+            with open(os.path.join(folder, 'sets', name), 'wb') as out:
+                out.write(FILES[content])
+        for command, words, names in SEVERAL:
+            for kind in 'GROWTH', 'READ', 'WRITE':
+                count, ended, wrong = sweep_several(program, folder, library, kind, command, words, names)
+                print('drvhost %-32s %4d %ss refused, %4d told' % (command + ' ' + words, count, kind.lower(), ended))
+                total = [sum(both) for both in zip(total, (count, 0, wrong) if kind != 'GROWTH' else (count, ended, wrong))]
+    print('%d growths, reads and writes refused, %d told as want of memory, %d wrong' % tuple(total))
     return 1 if total[2] else 0
 
 if __name__ == '__main__':

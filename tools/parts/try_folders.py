@@ -1,9 +1,9 @@
 #!/usr/bin/env python3
 """tools/try folders [PROGRAM]: runs the built program (crates/drvhost/out/drvhost, if none is named) on folders and on several
 files, for what no contract says: which files of a real folder are found. There are links in a ring, names with spaces, quotes
-and line feeds, and one that isn't UTF-8, an output that is closed in the middle, and ten thousand files. It prints each case
-that is answered otherwise; the last line counts."""
-import os, subprocess, sys, tempfile
+and line feeds, and one that isn't UTF-8, a file that grows while it is read, a pipe that is filled bit by bit, an output that is
+closed in the middle, and ten thousand files. It prints each case that is answered otherwise; the last line counts."""
+import os, subprocess, sys, tempfile, threading, time
 
 TOP = os.path.dirname(os.path.dirname(os.path.dirname(os.path.abspath(__file__))))
 
@@ -77,20 +77,59 @@ def below(folder, path):
                     found.append((os.path.join(shown, name), ANSWERS[file.read()]))
     return sorted(found) + sorted(unread)
 
-def wanted(folder, paths):
-    answers = [answer for path in paths for answer in below(folder, path)]
+def named(answers):
+    """The answers for files, told with their names."""
     lines = lambda part: b''.join(name + b': ' + line + b'\n' for name, answer in answers for line in answer[part])
     return max([answer[0] for _, answer in answers], default=0), lines(1), lines(2)
+
+def wanted(folder, paths):
+    return named([answer for path in paths for answer in below(folder, path)])
 
 def run(program, words, folder, out=subprocess.PIPE):
     done = subprocess.run([program, *words], cwd=folder, stdin=subprocess.DEVNULL, stdout=out, stderr=subprocess.PIPE)
     return done.returncode, done.stdout, done.stderr
 
 CASES = [
-    [b'tree'], [b'tree/'], [b'linked'], [b'tree/b', b'tree/a.drv'], [b'bad'], [b'none'], [b'many'],
+    [b'tree'], [b'tree/'], [b'linked'], [b'tree/b/ring'], [b'tree/b', b'tree/a.drv'], [b'bad'], [b'none'], [b'many'],
     [b'one.drv', b'two.drv'], [b'two.drv', b'three.drv', b'one.drv'], [b'nothing.drv', b'one.drv'],
     [b'one.drv', b'one.drv'], [b'one.drv', b'none/note.txt/x', b'tree/b/ring/a.drv', b'two.drv'],
 ]
+
+def growing(program, folder):
+    """What is answered for a file that grows by whole lines until the answer is there: it is that of a beginning of it."""
+    path = os.path.join(folder, b'grows.drv')
+    with open(path, 'wb') as out:
+        out.write(GOOD + b'; a comment\n' * 100_000)
+    done = threading.Event()
+    def grow_on():
+        with open(path, 'ab', buffering=0) as out:
+            for _ in range(20_000):
+                if done.is_set():
+                    break
+                out.write(b'; a comment more\n' * 100)
+    grower = threading.Thread(target=grow_on)
+    grower.start()
+    try:
+        return run(program, [b'check', b'grows.drv', b'one.drv'], folder)
+    finally:
+        done.set()
+        grower.join()
+
+def piped(program, folder):
+    """What is answered for a pipe as a file, which gives a set line by line."""
+    path = os.path.join(folder, b'pipe.drv')
+    os.mkfifo(path)
+    def fill():
+        with open(path, 'wb', buffering=0) as out:
+            for line in TWICE.splitlines(keepends=True):
+                out.write(line)
+                time.sleep(0.01)
+    filler = threading.Thread(target=fill)
+    filler.start()
+    try:
+        return run(program, [b'check', b'one.drv', b'pipe.drv'], folder)
+    finally:
+        filler.join()
 
 def answers(program, folder):
     for paths in CASES:
@@ -102,6 +141,8 @@ def answers(program, folder):
     status, written, told = run(program, [b'explain', b'three.drv', b'one.drv'], folder)
     faulty = run(program, [b'explain', b'three.drv'], folder)
     yield 'explain three.drv one.drv', (2, b'one.drv:\n' + alone[1][1], b'three.drv:\n' + faulty[2]), (status, written, told)
+    yield 'check of a file that grows', named([(b'grows.drv', ACCEPTED), (b'one.drv', ACCEPTED)]), growing(program, folder)
+    yield 'check of a pipe', named([(b'one.drv', ACCEPTED), (b'pipe.drv', REFUSED)]), piped(program, folder)
     # a write that fails ends it
     with open('/dev/full', 'wb') as full:
         status, _, told = run(program, [b'check', b'three.drv', b'one.drv', b'three.drv'], folder, full)

@@ -191,17 +191,44 @@ CASES = [
     ('--help', 2, b'', SOME),
 ]
 
+# words of which one is `-`, and what the standard input gives
+FED = [
+    ('check -', GOOD, 0, ACCEPTED, b''),
+    ('check -', TWICE, 1, REFUSED, b''),
+    ('check -', IMAGE, 0, ACCEPTED, b''),
+    ('check -', b'', 1, b'refused V1 Malformed driver 0 routine 0 at 0\n', b''),
+    ('explain -', TWICE, 1, EXPLAINED, b''),
+    ('check good.drv -', TWICE, 1, b'good.drv: accepted\ngood.drv: driver 0 routine 0 dispatch certificate 2\n'
+     b'-: refused V5 DoubleCompletion driver 0 routine 0 at 1\n', b''),
+    ('list -', IMAGE, 0, LISTED, b''),
+    ('trace - good.sched', GOOD, 0, TRACED, b''),
+    ('trace good.drv -', b'threads 1\nissue 0 0 READ 7\nstep 0 4\n', 0, TRACED, b''),
+    ('tell good.drv -', b'threads 0\n', 2, b'', NO_THREADS),
+    ('host good.drv - --workers 1', b'request 0 READ 7\ninterrupt 0\n', 0, SERVED, b''),
+]
+
 def is_as(wanted, found):
     return bool(found) if wanted is SOME else wanted == found
 
-def run(program, words, folder, out=subprocess.PIPE):
-    done = subprocess.run([program, *words], cwd=folder, stdin=subprocess.DEVNULL, stdout=out, stderr=subprocess.PIPE)
+def run(program, words, folder, out=subprocess.PIPE, given=b''):
+    done = subprocess.run([program, *words], cwd=folder, input=given, stdout=out, stderr=subprocess.PIPE)
     return done.returncode, done.stdout, done.stderr
 
 def answers(program, folder):
     """Each case with what is wanted and what was found."""
     for words, *wanted in CASES:
         yield words, wanted, run(program, words.split(), folder)
+    for words, given, *wanted in FED:
+        yield words + ' < input', wanted, run(program, words.split(), folder, given=given)
+    # from a file, a standard input is read from where it stands; a file named `-` is `./-`
+    for name, content in ('-', GOOD), ('behind', b'driver d\n' + TWICE):
+        with open(os.path.join(folder, name), 'wb') as out:
+            out.write(content)
+    with open(os.path.join(folder, 'behind'), 'rb', buffering=0) as behind:
+        behind.read(9)
+        done = subprocess.run([program, 'check', '-'], cwd=folder, stdin=behind, capture_output=True)
+    yield 'check - < behind', (1, REFUSED, b''), (done.returncode, done.stdout, done.stderr)
+    yield 'check ./-', (0, ACCEPTED, b''), run(program, ['check', './-'], folder, given=TWICE)
     # a word that is no text, and an output that takes nothing
     yield 'check <a byte that is no text>', (2, b'', SOME), run(program, [b'check', b'\xff'], folder)
     with open('/dev/full', 'wb') as full:

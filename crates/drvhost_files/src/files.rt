@@ -5,11 +5,12 @@ ghost use Rattle.std.specs.Io.KnownBytes.{Keeps};
 ghost use Rattle.drvhost_devices.specs.Device.{Closed, IsSuppliedAs, Supply, Unknown};
 ghost use Rattle.drvhost_files.specs.Files.{blank, contents_given, contents_of, failures_of, supply_of, Stores};
 
+use crate::standard::{Opened, STANDARD_INPUT, open};
 use drvhost_devices::device::{Failed, Reader, Sink, Source, Writer};
-use drvhost_found::find::{Found, find};
+use drvhost_found::find::{Found, alone, find};
 use std::alloc::AllocError;
 use std::fs::{self, File};
-use std::io::Write;
+use std::io::{Input, Write};
 
 /// Files by their names.
 pub trait Files {
@@ -87,7 +88,8 @@ pub trait Files {
             (Self.Target.contents target) };
 }
 
-/// The files of a system.
+/// The files of a system. Where one is to be read, the name `-` is that of its standard input, which
+/// is read from where it stands: once it is at its end, there is nothing more to read.
 #[derive(Drop)]
 pub struct Disk<'r, R> {
     system: &'r R,
@@ -97,7 +99,7 @@ pub struct Disk<'r, R> {
     unwritten: u64,
 }
 
-impl<'r, R: fs::Files + AllocGlobal + Clone + Drop> Disk<'r, R> {
+impl<'r, R: fs::Files + Input + AllocGlobal + Clone + Drop> Disk<'r, R> {
     /// The files of a system, of which none was opened.
     pub fn new(system: &'r R) -> Disk<'r, R>
         ensures opened { ⟦<Disk<'r, R> as Files>⟧.opened result ≡ 0 }
@@ -129,10 +131,10 @@ impl<'r, R: fs::Files + AllocGlobal + Clone + Drop> Disk<'r, R> {
     }
 }
 
-impl<R: fs::Files + AllocGlobal + Clone + Drop> Files for Disk<'_, R> {
+impl<R: fs::Files + Input + AllocGlobal + Clone + Drop> Files for Disk<'_, R> {
     ghost use Rattle.drvhost_found.specs.Found.{IsFound};
 
-    type File = Reader<R::File>;
+    type File = Reader<Opened<R::File, R::Reader>>;
 
     type Target = Output<R::File>;
 
@@ -149,18 +151,21 @@ impl<R: fs::Files + AllocGlobal + Clone + Drop> Files for Disk<'_, R> {
     ghost unwritten = { λ disk. disk.unwritten };
 
     fn find(&self, path: &str) -> Result<Found, AllocError> {
+        if path == STANDARD_INPUT {
+            return alone(self.system.alloc(), path);
+        }
         find(self.system, path)
     }
 
-    fn open(&self, name: &str) -> Reader<R::File> {
-        Reader::new(File::open(self.system, name).ok())
+    fn open(&self, name: &str) -> Reader<Opened<R::File, R::Reader>> {
+        Reader::new(open(self.system, name))
     }
 
-    fn is_closed(&self, file: &Reader<R::File>) -> bool {
+    fn is_closed(&self, file: &Reader<Opened<R::File, R::Reader>>) -> bool {
         file.is_closed()
     }
 
-    fn close(&mut self, file: Reader<R::File>) {
+    fn close(&mut self, file: Reader<Opened<R::File, R::Reader>>) {
         self.opened += 1;
         self.failures += file.failures();
     }

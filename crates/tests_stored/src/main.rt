@@ -11,7 +11,7 @@ use drvhost_files::files::Disk;
 use drvhost_words::answer::answer;
 use std::alloc::{AllocError, Global};
 use std::fs::{self, Files};
-use std::io::{self, Write};
+use std::io::{self, Input, Write};
 use std::sync::Wait;
 use std::thread::Threads;
 use texts::unpack;
@@ -41,12 +41,10 @@ fn main(rt: HostRuntime) -> io::Result<()> {
 }
 
 /// Writes what the program answers to these words.
-fn write_answer<R: Files + AllocGlobal + Clone + Drop + Threads + Wait + Sync, W: Write>(
-    rt: &R,
-    alloc: Global,
-    words: &str,
-    out: &mut W,
-) -> io::Result<()> {
+fn write_answer<R, W: Write>(rt: &R, alloc: Global, words: &str, out: &mut W) -> io::Result<()>
+where
+    R: Files + Input + AllocGlobal + Clone + Drop + Threads + Wait + Sync,
+{
     let words = command_line_of(alloc, words)?;
     let mut files = Disk::new(rt);
     let mut lines = Writer::new(Vec::<u8>::new(alloc));
