@@ -8,13 +8,18 @@
  *
  * - Nothing is kept of what is passed, and nothing is written but through the pointers that are not
  *   const. No call prints, opens a file, starts a thread, takes a lock or waits.
- * - A pointer is never NULL, and points to as many bytes as the length behind it says, also where
- *   that is 0. What is written to overlaps with nothing else that is passed.
+ * - A pointer points to as many bytes, events or replies as the length behind it says. Where that is
+ *   0 it may be NULL; no other pointer may. What is written to overlaps with nothing else that is
+ *   passed.
  * - Bytes are bytes: nothing ends them but their length. A length is a number of bytes.
  * - Calls that say "takes memory" take it from malloc and, but for a world, give all of it back
  *   before they return. Where memory is refused they answer PAFTEIS_NO_MEMORY.
  * - Calls may be made in several threads at once, as long as no two of them have the same world, or
- *   a buffer that one of them writes to. No call may be made from a signal handler.
+ *   a buffer that one of them writes to. No call may be made from a signal handler, or in the child
+ *   of a process that had several threads when it forked.
+ *
+ * Linux on x86-64 with the instructions of x86-64-v2; C99 and later, C++17 for pafteis.hpp. Nothing
+ * is linked but the C library. docs/EMBEDDING.md has sizes, the stack that a call takes, and more.
  */
 #ifndef PAFTEIS_H
 #define PAFTEIS_H
@@ -122,12 +127,12 @@ typedef struct {
                                    that is held at the first */
 } pafteis_lock_order;
 
-/* Of the set that a text or an image names the locks of a driver in an order, or where they have
- * none a shortest cycle, of which the edges come first by routine and position. With PAFTEIS_DONE
- * `order` tells it, and `verdict` is all 0. Else `order` is as it was: with _REFUSED, _FAULTY and
- * _NO_MEMORY `verdict` is that of pafteis_check; with _WRONG_ARGUMENT the set has no driver of this
- * number, and `verdict` is all 0. Where all drivers have an order, no threads of any run wait for
- * each other's locks in a ring. Takes memory. */
+/* The locks of a driver in an order, or a shortest cycle where they have none; of all shortest
+ * cycles the one whose edges come first by routine and position. The driver is one of the set that
+ * a text or an image names. With PAFTEIS_DONE `order` tells it, and `verdict` is all 0. Else `order`
+ * is as it was: with _REFUSED, _FAULTY and _NO_MEMORY `verdict` is that of pafteis_check; with
+ * _WRONG_ARGUMENT the set has no driver of this number, and `verdict` is all 0. Where all drivers
+ * have an order, no threads of any run wait for each other's locks in a ring. Takes memory. */
 uint32_t pafteis_order_of_locks(const uint8_t *set, size_t set_length, uint8_t driver,
                                 pafteis_lock_order *order, pafteis_verdict *verdict);
 
@@ -312,8 +317,8 @@ uint32_t pafteis_version(uint8_t *buffer, size_t capacity, size_t *needed);
  * first time, and let nothing but the calls below change it; it may be moved, and not copied. A
  * world that was made is to be freed. `live` says whether there is one.
  *
- * Calls that tell of a world leave it as it is, and yet want it to themselves while they last: a
- * world is used by one thread at a time. */
+ * Calls that take a world as const look at it, and write nothing to it. A world is used by one
+ * thread at a time all the same, also by those. */
 
 typedef struct {
     bool live;
@@ -336,8 +341,9 @@ uint32_t pafteis_world_new(const uint8_t *set, size_t set_length, uint8_t thread
 uint32_t pafteis_world_reset(pafteis_world *world, uint8_t threads);
 
 /* Makes another world of a world's set, before its first event, in a struct that has none. The two
- * are apart. _HAS_WORLD where `other` has one. */
-uint32_t pafteis_world_another(pafteis_world *world, uint8_t threads, pafteis_world *other);
+ * are apart. _HAS_WORLD where `other` has one. A world isn't copied: who wants to go on from one
+ * point in two ways keeps the events, and applies them to the other world too. */
+uint32_t pafteis_world_another(const pafteis_world *world, uint8_t threads, pafteis_world *other);
 
 /* Kinds of events, with the fields that each needs. The others may be anything. */
 enum {
@@ -358,7 +364,7 @@ typedef struct {
     uint8_t thread;    /* from 0 */
     uint8_t device;    /* from 0, in the order of the text */
     uint8_t major;
-    uint8_t level;     /* the IRQL of who cancels: 0 PASSIVE_LEVEL, 1 APC_LEVEL, 2 DISPATCH_LEVEL */
+    uint8_t level;     /* IRQL of who cancels: 0 PASSIVE_LEVEL, 1 APC_LEVEL, 2 DISPATCH_LEVEL */
 } pafteis_event;
 
 /* Kinds of replies. A world never replies with a bug check or a wrong operand (8, 9). Of a thread or
@@ -392,8 +398,9 @@ uint32_t pafteis_world_apply(pafteis_world *world, const pafteis_event *event,
 uint32_t pafteis_world_apply_all(pafteis_world *world, const pafteis_event *events, size_t count,
                                  pafteis_reply *replies, size_t room, size_t *applied);
 
-/* Steps of a thread, at most `count`, up to the first that replies otherwise than _STEPPED; how
- * many were made, that one included, and the reply to the last (_STEPPED where none was made). */
+/* Steps of a thread, at most `count`, up to the first that replies otherwise than _STEPPED. `made`
+ * becomes how many were made, that one included, and `reply` the reply to the last (_STEPPED where
+ * none was made). Of a thread that isn't there the first is _NOT_POSSIBLE. */
 uint32_t pafteis_world_steps(pafteis_world *world, uint8_t thread, size_t count, size_t *made,
                              pafteis_reply *reply);
 
@@ -414,7 +421,7 @@ typedef struct {
 } pafteis_thread;
 
 /* Tells of a thread; _WRONG_ARGUMENT where the world has none of this number. */
-uint32_t pafteis_world_thread(pafteis_world *world, uint8_t number, pafteis_thread *thread);
+uint32_t pafteis_world_thread(const pafteis_world *world, uint8_t number, pafteis_thread *thread);
 
 /* Whose cancel routine is set. */
 typedef struct {
@@ -431,7 +438,7 @@ typedef struct {
 } pafteis_packet;
 
 /* Tells of a packet. */
-uint32_t pafteis_world_packet(pafteis_world *world, uint64_t number, pafteis_packet *packet);
+uint32_t pafteis_world_packet(const pafteis_world *world, uint64_t number, pafteis_packet *packet);
 
 typedef struct {
     bool start_io; /* its StartIo routine has to begin */
@@ -439,7 +446,7 @@ typedef struct {
 } pafteis_due;
 
 /* Tells what is due of a device: nothing where there is none of this number. */
-uint32_t pafteis_world_due(pafteis_world *world, uint8_t device, pafteis_due *due);
+uint32_t pafteis_world_due(const pafteis_world *world, uint8_t device, pafteis_due *due);
 
 /* The number cells of a device. */
 typedef struct {
@@ -447,7 +454,7 @@ typedef struct {
 } pafteis_cells;
 
 /* Tells them; _WRONG_ARGUMENT where there is no device of this number. */
-uint32_t pafteis_world_cells(pafteis_world *world, uint8_t device, pafteis_cells *cells);
+uint32_t pafteis_world_cells(const pafteis_world *world, uint8_t device, pafteis_cells *cells);
 
 typedef struct {
     bool owned;
@@ -456,7 +463,7 @@ typedef struct {
 
 /* Tells which thread owns a lock of a device, 0 to 7, or PAFTEIS_CANCEL_LOCK, whatever the device;
  * _WRONG_ARGUMENT where there is no such lock. */
-uint32_t pafteis_world_lock(pafteis_world *world, uint8_t device, uint8_t lock,
+uint32_t pafteis_world_lock(const pafteis_world *world, uint8_t device, uint8_t lock,
                             pafteis_owner *owner);
 
 /* What is asked with a live packet, at its current location. */
@@ -467,7 +474,8 @@ typedef struct {
 } pafteis_request;
 
 /* Tells it; _WRONG_ARGUMENT where no packet of this number is live. */
-uint32_t pafteis_world_request(pafteis_world *world, uint64_t number, pafteis_request *request);
+uint32_t pafteis_world_request(const pafteis_world *world, uint64_t number,
+                               pafteis_request *request);
 
 /* Frees a world; _NO_WORLD where there is none, as where it was freed before. */
 uint32_t pafteis_world_free(pafteis_world *world);

@@ -191,32 +191,32 @@ public:
         return apply({0, argument, PAFTEIS_ISSUE, thread, device, major, 0});
     }
     pafteis_reply step(std::uint8_t thread) { return apply({0, 0, PAFTEIS_STEP, thread, 0, 0, 0}); }
-    pafteis_thread thread(std::uint8_t number) {
+    pafteis_thread thread(std::uint8_t number) const {
         pafteis_thread found;
         expect(pafteis_world_thread(&handle, number, &found));
         return found;
     }
-    pafteis_packet packet(std::uint64_t number) {
+    pafteis_packet packet(std::uint64_t number) const {
         pafteis_packet found;
         expect(pafteis_world_packet(&handle, number, &found));
         return found;
     }
-    pafteis_due due(std::uint8_t device) {
+    pafteis_due due(std::uint8_t device) const {
         pafteis_due found;
         expect(pafteis_world_due(&handle, device, &found));
         return found;
     }
-    pafteis_cells cells(std::uint8_t device) {
+    pafteis_cells cells(std::uint8_t device) const {
         pafteis_cells found;
         expect(pafteis_world_cells(&handle, device, &found));
         return found;
     }
-    pafteis_owner lock(std::uint8_t device, std::uint8_t number) {
+    pafteis_owner lock(std::uint8_t device, std::uint8_t number) const {
         pafteis_owner found;
         expect(pafteis_world_lock(&handle, device, number, &found));
         return found;
     }
-    pafteis_request request(std::uint64_t packet) {
+    pafteis_request request(std::uint64_t packet) const {
         pafteis_request found;
         expect(pafteis_world_request(&handle, packet, &found));
         return found;
@@ -226,7 +226,7 @@ public:
     void reset(std::uint8_t threads) { expect(pafteis_world_reset(&handle, threads)); }
 
     // Another world of the same set, before its first event.
-    world another(std::uint8_t threads) {
+    world another(std::uint8_t threads) const {
         world made;
         expect(pafteis_world_another(&handle, threads, &made.handle));
         return made;

@@ -3,11 +3,14 @@
 pafteis.hpp, and out/lib/pkgconfig/pafteis.pc.
 
     python3 tools/build_library.py [--prefix PREFIX] [--archive FILE] [--into FOLDER]
+                                   [--instrument address|fuzzer ..] [--debug]
 
 It proves crates/pafteis and all below it first, over what earlier checks kept; with FILE, a static
 library that was built elsewhere, it proves nothing. PREFIX is where the folder FOLDER (out/) will
 stand for who links, FOLDER itself if it isn't given. Both libraries have no global names but those
-of the header. It wants `rt`, `ar`, `ld`, `objcopy` and `cc`.
+of the header, and tables by which stacks are unwound. `--instrument` has the code tell a sanitizer
+(`address`) or libFuzzer (`fuzzer`) of itself; `--debug` adds debug information, which tells names
+and lines of the assembly, FOLDER/lib/pafteis.s. It wants `rt`, `ar`, `ld`, `objcopy` and `cc`.
 """
 
 import argparse
@@ -20,6 +23,7 @@ import tempfile
 
 TOP = pathlib.Path(__file__).resolve().parent.parent
 sys.path.insert(0, str(TOP / "tools/parts"))
+import marked_kit  # noqa: E402
 from versions import MAJOR, VERSION  # noqa: E402
 
 SONAME = f"libpafteis.so.{MAJOR}"
@@ -32,9 +36,12 @@ def kit():
     return pathlib.Path(os.environ.get("RATTLE_KIT", rt.parent.parent))
 
 
-def proved_archives():
+def proved_archives(marks):
     """The archives of the proved library and of the heap that it calls."""
-    if subprocess.run(["rt", "lib"], cwd=TOP / "crates/pafteis").returncode:
+    with tempfile.TemporaryDirectory() as folder:
+        rt = marked_kit.make(folder, kit(), marks)
+        ran = subprocess.run([sys.executable, rt, "lib"], cwd=TOP / "crates/pafteis")
+    if ran.returncode:
         sys.exit("build_library: the library was not built")
     return [TOP / "crates/pafteis/out/libpafteis.a", kit() / "c/liblibc_c.a"]
 
@@ -81,11 +88,15 @@ def main():
     words.add_argument("--prefix")
     words.add_argument("--archive", action="append", type=pathlib.Path)
     words.add_argument("--into", type=pathlib.Path, default=TOP / "out")
+    sorts = list(marked_kit.SORTS)
+    words.add_argument("--instrument", action="append", choices=sorts, default=[])
+    words.add_argument("--debug", action="store_true")
     given = words.parse_args()
-    archives = given.archive or proved_archives()
     lib = given.into / "lib"
     for folder in (lib / "pkgconfig", given.into / "include"):
         folder.mkdir(parents=True, exist_ok=True)
+    assembly = str(lib / "pafteis.s") if given.debug else ""
+    archives = given.archive or proved_archives(marked_kit.Marks(given.instrument, assembly))
     with tempfile.TemporaryDirectory() as folder:
         piece = pathlib.Path(folder, "pafteis.o")
         one_object(archives, piece)

@@ -12,6 +12,8 @@ from pafteis.worlds import EventKind
 from tests import TOP
 
 HEADER = TOP / "include/pafteis.h"
+# Where each field lies since 1.0.0: a struct with its size, below it each field's place and size.
+LAYOUT = TOP / "include/layout.txt"
 STRUCTS = {
     "verdict": _library.CVerdict,
     "lock_edge": _library.CLockEdge,
@@ -101,25 +103,31 @@ def header_fields(body):
                 yield kind + star, name, count or ""
 
 
+def in_order():
+    """The structs with their names, in the order of the header."""
+    names = re.findall(r"^} pafteis_(\w+);", HEADER.read_text(encoding="ascii"), re.M)
+    return [(name, STRUCTS[name]) for name in names]
+
+
 def program():
     """A program that tells where each field lies, with how many bytes."""
     lines = ["#include <stdio.h>", "#include <stddef.h>", '#include "pafteis.h"', "int main(void) {"]
-    for name, struct in STRUCTS.items():
+    for name, struct in in_order():
         kind = f"pafteis_{name}"
-        lines.append(f'printf("{name} %zu\\n", sizeof({kind}));')
+        lines.append(f'printf("{kind} %zu\\n", sizeof({kind}));')
         for field, *_ in struct._fields_:
             size = f"sizeof((({kind} *)0)->{field})"
-            lines.append(f'printf("{name}.{field} %zu %zu\\n", offsetof({kind}, {field}), {size});')
+            lines.append(f'printf("    {field} %zu %zu\\n", offsetof({kind}, {field}), {size});')
     return "\n".join([*lines, "return 0; }", ""])
 
 
 def wanted():
     """The same of the package."""
-    for name, struct in STRUCTS.items():
-        yield f"{name} {ctypes.sizeof(struct)}"
+    for name, struct in in_order():
+        yield f"pafteis_{name} {ctypes.sizeof(struct)}"
         for field, *_ in struct._fields_:
             found = getattr(struct, field)
-            yield f"{name}.{field} {found.offset} {found.size}"
+            yield f"    {field} {found.offset} {found.size}"
 
 
 class Header(unittest.TestCase):
@@ -130,6 +138,10 @@ class Header(unittest.TestCase):
             subprocess.run(words, input=program(), text=True, check=True)
             told = subprocess.run([f"{folder}/told"], capture_output=True, text=True, check=True)
         self.assertEqual(told.stdout.splitlines(), list(wanted()))
+
+    def test_layout(self):
+        """No field of a struct has moved since the first version, and none was added."""
+        self.assertEqual(LAYOUT.read_text(encoding="ascii").splitlines(), list(wanted()))
 
     def test_source(self):
         """Each struct of the header has the fields of the library's own, in their order."""

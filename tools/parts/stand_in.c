@@ -242,7 +242,7 @@ uint32_t pafteis_world_new(const uint8_t *set, size_t length, uint8_t threads, p
     return PAFTEIS_DONE;
 }
 
-uint32_t pafteis_world_another(pafteis_world *world, uint8_t threads, pafteis_world *other) {
+uint32_t pafteis_world_another(const pafteis_world *world, uint8_t threads, pafteis_world *other) {
     if (threads < 1 || threads > 64)
         return PAFTEIS_WRONG_ARGUMENT;
     if (other->live)
@@ -350,7 +350,7 @@ uint32_t pafteis_world_steps(pafteis_world *world, uint8_t thread, size_t count,
     return PAFTEIS_DONE;
 }
 
-uint32_t pafteis_world_thread(pafteis_world *world, uint8_t number, pafteis_thread *thread) {
+uint32_t pafteis_world_thread(const pafteis_world *world, uint8_t number, pafteis_thread *thread) {
     if (!world->live)
         return PAFTEIS_NO_WORLD;
     if (number >= ((inside *)world->inside)->threads)
@@ -359,32 +359,32 @@ uint32_t pafteis_world_thread(pafteis_world *world, uint8_t number, pafteis_thre
     return PAFTEIS_DONE;
 }
 
-uint32_t pafteis_world_packet(pafteis_world *world, uint64_t number, pafteis_packet *packet) {
+uint32_t pafteis_world_packet(const pafteis_world *world, uint64_t number, pafteis_packet *packet) {
     (void)number;
     memset(packet, 0, sizeof *packet);
     return world->live ? PAFTEIS_DONE : PAFTEIS_NO_WORLD;
 }
 
-uint32_t pafteis_world_due(pafteis_world *world, uint8_t device, pafteis_due *due) {
+uint32_t pafteis_world_due(const pafteis_world *world, uint8_t device, pafteis_due *due) {
     (void)device;
     memset(due, 0, sizeof *due);
     return world->live ? PAFTEIS_DONE : PAFTEIS_NO_WORLD;
 }
 
-uint32_t pafteis_world_cells(pafteis_world *world, uint8_t device, pafteis_cells *cells) {
+uint32_t pafteis_world_cells(const pafteis_world *world, uint8_t device, pafteis_cells *cells) {
     (void)device;
     memset(cells, 0, sizeof *cells);
     return world->live ? PAFTEIS_DONE : PAFTEIS_NO_WORLD;
 }
 
-uint32_t pafteis_world_lock(pafteis_world *world, uint8_t device, uint8_t lock,
+uint32_t pafteis_world_lock(const pafteis_world *world, uint8_t device, uint8_t lock,
                             pafteis_owner *owner) {
     (void)device, (void)lock;
     memset(owner, 0, sizeof *owner);
     return world->live ? PAFTEIS_DONE : PAFTEIS_NO_WORLD;
 }
 
-uint32_t pafteis_world_request(pafteis_world *world, uint64_t number, pafteis_request *request) {
+uint32_t pafteis_world_request(const pafteis_world *world, uint64_t number, pafteis_request *request) {
     (void)number;
     memset(request, 0, sizeof *request);
     return world->live ? PAFTEIS_DONE : PAFTEIS_NO_WORLD;

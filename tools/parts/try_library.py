@@ -45,6 +45,8 @@ def built(folder):
     for name in ("answer", "step", "first", "locks", "inside"):
         subprocess.run(["cc", *here, EXAMPLES / f"{name}.c", LIBRARY / "libpafteis.a", "-o",
                         f"{folder}/{name}"], check=True)
+    subprocess.run(["cc", *here, TOP / "tools/parts/pass_null.c", LIBRARY / "libpafteis.a", "-o",
+                    f"{folder}/pass_null"], check=True)
     found["C"] = [f"{folder}/answer"]
     subprocess.run(["c++", "-std=c++17", *here[1:], EXAMPLES / "step.cpp",
                     LIBRARY / "libpafteis.a", "-o", f"{folder}/step_cpp"], check=True)
@@ -124,6 +126,9 @@ def wrong_worlds(folder, commands):
     told = answered([f"{folder}/inside"])
     if told[:2] != (0, INSIDE):
         yield f"what a world has is told otherwise from C: {told}"
+    told = answered([f"{folder}/pass_null"])
+    if told[:2] != (0, b"34 calls, 0 wrong\n"):
+        yield f"NULL with the length 0 is answered otherwise: {told}"
     for command in commands:
         if answered([*command, "version"]) != (0, f"pafteis {VERSION}\n".encode(), b""):
             yield f"{command[-1]} tells another version"
@@ -138,7 +143,7 @@ def wrong_worlds(folder, commands):
 def main():
     program = sys.argv[1] if len(sys.argv) > 1 else str(TOP / "crates/drvhost/out/drvhost")
     only = sys.argv[2:]
-    wrong, tried = 0, 7
+    wrong, tried = 0, 8
     with tempfile.TemporaryDirectory() as folder:
         commands = built(folder)
         for words, own in cases():

@@ -3,3 +3,4 @@ pub mod Batches
 pub mod Few
 pub mod Blank
 pub mod LooseValues
+pub mod LentHandles

@@ -249,13 +249,13 @@ unsafe extern "C" {
     pub fn pafteis_world_apply(world: *mut pafteis_world, event: *const pafteis_event, reply: *mut pafteis_reply) -> u32;
     pub fn pafteis_world_apply_all(world: *mut pafteis_world, events: *const pafteis_event, count: usize, replies: *mut pafteis_reply, room: usize, applied: *mut usize) -> u32;
     pub fn pafteis_world_steps(world: *mut pafteis_world, thread: u8, count: usize, made: *mut usize, reply: *mut pafteis_reply) -> u32;
-    pub fn pafteis_world_thread(world: *mut pafteis_world, number: u8, thread: *mut pafteis_thread) -> u32;
-    pub fn pafteis_world_packet(world: *mut pafteis_world, number: u64, packet: *mut pafteis_packet) -> u32;
-    pub fn pafteis_world_due(world: *mut pafteis_world, device: u8, due: *mut pafteis_due) -> u32;
+    pub fn pafteis_world_thread(world: *const pafteis_world, number: u8, thread: *mut pafteis_thread) -> u32;
+    pub fn pafteis_world_packet(world: *const pafteis_world, number: u64, packet: *mut pafteis_packet) -> u32;
+    pub fn pafteis_world_due(world: *const pafteis_world, device: u8, due: *mut pafteis_due) -> u32;
     pub fn pafteis_world_reset(world: *mut pafteis_world, threads: u8) -> u32;
-    pub fn pafteis_world_another(world: *mut pafteis_world, threads: u8, other: *mut pafteis_world) -> u32;
-    pub fn pafteis_world_cells(world: *mut pafteis_world, device: u8, cells: *mut pafteis_cells) -> u32;
-    pub fn pafteis_world_lock(world: *mut pafteis_world, device: u8, lock: u8, owner: *mut pafteis_owner) -> u32;
-    pub fn pafteis_world_request(world: *mut pafteis_world, number: u64, request: *mut pafteis_request) -> u32;
+    pub fn pafteis_world_another(world: *const pafteis_world, threads: u8, other: *mut pafteis_world) -> u32;
+    pub fn pafteis_world_cells(world: *const pafteis_world, device: u8, cells: *mut pafteis_cells) -> u32;
+    pub fn pafteis_world_lock(world: *const pafteis_world, device: u8, lock: u8, owner: *mut pafteis_owner) -> u32;
+    pub fn pafteis_world_request(world: *const pafteis_world, number: u64, request: *mut pafteis_request) -> u32;
     pub fn pafteis_world_free(world: *mut pafteis_world) -> u32;
 }

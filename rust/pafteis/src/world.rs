@@ -219,23 +219,23 @@ impl World {
     /// # Errors
     ///
     /// `WrongArgument` where there is none of this number.
-    pub fn thread(&mut self, number: u8) -> Result<Thread, Error> {
+    pub fn thread(&self, number: u8) -> Result<Thread, Error> {
         let mut found = Thread::default();
-        done(unsafe { sys::pafteis_world_thread(&mut self.handle, number, &mut found) })?;
+        done(unsafe { sys::pafteis_world_thread(&self.handle, number, &mut found) })?;
         Ok(found)
     }
 
     /// Tells of a packet, by the number that `Started` told: its kind is 0 where none was issued.
-    pub fn packet(&mut self, number: u64) -> Packet {
+    pub fn packet(&self, number: u64) -> Packet {
         let mut found = Packet::default();
-        unsafe { sys::pafteis_world_packet(&mut self.handle, number, &mut found) };
+        unsafe { sys::pafteis_world_packet(&self.handle, number, &mut found) };
         found
     }
 
     /// Tells what is due of a device: nothing where there is none of this number.
-    pub fn due(&mut self, device: u8) -> Due {
+    pub fn due(&self, device: u8) -> Due {
         let mut found = Due::default();
-        unsafe { sys::pafteis_world_due(&mut self.handle, device, &mut found) };
+        unsafe { sys::pafteis_world_due(&self.handle, device, &mut found) };
         found
     }
 
@@ -245,24 +245,24 @@ impl World {
     ///
     /// `WrongArgument` where there is none of this number; so have the calls below, of a lock and
     /// of a packet that is live.
-    pub fn cells(&mut self, device: u8) -> Result<Cells, Error> {
+    pub fn cells(&self, device: u8) -> Result<Cells, Error> {
         let mut found = Cells::default();
-        done(unsafe { sys::pafteis_world_cells(&mut self.handle, device, &mut found) })?;
+        done(unsafe { sys::pafteis_world_cells(&self.handle, device, &mut found) })?;
         Ok(found)
     }
 
     /// The thread that owns a spin lock of a device, 0 to 7, or the system cancel spin lock,
     /// `CANCEL_LOCK`, if one does.
-    pub fn owner(&mut self, device: u8, lock: u8) -> Result<Option<u8>, Error> {
+    pub fn owner(&self, device: u8, lock: u8) -> Result<Option<u8>, Error> {
         let mut found = sys::pafteis_owner::default();
-        done(unsafe { sys::pafteis_world_lock(&mut self.handle, device, lock, &mut found) })?;
+        done(unsafe { sys::pafteis_world_lock(&self.handle, device, lock, &mut found) })?;
         Ok(found.owned.then_some(found.thread))
     }
 
     /// What is asked with a live packet.
-    pub fn request(&mut self, packet: u64) -> Result<Request, Error> {
+    pub fn request(&self, packet: u64) -> Result<Request, Error> {
         let mut found = Request::default();
-        done(unsafe { sys::pafteis_world_request(&mut self.handle, packet, &mut found) })?;
+        done(unsafe { sys::pafteis_world_request(&self.handle, packet, &mut found) })?;
         Ok(found)
     }
 
@@ -280,9 +280,9 @@ impl World {
     /// # Errors
     ///
     /// As `reset`.
-    pub fn another(&mut self, threads: u8) -> Result<World, Error> {
+    pub fn another(&self, threads: u8) -> Result<World, Error> {
         let mut handle = empty();
-        done(unsafe { sys::pafteis_world_another(&mut self.handle, threads, &mut handle) })?;
+        done(unsafe { sys::pafteis_world_another(&self.handle, threads, &mut handle) })?;
         Ok(World { handle })
     }
 }
