@@ -14,7 +14,7 @@ written anew.
 A mend that was searched names lines, and is followed by these. Where another one speaks of a label L, the place that it names is made: the guard of the queue is released there, and the routine
 returns. Where it leaves open which status, SUCCESS is taken. Mends that ask for a decision of the author (states that differ,
 another register) aren't followed."""
-import concurrent.futures, os, re, subprocess, sys
+import concurrent.futures, itertools, os, re, subprocess, sys
 
 from stored_runs import Text
 
@@ -162,24 +162,25 @@ def labelled(words):
     return Line(rest, label) if colon else Line(words)
 
 def follow_searched(lines, mend):
-    """Follows a mend that was searched. What is inserted stands before a line and its label, unless it has that label itself."""
+    """Follows a mend that was searched. What is inserted stands before a line and its label, unless it has that label itself;
+    a line goes with its label, unless another one is told to have that."""
     before = {int(at) - 1: [labelled(words) for words in re.findall(r'"([^"]*)"', put)] for put, at in PUT.findall(mend)}
     replaced = {int(at) - 1: words for at, words in REPLACED.findall(mend)}
     taken = {int(at) - 1 for at in TAKEN.findall(mend)}
     named = {int(at) - 1: label for label, at in LABELLED.findall(mend)}
     for at, words, to in MOVED.findall(mend):
-        before.setdefault(int(to) - 1, []).append(Line(words))
+        line = labelled(words)
+        before.setdefault(int(to) - 1, []).append(Line(line.words, named.get(int(at) - 1) or line.label))
         taken.add(int(at) - 1)
-    made, label = [], ''
+    elsewhere = set(named.values()).union(line.label for put in before.values() for line in put)
+    routines = list(itertools.accumulate(line.words.startswith('routine ') for line in lines))
+    edited = {routines[at] for at in {*before, *replaced, *taken, *named}}
+    made = []
     for at, line in enumerate(lines):
-        put = before.get(at, [])
-        made += put
-        own = '' if line.label in [other.label for other in put] else line.label
-        if at in taken:
-            label = label or own
-            continue
-        made.append(Line(replaced.get(at, line.words), named.get(at) or own or label))
-        label = ''
+        made += before.get(at, [])
+        if at not in taken:
+            own = '' if routines[at] in edited and line.label in elsewhere else line.label
+            made.append(Line(replaced.get(at, line.words), named.get(at) or own))
     lines[:] = made
     return True
 

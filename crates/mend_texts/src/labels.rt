@@ -50,6 +50,14 @@ impl<'a> Labels<'a> {
         }
     }
 
+    /// The label that stood at a position, if it stands nowhere now.
+    pub fn gone(&self, position: usize) -> Option<Label<'a>> {
+        match self.used.get(position) {
+            Some(false) => self.before(position),
+            _ => None,
+        }
+    }
+
     /// A label goes with the first jump that led to it, but not with one that is another now.
     fn follow_jumps(&mut self, olds: &[Instr], news: &[Instr], rows: &[Row]) {
         for (row, now) in rows.iter().zip(news.iter()) {

@@ -12,6 +12,7 @@ use mend_sentences::{
 use model::abs::Rule;
 use model::items::Items;
 use std::alloc::{AllocError, Global};
+use text::add_bytes;
 use verifier_names::Names;
 
 /// A routine before and behind edits.
@@ -81,6 +82,36 @@ impl<'w, 'a> Edited<'w, 'a> {
     /// The words on the line of an index.
     fn body(&self, line: usize) -> &'a [u8] {
         parts_of(self.page.line(line)).body
+    }
+
+    /// The words on the line of an index, behind a label.
+    fn behind(&self, label: Option<Label<'_>>, line: usize) -> Result<String, AllocError> {
+        let mut words = String::new(self.alloc);
+        add_bytes(&mut words, self.body(line))?;
+        labelled(self.alloc, label, words)
+    }
+
+    /// The label at a position, if the line of the instruction there has it already.
+    fn kept_label(&self, position: usize, line: usize) -> Option<Label<'a>> {
+        let label = self.labels.at(position);
+        if is_same(label, parts_of(self.page.line(line)).label) {
+            label
+        } else {
+            None
+        }
+    }
+
+    /// Whether the instruction at a position is written in other words than it was, since its label
+    /// has another name.
+    fn is_renamed(&self, position: usize) -> Result<bool, AllocError> {
+        let Some(row) = self.rows.get(position) else {
+            return Ok(false);
+        };
+        let Some(origin) = row.origin else {
+            return Ok(false);
+        };
+        let (old, new) = (self.words_before(origin as usize)?, self.words(position)?);
+        Ok(old.as_bytes() != new.as_bytes())
     }
 
     /// The instruction at a position behind the edits, in words.
@@ -215,9 +246,11 @@ fn put_elsewhere(
     if edited.is_moved(position) {
         let before = edited.line_from(position.saturating_add(1));
         let (from, to) = (number_of(line), number_of(before));
-        let told = moved(edited.alloc, from, edited.body(line), to, edited.rule)?;
+        let words = edited.behind(edited.kept_label(position, line), line)?;
+        let told = moved(edited.alloc, from, words.as_bytes(), to, edited.rule)?;
         mended.sentences.push(told)?;
     }
+    tell_label(edited, position, line, mended)?;
     let new = match edited.written_anew(position, line)? {
         Some(new) => line_of(new),
         None => Items::of(Vec::from_slice(edited.alloc, edited.page.line(line))?),
@@ -269,14 +302,15 @@ fn tell_put(
     Ok(())
 }
 
-/// Tells that the words of a line are others, where an edit made them so.
+/// Tells that the words of a line are others, where an edit or a label made them so.
 fn tell_replaced(
     edited: Edited<'_, '_>,
     position: usize,
     line: usize,
     mended: &mut Mended,
 ) -> Result<(), AllocError> {
-    if !edited.is_replaced(position) {
+    let is_replaced = edited.is_replaced(position);
+    if !is_replaced && !edited.is_renamed(position)? {
         return Ok(());
     }
     let new = edited.words(position)?;
@@ -289,17 +323,24 @@ fn tell_replaced(
         edited.rule,
     )?;
     mended.sentences.push(told)?;
-    note_guess(edited, position, mended)
+    if is_replaced {
+        note_guess(edited, position, mended)?;
+    }
+    Ok(())
 }
 
-/// Tells that a line has a label that is new.
+/// Tells that a line has a label that it hadn't: one that is new, or that of a line which is taken
+/// out or moved.
 fn tell_label(
     edited: Edited<'_, '_>,
     position: usize,
     line: usize,
     mended: &mut Mended,
 ) -> Result<(), AllocError> {
-    if let Some(label @ Label::Made(_)) = edited.labels.at(position) {
+    if edited.kept_label(position, line).is_some() {
+        return Ok(());
+    }
+    if let Some(label) = edited.labels.at(position) {
         let told = labels_line(edited.alloc, number_of(line), label, edited.rule)?;
         mended.sentences.push(told)?;
     }
@@ -331,13 +372,24 @@ fn pass_to(
         if let Some(origin) = edited.places.iter().position(|place| *place == passed) {
             mended.delete(edited.alloc, passed)?;
             if !edited.rows.iter().any(|row| is_from(row, origin)) {
-                let words = edited.body(passed);
-                let told = taken_out(edited.alloc, number_of(passed), words, edited.rule)?;
-                mended.sentences.push(told)?;
+                tell_taken(edited, origin, passed, mended)?;
             }
         }
     }
     walk.next = walk.next.max(line);
+    Ok(())
+}
+
+/// Tells that the line of an instruction is taken out, with its label where no line has that now.
+fn tell_taken(
+    edited: Edited<'_, '_>,
+    origin: usize,
+    line: usize,
+    mended: &mut Mended,
+) -> Result<(), AllocError> {
+    let words = edited.behind(edited.labels.gone(origin), line)?;
+    let told = taken_out(edited.alloc, number_of(line), words.as_bytes(), edited.rule)?;
+    mended.sentences.push(told)?;
     Ok(())
 }
 
