@@ -317,8 +317,9 @@ uint32_t pafteis_version(uint8_t *buffer, size_t capacity, size_t *needed);
  * first time, and let nothing but the calls below change it; it may be moved, and not copied. A
  * world that was made is to be freed. `live` says whether there is one.
  *
- * Calls that take a world as const look at it, and write nothing to it. A world is used by one
- * thread at a time all the same, also by those. */
+ * Calls that take a world as const look at it: when they return, the struct and the world are as
+ * they were. They want it to themselves while they last, so a world is used by one thread at a time,
+ * also by those. */
 
 typedef struct {
     bool live;

@@ -234,7 +234,8 @@ public:
 
 private:
     world() = default;
-    pafteis_world handle = PAFTEIS_EMPTY_WORLD;
+    // Calls that only look have the struct as it was when they return, and to themselves meanwhile.
+    mutable pafteis_world handle = PAFTEIS_EMPTY_WORLD;
 };
 
 } // namespace pafteis

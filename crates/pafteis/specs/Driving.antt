@@ -64,18 +64,21 @@ Resets threads before after status =
 
 -- in an empty handle a world of another's set was begun; or that handle has a world, which stays;
 -- or there can't be so many threads
-abbrev pub BeginsAnother : ℕ → Handle → Handle → Handle → ℕ → Type 0
-BeginsAnother threads handle old new status =
+abbrev pub BeginsAnother : ℕ → Handle → Handle → Handle → Handle → ℕ → Type 0
+BeginsAnother threads before after old new status =
     (old.live ≡ false) × ((done : Option Bool)
-    × again.BeginsAnew threads handle done old new × (status ≡ done_status done))
+    × again.BeginsAnew threads before done after new × (status ≡ done_status done))
 
-abbrev pub HasOther : Handle → Handle → ℕ → Type 0
-HasOther old new status = (old.live ≡ true) × (new ≡ old) × (status ≡ 6)
+abbrev pub HasOther : Handle → Handle → Handle → Handle → ℕ → Type 0
+HasOther before after old new status =
+    (old.live ≡ true) × (after ≡ before) × (driven.world_in new ≡ driven.world_in old)
+    × (status ≡ 6)
 
-abbrev pub BeginsAnew : ℕ → Handle → Handle → Handle → ℕ → Type 0
-BeginsAnew threads handle old new status =
-    (MayHave threads × (BeginsAnother threads handle old new status ⊎ HasOther old new status))
-    ⊎ ((MayHave threads → ⊥) × (new ≡ old) × (status ≡ 4))
+abbrev pub BeginsAnew : ℕ → Handle → Handle → Handle → Handle → ℕ → Type 0
+BeginsAnew threads before after old new status =
+    (MayHave threads × (BeginsAnother threads before after old new status
+    ⊎ HasOther before after old new status))
+    ⊎ ((MayHave threads → ⊥) × (after ≡ before) × (new ≡ old) × (status ≡ 4))
 
 -- an answer of a world is told as a value, with the status 0; 5 where there is no world, and the
 -- value is as it was
@@ -119,9 +122,10 @@ Steps t count before after counted made value told status =
     × IsTold (λ s. reply_value s.last) steps value told status
 
 -- something was told of the world
-abbrev pub TellsAll : {A V : Type 0} → (World → A) → (A → V) → Handle → V → V → ℕ → Type 0
-TellsAll {A} tell value handle old new status =
-    (answer : Option A) × driven.Tells tell handle answer × IsTold value answer old new status
+abbrev pub TellsAll : {A V : Type 0} → (World → A) → (A → V) → Handle → Handle → V → V → ℕ → Type 0
+TellsAll {A} tell value before after old new status =
+    (answer : Option A) × driven.Tells tell before answer after
+    × IsTold value answer old new status
 
 -- something was told that there may not be: 4 where there isn't
 abbrev pub IsToldIf : {A V : Type 0} → (A → V) → Option (Option A) → V → V → ℕ → Type 0
@@ -129,9 +133,10 @@ IsToldIf value None before after status = (after ≡ before) × (status ≡ 5)
 IsToldIf value (Some None) before after status = (after ≡ before) × (status ≡ 4)
 IsToldIf value (Some (Some answer)) before after status = (after ≡ value answer) × (status ≡ 0)
 
-abbrev pub TellsIf : {A V : Type 0} → (World → Option A) → (A → V) → Handle → V → V → ℕ → Type 0
-TellsIf {A} tell value handle old new status =
-    (answer : Option (Option A)) × driven.Tells tell handle answer
+abbrev pub TellsIf : {A V : Type 0} → (World → Option A) → (A → V) → Handle → Handle → V → V → ℕ
+    → Type 0
+TellsIf {A} tell value before after old new status =
+    (answer : Option (Option A)) × driven.Tells tell before answer after
     × IsToldIf value answer old new status
 
 -- a world was freed, if there was one

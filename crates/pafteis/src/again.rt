@@ -5,8 +5,8 @@ ghost use Rattle.pafteis.specs.Driving.{BeginsAnew, Resets, done_status};
 
 use crate::texts::WRONG_ARGUMENT;
 use crate::worlds::{DONE, HAS_WORLD, NO_WORLD, may_have};
-use pafteis_world::again;
 use pafteis_world::handle::Handle;
+use pafteis_world::{again, driving};
 use std::alloc::Global;
 
 /// The status where memory was refused.
@@ -29,16 +29,16 @@ pub extern "C" fn pafteis_world_reset(alloc: Global, world: &mut Handle, threads
 #[unsafe(no_mangle)]
 pub extern "C" fn pafteis_world_another(
     alloc: Global,
-    world: &Handle,
+    world: &mut Handle,
     threads: u8,
     other: &mut Handle,
 ) -> u32
-    ensures { BeginsAnew threads world.now other.old other.new result }
+    ensures { BeginsAnew threads world.old world.new other.old other.new result }
 {
     if !may_have(threads) {
         return WRONG_ARGUMENT;
     }
-    if other.has_world() {
+    if driving::stands(alloc, other) {
         return HAS_WORLD;
     }
     status_of(again::another(alloc, world, threads, other))

@@ -12,17 +12,20 @@ use pafteis_values::shared::{
 };
 use pafteis_world::handle::Handle;
 use pafteis_world::reading;
+use std::alloc::Global;
 
 /// Tells the number cells of a device; 4 where there is none of this number.
 #[unsafe(no_mangle)]
 pub extern "C" fn pafteis_world_cells(
-    world: &Handle,
+    alloc: Global,
+    world: &mut Handle,
     device: u8,
     cells: &mut CellsValue,
 ) -> u32
-    ensures { TellsIf (λ w. cells_at w device) cells_value world.now cells.old cells.new result }
+    ensures { TellsIf (λ w. cells_at w device) cells_value world.old world.new cells.old cells.new
+        result }
 {
-    match reading::cells(world, device) {
+    match reading::cells(alloc, world, device) {
         Some(Some(told)) => {
             *cells = cells_value(&told);
             DONE
@@ -36,15 +39,16 @@ pub extern "C" fn pafteis_world_cells(
 /// there is no such lock.
 #[unsafe(no_mangle)]
 pub extern "C" fn pafteis_world_lock(
-    world: &Handle,
+    alloc: Global,
+    world: &mut Handle,
     device: u8,
     lock: u8,
     owner: &mut OwnerValue,
 ) -> u32
-    ensures { TellsIf (λ w. owner_at w (lock_named device lock)) owner_value world.now owner.old
-        owner.new result }
+    ensures { TellsIf (λ w. owner_at w (lock_named device lock)) owner_value world.old world.new
+        owner.old owner.new result }
 {
-    match reading::owner(world, lock_of(device, lock)) {
+    match reading::owner(alloc, world, lock_of(device, lock)) {
         Some(Some(told)) => {
             *owner = owner_value(told);
             DONE
@@ -57,14 +61,15 @@ pub extern "C" fn pafteis_world_lock(
 /// Tells what is asked with a live packet; 4 where none of this number is live.
 #[unsafe(no_mangle)]
 pub extern "C" fn pafteis_world_request(
-    world: &Handle,
+    alloc: Global,
+    world: &mut Handle,
     number: u64,
     request: &mut RequestValue,
 ) -> u32
-    ensures { TellsIf (λ w. request_at w number) (λ r. r) world.now request.old request.new
-        result }
+    ensures { TellsIf (λ w. request_at w number) (λ r. r) world.old world.new request.old
+        request.new result }
 {
-    match reading::request(world, number) {
+    match reading::request(alloc, world, number) {
         Some(Some(told)) => {
             *request = told;
             DONE

@@ -134,14 +134,15 @@ pub extern "C" fn pafteis_world_steps(
 /// Tells of a thread; 4 where there is none of this number.
 #[unsafe(no_mangle)]
 pub extern "C" fn pafteis_world_thread(
-    world: &Handle,
+    alloc: Global,
+    world: &mut Handle,
     number: u8,
     thread: &mut ThreadValue,
 ) -> u32
-    ensures { TellsIf (λ w. thread_at w number) thread_value world.now thread.old thread.new
-        result }
+    ensures { TellsIf (λ w. thread_at w number) thread_value world.old world.new thread.old
+        thread.new result }
 {
-    match driving::thread(world, number) {
+    match driving::thread(alloc, world, number) {
         Some(Some(told)) => {
             *thread = thread_value(&told);
             DONE
@@ -154,14 +155,15 @@ pub extern "C" fn pafteis_world_thread(
 /// Tells of a packet.
 #[unsafe(no_mangle)]
 pub extern "C" fn pafteis_world_packet(
-    world: &Handle,
+    alloc: Global,
+    world: &mut Handle,
     number: u64,
     packet: &mut PacketValue,
 ) -> u32
-    ensures { TellsAll (λ w. packet_at w number) packet_value world.now packet.old packet.new
-        result }
+    ensures { TellsAll (λ w. packet_at w number) packet_value world.old world.new packet.old
+        packet.new result }
 {
-    match driving::packet(world, number) {
+    match driving::packet(alloc, world, number) {
         Some(told) => {
             *packet = packet_value(&told);
             DONE
@@ -173,13 +175,14 @@ pub extern "C" fn pafteis_world_packet(
 /// Tells what is due of a device: nothing where there is none of this number.
 #[unsafe(no_mangle)]
 pub extern "C" fn pafteis_world_due(
-    world: &Handle,
+    alloc: Global,
+    world: &mut Handle,
     device: u8,
     due: &mut DueValue,
 ) -> u32
-    ensures { TellsAll (λ w. due_at w device) due_value world.now due.old due.new result }
+    ensures { TellsAll (λ w. due_at w device) due_value world.old world.new due.old due.new result }
 {
-    match driving::due(world, device) {
+    match driving::due(alloc, world, device) {
         Some(told) => {
             *due = due_value(told);
             DONE

@@ -9,8 +9,7 @@ use Rattle.pafteis_values.specs.declared.verdict.Verdict.{Verdict}
 use Rattle.pafteis_values.specs.declared.verdict.Verdict.TheVariants.{Accepted, Refused, Text, Image, NoMemory}
 use Rattle.pafteis_world.specs.declared.handle.Handle.{Handle}
 use Rattle.pafteis_world.specs.Again.{IsBegun}
-use Rattle.pafteis_world.specs.Driven.{Does, Holds, IsOpened, Opens, OpensFree}
-use Rattle.pafteis_world.specs.Held.{shown_if}
+use Rattle.pafteis_world.specs.Driven.{Does, Holds, IsOpened, Opens, OpensFree, shown_if}
 use Rattle.pafteis_world.specs.Judged.{Names}
 
 -- a world was taken out, something was done to it, and it was put back

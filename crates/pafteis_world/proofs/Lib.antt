@@ -3,4 +3,3 @@ pub mod Batches
 pub mod Few
 pub mod Blank
 pub mod LooseValues
-pub mod LentHandles

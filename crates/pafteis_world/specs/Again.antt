@@ -1,5 +1,5 @@
 -- A set's world, begun anew.
-use Rattle.std.specs.Prelude.{ℕ, ◌≡◌, Bool, true, false, List, [], Option, None, Some}
+use Rattle.std.specs.Prelude.{ℕ, ◌≡◌, Bool, true, false, List, [], Option}
 use Rattle.laws_runs.specs.Rules.{KeepsTheRules}
 use Rattle.model.specs.declared.event.Event.{Event}
 use Rattle.model.specs.Machine.{Shows}
@@ -23,14 +23,13 @@ abbrev pub Resets : ℕ → Handle → Option Bool → Handle → Type 0
 Resets threads before done after =
     Does (IsReset threads) (world_in before) done (world_in after)
 
--- an empty handle has a world of another's set, or stays empty; nothing is answered, and it stays so
--- too, where there is no other
-abbrev pub IsAnother : ℕ → Option Shown → Option Bool → Handle → Handle → Type 0
-IsAnother threads None None old new = new ≡ old
-IsAnother threads (Some world) (Some true) old new = Holds (IsBegun world.set threads) (world_in new)
-IsAnother threads (Some world) (Some false) old new = new ≡ old
-IsAnother threads None (Some done) old new = ⊥
-IsAnother threads (Some world) None old new = ⊥
+-- a world stays as it is, and an empty handle has one of its set, or stays empty
+abbrev pub IsAnother : ℕ → Handle → Shown → Bool → Shown → Type 0
+IsAnother threads new before true after =
+    (after ≡ before) × Holds (IsBegun before.set threads) (world_in new)
+IsAnother threads new before false after = (after ≡ before) × (new.live ≡ false)
 
 abbrev pub BeginsAnew : ℕ → Handle → Option Bool → Handle → Handle → Type 0
-BeginsAnew threads handle done old new = IsAnother threads (world_in handle) done old new
+BeginsAnew threads before done after new =
+    Does (IsAnother threads new) (world_in before) done (world_in after)
+    × (before.live ≡ false → new.live ≡ false)

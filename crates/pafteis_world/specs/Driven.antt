@@ -1,5 +1,5 @@
 -- A world behind a handle, driven.
-use Rattle.std.specs.Prelude.{ℕ, ⊤, ◌≡◌, ◌≢◌, ◌≤◌, ◌<◌, true, false, List, [], Option, None, Some}
+use Rattle.std.specs.Prelude.{ℕ, ⊤, ◌≡◌, ◌≢◌, ◌≤◌, ◌<◌, Bool, true, false, List, [], Option, None, Some}
 use Rattle.machine.specs.declared.world.Steps.{Steps}
 use Rattle.machine.specs.Runs.{GoesOn, RulesKept, StepsThreads, TellsOf}
 use Rattle.machine.specs.Steps.{MakesSteps}
@@ -14,8 +14,12 @@ use Rattle.laws_runs.specs.Rules.{KeepsTheRules}
 use Rattle.pafteis_values.specs.declared.verdict.Verdict.{Verdict}
 use Rattle.pafteis_values.specs.declared.verdict.Verdict.TheVariants.{Accepted, Refused, Text, Image, NoMemory}
 use Rattle.pafteis_world.specs.declared.handle.Handle.{Handle}
-use Rattle.pafteis_world.specs.Held.{shown_if}
 use Rattle.pafteis_world.specs.Judged.{IsJudged, Names}
+
+-- what the world of a handle shows, if one is there
+abbrev pub shown_if : Bool → Shown → Option Shown
+shown_if true world = Some world
+shown_if false world = None
 
 abbrev pub world_in : Handle → Option Shown
 world_in h = shown_if h.live h.world
@@ -51,7 +55,7 @@ OpensFree bytes threads NoMemory after = after.live ≡ false
 -- world keeps it
 abbrev pub OpensEmpty : List ℕ → ℕ → Option Verdict → Handle → Handle → Type 0
 OpensEmpty bytes threads None before after =
-    (before.live ≡ true) × (after ≡ before)
+    (before.live ≡ true) × (world_in after ≡ world_in before)
 OpensEmpty bytes threads (Some verdict) before after =
     (before.live ≡ false) × IsJudged bytes verdict × OpensFree bytes threads verdict after
 
@@ -88,13 +92,11 @@ abbrev pub StepsOn : ℕ → ℕ → Handle → Option Steps → Handle → Type
 StepsOn t count before steps after =
     Does (Stepped t count) (world_in before) steps (world_in after)
 
--- something is told of a world: nothing where there is none
-abbrev pub TellsIf : {A : Type 0} → (World → A) → Option Shown → Option A → Type 0
-TellsIf tell None None = ⊤
-TellsIf tell (Some m) (Some answer) = TellsOf m tell answer
-TellsIf tell None (Some answer) = ⊥
-TellsIf tell (Some m) None = ⊥
+-- something is told of the world, which stays as it was
+pub record Told {A : Type 0} (tell : World → A) (before : Shown) (answer : A) (after : Shown)
+    : Type 0 where
+  pub same : after ≡ before
+  pub tells : TellsOf before tell answer
 
--- something is told of the world of a handle
-abbrev pub Tells : {A : Type 0} → (World → A) → Handle → Option A → Type 0
-Tells tell handle answer = TellsIf tell (world_in handle) answer
+abbrev pub Tells : {A : Type 0} → (World → A) → Handle → Option A → Handle → Type 0
+Tells tell before answer after = Does (Told tell) (world_in before) answer (world_in after)

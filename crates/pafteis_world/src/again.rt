@@ -58,15 +58,20 @@ pub fn reset(alloc: Global, handle: &mut Handle, threads: u8) -> Option<bool>
 
 /// Puts the world of the same set before its first event, with so many threads, into an empty
 /// handle, and answers that it did. Where memory is refused that handle stays empty.
-pub fn another(alloc: Global, handle: &Handle, threads: u8, into: &mut Handle) -> Option<bool>
+pub fn another(alloc: Global, handle: &mut Handle, threads: u8, into: &mut Handle) -> Option<bool>
     requires some { 1 ≤ threads }
     requires few { threads ≤ MAX_THREADS }
-    ensures { BeginsAnew threads handle.now result into.old into.new }
+    requires empty { into.old.live ≡ false }
+    ensures { BeginsAnew threads handle.old result handle.new into.new }
 {
-    let world = handle.world()?;
-    let Some(fresh) = begun(alloc, world.set(), threads) else {
-        return Some(false);
-    };
-    *into = Handle::of(fresh);
-    Some(true)
+    let world = taken(alloc, handle)?;
+    let fresh = begun(alloc, world.set(), threads);
+    *handle = Handle::of(world);
+    match fresh {
+        Some(fresh) => {
+            *into = Handle::of(fresh);
+            Some(true)
+        }
+        None => Some(false),
+    }
 }

@@ -48,7 +48,7 @@ pub fn open_empty(alloc: Global, bytes: &[u8], threads: u8, handle: &mut Handle)
     requires few { threads ≤ MAX_THREADS }
     ensures { OpensEmpty bytes.now threads result handle.old handle.new }
 {
-    if handle.has_world() {
+    if stands(alloc, handle) {
         return None;
     }
     Some(open(alloc, bytes, threads, handle))
@@ -83,27 +83,48 @@ pub fn steps(alloc: Global, handle: &mut Handle, thread: u8, count: usize) -> Op
 }
 
 /// What there is to tell of a thread.
-pub fn thread(handle: &Handle, number: u8) -> Option<Option<ThreadView>>
-    ensures { Tells (λ w. thread_at w number) handle.now result }
+pub fn thread(alloc: Global, handle: &mut Handle, number: u8) -> Option<Option<ThreadView>>
+    ensures { Tells (λ w. thread_at w number) handle.old result handle.new }
 {
-    let world = handle.world()?;
-    Some(world.thread(number))
+    let world = taken(alloc, handle)?;
+    let told = world.thread(number);
+    *handle = Handle::of(world);
+    Some(told)
 }
 
 /// What there is to tell of a packet.
-pub fn packet(handle: &Handle, number: u64) -> Option<PacketView>
-    ensures { Tells (λ w. packet_at w number) handle.now result }
+pub fn packet(alloc: Global, handle: &mut Handle, number: u64) -> Option<PacketView>
+    ensures { Tells (λ w. packet_at w number) handle.old result handle.new }
 {
-    let world = handle.world()?;
-    Some(world.packet(number))
+    let world = taken(alloc, handle)?;
+    let told = world.packet(number);
+    *handle = Handle::of(world);
+    Some(told)
 }
 
 /// What is due of a device: StartIo, and its DPC.
-pub fn due(handle: &Handle, device: u8) -> Option<(bool, bool)>
-    ensures { Tells (λ w. due_at w device) handle.now result }
+pub fn due(alloc: Global, handle: &mut Handle, device: u8) -> Option<(bool, bool)>
+    ensures { Tells (λ w. due_at w device) handle.old result handle.new }
 {
-    let world = handle.world()?;
-    Some(world.due(device))
+    let world = taken(alloc, handle)?;
+    let told = world.due(device);
+    *handle = Handle::of(world);
+    Some(told)
+}
+
+/// Whether a handle has a world, which stays there.
+pub fn stands(alloc: Global, handle: &mut Handle) -> bool
+    ensures same { world_in handle.new ≡ world_in handle.old }
+    ensures live { handle.new.live ≡ handle.old.live }
+    ensures is { result ≡ handle.old.live }
+{
+    match taken(alloc, handle) {
+        Some(world) => {
+            *handle = Handle::of(world);
+            true
+        }
+        None => false,
+    }
 }
 
 /// Frees the world of a handle, which is empty then, and answers whether there was one.

@@ -1,8 +1,7 @@
 //! A world behind a pointer, for who holds it and knows nothing of it.
 
-ghost use Rattle.std.specs.Prelude.{◌≡◌, None, true, false, IfSome, IsSome, option_map};
+ghost use Rattle.std.specs.Prelude.{◌≡◌, None, true, false, IfSome, IsSome};
 ghost use Rattle.model.specs.Shown.{Shown};
-ghost use Rattle.pafteis_world.specs.Held.{shown_if};
 
 use crate::loose::Loose;
 use machine::World;
@@ -22,11 +21,9 @@ pub struct Handle {
 }
 
 impl Model for Handle {
-    ghost use Rattle.pafteis_world.specs.Held.{holds, lends};
+    ghost use Rattle.pafteis_world.specs.Held.{holds};
 
     ghost also_owns = { λ h. holds h.live h.at h.world };
-
-    ghost also_shares = { λ h _ κ. lends h.live h.at h.world κ };
 }
 
 impl Handle {
@@ -58,31 +55,6 @@ impl Handle {
             Some(loose) => Some(loose.into_box()),
             None => None,
         }
-    }
-
-    /// Whether a world is there.
-    pub fn has_world(&self) -> bool
-        ensures { result ≡ self.now.live }
-    {
-        self.live
-    }
-
-    /// The world that it has, lent, if one is there.
-    pub(crate) fn world(&self) -> Option<&World>
-        ensures { option_map (λ world. world.now) result ≡ shown_if self.now.live self.now.world }
-    {
-        if self.has_world() {
-            Some(self.lent())
-        } else {
-            None
-        }
-    }
-
-    fn lent(&self) -> &World
-        requires { self.now.live ≡ true }
-        ensures { result.now ≡ self.now.world }
-    {
-        unsafe { &*(self.at as *const World) }
     }
 
     fn holding(loose: Loose<World, Global>) -> Handle

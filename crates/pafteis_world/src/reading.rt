@@ -6,35 +6,43 @@ ghost use Rattle.pafteis_world.specs.Read.{request_at, request_of};
 ghost use Rattle.machine.specs.Read.{cells_at, owner_at};
 ghost use Rattle.machine.specs.Runs.{TellsOf};
 
+use crate::driving::taken;
 use crate::handle::Handle;
 use machine::World;
 use model::event::Lock;
 use model::instr::Field;
 use model::world::Cells;
 use pafteis_values::shared::RequestValue;
+use std::alloc::Global;
 
 /// The number cells of a device, if there is one of this number.
-pub fn cells(handle: &Handle, device: u8) -> Option<Option<Cells>>
-    ensures { Tells (λ w. cells_at w device) handle.now result }
+pub fn cells(alloc: Global, handle: &mut Handle, device: u8) -> Option<Option<Cells>>
+    ensures { Tells (λ w. cells_at w device) handle.old result handle.new }
 {
-    let world = handle.world()?;
-    Some(world.cells(device))
+    let world = taken(alloc, handle)?;
+    let told = world.cells(device);
+    *handle = Handle::of(world);
+    Some(told)
 }
 
 /// The thread that owns a lock, if there is such a lock.
-pub fn owner(handle: &Handle, lock: Lock) -> Option<Option<Option<u8>>>
-    ensures { Tells (λ w. owner_at w lock) handle.now result }
+pub fn owner(alloc: Global, handle: &mut Handle, lock: Lock) -> Option<Option<Option<u8>>>
+    ensures { Tells (λ w. owner_at w lock) handle.old result handle.new }
 {
-    let world = handle.world()?;
-    Some(world.owner(lock))
+    let world = taken(alloc, handle)?;
+    let told = world.owner(lock);
+    *handle = Handle::of(world);
+    Some(told)
 }
 
 /// What is asked with a packet, if one of this number is live.
-pub fn request(handle: &Handle, number: u64) -> Option<Option<RequestValue>>
-    ensures { Tells (λ w. request_at w number) handle.now result }
+pub fn request(alloc: Global, handle: &mut Handle, number: u64) -> Option<Option<RequestValue>>
+    ensures { Tells (λ w. request_at w number) handle.old result handle.new }
 {
-    let world = handle.world()?;
-    Some(request_in(world, number))
+    let world = taken(alloc, handle)?;
+    let told = request_in(&world, number);
+    *handle = Handle::of(world);
+    Some(told)
 }
 
 /// The same of a world.

@@ -36,14 +36,14 @@ fn a_read_is_done_behind_a_handle(rt: HostRuntime) -> Result<(), Fail> {
         argument: 7,
     };
     assert!(rt; matches!(apply(alloc, &mut handle, &issue), Some(Reply::Started(0))));
-    assert!(rt; matches!(packet(&handle, 0), Some(PacketView::Live(_))));
-    let told = thread(&handle, 0);
+    assert!(rt; matches!(packet(alloc, &mut handle, 0), Some(PacketView::Live(_))));
+    let told = thread(alloc, &mut handle, 0);
     assert!(rt; matches!(told, Some(Some(view)) if view.frames == 1));
-    assert!(rt; matches!(thread(&handle, 2), Some(None)));
+    assert!(rt; matches!(thread(alloc, &mut handle, 2), Some(None)));
     let made = steps(alloc, &mut handle, 0, 10).expect(&rt, "a world");
     assert_eq!(rt; made.made, 2);
     assert!(rt; matches!(made.last, Reply::Topped { packet: 0, .. }));
-    assert!(rt; matches!(due(&handle, 0), Some((false, false))));
+    assert!(rt; matches!(due(alloc, &mut handle, 0), Some((false, false))));
     assert!(rt; close(alloc, &mut handle));
     assert!(rt; !close(alloc, &mut handle));
     assert!(rt; apply(alloc, &mut handle, &issue).is_none());

@@ -1,6 +1,7 @@
 use crate::error::{done, Error};
 use crate::verdict::judged;
 use pafteis_sys as sys;
+use std::cell::UnsafeCell;
 use std::ptr;
 
 pub use pafteis_sys::{
@@ -147,7 +148,8 @@ impl From<sys::pafteis_reply> for Reply {
 /// The world of an accepted driver set, which is freed when it is dropped.
 #[derive(Debug)]
 pub struct World {
-    handle: sys::pafteis_world,
+    // A call that only looks has it as it was when it returns, and to itself meanwhile.
+    handle: UnsafeCell<sys::pafteis_world>,
 }
 
 /// A handle without a world.
@@ -174,13 +176,15 @@ impl World {
         let (at, length) = (set.as_ptr(), set.len());
         let status =
             unsafe { sys::pafteis_world_new(at, length, threads, &mut handle, &mut found) };
-        judged(status, &found).map(|()| World { handle })
+        judged(status, &found).map(|()| World {
+            handle: UnsafeCell::new(handle),
+        })
     }
 
     /// Does an event.
     pub fn apply(&mut self, event: Event) -> Reply {
         let (event, mut reply) = (event.into(), sys::pafteis_reply::default());
-        let status = unsafe { sys::pafteis_world_apply(&mut self.handle, &event, &mut reply) };
+        let status = unsafe { sys::pafteis_world_apply(self.handle.get(), &event, &mut reply) };
         debug_assert_eq!(status, sys::PAFTEIS_DONE);
         reply.into()
     }
@@ -191,7 +195,7 @@ impl World {
         let mut replies = vec![sys::pafteis_reply::default(); events.len()];
         let (mut applied, count, room) = (0, events.len(), replies.len());
         let (from, to) = (events.as_ptr(), replies.as_mut_ptr());
-        let handle = &mut self.handle;
+        let handle = self.handle.get();
         let status =
             unsafe { sys::pafteis_world_apply_all(handle, from, count, to, room, &mut applied) };
         debug_assert_eq!((status, applied), (sys::PAFTEIS_DONE, count));
@@ -207,7 +211,7 @@ impl World {
     /// many were made, and the reply to the last of them.
     pub fn steps(&mut self, thread: u8, count: usize) -> (usize, Reply) {
         let (mut made, mut reply) = (0, sys::pafteis_reply::default());
-        let handle = &mut self.handle;
+        let handle = self.handle.get();
         let status =
             unsafe { sys::pafteis_world_steps(handle, thread, count, &mut made, &mut reply) };
         debug_assert_eq!(status, sys::PAFTEIS_DONE);
@@ -221,21 +225,21 @@ impl World {
     /// `WrongArgument` where there is none of this number.
     pub fn thread(&self, number: u8) -> Result<Thread, Error> {
         let mut found = Thread::default();
-        done(unsafe { sys::pafteis_world_thread(&self.handle, number, &mut found) })?;
+        done(unsafe { sys::pafteis_world_thread(self.handle.get(), number, &mut found) })?;
         Ok(found)
     }
 
     /// Tells of a packet, by the number that `Started` told: its kind is 0 where none was issued.
     pub fn packet(&self, number: u64) -> Packet {
         let mut found = Packet::default();
-        unsafe { sys::pafteis_world_packet(&self.handle, number, &mut found) };
+        unsafe { sys::pafteis_world_packet(self.handle.get(), number, &mut found) };
         found
     }
 
     /// Tells what is due of a device: nothing where there is none of this number.
     pub fn due(&self, device: u8) -> Due {
         let mut found = Due::default();
-        unsafe { sys::pafteis_world_due(&self.handle, device, &mut found) };
+        unsafe { sys::pafteis_world_due(self.handle.get(), device, &mut found) };
         found
     }
 
@@ -247,7 +251,7 @@ impl World {
     /// of a packet that is live.
     pub fn cells(&self, device: u8) -> Result<Cells, Error> {
         let mut found = Cells::default();
-        done(unsafe { sys::pafteis_world_cells(&self.handle, device, &mut found) })?;
+        done(unsafe { sys::pafteis_world_cells(self.handle.get(), device, &mut found) })?;
         Ok(found)
     }
 
@@ -255,14 +259,14 @@ impl World {
     /// `CANCEL_LOCK`, if one does.
     pub fn owner(&self, device: u8, lock: u8) -> Result<Option<u8>, Error> {
         let mut found = sys::pafteis_owner::default();
-        done(unsafe { sys::pafteis_world_lock(&self.handle, device, lock, &mut found) })?;
+        done(unsafe { sys::pafteis_world_lock(self.handle.get(), device, lock, &mut found) })?;
         Ok(found.owned.then_some(found.thread))
     }
 
     /// What is asked with a live packet.
     pub fn request(&self, packet: u64) -> Result<Request, Error> {
         let mut found = Request::default();
-        done(unsafe { sys::pafteis_world_request(&self.handle, packet, &mut found) })?;
+        done(unsafe { sys::pafteis_world_request(self.handle.get(), packet, &mut found) })?;
         Ok(found)
     }
 
@@ -272,7 +276,7 @@ impl World {
     ///
     /// `WrongArgument` of another number of threads, `NoMemory`: the world is as it was then.
     pub fn reset(&mut self, threads: u8) -> Result<(), Error> {
-        done(unsafe { sys::pafteis_world_reset(&mut self.handle, threads) })
+        done(unsafe { sys::pafteis_world_reset(self.handle.get(), threads) })
     }
 
     /// Another world of the same set, before its first event.
@@ -282,13 +286,15 @@ impl World {
     /// As `reset`.
     pub fn another(&self, threads: u8) -> Result<World, Error> {
         let mut handle = empty();
-        done(unsafe { sys::pafteis_world_another(&self.handle, threads, &mut handle) })?;
-        Ok(World { handle })
+        done(unsafe { sys::pafteis_world_another(self.handle.get(), threads, &mut handle) })?;
+        Ok(World {
+            handle: UnsafeCell::new(handle),
+        })
     }
 }
 
 impl Drop for World {
     fn drop(&mut self) {
-        unsafe { sys::pafteis_world_free(&mut self.handle) };
+        unsafe { sys::pafteis_world_free(self.handle.get()) };
     }
 }
