@@ -19,8 +19,8 @@ judged_known Check name known supply h answer (bytes, holds, right) =
     (bytes, holds_known known supply bytes h holds, right)
 judged_known CheckJson name known supply h answer (bytes, holds, right) =
     (bytes, holds_known known supply bytes h holds, right)
-judged_known (Explain extent) name known supply h answer (bytes, holds, right) =
-    (bytes, holds_known known supply bytes h holds, right)
+judged_known (Explain extent) name known supply h answer (alone, (bytes, holds, right), shown) =
+    (alone, (bytes, holds_known known supply bytes h holds, right), shown)
 
 -- and so is that it may be closed
 pub closed_known : (known supply : Supply) → IsSuppliedAs known supply → MayBeClosed supply
