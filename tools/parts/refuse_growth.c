@@ -1,8 +1,9 @@
 /* A library that stands before the C library of a program (LD_PRELOAD) and refuses one growth of it: the call of malloc,
    calloc, realloc, aligned_alloc, posix_memalign, mmap or pthread_create with the number that REFUSED_GROWTH says, from 1. A
-   refused pthread_create stands for the memory of a thread. tools/try growths and tools/measure memory build and use
-   it; when the program ends, how many calls there were is written to the file that COUNTED_GROWTHS names, and how many bytes
-   those for memory asked for to the one that ASKED_BYTES names. */
+   refused pthread_create stands for the memory of a thread. Or it fails the read with the number that REFUSED_READ says, or
+   the write with that of REFUSED_WRITE. tools/try growths and tools/measure memory build and use it; when the program ends,
+   how many calls there were is written to the files that COUNTED_GROWTHS, COUNTED_READS and COUNTED_WRITES name, and how many
+   bytes those for memory asked for to the one that ASKED_BYTES names. */
 #define _GNU_SOURCE
 #include <dlfcn.h>
 #include <errno.h>
@@ -18,7 +19,8 @@
 
 static atomic_ulong calls;
 static atomic_ulong asked;
-static unsigned long refused;
+static atomic_ulong reads, writes;
+static unsigned long refused, refused_read, refused_write;
 static int begun;
 
 /* What dlsym itself asks for before the real functions are known. */
@@ -41,6 +43,8 @@ static void *(*real_aligned)(size_t, size_t);
 static int (*real_memalign)(void **, size_t, size_t);
 static void *(*real_mmap)(void *, size_t, int, int, int, off_t);
 static int (*real_create)(pthread_t *, const pthread_attr_t *, void *(*)(void *), void *);
+static ssize_t (*real_read)(int, void *, size_t);
+static ssize_t (*real_write)(int, const void *, size_t);
 
 static void find(void) {
     real_calloc = dlsym(RTLD_NEXT, "calloc");
@@ -50,13 +54,21 @@ static void find(void) {
     real_memalign = dlsym(RTLD_NEXT, "posix_memalign");
     real_mmap = dlsym(RTLD_NEXT, "mmap");
     real_create = dlsym(RTLD_NEXT, "pthread_create");
+    real_read = dlsym(RTLD_NEXT, "read");
+    real_write = dlsym(RTLD_NEXT, "write");
     real_malloc = dlsym(RTLD_NEXT, "malloc");
 }
 
+static unsigned long number_in(const char *name) {
+    const char *number = getenv(name);
+    return number ? strtoul(number, NULL, 10) : 0;
+}
+
 __attribute__((constructor)) static void begin(void) {
-    const char *number = getenv("REFUSED_GROWTH");
     find();
-    refused = number ? strtoul(number, NULL, 10) : 0;
+    refused = number_in("REFUSED_GROWTH");
+    refused_read = number_in("REFUSED_READ");
+    refused_write = number_in("REFUSED_WRITE");
     begun = 1;
 }
 
@@ -69,10 +81,12 @@ static void tell(const char *name, unsigned long number) {
 }
 
 static void count_told(void) {
-    unsigned long count = calls, bytes = asked;
+    unsigned long count = calls, bytes = asked, read_count = reads, write_count = writes;
     begun = 0;
     tell(getenv("COUNTED_GROWTHS"), count);
     tell(getenv("ASKED_BYTES"), bytes);
+    tell(getenv("COUNTED_READS"), read_count);
+    tell(getenv("COUNTED_WRITES"), write_count);
 }
 
 /* A program may end without its destructors. */
@@ -125,4 +139,18 @@ void *mmap(void *at, size_t size, int protection, int flags, int file, off_t off
 
 int pthread_create(pthread_t *thread, const pthread_attr_t *how, void *(*run)(void *), void *with) {
     return is_refused(0) ? EAGAIN : real_create(thread, how, run, with);
+}
+
+static int is_failing(atomic_ulong *count, unsigned long number) {
+    if (!begun || ++*count != number) return 0;
+    errno = EIO;
+    return 1;
+}
+
+ssize_t read(int file, void *into, size_t size) {
+    return is_failing(&reads, refused_read) ? -1 : real_read(file, into, size);
+}
+
+ssize_t write(int file, const void *from, size_t size) {
+    return is_failing(&writes, refused_write) ? -1 : real_write(file, from, size);
 }

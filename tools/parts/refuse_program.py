@@ -1,10 +1,13 @@
 #!/usr/bin/env python3
-"""tools/try growths [PROGRAM]: each growth of a whole run of the built program (crates/drvhost/out/drvhost, if none is named)
-is refused in turn, from outside: tools/parts/refuse_growth.c, which the C compiler `cc` builds, stands before the C library and
-refuses the Nth call for memory, or for a thread, for N = 1, 2, .. up to one past the last. Each run has to answer `out of
-memory` with exit status 3 and nothing on standard output, or to give the whole answer, and nothing else. The last line
-counts."""
-import os, subprocess, sys, tempfile
+"""tools/try growths [PROGRAM [COMMAND]]: each growth of a whole run of the built program (crates/drvhost/out/drvhost, if none
+is named) is refused in turn, from outside: tools/parts/refuse_growth.c, which the C compiler `cc` builds, stands before the C
+library and refuses the Nth call for memory, or for a thread, for N = 1, 2, .. up to one past the last. Each run has to answer
+`out of memory` with exit status 3 and nothing on standard output, or to give the whole answer, and nothing else. Then each
+read of it fails in turn, and each write: what is told is `read failed`, perhaps with the file's name, and nothing on standard
+output; or `write failed` behind a beginning of the answer; or a beginning of what would be told. The file whose text a mend
+is applied to has what it had wherever the answer isn't whole, but where its own write fails: then it has a beginning of the
+text. With COMMAND only the runs of that one are tried, as `mend`. The last line counts."""
+import os, re, subprocess, sys, tempfile
 
 TOP = os.path.dirname(os.path.dirname(os.path.dirname(os.path.abspath(__file__))))
 LIBRARY = os.path.join(TOP, 'tools/parts/refuse_growth.c')
@@ -64,7 +67,10 @@ FILES = {
     'twice': TWICE.encode(),
     'both': BOTH.encode(),
     'open': b'driver d\n',
+    'applied': TWICE.encode(),
 }
+# the text that a run writes to a file of that name
+WRITTEN = {'mend applied --tries 60 --apply': ('applied', QUEUES.encode())}
 ACCEPTED = ('accepted\ndriver 0 routine 0 dispatch certificate 14\ndriver 0 routine 1 dpc certificate 8\n'
             'driver 0 routine 2 cancel certificate 6\n')
 LISTED = 'driver d0\ndispatch READ f0\nroutine f0 dispatch\ncomplete r0 SUCCESS\nret SUCCESS\nendr\nendd\ndevice v0 d0 1\n'
@@ -150,6 +156,9 @@ CASES = [
     ('mend image', 0, 'accepted: nothing to mend\n', ''),
     ('mend twice --tries 60', 0, MENDED, ''),
     ('mend open', 2, '', 'text fault 6 Unclosed line 2\n'),
+    ('mend applied --tries 60 --apply', 0, MENDED + 'applied mend 1\n', ''),
+    ('mend image --apply', 0, 'accepted: nothing to mend\n', ''),
+    ('mend open --nth 1', 2, '', 'text fault 6 Unclosed line 2\n'),
     ('version', 0, 'drvhost 1.0.0\n', ''),
     ('trace set schedule', 0, TRACED, ''),
     ('trace set schedule --unchecked', 0, TRACED, ''),
@@ -157,51 +166,83 @@ CASES = [
     ('check', 2, '', None),  # some text on how the program is used
 ]
 NO_MEMORY = (3, '', 'out of memory\n')
+UNREAD = re.compile(r'read failed\n(cannot read \w+\n)?')
+KINDS = 'GROWTH', 'READ', 'WRITE'
 
-def run(program, words, folder, library, number):
-    """What the program answers, with the growth of this number refused, and how many it asked for."""
+def run(program, words, folder, library, kind, number):
+    """What the program answers, with the growth, the read or the write of this number refused, what the file that it writes
+    has then, and how many of the kind it asked for."""
     counted = os.path.join(folder, 'counted')
-    how = {**os.environ, 'LD_PRELOAD': library, 'REFUSED_GROWTH': str(number), 'COUNTED_GROWTHS': counted}
+    how = {**os.environ, 'LD_PRELOAD': library, 'REFUSED_' + kind: str(number), 'COUNTED_%sS' % kind: counted}
     if os.path.exists(counted):
         os.remove(counted)
+    name, _ = WRITTEN.get(words, ('set', None))
+    with open(os.path.join(folder, name), 'wb') as out:
+        out.write(FILES[name])
     done = subprocess.run([program, *words.split()], cwd=folder, env=how, stdin=subprocess.DEVNULL, capture_output=True, text=True, timeout=60)
+    held = open(os.path.join(folder, name), 'rb').read()
     if not os.path.exists(counted):
-        return (done.returncode, done.stdout, done.stderr + '(it ended without a count)'), 0
-    return (done.returncode, done.stdout, done.stderr), int(open(counted).read())
+        return (done.returncode, done.stdout, done.stderr + '(it ended without a count)'), held, 0
+    return (done.returncode, done.stdout, done.stderr), held, int(open(counted).read())
 
 def is_whole(wanted, found):
     return wanted[:2] == found[:2] and (bool(found[2]) if wanted[2] is None else wanted[2] == found[2])
 
-def sweep(program, folder, library, words, wanted):
-    """The growths of a run, how many of them ended in want of memory, and how many in another answer."""
-    whole, growths = run(program, words, folder, library, 0)
-    if not is_whole(wanted, whole):
+def is_fault(kind, wanted, found):
+    """Whether a fault of a kind is answered so."""
+    status, out, told = found
+    if kind == 'GROWTH':
+        return found == NO_MEMORY
+    if kind == 'READ':
+        return status == 2 and out == '' and bool(UNREAD.fullmatch(told))
+    said = wanted[2] is None or wanted[2].startswith(told)
+    return (status == 2 and wanted[1].startswith(out) and told == 'write failed\n') or (wanted[:2] == found[:2] and said)
+
+def holds_rightly(words, kind, whole, held):
+    """Whether the file that a run writes has the text, or what it had where the answer isn't whole; a write to it that fails
+    leaves a beginning of the text."""
+    if words not in WRITTEN:
+        return True
+    name, text = WRITTEN[words]
+    if whole:
+        return held == text
+    return held == FILES[name] or kind == 'WRITE' and text.startswith(held)
+
+def sweep(program, folder, library, words, wanted, kind):
+    """The calls of a kind of a run, how many of them ended in a fault, and how many in another answer."""
+    whole, held, calls = run(program, words, folder, library, kind, 0)
+    if not is_whole(wanted, whole) or not holds_rightly(words, kind, True, held):
         print('drvhost %s: %r' % (words, whole))
-        return growths, 0, 1
+        return calls, 0, 1
     ended = wrong = 0
-    for number in range(1, growths + 2):
-        found, _ = run(program, words, folder, library, number)
-        ended += found == NO_MEMORY
-        if found != NO_MEMORY and not is_whole(wanted, found):
+    for number in range(1, calls + 2):
+        found, held, _ = run(program, words, folder, library, kind, number)
+        whole, fault = is_whole(wanted, found), is_fault(kind, wanted, found)
+        ended += fault and not whole
+        if not (whole or fault) or not holds_rightly(words, kind, whole, held):
             wrong += 1
-            print('drvhost %s, growth %d of %d refused: %r' % (words, number, growths, found))
-    return growths, ended, wrong
+            print('drvhost %s, %s %d of %d refused: %r' % (words, kind.lower(), number, calls, found))
+    return calls, ended, wrong
 
 def main():
     program = os.path.abspath(sys.argv[1] if len(sys.argv) > 1 else os.path.join(TOP, 'crates/drvhost/out/drvhost'))
-    total = [0, 0, 0]
+    cases = [case for case in CASES if case[0].split()[0] in (sys.argv[2:] or [case[0].split()[0]])]
+    total = {kind: [0, 0, 0] for kind in KINDS}
     with tempfile.TemporaryDirectory() as folder:
         library = os.path.join(folder, 'refuse_growth.so')
         subprocess.run(['cc', '-shared', '-fPIC', '-O1', '-o', library, LIBRARY, '-ldl', '-lpthread'], check=True)
         for name, content in FILES.items():
             with open(os.path.join(folder, name), 'wb') as out:
                 out.write(content)
-        for words, *wanted in CASES:
-            found = sweep(program, folder, library, words, tuple(wanted))
-            print('drvhost %-32s %4d growths refused, %4d told as want of memory' % (words, *found[:2]))
-            total = [sum(both) for both in zip(total, found)]
-    print('%d growths refused, %d told as want of memory, %d wrong' % tuple(total))
-    return 1 if total[2] else 0
+        for words, *wanted in cases:
+            found = {kind: sweep(program, folder, library, words, tuple(wanted), kind) for kind in KINDS}
+            print('drvhost %-32s %4d growths refused, %4d told as want of memory; %d reads, %d writes'
+                  % (words, *found['GROWTH'][:2], found['READ'][0], found['WRITE'][0]))
+            total = {kind: [sum(both) for both in zip(total[kind], found[kind])] for kind in KINDS}
+    wrong = sum(counts[2] for counts in total.values())
+    print('%d growths refused, %d told as want of memory; %d reads and %d writes failed; %d wrong'
+          % (*total['GROWTH'][:2], total['READ'][0], total['WRITE'][0], wrong))
+    return 1 if wrong else 0
 
 if __name__ == '__main__':
     sys.exit(main())

@@ -29,7 +29,7 @@ const TWICE_IMAGE: [u8; 48] = [
 fn stored(name: &str) -> Option<&'static [u8]> {
     match name {
         "good.drv" => Some(ONE_READ_TEXT),
-        "twice.drv" => Some(TWICE),
+        "twice.drv" | "locked.drv" => Some(TWICE),
         "open.drv" => Some(b"driver d\n"),
         "good.image" => Some(&ONE_READ),
         "former.image" => Some(&OLD_ONE_READ),
@@ -37,21 +37,21 @@ fn stored(name: &str) -> Option<&'static [u8]> {
     }
 }
 
-/// Files in memory, and the bytes of the one that was written last. A file `locked.image` can't be
-/// opened to be written.
+/// Files in memory, and the bytes of the one that was written last. Files `locked.image` and
+/// `locked.drv` can't be opened to be written.
 #[derive(Drop)]
-struct Shelf {
+pub(crate) struct Shelf {
     alloc: Global,
     opened: u64,
     failures: u64,
-    created: u64,
-    unwritten: u64,
-    written: Option<Vec<u8>>,
+    pub(crate) created: u64,
+    pub(crate) unwritten: u64,
+    pub(crate) written: Option<Vec<u8>>,
 }
 
 impl Shelf {
     /// The files, of which none was opened.
-    fn new(alloc: Global) -> Shelf
+    pub(crate) fn new(alloc: Global) -> Shelf
         ensures opened { ⟦<Shelf as Files>⟧.opened result ≡ 0 }
         ensures failures { ⟦<Shelf as Files>⟧.failures result ≡ 0 }
         ensures created { ⟦<Shelf as Files>⟧.created result ≡ 0 }
@@ -108,7 +108,7 @@ impl Files for Shelf {
     }
 
     fn create(&self, name: &str) -> Output<Vec<u8>> {
-        if name == "locked.image" {
+        if name == "locked.image" || name == "locked.drv" {
             return Output::new(None);
         }
         Output::new(Some(Vec::new(self.alloc)))
