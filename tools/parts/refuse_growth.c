@@ -84,11 +84,11 @@ static void tell(const char *name, unsigned long number) {
 }
 
 static void count_told(void) {
-    unsigned long count = calls, bytes = asked;
+    unsigned long count = calls, bytes = asked, read_count = reads, write_count = writes;
     begun = 0;
     tell(getenv("COUNTED_GROWTHS"), count);
-    tell(getenv("COUNTED_READS"), reads);
-    tell(getenv("COUNTED_WRITES"), writes);
+    tell(getenv("COUNTED_READS"), read_count);
+    tell(getenv("COUNTED_WRITES"), write_count);
     tell(getenv("ASKED_BYTES"), bytes);
 }
 

@@ -1,11 +1,14 @@
 #!/usr/bin/env python3
-"""tools/try growths [PROGRAM]: each growth of a whole run of the built program (crates/drvhost/out/drvhost, if none is named)
-is refused in turn, from outside: tools/parts/refuse_growth.c, which the C compiler `cc` builds, stands before the C library and
-refuses the Nth call for memory, or for a thread, for N = 1, 2, .. up to one past the last. Each run has to answer `out of
-memory` with exit status 3 and nothing on standard output, or to give the whole answer, and nothing else. Where it judges several
-files, each read and each write fails in turn too, and the answer has to be that of the files before, what became of the file
-where it fails, and after a read those behind it. The last line counts."""
-import os, subprocess, sys, tempfile
+"""tools/try growths [PROGRAM [COMMAND]]: each growth of a whole run of the built program (crates/drvhost/out/drvhost, if none
+is named) is refused in turn, from outside: tools/parts/refuse_growth.c, which the C compiler `cc` builds, stands before the C
+library and refuses the Nth call for memory, or for a thread, for N = 1, 2, .. up to one past the last. Each run has to answer
+`out of memory` with exit status 3 and nothing on standard output, or to give the whole answer, and nothing else. Then each
+read of it fails in turn, and each write: what is told is `read failed`, perhaps with the file's name, and nothing on standard
+output; or `write failed` behind a beginning of the answer; or a beginning of what would be told. The file whose text a mend
+is applied to has what it had wherever the answer isn't whole, but where its own write fails: then it has a beginning of the
+text. Where several files are judged the answer has to be that of the files before, what became of the file where it fails, and
+after a read those behind it. With COMMAND only the runs of that one are tried, as `mend`. The last line counts."""
+import os, re, subprocess, sys, tempfile
 
 TOP = os.path.dirname(os.path.dirname(os.path.dirname(os.path.abspath(__file__))))
 LIBRARY = os.path.join(TOP, 'tools/parts/refuse_growth.c')
@@ -65,7 +68,10 @@ FILES = {
     'twice': TWICE.encode(),
     'both': BOTH.encode(),
     'open': b'driver d\n',
+    'applied': TWICE.encode(),
 }
+# the text that a run writes to a file of that name
+WRITTEN = {'mend applied --tries 60 --apply': ('applied', QUEUES.encode())}
 ACCEPTED = ('accepted\ndriver 0 routine 0 dispatch certificate 14\ndriver 0 routine 1 dpc certificate 8\n'
             'driver 0 routine 2 cancel certificate 6\n')
 LISTED = 'driver d0\ndispatch READ f0\nroutine f0 dispatch\ncomplete r0 SUCCESS\nret SUCCESS\nendr\nendd\ndevice v0 d0 1\n'
@@ -153,6 +159,9 @@ CASES = [
     ('mend image', 0, 'accepted: nothing to mend\n', ''),
     ('mend twice --tries 60', 0, MENDED, ''),
     ('mend open', 2, '', 'text fault 6 Unclosed line 2\n'),
+    ('mend applied --tries 60 --apply', 0, MENDED + 'applied mend 1\n', ''),
+    ('mend image --apply', 0, 'accepted: nothing to mend\n', ''),
+    ('mend open --nth 1', 2, '', 'text fault 6 Unclosed line 2\n'),
     ('version', 0, 'drvhost 1.0.0\n', ''),
     ('trace set schedule', 0, TRACED, ''),
     ('trace set schedule --unchecked', 0, TRACED, ''),
@@ -160,6 +169,8 @@ CASES = [
     ('check', 2, '', None),  # some text on how the program is used
 ]
 NO_MEMORY = (3, '', 'out of memory\n')
+UNREAD = re.compile(r'read failed\n(cannot read \w+\n)?')
+KINDS = 'GROWTH', 'READ', 'WRITE'
 
 # what is answered for one file, by the command
 ALONE = {
@@ -174,7 +185,7 @@ ALONE = {
         'image': (0, 'accepted\ndriver 0 routine 0 dispatch certificate 2\n'
                   'driver 0 routine 0: driver d0, routine f0 (dispatch)\n'
                   'No threads ever wait for each other in a ring, and every routine ends.\n', ''),
-        'twice': (1, EXPLAINED, ''),
+        'twice': (1, EXPLAINED + HUNT + 'twice\n', ''),
         'open': (2, '', UNCLOSED),
     },
 }
@@ -221,73 +232,107 @@ def allowed(kind, command, names):
             # once the error writer has failed, nothing more is told
             yield *joined(answers)[:2], before[2]
 
-def run(program, words, folder, library, number, kind='GROWTH'):
-    """What the program answers, with the growth, the read or the write of this number refused, and how many there were."""
+def run(program, words, folder, library, kind, number):
+    """What the program answers, with the growth, the read or the write of this number refused, what the file that it writes
+    has then, and how many of the kind it asked for."""
     counted = os.path.join(folder, 'counted')
     how = {**os.environ, 'LD_PRELOAD': library, 'REFUSED_' + kind: str(number), 'COUNTED_%sS' % kind: counted}
     if os.path.exists(counted):
         os.remove(counted)
+    name, _ = WRITTEN.get(words, ('set', None))
+    with open(os.path.join(folder, name), 'wb') as out:
+        out.write(FILES[name])
     done = subprocess.run([program, *words.split()], cwd=folder, env=how, stdin=subprocess.DEVNULL, capture_output=True, text=True, timeout=60)
+    held = open(os.path.join(folder, name), 'rb').read()
     if not os.path.exists(counted):
-        return (done.returncode, done.stdout, done.stderr + '(it ended without a count)'), 0
-    return (done.returncode, done.stdout, done.stderr), int(open(counted).read())
+        return (done.returncode, done.stdout, done.stderr + '(it ended without a count)'), held, 0
+    return (done.returncode, done.stdout, done.stderr), held, int(open(counted).read())
 
 def is_whole(wanted, found):
     return wanted[:2] == found[:2] and (bool(found[2]) if wanted[2] is None else wanted[2] == found[2])
 
-def sweep(program, folder, library, words, wanted):
-    """The growths of a run, how many of them ended in want of memory, and how many in another answer."""
-    whole, growths = run(program, words, folder, library, 0)
-    if not is_whole(wanted, whole):
+def is_fault(kind, wanted, found):
+    """Whether a fault of a kind is answered so."""
+    status, out, told = found
+    if kind == 'GROWTH':
+        return found == NO_MEMORY
+    if kind == 'READ':
+        return status == 2 and out == '' and bool(UNREAD.fullmatch(told))
+    said = wanted[2] is None or wanted[2].startswith(told)
+    return (status == 2 and wanted[1].startswith(out) and told == 'write failed\n') or (wanted[:2] == found[:2] and said)
+
+def holds_rightly(words, kind, whole, held):
+    """Whether the file that a run writes has the text, or what it had where the answer isn't whole; a write to it that fails
+    leaves a beginning of the text."""
+    if words not in WRITTEN:
+        return True
+    name, text = WRITTEN[words]
+    if whole:
+        return held == text
+    return held == FILES[name] or kind == 'WRITE' and text.startswith(held)
+
+def sweep(program, folder, library, words, wanted, kind):
+    """The calls of a kind of a run, how many of them ended in a fault, and how many in another answer."""
+    whole, held, calls = run(program, words, folder, library, kind, 0)
+    if not is_whole(wanted, whole) or not holds_rightly(words, kind, True, held):
         print('drvhost %s: %r' % (words, whole))
-        return growths, 0, 1
+        return calls, 0, 1
     ended = wrong = 0
-    for number in range(1, growths + 2):
-        found, _ = run(program, words, folder, library, number)
-        ended += found == NO_MEMORY
-        if found != NO_MEMORY and not is_whole(wanted, found):
+    for number in range(1, calls + 2):
+        found, held, _ = run(program, words, folder, library, kind, number)
+        whole, fault = is_whole(wanted, found), is_fault(kind, wanted, found)
+        ended += fault and not whole
+        if not (whole or fault) or not holds_rightly(words, kind, whole, held):
             wrong += 1
-            print('drvhost %s, growth %d of %d refused: %r' % (words, number, growths, found))
-    return growths, ended, wrong
+            print('drvhost %s, %s %d of %d refused: %r' % (words, kind.lower(), number, calls, found))
+    return calls, ended, wrong
 
 def sweep_several(program, folder, library, kind, command, words, names):
     """The same where several files are judged, and growths, reads or writes fail."""
     words = command + ' ' + words
     wanted = list(allowed(kind, command, names))
-    _, count = run(program, words, folder, library, 0, kind)
+    _, _, count = run(program, words, folder, library, kind, 0)
     ended = wrong = 0
     for number in range(count + 2):
-        found, _ = run(program, words, folder, library, number, kind)
+        found, _, _ = run(program, words, folder, library, kind, number)
         ended += found != wanted[0]
         if found not in wanted:
             wrong += 1
             print('drvhost %s, %s %d of %d refused: %r' % (words, kind.lower(), number, count, found))
     return count, ended, wrong
 
+def counted(words, found, total):
+    """Tells what came of a run, and adds it to what came of all."""
+    print('drvhost %-32s %4d growths refused, %4d told as want of memory; %d reads, %d writes'
+          % (words, *found['GROWTH'][:2], found['READ'][0], found['WRITE'][0]))
+    for kind in KINDS:
+        total[kind] = [sum(both) for both in zip(total[kind], found[kind])]
+
 def main():
     program = os.path.abspath(sys.argv[1] if len(sys.argv) > 1 else os.path.join(TOP, 'crates/drvhost/out/drvhost'))
-    total = [0, 0, 0]
+    commands = sys.argv[2:] or [case[0].split()[0] for case in CASES]
+    cases = [case for case in CASES if case[0].split()[0] in commands]
+    total = {kind: [0, 0, 0] for kind in KINDS}
     with tempfile.TemporaryDirectory() as folder:
         library = os.path.join(folder, 'refuse_growth.so')
         subprocess.run(['cc', '-shared', '-fPIC', '-O1', '-o', library, LIBRARY, '-ldl', '-lpthread'], check=True)
         for name, content in FILES.items():
             with open(os.path.join(folder, name), 'wb') as out:
                 out.write(content)
-        for words, *wanted in CASES:
-            found = sweep(program, folder, library, words, tuple(wanted))
-            print('drvhost %-32s %4d growths refused, %4d told as want of memory' % (words, *found[:2]))
-            total = [sum(both) for both in zip(total, found)]
+        for words, *wanted in cases:
+            found = {kind: sweep(program, folder, library, words, tuple(wanted), kind) for kind in KINDS}
+            counted(words, found, total)
         os.mkdir(os.path.join(folder, 'sets'))
         for name, content in ('image.image', 'image'), ('twice.drv', 'twice'):
             with open(os.path.join(folder, 'sets', name), 'wb') as out:
                 out.write(FILES[content])
-        for command, words, names in SEVERAL:
-            for kind in 'GROWTH', 'READ', 'WRITE':
-                count, ended, wrong = sweep_several(program, folder, library, kind, command, words, names)
-                print('drvhost %-32s %4d %ss refused, %4d told' % (command + ' ' + words, count, kind.lower(), ended))
-                total = [sum(both) for both in zip(total, (count, 0, wrong) if kind != 'GROWTH' else (count, ended, wrong))]
-    print('%d growths, reads and writes refused, %d told as want of memory, %d wrong' % tuple(total))
-    return 1 if total[2] else 0
+        for command, words, names in (it for it in SEVERAL if it[0] in commands):
+            found = {kind: sweep_several(program, folder, library, kind, command, words, names) for kind in KINDS}
+            counted(command + ' ' + words, found, total)
+    wrong = sum(counts[2] for counts in total.values())
+    print('%d growths refused, %d told as want of memory; %d reads and %d writes failed; %d wrong'
+          % (*total['GROWTH'][:2], total['READ'][0], total['WRITE'][0], wrong))
+    return 1 if wrong else 0
 
 if __name__ == '__main__':
     sys.exit(main())

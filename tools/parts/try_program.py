@@ -112,6 +112,9 @@ NO_THREADS = (
 UNCLOSED = (b'text fault 6 Unclosed line 2\n\nin driver d, line 2:\n    1  driver d\n'
             b'at fault: the text ends inside the driver\nwhat may stand there: `endd`\n')
 
+# the line of a completion
+DONE = b'complete r0 SUCCESS\n'
+
 # words, and the exit status, the standard output and the error output
 CASES = [
     ('check good.drv', 0, ACCEPTED, b''),
@@ -154,6 +157,10 @@ CASES = [
     ('rewrite good.drv no/such/good.image', 2, b'', b'write failed\n'),
     ('rewrite good.drv /dev/full', 2, b'', b'write failed\n'),
     ('rewrite good.drv', 2, b'', SOME),
+    ('mend good.drv --apply', 0, b'accepted: nothing to mend\n', b''),
+    ('mend open.drv --nth 1', 2, b'', b'text fault 6 Unclosed line 2\n'),
+    ('mend nothing.drv --apply', 2, b'', b'cannot read nothing.drv\n'),
+    ('mend twice.drv --nth 4', 2, b'', SOME),
     ('version', 0, b'drvhost 1.0.0\n', b''),
     ('trace good.drv good.sched', 0, TRACED, b''),
     ('trace good.drv good.sched --unchecked', 0, TRACED, b''),
@@ -245,6 +252,16 @@ def answers(program, folder):
     with open(os.path.join(folder, 'good.image'), 'rb') as image:
         yield 'good.image after a faulty set', (0, IMAGES['good.image'], b''), (0, image.read(), b'')
     yield 'open.image', (0, False, b''), (0, os.path.exists(os.path.join(folder, 'open.image')), b'')
+    # a mend is applied once its answer was written
+    with open('/dev/full', 'wb') as full:
+        status, _, told = run(program, ['mend', 'twice.drv', '--apply'], folder, full)
+    yield 'mend twice.drv --apply > /dev/full', (2, b'', b'write failed\n'), (status, b'', told)
+    for words, text in (None, FILES['twice.drv']), ('mend twice.drv --apply', FILES['twice.drv'].replace(DONE, b'', 1)):
+        if words:
+            status, told, errors = run(program, words.split(), folder)
+            yield words, (0, True, b''), (status, told.endswith(b'\napplied mend 1\n'), errors)
+        with open(os.path.join(folder, 'twice.drv'), 'rb') as held:
+            yield 'twice.drv', (0, text, b''), (0, held.read(), b'')
     # several workers: the history is of their making, and agrees
     status, told, errors = run(program, 'host good.drv two.script --workers 4'.split(), folder)
     yield 'host, 4 workers', (0, True, b''), (status, told.endswith(b' agrees\n'), errors)

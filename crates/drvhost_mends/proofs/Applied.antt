@@ -28,9 +28,9 @@ still_applied wanted refusal text offers last None h = tt
 still_applied wanted refusal text offers last (Some a) h =
     let one : List ℕ = offer_text a.extent a.number h.words h.diff in
     record {
-      wanted_is = h.wanted_is;
       before = h.before;
       words = h.words;
+      wanted_is = h.wanted_is;
       diff = h.diff;
       behind = h.behind ++ last;
       makes = h.makes;
@@ -40,15 +40,15 @@ still_applied wanted refusal text offers last (Some a) h =
 
 -- the last offer is applied
 pub last_applied : (wanted : Option Wanted) (refusal : Refusal) (text offers words diff : List ℕ)
-    (extent : Extent) (number : ℕ) (made : List ℕ) → IsWanted wanted number
+    (extent : Extent) (number : ℕ) (made : List ℕ) → IsWanted wanted number words
     → Makes extent refusal text diff made
     → IsApplied wanted refusal text (offers ++ offer_text extent number words diff) extent number
     made
 last_applied wanted refusal text offers words diff extent number made is makes =
     record {
-      wanted_is = is;
       before = offers;
       words = words;
+      wanted_is = is;
       diff = diff;
       behind = [];
       makes = makes;

@@ -1,5 +1,6 @@
 -- What `mend` answers where it applies one of its offers, and what it writes then.
-use Rattle.std.specs.Prelude.{ℕ, ⊤, ◌≡◌, ◌++◌, ◌⊎◌, Bool, true, false, List, Option, None, Some, Ok, Err, Result, codes, decimal}
+use Rattle.std.specs.Prelude.{ℕ, ⊤, nat_eq, ◌≡◌, ◌++◌, ◌⊎◌, Bool, true, false, List, Option, None, Some, Ok, Err, Result, codes, decimal}
+use Rattle.std.specs.List.{starts_with}
 use Rattle.std.specs.Io.KnownBytes.{Appends}
 use Rattle.drvhost_devices.specs.Answer.{Answer, FileSays, IsOfFile, ended, is_image}
 use Rattle.drvhost_devices.specs.declared.fault.End.{End}
@@ -18,18 +19,19 @@ use Rattle.drvhost_mends.specs.declared.judged_offers.Applied.{Applied}
 use Rattle.drvhost_mends.specs.declared.apply.Asked.{Asked}
 use Rattle.drvhost_mends.specs.Mend.{AreOffers, Makes, end_of, is_whole, nothing_told, offer_text, text_of, told}
 
--- the offer of a number is wanted; that the first is sure isn't said
-abbrev pub IsWanted : Option Wanted → ℕ → Type 0
-IsWanted None number = ⊥
-IsWanted (Some Sure) number = number ≡ 1
-IsWanted (Some (Number other)) number = number ≡ other
+-- the offer of a number is wanted, which has these words: of the first they say that it is sure
+abbrev pub IsWanted : Option Wanted → ℕ → List ℕ → Type 0
+IsWanted None number words = ⊥
+IsWanted (Some Sure) number words =
+    (number ≡ 1) × (starts_with nat_eq words (codes "sure") ≡ true)
+IsWanted (Some (Number other)) number words = number ≡ other
 
 -- one of the offers that were written is wanted, and its diff makes a text
 pub record IsApplied (wanted : Option Wanted) (refusal : Refusal) (text offers : List ℕ)
     (extent : Extent) (number : ℕ) (made : List ℕ) : Type 0 where
-  pub wanted_is : IsWanted wanted number
   pub before : List ℕ
   pub words : List ℕ
+  pub wanted_is : IsWanted wanted number words
   pub diff : List ℕ
   pub behind : List ℕ
   pub makes : Makes extent refusal text diff made

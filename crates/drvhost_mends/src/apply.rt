@@ -1,6 +1,6 @@
 //! A mend of a driver set's text, applied.
 
-ghost use Rattle.std.specs.Prelude.{◌≡◌, ◌+◌, ◌++◌, ◌⊎◌, [], IfOk, OnOk};
+ghost use Rattle.std.specs.Prelude.{◌≡◌, ◌≤◌, ◌+◌, ◌++◌, ◌⊎◌, [], IfOk, OnOk};
 ghost use Rattle.model.specs.Typable.{IsFirstFault, at_start};
 ghost use Rattle.drvhost_devices.specs.Answer.{ended, is_image};
 ghost use Rattle.drvhost_devices.specs.Device.{CanCount, Says};
@@ -59,6 +59,7 @@ pub fn apply<S: Source, O: Sink, W: Sink, E: Sink>(
         × LeavesFor asked (S.supply set.old) (O.contents out.old) (O.contents out.new) result)
         ⊎ TakesMade asked (S.supply set.old) (O.contents out.old) (O.contents out.new)
         (W.contents target.old) (W.contents target.new) result }
+    ensures few { W.failures target.new ≤ W.failures target.old + 1 }
 {
     match Lines::new(alloc) {
         Ok(mut lines) => {
@@ -90,6 +91,7 @@ fn apply_source<S: Source, O: Sink, W: Sink>(
         (status_of result))
         ⊎ TakesMade asked (S.supply set.old) (O.contents out.old) (O.contents out.new)
         (W.contents target.old) (W.contents target.new) (status_of result) }
+    ensures few { W.failures target.new ≤ W.failures target.old + 1 }
 {
     let bytes = read_whole(alloc, set)?;
     let bytes = bytes.as_slice();
@@ -116,6 +118,7 @@ fn put<O: Sink, W: Sink>(applying: &Applying, out: &mut O, target: &mut W) -> Re
         applying.now.made result }
     ensures writes { W.failures target.new + O.failures out.new
         ≡ W.failures target.old + O.failures out.old + writes_failed result }
+    ensures few { W.failures target.new ≤ W.failures target.old + 1 }
 {
     write_bytes(applying.reply.text.as_slice(), out)?;
     if let Some(made) = &applying.made {

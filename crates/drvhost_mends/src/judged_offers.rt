@@ -104,7 +104,7 @@ fn add_judged(
     write_offer(alloc, &mut offered.text, judged.extent, number, words, diff)?;
     offered.count = number;
     offered.whole = either(offered.whole, judged.extent);
-    if !is_wanted(wanted, number, proposal.is_sure) {
+    if !is_wanted(wanted, number, words) {
         return Ok(());
     }
     offered.applied = Some(Applied {
@@ -115,12 +115,12 @@ fn add_judged(
     Ok(())
 }
 
-/// Whether the offer of a number is the one that is wanted.
-fn is_wanted(wanted: Option<Wanted>, number: u64, is_sure: bool) -> bool
-    ensures { result ≡ true → IsWanted wanted number }
+/// Whether the offer of a number is the one that is wanted, by its words.
+fn is_wanted(wanted: Option<Wanted>, number: u64, words: &[u8]) -> bool
+    ensures { result ≡ true → IsWanted wanted number words.now }
 {
     match wanted {
-        Some(Wanted::Sure) => is_sure && number == 1,
+        Some(Wanted::Sure) => number == 1 && words.starts_with(b"sure"),
         Some(Wanted::Number(other)) => number == other,
         None => false,
     }

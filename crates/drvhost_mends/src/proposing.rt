@@ -12,7 +12,6 @@ use std::alloc::{AllocError, Global};
 pub(crate) struct Proposal {
     pub words: String,
     pub diff: String,
-    pub is_sure: bool,
 }
 
 /// What is proposed by offers that are chosen, if they can be made of the text.
@@ -101,11 +100,7 @@ fn written(
     let steps = steps_of(alloc, text, mended.changes.as_slice())?;
     let mut shown = String::new(alloc);
     diff(&mut shown, text, steps.as_slice())?;
-    Ok(Proposal {
-        words,
-        diff: shown,
-        is_sure: summed.standing == Standing::Sure,
-    })
+    Ok(Proposal { words, diff: shown })
 }
 
 /// Adds what was guessed.

@@ -2,3 +2,4 @@ pub mod Answering
 pub mod Rewritten
 pub mod Behind
 pub mod Ending
+pub mod Mended

@@ -25,7 +25,7 @@ done R reads writes b n status told (OutOfMemory r w s t out) zero =
     let no : 3 ≡ 0 = sym s ∙ zero in cc
 
 -- what a file has to which this was written
-has_part : (before after : Supply) (contents : Option (List ℕ)) (part : List ℕ)
+pub has_part : (before after : Supply) (contents : Option (List ℕ)) (part : List ℕ)
     → Appends (blank before) contents part → IsWritten before after contents
     → Has before after part ⊎ ((part ≡ []) × (after ≡ before))
 has_part Unknown after contents part a w = inl tt
@@ -58,7 +58,7 @@ has_none (Bytes held) Unknown after all some a = absurd a
 has_none (Bytes held) Closed after all some a = absurd (some (sym a))
 has_none (Bytes held) (Bytes there) after all some a = absurd (some (sym a))
 
-appends_as : (b c n m : Option (List ℕ)) (bytes : List ℕ) → b ≡ c → n ≡ m → Appends b n bytes
+pub appends_as : (b c n m : Option (List ℕ)) (bytes : List ℕ) → b ≡ c → n ≡ m → Appends b n bytes
     → Appends c m bytes
 appends_as b c n m bytes p q a =
     subst (λ (x : Option (List ℕ)). Appends c x bytes) q

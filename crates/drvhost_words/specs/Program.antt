@@ -1,6 +1,6 @@
 -- How the program answers the words of its command line, which files it opens, and what it writes to
 -- one.
-use Rattle.std.specs.Prelude.{ℕ, ◌≡◌, ◌≢◌, ◌+◌, ◌++◌, ◌⊎◌, Bool, List, [], Option, false, map, true, Result, Ok, Err, String, drop, string_bytes}
+use Rattle.std.specs.Prelude.{ℕ, ◌≡◌, ◌≢◌, ◌+◌, ◌++◌, ◌⊎◌, Bool, List, [], None, Option, Some, false, map, true, Result, Ok, Err, String, drop, string_bytes}
 use Rattle.std.specs.Borrow.{Bor}
 use Rattle.std.specs.Global.{Global, Vec}
 use Rattle.std.specs.declared.io.ErrorKind.{ErrorKind}
@@ -14,13 +14,15 @@ use Rattle.drvhost_devices.specs.Ends.{Ends, HoldsRun, IsCheckOf, IsListOf, IsRe
 use Rattle.drvhost_formats.specs.Told.{IsUnopenedJson}
 use Rattle.drvhost_formats.specs.Trace.{IsTraceJsonOf}
 use Rattle.drvhost_hunts.specs.Hunt.{IsHuntOf}
+use Rattle.drvhost_mends.specs.declared.apply.Asked.{Asked as Applying}
+use Rattle.drvhost_mends.specs.Apply.{IsApplyOf, IsApplyWith}
 use Rattle.drvhost_mends.specs.Mend.{IsMendOf}
 use Rattle.drvhost_sets.specs.Explained.{IsLockOrderExplained}
 use Rattle.drvhost_runs.specs.Readiness.{AreWarningsOf}
 use Rattle.drvhost_runs.specs.Served.{IsHostOf}
 use Rattle.drvhost_views.specs.Told.{IsDrawOf, IsTellOf}
 use Rattle.drvhost_commands.specs.declared.job.Job.{Job}
-use Rattle.drvhost_commands.specs.declared.job.Job.TheVariants.{Page as OfPage, OnPaths, Log, Rewrite, OnSet, OnRun, Host}
+use Rattle.drvhost_commands.specs.declared.job.Job.TheVariants.{Page as OfPage, OnPaths, Log, Rewrite, Apply, OnSet, OnRun, Host}
 use Rattle.drvhost_commands.specs.declared.job.Page.{Page}
 use Rattle.drvhost_commands.specs.declared.job.Page.TheVariants.{Rule, LockOrder, Version}
 use Rattle.drvhost_commands.specs.declared.job.Task.{Task}
@@ -30,7 +32,7 @@ use Rattle.drvhost_commands.specs.declared.job.Judging.TheVariants.{Check, Check
 use Rattle.drvhost_commands.specs.declared.job.Way.{Way}
 use Rattle.drvhost_commands.specs.declared.job.Way.TheVariants.{Trace, TraceJson, Tell, Draw}
 use Rattle.drvhost_commands.specs.CommandLine.{Names, NamesJob, program, usage}
-use Rattle.drvhost_files.specs.Files.{Has}
+use Rattle.drvhost_files.specs.Files.{Has, IsWritten}
 use Rattle.drvhost_found.specs.declared.find.Found.{Found}
 use Rattle.drvhost_many.specs.All.{AreFound, EachEnds, IsAlone, IsUnfound}
 use Rattle.drvhost_many.specs.One.{IsJudged, is_in_json as judged_in_json}
@@ -89,6 +91,11 @@ abbrev pub IsOfWork : Work → (List ℕ → Supply) → List ℕ → Answer →
 IsOfWork work supply name answer =
     IsDoneOf work name (supply name) answer
     ⊎ (MayBeClosed (supply name) × IsUnopenedBy work name answer)
+
+-- what is right where a mend of the text of the file of a name is applied
+abbrev pub IsOfApply : Applying → (List ℕ → Supply) → List ℕ → Answer → Type 0
+IsOfApply asked supply name answer =
+    IsApplyOf asked (supply name) answer ⊎ (MayBeClosed (supply name) × IsUnopened name answer)
 
 -- what is right where the output goes to a file: the same, with nothing on the standard output
 abbrev pub IsQuietly : (Answer → Type 0) → Answer → Type 0
@@ -184,6 +191,11 @@ JobEnds stands supply (Log paths) opened reads writes before after status told =
 JobEnds stands supply (Rewrite set output) opened reads writes before after status told =
     (opened ≡ 1)
     × Ends (IsQuietly (IsRewriteOf (supply set.now))) reads writes before after status told
+JobEnds stands supply (Apply set tries wanted) opened reads writes before after status told =
+    (opened ≡ 1)
+    × EndsTelling (IsNamedUnread (λ unread. unread ≡ set.now) 0 reads)
+    (IsOfApply (record { tries = tries; wanted = wanted }) supply set.now) reads writes before after
+    status told
 JobEnds stands supply (OnSet set task) opened reads writes before after status told =
     WorkEnds (Do task) supply set.now opened reads writes before after status told
 JobEnds stands supply (OnRun set input way) opened reads writes before after status told =
@@ -247,10 +259,37 @@ pub record RewritesFile (set : Supply) (name : List ℕ) (before after : List �
       × Has (before name) (after name) image.output
   pub touched : LeavesFiles before after old new ⊎ WritesFile set name before after old new status
 
+-- one was written, which is opened for the text alone that a mend makes of its own, if that has any
+-- bytes: it has that text, or a beginning of it where a write failed; and the others have what they
+-- had
+pub record WritesMend (asked : Applying) (name : List ℕ) (before after : List ℕ → Supply)
+    (old new : ℕ) (status : ℕ) : Type 0 where
+  pub one : (new ≡ old) ⊎ (new ≡ old + 1)
+  pub answer : Answer
+  pub made : List ℕ
+  pub right : IsApplyWith asked (before name) (Some made) answer
+  pub part : List ℕ
+  pub rest : List ℕ
+  pub split : made ≡ part ++ rest
+  pub has : IsWritten (before name) (after name) (Some part)
+  pub others : (other : List ℕ) → other ≢ name → after other ≡ before other
+  pub status_is : ((status ≡ answer.status) × (rest ≡ [])) ⊎ (status ≡ 2)
+
+-- what a mend that is applied does to the file of a name: it is left by a fault, or where no text is
+-- written; else it has the text that the mend makes
+abbrev pub MendsFile : Applying → List ℕ → (List ℕ → Supply) → (List ℕ → Supply) → ℕ → ℕ → ℕ
+    → Type 0
+MendsFile asked name before after old new status =
+    (LeavesFiles before after old new × ((status ≡ 2) ⊎ (status ≡ 3)
+    ⊎ ((answer : Answer) × IsApplyWith asked (before name) None answer × (status ≡ answer.status))))
+    ⊎ WritesMend asked name before after old new status
+
 -- what a job does to the files
 abbrev pub JobStores : Job → (List ℕ → Supply) → (List ℕ → Supply) → ℕ → ℕ → ℕ → Type 0
 JobStores (Rewrite set output) before after old new status =
     RewritesFile (before set.now) output.now before after old new status
+JobStores (Apply set tries wanted) before after old new status =
+    MendsFile (record { tries = tries; wanted = wanted }) set.now before after old new status
 JobStores job before after old new status = LeavesFiles before after old new
 
 -- what the program does to the files for these words: nothing where it names no job, and then it

@@ -1,7 +1,7 @@
 //! What the program answers.
 
 ghost use Rattle.std.specs.Prelude.{◌≡◌, ◌+◌, ◌<◌, ◌^◌, ◌⊎◌, ℕ, List, Option, drop, map, string_bytes, true};
-ghost use Rattle.drvhost_words.specs.Program.{FileEnds, IsAnswerToLost, IsDoneOf, IsOfWork, IsPage, IsRunBy, IsTaskOf, IsUnopenedBy, OpensToTrace, IsQuietly, EndsAtOnce, JobEnds, JobStores, PathsEnd, ProgramEnds, ProgramStores, RewritesFile, WordsEnd, WordsStore, is_in_json, verification_of};
+ghost use Rattle.drvhost_words.specs.Program.{FileEnds, IsAnswerToLost, IsDoneOf, IsOfApply, IsOfWork, IsPage, IsRunBy, IsTaskOf, IsUnopenedBy, OpensToTrace, IsQuietly, EndsAtOnce, JobEnds, JobStores, MendsFile, PathsEnd, ProgramEnds, ProgramStores, RewritesFile, WordsEnd, WordsStore, is_in_json, verification_of};
 ghost use Rattle.drvhost_many.specs.All.{Counted};
 ghost use Rattle.drvhost_words.specs.Unread.{IsNamedUnread, IsOneOf, SaysAround, SaysMore};
 ghost use Rattle.drvhost_devices.specs.Device.{CanCount, Says};
@@ -25,6 +25,7 @@ use drvhost_hunts::hunt::hunt;
 use drvhost_many::file::{self, judge};
 use drvhost_many::many::answer_each;
 use drvhost_many::paths::{alone, find_all};
+use drvhost_mends::apply::{self, apply};
 use drvhost_mends::mend::{self, mend};
 use drvhost_runs::host::{Hosting, host};
 use drvhost_runs::trace::trace;
@@ -165,6 +166,13 @@ fn perform<F: Files, O: Sink, E: Sink, R: Threads + Wait + Sync>(
         }
         Job::Log { paths } => check_sarif(alloc, paths.as_slice(), files, out, err),
         Job::Rewrite { set, output } => rewrite_file(alloc, set, output, files, err),
+        Job::Apply { set, tries, wanted } => {
+            let asked = apply::Asked {
+                tries: *tries,
+                wanted: *wanted,
+            };
+            mend_file(alloc, Mending { set, asked }, files, out, err)
+        }
         Job::OnSet { set, task } => work_file(alloc, Work::Do(*task), set, files, out, err),
         Job::OnRun { set, input, way } => {
             let names = Names::of(set, input);
@@ -442,6 +450,60 @@ fn rewrite_file<F: Files, E: Sink>(
     files.close(file);
     if let Some(target) = target {
         files.keep(output, target);
+    }
+    status
+}
+
+/// A mend that is to be applied to the text of a file.
+#[derive(Clone, Copy)]
+struct Mending<'n> {
+    set: &'n str,
+    asked: apply::Asked,
+}
+
+/// Applies a mend to the text of a file, which is written anew once the text that the mend makes
+/// stands in memory and its diff was written. One that can't be opened or read is named.
+fn mend_file<F: Files, O: Sink, E: Sink>(
+    alloc: Global,
+    mending: Mending<'_>,
+    files: &mut F,
+    out: &mut O,
+    err: &mut E,
+) -> u8
+    requires opened { F.opened files.old + 1 < 2 ^ 64 }
+    requires files { CanCount (F.failures files.old) }
+    requires created { F.created files.old + 1 < 2 ^ 64 }
+    requires unwritten { CanCount (F.unwritten files.old) }
+    requires out { CanCount (O.failures out.old) }
+    requires err { CanCount (E.failures err.old) }
+    ensures answers { Answers
+        (IsOfApply mending.entry.asked (F.supply files.old) mending.entry.set.now)
+        (F.failures files.old) (F.failures files.new)
+        (F.unwritten files.old + O.failures out.old) (F.unwritten files.new + O.failures out.new)
+        (O.contents out.old) (O.contents out.new)
+        (SaysMore (IsNamedUnread (λ name. name ≡ mending.entry.set.now)
+        (F.failures files.old) (F.failures files.new))
+        (E.failures err.old) (E.failures err.new) (E.contents err.old) (E.contents err.new))
+        result }
+    ensures opened { F.opened files.new ≡ F.opened files.old + 1 }
+    ensures stores { MendsFile mending.entry.asked mending.entry.set.now
+        (F.supply files.old) (F.supply files.new) (F.created files.old) (F.created files.new)
+        result }
+{
+    let set = mending.set;
+    let failures = err.failures();
+    let mut file = files.open(set);
+    if files.is_closed(&file) {
+        files.close(file);
+        return tell_unopened(set, err);
+    }
+    let mut pending = Pending::new(files, set);
+    let status = apply(alloc, mending.asked, &mut file, out, &mut pending, err);
+    tell_if_unread(set, &file, failures, err);
+    let target = pending.into_target();
+    files.close(file);
+    if let Some(target) = target {
+        files.keep(set, target);
     }
     status
 }

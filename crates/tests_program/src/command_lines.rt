@@ -6,6 +6,7 @@ use drvhost_devices::verification::Verification;
 use drvhost_options::extent::Extent;
 use drvhost_options::figure::Figure;
 use drvhost_options::manner::{Detail, Manner, Strictness};
+use drvhost_options::wanted::Wanted;
 use model::abs::Rule;
 use std::alloc::Global;
 use std::test::Fail;
@@ -147,7 +148,34 @@ fn mends(rt: HostRuntime) -> Result<(), Fail> {
             "{number}"
         );
     }
+    for number in ["0", "4", "+1", "last"] {
+        assert!(rt;
+            is_refused(alloc, &["mend", "a", "--nth", number]),
+            "{number}"
+        );
+    }
     Ok(())
+}
+
+/// Which mend is applied.
+#[test]
+fn applied_mends(rt: HostRuntime) -> Result<(), Fail> {
+    let alloc = rt.alloc();
+    let job = Job::of(alloc, &["mend", "a", "--apply"])?;
+    assert!(rt; is_to_apply(&job, 20_000, Wanted::Sure));
+    let job = Job::of(alloc, &["mend", "--tries", "7", "a", "--nth", "3"])?;
+    assert!(rt; is_to_apply(&job, 7, Wanted::Number(3)));
+    let job = Job::of(alloc, &["mend", "a", "--apply", "--nth", "1"])?;
+    assert!(rt; is_to_apply(&job, 20_000, Wanted::Number(1)));
+    Ok(())
+}
+
+/// Whether a job is to apply this mend to the text of a file, by so many tries.
+fn is_to_apply(job: &Job<'_>, most: u64, mend: Wanted) -> bool {
+    match *job {
+        Job::Apply { set, tries, wanted } => set == "a" && tries == most && wanted == mend,
+        _ => false,
+    }
 }
 
 /// Whether a job is to mend the set of a file by so many tries.

@@ -6,6 +6,8 @@
 #[cfg(test)]
 mod answers;
 #[cfg(test)]
+mod applied;
+#[cfg(test)]
 mod command_lines;
 #[cfg(test)]
 mod in_memory;

@@ -18,7 +18,7 @@ const TWICE: &[u8] =
 fn stored(name: &str) -> Option<&'static [u8]> {
     match name {
         "good.drv" => Some(ONE_READ_TEXT),
-        "twice.drv" => Some(TWICE),
+        "twice.drv" | "locked.drv" => Some(TWICE),
         "open.drv" => Some(b"driver d\n"),
         "good.image" => Some(&ONE_READ),
         "former.image" => Some(&OLD_ONE_READ),
@@ -26,8 +26,8 @@ fn stored(name: &str) -> Option<&'static [u8]> {
     }
 }
 
-/// Files in memory, and the bytes of the one that was written last. A file `locked.image` can't be
-/// opened to be written.
+/// Files in memory, and the bytes of the one that was written last. Files `locked.image` and
+/// `locked.drv` can't be opened to be written.
 #[derive(Drop)]
 pub(crate) struct Shelf {
     alloc: Global,
@@ -92,7 +92,7 @@ impl Files for Shelf {
     }
 
     fn create(&self, name: &str) -> Output<Vec<u8>> {
-        if name == "locked.image" {
+        if name == "locked.image" || name == "locked.drv" {
             return Output::new(None);
         }
         Output::new(Some(Vec::new(self.alloc)))

@@ -35,7 +35,7 @@ returns-clause-applied c =
     let judged = c.in-Some.judged in
     let words = c.as_bytes-words.result.now in
     let diff = c.as_bytes-diff.result.now in
-    let wanted : IsWanted c.args.wanted (offered.count + 1) = search rules in
+    let wanted : IsWanted c.args.wanted (offered.count + 1) words = search rules in
     let makes : Makes judged.extent c.args.refusal.now c.args.text.now diff judged.made =
     search rules in
     rw c.in_ok-write_offer.ensures

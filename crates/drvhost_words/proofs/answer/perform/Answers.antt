@@ -46,6 +46,15 @@ returns-in-Rewrite-clause-answers g c =
 pub returns-in-Rewrite-clause-stores : goal.returns-in-Rewrite-clause-stores
 returns-in-Rewrite-clause-stores g c = rw c.in-Rewrite.is c.rewrite_file.ensures.stores
 
+pub returns-in-Apply-clause-answers : goal.returns-in-Apply-clause-answers
+returns-in-Apply-clause-answers g c =
+    rw c.in-Apply.is
+    (counted_telling _ _ (λ n. n ≡ 1) 1 _ _ _ _ _ _ _ _ _ _ _ _ _ refl c.mend_file.ensures.opened
+    c.mend_file.ensures.answers)
+
+pub returns-in-Apply-clause-stores : goal.returns-in-Apply-clause-stores
+returns-in-Apply-clause-stores g c = rw c.in-Apply.is c.mend_file.ensures.stores
+
 pub returns-in-OnSet-clause-answers : goal.returns-in-OnSet-clause-answers
 returns-in-OnSet-clause-answers g c =
     rw c.in-OnSet.is
