@@ -3,10 +3,10 @@
 ghost use Rattle.std.specs.Prelude.{◌≡◌, ◌++◌, IfOk, OnOk};
 ghost use Rattle.hunt_schedule.specs.Headline.{amiss_words, bug_words, each_between, ending_words, headline, lock_words, of_device, place_words, reply_words, standing_words, subject_words};
 
-use crate::appending::{add, add_number, add_numbered};
 use hunt_ends::amiss::Amiss;
 use hunt_ends::ending::Ending;
 use hunt_ends::standing::Standing;
+use interleave_lines::appending::{add, add_number, add_numbered};
 use model::event::{Bug, Lock, OfDevice, Place, Reply, Subject};
 use std::alloc::{AllocError, Global};
 

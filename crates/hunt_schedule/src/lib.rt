@@ -1,7 +1,6 @@
 //! Runs that were looked for as texts of schedules: the first line of each tells how its run ends.
 #![tactic(auto)]
 
-mod appending;
 mod comments;
 mod headline;
 pub mod reading;

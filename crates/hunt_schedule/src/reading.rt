@@ -1,6 +1,6 @@
 //! Texts that are read back: whether the run of what one lists ends as its first line tells.
 
-ghost use Rattle.std.specs.Prelude.{◌≡◌, ◌≤◌, ◌++◌, IfOk, IsTrue, OnOk, length, replicate};
+ghost use Rattle.std.specs.Prelude.{◌≤◌, IfOk, IsTrue, length};
 ghost use Rattle.hunt_schedule.specs.Telling.{IsWithin, TellsEnd, TellsItsEnd};
 ghost use Rattle.model.specs.declared.limits.TheConstants.{MAX_THREADS};
 
@@ -9,9 +9,9 @@ use driver_set::DriverSet;
 use hunt_bounds::bounds::Bounds;
 use hunt_ends::ending::ending_of;
 use hunt_search::search::is_wanted;
-use interleave::events::Events;
 use interleave::parse::parse_schedule;
 use interleave::schedule::ScheduleKind;
+use interleave_lines::reading::events_of;
 use model::event::Event;
 use std::alloc::{AllocError, Global};
 
@@ -83,26 +83,4 @@ fn tells_end(
     }
     let line = headline(alloc, &ending)?;
     Ok(text.starts_with(line.as_slice()))
-}
-
-/// The events of a schedule, one by one.
-fn events_of(alloc: Global, events: &Events) -> Result<Vec<Event>, AllocError>
-    ensures { IfOk result (λ all. all.items ≡ events.now) }
-{
-    let mut all = Vec::new(alloc);
-    let mut upcoming = events.upcoming();
-    while let Some(run) = upcoming.next_run() {
-        add_times(&mut all, run.event, run.count)?;
-    }
-    Ok(all)
-}
-
-/// Adds an event so many times.
-fn add_times(all: &mut Vec<Event>, event: Event, count: usize) -> Result<(), AllocError>
-    ensures { OnOk result (all.new.items ≡ all.old.items ++ replicate count event) }
-{
-    for _ in 0..count {
-        all.push(event)?;
-    }
-    Ok(())
 }

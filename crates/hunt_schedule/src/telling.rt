@@ -5,13 +5,13 @@ ghost use Rattle.hunt_schedule.specs.Telling.{IsToldOf, all_line, more_line, unl
 ghost use Rattle.hunt_search.specs.Hunts.{IsFind};
 ghost use Rattle.model.specs.declared.limits.TheConstants.{MAX_THREADS};
 
-use crate::appending::{add, add_number};
 use crate::headline::headline;
 use crate::writing::schedule_text;
 use driver_set::DriverSet;
 use hunt_bounds::bounds::Bounds;
 use hunt_ends::ending::Ending;
 use hunt_search::search::{Find, Hunted, hunt};
+use interleave_lines::appending::{add, add_number};
 use std::alloc::{AllocError, Global};
 
 /// What is told of a hunt.

@@ -4,7 +4,6 @@ ghost use Rattle.std.specs.Prelude.{◌≤◌, IfOk, IfSome};
 ghost use Rattle.hunt_schedule.specs.Telling.{TellsItsEnd};
 ghost use Rattle.model.specs.declared.limits.TheConstants.{MAX_THREADS};
 
-use crate::appending::{add, add_number};
 use crate::comments::Telling;
 use crate::headline::headline;
 use crate::reading::tells_its_end;
@@ -13,8 +12,9 @@ use checked::Checked;
 use driver_set::DriverSet;
 use hunt_bounds::bounds::Bounds;
 use hunt_ends::ending::Ending;
+use interleave_lines::appending::{add, add_number};
+use interleave_lines::words::{add_event, goes_on};
 use model::event::Event;
-use model::status::Major;
 use std::alloc::{AllocError, Global};
 use tell_names::Book;
 
@@ -116,78 +116,4 @@ fn add_comment(
         add(text, words.as_str().as_bytes())?;
     }
     add(text, b"\n")
-}
-
-/// Whether an event and the next one are steps of one thread.
-fn goes_on(event: &Event, next: Option<&Event>) -> bool {
-    let (Event::Step { thread }, Some(next)) = (*event, next) else {
-        return false;
-    };
-    match *next {
-        Event::Step { thread: other } => other == thread,
-        _ => false,
-    }
-}
-
-/// Adds the words of an event that happens so many times in a row.
-fn add_event(text: &mut Vec<u8>, event: &Event, times: u64) -> Result<(), AllocError> {
-    match *event {
-        Event::Issue {
-            thread,
-            device,
-            major,
-            argument,
-        } => {
-            add_words(text, b"issue", u64::from(thread), Some(u64::from(device)))?;
-            add(text, major_word(major))?;
-            add_number(text, argument)?;
-        }
-        Event::Cancel {
-            thread,
-            packet,
-            level,
-        } => {
-            add_words(text, b"cancel", u64::from(thread), Some(packet))?;
-            add(text, b" ")?;
-            add_number(text, u64::from(level))?;
-        }
-        Event::Interrupt { device } => add_words(text, b"interrupt", u64::from(device), None)?,
-        Event::Dpc { thread, device } => {
-            add_words(text, b"dpc", u64::from(thread), Some(u64::from(device)))?;
-        }
-        Event::StartIo { thread, device } => {
-            add_words(text, b"startio", u64::from(thread), Some(u64::from(device)))?;
-        }
-        Event::Step { thread } => {
-            let many = if times > 1 { Some(times) } else { None };
-            add_words(text, b"step", u64::from(thread), many)?;
-        }
-    }
-    Ok(())
-}
-
-/// Adds a word and one or two numbers.
-fn add_words(
-    text: &mut Vec<u8>,
-    word: &[u8],
-    first: u64,
-    second: Option<u64>,
-) -> Result<(), AllocError> {
-    add(text, word)?;
-    add(text, b" ")?;
-    add_number(text, first)?;
-    if let Some(second) = second {
-        add(text, b" ")?;
-        add_number(text, second)?;
-    }
-    Ok(())
-}
-
-/// The word of a major function, with a space on each side.
-fn major_word(major: Major) -> &'static [u8] {
-    match major {
-        Major::Read => b" READ ",
-        Major::Write => b" WRITE ",
-        Major::Control => b" CONTROL ",
-    }
 }

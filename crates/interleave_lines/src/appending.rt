@@ -6,7 +6,7 @@ use itoa::Buffer;
 use std::alloc::AllocError;
 
 /// Adds a part of a text.
-pub(crate) fn add(text: &mut Vec<u8>, part: &[u8]) -> Result<(), AllocError>
+pub fn add(text: &mut Vec<u8>, part: &[u8]) -> Result<(), AllocError>
     ensures { OnOk result (text.new.items ≡ text.old.items ++ part.now) }
 {
     text.extend_from_slice(part)?;
@@ -14,7 +14,7 @@ pub(crate) fn add(text: &mut Vec<u8>, part: &[u8]) -> Result<(), AllocError>
 }
 
 /// Adds a decimal number.
-pub(crate) fn add_number(text: &mut Vec<u8>, number: u64) -> Result<(), AllocError>
+pub fn add_number(text: &mut Vec<u8>, number: u64) -> Result<(), AllocError>
     ensures { OnOk result (text.new.items ≡ text.old.items ++ decimal number) }
 {
     let mut digits = Buffer::new();
@@ -22,7 +22,7 @@ pub(crate) fn add_number(text: &mut Vec<u8>, number: u64) -> Result<(), AllocErr
 }
 
 /// Adds a decimal number between two parts of a text.
-pub(crate) fn add_numbered(
+pub fn add_numbered(
     text: &mut Vec<u8>,
     before: &[u8],
     number: u64,

@@ -1,5 +1,5 @@
 use Rattle.std.proofs.Common.{◌≡◌, ◌++◌, length}
-use Rattle.hunt_schedule.proofs.reading.events_of.Given as goal
+use Rattle.interleave_lines.proofs.reading.events_of.Given as goal
 
 abbrev pub invariant-loop-run : goal.invariant-loop-run
 invariant-loop-run l = l.events ≡ l.all.items ++ l.upcoming

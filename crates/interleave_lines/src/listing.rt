@@ -1,0 +1,145 @@
+//! Schedules as texts, read back before they are told.
+
+ghost use Rattle.std.specs.Prelude.{◌≡◌, IfOk, IfSome, IsTrue};
+ghost use Rattle.interleave.specs.Listing.{Lists};
+
+use crate::appending::{add, add_numbered};
+use crate::reading::events_of;
+use crate::words::{add_event, goes_on};
+use interleave::parse::parse_schedule;
+use interleave::schedule::ScheduleKind;
+use model::event::Event;
+use model::status::Major;
+use std::alloc::{AllocError, Global};
+
+/// A text that lists so many threads and these events. None where what was written, read back, lists
+/// others.
+///
+/// # Errors
+///
+/// When memory runs out.
+pub fn listing(alloc: Global, threads: u8, events: &[Event]) -> Result<Option<Vec<u8>>, AllocError>
+    ensures { IfOk result (λ text. IfSome text (λ text. Lists text.items
+        (record { threads = threads; events = events.now }))) }
+{
+    let mut text = Vec::new(alloc);
+    add_numbered(&mut text, b"threads ", u64::from(threads), b"\n")?;
+    add_lines(&mut text, events)?;
+    if lists(alloc, text.as_slice(), threads, events)? {
+        return Ok(Some(text));
+    }
+    Ok(None)
+}
+
+/// Adds the lines of events. Steps of a thread that come one after another stand on one line.
+fn add_lines(text: &mut Vec<u8>, events: &[Event]) -> Result<(), AllocError> {
+    let mut times: u64 = 0;
+    for place in 0..events.len() {
+        if let Some(event) = events.get(place) {
+            times = times.saturating_add(1);
+            if !goes_on(event, events.get(place.saturating_add(1))) {
+                add_event(text, event, times)?;
+                add(text, b"\n")?;
+                times = 0;
+            }
+        }
+    }
+    Ok(())
+}
+
+/// Whether a text, read back, lists so many threads and these events.
+fn lists(alloc: Global, text: &[u8], threads: u8, events: &[Event]) -> Result<bool, AllocError>
+    ensures { IfOk result (λ yes. IsTrue yes → Lists text.now
+        (record { threads = threads; events = events.now })) }
+{
+    match parse_schedule(alloc, text) {
+        Ok(schedule) => {
+            let read = events_of(alloc, &schedule.events)?;
+            Ok(schedule.threads == threads && are_same(read.as_slice(), events))
+        }
+        Err(fault) if fault.kind == ScheduleKind::Memory => Err(AllocError),
+        Err(_fault) => Ok(false),
+    }
+}
+
+/// Whether these are the same events.
+fn are_same(some: &[Event], others: &[Event]) -> bool
+    ensures { IsTrue result → some.now ≡ others.now }
+{
+    let mut left = some;
+    let mut right = others;
+    while let Some((one, later)) = left.split_first() {
+        let Some((other, behind)) = right.split_first() else {
+            return false;
+        };
+        if !is_same(one, other) {
+            return false;
+        }
+        left = later;
+        right = behind;
+    }
+    right.is_empty()
+}
+
+/// Whether two events are the same.
+fn is_same(one: &Event, other: &Event) -> bool
+    ensures { IsTrue result → one.now ≡ other.now }
+{
+    match (*one, *other) {
+        (
+            Event::Issue {
+                thread,
+                device,
+                major,
+                argument,
+            },
+            Event::Issue {
+                thread: t,
+                device: d,
+                major: m,
+                argument: a,
+            },
+        ) => thread == t && device == d && is_same_major(major, m) && argument == a,
+        (
+            Event::Cancel {
+                thread,
+                packet,
+                level,
+            },
+            Event::Cancel {
+                thread: t,
+                packet: p,
+                level: l,
+            },
+        ) => thread == t && packet == p && level == l,
+        (Event::Interrupt { device }, Event::Interrupt { device: d }) => device == d,
+        (
+            Event::Dpc { thread, device },
+            Event::Dpc {
+                thread: t,
+                device: d,
+            },
+        ) => thread == t && device == d,
+        (
+            Event::StartIo { thread, device },
+            Event::StartIo {
+                thread: t,
+                device: d,
+            },
+        ) => thread == t && device == d,
+        (Event::Step { thread }, Event::Step { thread: t }) => thread == t,
+        _ => false,
+    }
+}
+
+/// Whether two major functions are the same.
+fn is_same_major(one: Major, other: Major) -> bool
+    ensures { IsTrue result → one ≡ other }
+{
+    match (one, other) {
+        (Major::Read, Major::Read) => true,
+        (Major::Write, Major::Write) => true,
+        (Major::Control, Major::Control) => true,
+        _ => false,
+    }
+}
