@@ -43,7 +43,10 @@ def proved_archives(marks):
         ran = subprocess.run([sys.executable, rt, "lib"], cwd=TOP / "crates/pafteis")
     if ran.returncode:
         sys.exit("build_library: the library was not built")
-    return [TOP / "crates/pafteis/out/libpafteis.a", kit() / "c/liblibc_c.a"]
+    proved = TOP / "crates/pafteis/out/libpafteis.a"
+    if b".eh_frame" not in proved.read_bytes():
+        sys.exit("build_library: no tables for unwinding: the compiler calls clang otherwise now")
+    return [proved, kit() / "c/liblibc_c.a"]
 
 
 def whole(archives):

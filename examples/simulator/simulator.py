@@ -15,7 +15,6 @@ import random
 from dataclasses import dataclass
 
 from picture import write_picture
-
 from pafteis import Major, ReplyKind, Status, World
 
 HERE = pathlib.Path(__file__).parent
@@ -53,8 +52,6 @@ class Simulator:
         self.count += 1
         heapq.heappush(self.coming, (self.now + delay, self.count, act))
 
-    # What the outside does
-
     def arrive(self) -> None:
         """A request arrives, on a processor that has nothing to do, and so does the next one."""
         processor = self.idle()
@@ -78,7 +75,7 @@ class Simulator:
         if processor is None:
             return self.at(STEP, lambda: self.give_up(packet))
         if self.world.cancel(processor, packet).kind is ReplyKind.STARTED:
-            self.jobs[processor] = None
+            self.jobs[processor] = lambda: None
 
     def seek(self) -> None:
         """The arm moves to the current request, and the disk interrupts when it is done."""
@@ -104,8 +101,6 @@ class Simulator:
         if self.world.startio(processor, DISK).kind is ReplyKind.STARTED:
             self.jobs[processor] = self.seek
 
-    # What the processors do
-
     def idle(self) -> "int | None":
         return next((it for it in range(PROCESSORS) if it not in self.jobs), None)
 
@@ -117,9 +112,7 @@ class Simulator:
                 request = self.requests[reply.packet]
                 request.ended, request.status = self.now, reply.status
             if reply.kind is ReplyKind.FINISHED:
-                then = self.jobs.pop(processor)
-                if then is not None:
-                    then()
+                self.jobs.pop(processor)()
 
     def run(self) -> None:
         """Goes on until nothing is to come and no processor is busy."""

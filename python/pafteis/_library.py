@@ -279,7 +279,8 @@ def raise_for(status: int) -> None:
 
 def told(name: str, *arguments: object) -> tuple[int, bytes]:
     """The status and the bytes of a call that puts its answer into a buffer."""
-    call, capacity = CALLS[name], 4096
+    # A buffer that is too small has the call made twice.
+    call, capacity = CALLS[name], 65_536
     while True:
         buffer, needed = ctypes.create_string_buffer(capacity), c_size_t()
         status = call(*arguments, buffer, capacity, ctypes.byref(needed))

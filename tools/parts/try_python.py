@@ -1,6 +1,7 @@
 #!/usr/bin/env python3
-"""tools/try python [LIBRARY]: runs the tests of python/ over a shared library (out/lib/libpafteis.so), has `mypy --strict` read
-the package, and builds a wheel of it that is tried elsewhere.
+"""tools/try python [LIBRARY [COUNT]]: runs the tests of python/ over a shared library
+(out/lib/libpafteis.so), so many random calls (20,000), has `mypy --strict` read the package, and
+builds a wheel of it that is tried elsewhere.
 
 What wants a program that isn't there (mypy, pip with setuptools) is told, and left out."""
 import glob, os, shutil, subprocess, sys, tempfile
@@ -40,7 +41,10 @@ def main():
     library = sys.argv[1] if len(sys.argv) > 1 else os.path.join(TOP, "out/lib/libpafteis.so")
     env = {**os.environ, "PAFTEIS_LIBRARY": os.path.abspath(library), "PYTHONDONTWRITEBYTECODE": "1"}
     tests = [sys.executable, "-m", "unittest", "discover", "-s", "tests", "-t", "."]
-    right = [run("tests", tests, cwd=PYTHON, env=env), read_types()]
+    count = sys.argv[2] if len(sys.argv) > 2 else "20000"
+    calls = [sys.executable, os.path.join(TOP, "tools/parts/random_calls.py"), count]
+    right = [run("tests", tests, cwd=PYTHON, env=env), read_types(),
+             run("random calls", calls, env={**env, "PYTHONPATH": PYTHON})]
     if run("setuptools", [sys.executable, "-c", "import setuptools, wheel, pip"]):
         right.append(use_wheel(env))
     print("%d tried, %d wrong" % (len(right), right.count(False)))
