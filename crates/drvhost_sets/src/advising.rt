@@ -21,14 +21,18 @@ const MEND: &str = "\nmend it: ";
 
 /// What is offered for the faults of a set, and the text whose lines the offers are about.
 #[derive(Drop)]
-pub(crate) struct Advisor<'a> {
+pub struct Advisor<'a> {
     text: Source<'a>,
-    pub(crate) offers: Offers,
+    pub offers: Offers,
 }
 
 impl<'a> Advisor<'a> {
     /// What is offered for the first fault of a set that was read from there, or for each.
-    pub(crate) fn of(
+    ///
+    /// # Errors
+    ///
+    /// When memory runs out.
+    pub fn of(
         alloc: Global,
         extent: Extent,
         origin: Origin<'a>,
@@ -45,7 +49,11 @@ impl<'a> Advisor<'a> {
     }
 
     /// The words on a refusal, with what is offered in the place of the sentence of its rule.
-    pub(crate) fn advised(
+    ///
+    /// # Errors
+    ///
+    /// When memory runs out.
+    pub fn advised(
         &self,
         alloc: Global,
         set: &DriverSet,
@@ -66,6 +74,14 @@ impl<'a> Advisor<'a> {
             _ => words.push_str(told)?,
         }
         Ok(words)
+    }
+}
+
+/// The words on a refusal up to how it is mended, and how it is.
+pub fn why_and_mend(words: &str) -> (&str, &str) {
+    match words.rsplit_once(MEND) {
+        Some((why, mend)) => (why, mend.trim_end()),
+        None => (words.trim_end(), ""),
     }
 }
 

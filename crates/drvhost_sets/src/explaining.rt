@@ -187,7 +187,7 @@ fn explain_set<O: Sink>(
 }
 
 /// What the set was read from that these bytes spell or name.
-pub(crate) fn origin_of(bytes: &[u8]) -> Origin<'_> {
+pub fn origin_of(bytes: &[u8]) -> Origin<'_> {
     if begins_image(bytes) {
         Origin::Image
     } else {

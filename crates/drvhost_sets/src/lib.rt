@@ -3,7 +3,7 @@
 //! words, and which program this is.
 #![tactic(auto)]
 
-mod advising;
+pub mod advising;
 pub mod check;
 pub mod explaining;
 mod image_words;
