@@ -34,7 +34,7 @@ use Rattle.drvhost_options.specs.declared.extent.Extent.TheVariants.{First, Each
 use Rattle.drvhost_options.specs.declared.figure.Figure.{Figure}
 use Rattle.drvhost_options.specs.declared.figure.Figure.TheVariants.{Picture, Tracks}
 use Rattle.drvhost_commands.specs.declared.job.Judging.{Judging}
-use Rattle.drvhost_commands.specs.declared.job.Judging.TheVariants.{Check, CheckJson, Explain}
+use Rattle.drvhost_commands.specs.declared.job.Judging.TheVariants.{Check, CheckJson, Explain, ExplainJson}
 use Rattle.drvhost_options.specs.declared.manner.Detail.{Detail}
 use Rattle.drvhost_options.specs.declared.manner.Detail.TheVariants.{Every, Usual, Quiet}
 use Rattle.drvhost_options.specs.declared.manner.Manner.{Manner}
@@ -106,11 +106,12 @@ abbrev pub check_command : App
 check_command =
     command (codes "check") (required (values_argument (codes "PATH")) ∷ format_option ∷ [])
 
--- `explain [PATH..] [--all] [--rule RULE]`, of which `NamesBy` says what goes with what
+-- `explain [PATH..] [--all] [--format FORMAT] [--rule RULE]`, of which `NamesBy` says what goes with
+-- what
 abbrev pub explain_command : App
 explain_command =
     command (codes "explain")
-    (values_argument (codes "PATH") ∷ flag (codes "all")
+    (values_argument (codes "PATH") ∷ flag (codes "all") ∷ format_option
     ∷ value_option (codes "RULE") (codes "rule") AnyText ∷ [])
 
 -- `tell FILE SCHEDULE [--unchecked] [--quiet] [--every] [--strict]`, of which `NamesBy` says that
@@ -251,16 +252,19 @@ abbrev pub IsFigure : Option Text → Figure → Type 0
 IsFigure value Picture = (value ≡ None) ⊎ (value ≡ Some (codes "svg"))
 IsFigure value Tracks = value ≡ Some (codes "perfetto")
 
--- a command with its matches names a page; where it explains one there is no path and no `--all`
+-- a command with its matches names a page; where it explains one there is no path and no `--all`, and
+-- it is text
 abbrev pub NamesPage : Text × List Row → Page → Type 0
 NamesPage found (PageOfRule rule) = (found.0 ≡ codes "explain")
     × (first_of (codes "PATH") found.1 ≡ None)
     × IsRuleAsked (first_of (codes "RULE") found.1) rule
     × IsChosen (first_of (codes "all") found.1) Each First First
+    × IsFormat (first_of (codes "format") found.1) Plain
 NamesPage found LockOrder = (found.0 ≡ codes "explain")
     × (first_of (codes "PATH") found.1 ≡ None)
     × (first_of (codes "RULE") found.1 ≡ Some (codes "LockOrder"))
     × IsChosen (first_of (codes "all") found.1) Each First First
+    × IsFormat (first_of (codes "format") found.1) Plain
 NamesPage found Version = found.0 ≡ codes "version"
 
 -- how sets are judged
@@ -272,6 +276,11 @@ NamesJudging found CheckJson =
 NamesJudging found (Explain extent) = (found.0 ≡ codes "explain")
     × (first_of (codes "RULE") found.1 ≡ None)
     × IsChosen (first_of (codes "all") found.1) Each First extent
+    × IsFormat (first_of (codes "format") found.1) Plain
+NamesJudging found (ExplainJson extent) = (found.0 ≡ codes "explain")
+    × (first_of (codes "RULE") found.1 ≡ None)
+    × IsChosen (first_of (codes "all") found.1) Each First extent
+    × IsFormat (first_of (codes "format") found.1) Json
 
 -- the paths for which they are, one or more
 abbrev pub NamesPaths : Text × List Row → List (Bor (List ℕ)) → Judging → Type 0

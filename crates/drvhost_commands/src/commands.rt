@@ -80,6 +80,7 @@ const COMMANDS: [Entry<'static>; 11] = [
         arguments: &[
             Argument::AnyFiles("PATH", PATHS),
             Argument::Flag("all", "Explains the first fault of each routine"),
+            FORMAT,
             Argument::Value(
                 "RULE",
                 "rule",

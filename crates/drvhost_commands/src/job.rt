@@ -94,8 +94,10 @@ pub enum Judging {
     Check,
     /// `check PATH.. --format json`
     CheckJson,
-    /// `explain PATH.. [--all]`
+    /// `explain PATH.. [--all]`, as text
     Explain(Extent),
+    /// `explain PATH.. [--all] --format json`
+    ExplainJson(Extent),
 }
 
 /// What is done with a driver set alone.

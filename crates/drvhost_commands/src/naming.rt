@@ -80,17 +80,18 @@ fn page_named(command: &str, matches: &ArgMatches<'_>) -> Option<Page>
     }
 }
 
-/// The page of a rule, or of the warning on the order of locks, if no set is to be explained beside
-/// it.
+/// The page of a rule, or of the warning on the order of locks, as text, if no set is to be
+/// explained beside it.
 fn page_to_explain(matches: &ArgMatches<'_>) -> Option<Page>
     ensures some { IfSome result (NamesPage (codes "explain", rows_of (found_of matches.now))) }
     ensures none { IfNone result
         ((page : Page) → NamesPage (codes "explain", rows_of (found_of matches.now)) page → ⊥) }
 {
     let word = argument(matches, "RULE")?;
-    match (argument(matches, "PATH"), extent_asked(matches)) {
-        (None, Extent::First) if word == "LockOrder" => Some(Page::LockOrder),
-        (None, Extent::First) => {
+    let format = format_asked(matches)?;
+    match (argument(matches, "PATH"), extent_asked(matches), format) {
+        (None, Extent::First, Format::Plain) if word == "LockOrder" => Some(Page::LockOrder),
+        (None, Extent::First, Format::Plain) => {
             let rule = rule_named(word)?;
             Some(Page::Rule(rule))
         }
@@ -147,16 +148,18 @@ fn sets_to_check(matches: &ArgMatches<'_>) -> Option<Judging>
     }
 }
 
-/// How sets are to be explained, where no rule is.
+/// How sets are to be explained, where no rule is, if there is a format of that name.
 fn sets_to_explain(matches: &ArgMatches<'_>) -> Option<Judging>
     ensures some { IfSome result
         (NamesJudging (codes "explain", rows_of (found_of matches.now))) }
     ensures none { IfNone result ((judging : Judging)
         → NamesJudging (codes "explain", rows_of (found_of matches.now)) judging → ⊥) }
 {
-    match argument(matches, "RULE") {
-        Some(_) => None,
-        None => Some(Judging::Explain(extent_asked(matches))),
+    let extent = extent_asked(matches);
+    match (argument(matches, "RULE"), format_asked(matches)?) {
+        (Some(_), _) => None,
+        (None, Format::Plain) => Some(Judging::Explain(extent)),
+        (None, Format::Json) => Some(Judging::ExplainJson(extent)),
     }
 }
 
@@ -458,7 +461,7 @@ pub(crate) enum Format {
 }
 
 /// How it is to be written, if there is such a format.
-fn format_asked(matches: &ArgMatches<'_>) -> Option<Format>
+pub(crate) fn format_asked(matches: &ArgMatches<'_>) -> Option<Format>
     ensures some { IfSome result
         (IsFormat (first_of (codes "format") (rows_of (found_of matches.now)))) }
     ensures none { IfNone result

@@ -1,6 +1,6 @@
 //! What is told of words that the command line takes, and that name no job.
 
-use crate::naming::argument;
+use crate::naming::{argument, format_asked};
 use clap::{ArgMatches, Command};
 use report::rule::rule_named;
 use std::alloc::{AllocError, Global};
@@ -8,7 +8,7 @@ use std::fmt;
 
 /// How `explain` is used.
 pub(crate) const EXPLAIN_USAGE: &str =
-    "drvhost explain [--all] <PATH>...\n       drvhost explain --rule <RULE>";
+    "drvhost explain [OPTIONS] <PATH>...\n       drvhost explain --rule <RULE>";
 
 /// How `tell` is used, and what is told where two of its levels are asked for.
 const TELL_USAGE: &str = "drvhost tell [OPTIONS] <FILE> <SCHEDULE>";
@@ -21,10 +21,10 @@ const TRACE_USAGE: &str = "drvhost trace [OPTIONS] <FILE> <SCHEDULE>";
 /// How `draw` is used.
 const DRAW_USAGE: &str = "drvhost draw [OPTIONS] <FILE> <SCHEDULE>";
 
-/// The formats of verdicts, those of traces, and those of drawn runs.
+/// The formats of verdicts, those of explanations and of traces, and those of drawn runs.
 const VERDICTS: &str = "text, json or sarif";
 
-const TRACES: &str = "text or json";
+const ANSWERS: &str = "text or json";
 
 const FIGURES: &str = "svg or perfetto";
 
@@ -37,10 +37,11 @@ pub(crate) fn unnamed(
     matches: &ArgMatches<'_>,
 ) -> Result<String, AllocError> {
     match matches.subcommand() {
-        Some(("explain", inner)) => unexplained(alloc, inner),
+        Some(("explain", inner)) if format_asked(inner).is_some() => unexplained(alloc, inner),
+        Some(("explain", inner)) => unwritten(alloc, inner, ANSWERS, EXPLAIN_USAGE),
         Some(("tell", _)) => untold(alloc),
         Some(("check", inner)) => unwritten(alloc, inner, VERDICTS, CHECK_USAGE),
-        Some(("trace", inner)) => unwritten(alloc, inner, TRACES, TRACE_USAGE),
+        Some(("trace", inner)) => unwritten(alloc, inner, ANSWERS, TRACE_USAGE),
         Some(("draw", inner)) => unwritten(alloc, inner, FIGURES, DRAW_USAGE),
         _ => unnumbered(program),
     }
@@ -62,7 +63,7 @@ fn unexplained(alloc: Global, matches: &ArgMatches<'_>) -> Result<String, AllocE
             write!(text, "there is no rule '{word}': the rules are\n")?;
             add_rules(alloc, &mut text)?;
         }
-        Some(_) => text.push_str("'--rule' goes with no PATH and with no '--all'")?,
+        Some(_) => text.push_str("'--rule' goes with no PATH, no '--all' and no JSON")?,
     }
     add_usage(&mut text, EXPLAIN_USAGE)?;
     Ok(text)

@@ -3,3 +3,6 @@ pub mod Names
 pub mod Check
 pub mod Trace
 pub mod Events
+pub mod Explanation
+pub mod Nesting
+pub mod Explain

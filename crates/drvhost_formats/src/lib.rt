@@ -1,10 +1,13 @@
 //! What the program answers in formats that other programs read: the verdict on the driver set of
-//! one file and the trace of a run as lines of JSON, on the output whatever comes of it.
+//! one file, explained if asked for, and the trace of a run as lines of JSON, on the output whatever
+//! comes of it.
 #![tactic(auto)]
 
 mod certified;
 pub mod check;
 mod events;
+pub mod explain;
+mod explanation;
 pub mod job;
 mod names;
 pub mod outcome;

@@ -7,7 +7,7 @@ use Rattle.drvhost_devices.specs.Ends.{Answers, Ends, OutOfMemory, ReadFailed, R
 use Rattle.drvhost_devices.proofs.Writing.{appends_none}
 use Rattle.drvhost_files.proofs.Known.{holds_known}
 use Rattle.drvhost_commands.specs.declared.job.Judging.{Judging}
-use Rattle.drvhost_commands.specs.declared.job.Judging.TheVariants.{Check, CheckJson, Explain}
+use Rattle.drvhost_commands.specs.declared.job.Judging.TheVariants.{Check, CheckJson, Explain, ExplainJson}
 use Rattle.drvhost_many.specs.One.{IsJudged, IsJudgedFile, IsOfOne, IsToldOne}
 use Rattle.drvhost_many.specs.Told.{Collects}
 
@@ -21,6 +21,8 @@ judged_known CheckJson name known supply h answer (bytes, holds, right) =
     (bytes, holds_known known supply bytes h holds, right)
 judged_known (Explain extent) name known supply h answer (alone, (bytes, holds, right), shown) =
     (alone, (bytes, holds_known known supply bytes h holds, right), shown)
+judged_known (ExplainJson extent) name known supply h answer (bytes, holds, right) =
+    (bytes, holds_known known supply bytes h holds, right)
 
 -- and so is that it may be closed
 pub closed_known : (known supply : Supply) → IsSuppliedAs known supply → MayBeClosed supply

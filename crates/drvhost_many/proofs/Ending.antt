@@ -9,7 +9,7 @@ use Rattle.drvhost_devices.proofs.Writing.{appends_more, appends_none, behind_mo
 use Rattle.drvhost_many.specs.declared.many.Halt.{Halt}
 use Rattle.drvhost_many.specs.declared.many.Halt.TheVariants.{Memory, Write}
 use Rattle.drvhost_commands.specs.declared.job.Judging.{Judging}
-use Rattle.drvhost_commands.specs.declared.job.Judging.TheVariants.{Check, CheckJson, Explain}
+use Rattle.drvhost_commands.specs.declared.job.Judging.TheVariants.{Check, CheckJson, Explain, ExplainJson}
 use Rattle.drvhost_many.specs.All.{Answered, AnswersEach, AreOf, OutOfMemory, WriteFailed, nothing}
 use Rattle.drvhost_many.specs.Marked.{gap, marked, named_answer, noted}
 use Rattle.drvhost_many.specs.One.{GoesOne, IsOfOne, halt_status}
@@ -234,3 +234,4 @@ no_memory_told judging name a d text p q r =
     no_memory_noted Check name = refl
     no_memory_noted CheckJson name = refl
     no_memory_noted (Explain extent) name = refl
+    no_memory_noted (ExplainJson extent) name = refl

@@ -4,7 +4,7 @@ use Rattle.drvhost_devices.specs.Answer.{Answer}
 use Rattle.drvhost_devices.specs.Device.{Closed, MayBeClosed, Supply}
 use Rattle.drvhost_devices.specs.Ends.{Answers, Ends, OutOfMemory, ReadFailed, Rightly, WriteFailed}
 use Rattle.drvhost_commands.specs.declared.job.Judging.{Judging}
-use Rattle.drvhost_commands.specs.declared.job.Judging.TheVariants.{Check, CheckJson, Explain}
+use Rattle.drvhost_commands.specs.declared.job.Judging.TheVariants.{Check, CheckJson, Explain, ExplainJson}
 use Rattle.drvhost_formats.specs.Told.{IsUnopenedJson}
 use Rattle.drvhost_many.specs.One.{IsUnopenedAs, is_in_json}
 
@@ -44,3 +44,4 @@ pub unopened_in_json : (judging : Judging) (name : List ℕ) (answer : Answer)
 unopened_in_json Check name answer e is = cc
 unopened_in_json CheckJson name answer e is = is
 unopened_in_json (Explain extent) name answer e is = cc
+unopened_in_json (ExplainJson extent) name answer e is = is

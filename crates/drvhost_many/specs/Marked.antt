@@ -1,7 +1,7 @@
 -- An answer told with the name of its file.
 use Rattle.std.specs.Prelude.{ℕ, ◌++◌, List, [], ◌∷◌, Bool, true, false, codes, nat_eq}
 use Rattle.drvhost_commands.specs.declared.job.Judging.{Judging}
-use Rattle.drvhost_commands.specs.declared.job.Judging.TheVariants.{Check, CheckJson, Explain}
+use Rattle.drvhost_commands.specs.declared.job.Judging.TheVariants.{Check, CheckJson, Explain, ExplainJson}
 use Rattle.drvhost_devices.specs.Answer.{Answer}
 
 -- what stands between a name and what is told
@@ -9,6 +9,7 @@ abbrev pub gap : Judging → List ℕ
 gap Check = codes ": "
 gap CheckJson = codes ": "
 gap (Explain extent) = codes ":\n"
+gap (ExplainJson extent) = codes ": "
 
 -- a text with a name before each of its lines, by whether a line begins here
 abbrev pub lines_named : List ℕ → Bool → List ℕ → List ℕ
@@ -28,12 +29,14 @@ abbrev pub marked : Judging → List ℕ → List ℕ → List ℕ
 marked Check name text = lines_named name true text
 marked CheckJson name text = text
 marked (Explain extent) name text = headed name text
+marked (ExplainJson extent) name text = text
 
 -- what is told besides, which is never JSON
 abbrev pub noted : Judging → List ℕ → List ℕ → List ℕ
 noted Check name text = lines_named name true text
 noted CheckJson name text = lines_named name true text
 noted (Explain extent) name text = headed name text
+noted (ExplainJson extent) name text = lines_named name true text
 
 -- the answer for a file, told with its name
 abbrev pub named_answer : Judging → List ℕ → Answer → Answer

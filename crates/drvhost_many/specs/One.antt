@@ -2,11 +2,12 @@
 use Rattle.std.specs.Prelude.{ℕ, ◌≡◌, ◌+◌, ◌⊎◌, Bool, true, false, List, codes, IfOk, Option, Result, Ok, Err}
 use Rattle.std.specs.Io.KnownBytes.{Appends, Keeps}
 use Rattle.drvhost_commands.specs.declared.job.Judging.{Judging}
-use Rattle.drvhost_commands.specs.declared.job.Judging.TheVariants.{Check, CheckJson, Explain}
+use Rattle.drvhost_commands.specs.declared.job.Judging.TheVariants.{Check, CheckJson, Explain, ExplainJson}
 use Rattle.drvhost_devices.specs.Answer.{Answer, faulty}
 use Rattle.drvhost_devices.specs.Device.{MayBeClosed, Supply, TakesBeginning}
 use Rattle.drvhost_devices.specs.Ends.{IsCheckOf}
 use Rattle.drvhost_formats.specs.Check.{IsCheckJsonOf}
+use Rattle.drvhost_formats.specs.Explain.{IsExplainJsonOf}
 use Rattle.drvhost_formats.specs.Told.{IsUnopenedJson}
 use Rattle.drvhost_sets.specs.Explained.{IsFileExplained}
 use Rattle.drvhost_many.specs.declared.many.Halt.{Halt}
@@ -18,16 +19,21 @@ abbrev pub IsJudged : Judging → List ℕ → Supply → Answer → Type 0
 IsJudged Check name = IsCheckOf
 IsJudged CheckJson name = IsCheckJsonOf name
 IsJudged (Explain extent) name = IsFileExplained extent name
+IsJudged (ExplainJson extent) name = IsExplainJsonOf extent name
 
 -- whether all that is answered is JSON
 abbrev pub is_in_json : Judging → Bool
+is_in_json Check = false
 is_in_json CheckJson = true
-is_in_json judging = false
+is_in_json (Explain extent) = false
+is_in_json (ExplainJson extent) = true
 
 -- then a file that can't be opened is told so too
 abbrev pub IsUnopenedAs : Judging → List ℕ → Answer → Type 0
+IsUnopenedAs Check name answer = ⊥
 IsUnopenedAs CheckJson name answer = IsUnopenedJson name answer
-IsUnopenedAs judging name answer = ⊥
+IsUnopenedAs (Explain extent) name answer = ⊥
+IsUnopenedAs (ExplainJson extent) name answer = IsUnopenedJson name answer
 
 abbrev pub IsJudgedFile : Judging → List ℕ → Supply → Answer → Type 0
 IsJudgedFile judging name supply answer =

@@ -12,6 +12,7 @@ use drvhost_commands::job::Judging;
 use drvhost_devices::device::{Sink, Source, Writer};
 use drvhost_files::files::Files;
 use drvhost_formats::check::check_json;
+use drvhost_formats::explain::explain_json;
 use drvhost_formats::unopened::unopened_json;
 use drvhost_sets::check::check;
 use drvhost_sets::showing::explain_file;
@@ -89,7 +90,7 @@ fn judge_file<S: Source, O: Sink, E: Sink>(
 pub fn is_in_json(judging: Judging) -> bool
     ensures { result ≡ is_in_json judging }
 {
-    matches!(judging, Judging::CheckJson)
+    matches!(judging, Judging::CheckJson | Judging::ExplainJson(_))
 }
 
 /// Judges the set of a source, whose file has this name.
@@ -114,5 +115,6 @@ pub fn judge<S: Source, O: Sink, E: Sink>(
         Judging::Check => check(alloc, set, out, err),
         Judging::CheckJson => check_json(alloc, name, set, out, err),
         Judging::Explain(extent) => explain_file(alloc, extent, name, set, out, err),
+        Judging::ExplainJson(extent) => explain_json(alloc, extent, name, set, out, err),
     }
 }

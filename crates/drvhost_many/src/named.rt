@@ -45,7 +45,7 @@ fn mark(alloc: Global, one: One<'_>, text: &[u8]) -> Result<Vec<u8>, AllocError>
 {
     match one.judging {
         Judging::Check => name_lines(alloc, one.name, text),
-        Judging::CheckJson => {
+        Judging::CheckJson | Judging::ExplainJson(_) => {
             let mut bytes = Vec::new(alloc);
             bytes.extend_from_slice(text)?;
             Ok(bytes)
@@ -60,7 +60,9 @@ fn note(alloc: Global, one: One<'_>, text: &[u8]) -> Result<Vec<u8>, AllocError>
         bytes.items ≡ noted one.entry.judging one.entry.name.now text.now) }
 {
     match one.judging {
-        Judging::Check | Judging::CheckJson => name_lines(alloc, one.name, text),
+        Judging::Check | Judging::CheckJson | Judging::ExplainJson(_) => {
+            name_lines(alloc, one.name, text)
+        }
         Judging::Explain(_extent) => head(alloc, one.name, text),
     }
 }
@@ -113,7 +115,7 @@ fn gap(judging: Judging) -> &'static str
     ensures { result.now ≡ gap judging }
 {
     match judging {
-        Judging::Check | Judging::CheckJson => ": ",
+        Judging::Check | Judging::CheckJson | Judging::ExplainJson(_) => ": ",
         Judging::Explain(_extent) => ":\n",
     }
 }

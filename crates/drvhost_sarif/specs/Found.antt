@@ -15,7 +15,7 @@ use Rattle.drvhost_devices.specs.Device.{Holds, Supply}
 use Rattle.drvhost_sarif.specs.declared.finding.Found.{Found}
 use Rattle.drvhost_sarif.specs.declared.finding.Found.TheVariants.{Nothing, Refusal as OfRefusal, Fault as OfFault}
 use Rattle.drvhost_sarif.specs.declared.results.Results.{Results}
-use Rattle.drvhost_sarif.specs.Regions.{refusal_region, region_at}
+use Rattle.drvhost_evidence.specs.Regions.{refusal_region, region_at}
 
 -- the place of a refusal in words, and as a fingerprint: the same, wherever its lines were moved
 abbrev pub refusal_words : Refusal → List ℕ

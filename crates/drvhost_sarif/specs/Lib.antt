@@ -1,3 +1,2 @@
-pub mod Regions
 pub mod Found
 pub mod Log

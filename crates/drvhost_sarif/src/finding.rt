@@ -5,18 +5,15 @@ ghost use Rattle.model.specs.Words.{rule_word};
 ghost use Rattle.report.specs.Rule.{rule_name};
 ghost use Rattle.report_sarif.specs.declared.log.Region.{Region as PlacedRegion};
 ghost use Rattle.drvhost_sarif.specs.Found.{IsFaultFound, IsFoundIn, IsRefusalFound, IsVerdictFound, found_findings, found_status, refusal_print, refusal_words};
-ghost use Rattle.drvhost_sarif.specs.Regions.{refusal_region};
 
-use crate::region::{region_at, region_on};
-use asm_places::routine_source;
 use drvhost_devices::fault::Fault;
-use drvhost_devices::reading::{begins_image, set_of};
+use drvhost_devices::reading::set_of;
+use drvhost_evidence::region::{refusal_region, region_at};
 use image::DriverSet;
 use model::abs::{Refusal, Rule};
 use report::fault::{image_fault_name, text_kind_name};
 use report_sarif::log::{Finding, Region};
 use std::alloc::{AllocError, Global};
-use text::line_at;
 use verifier::verify;
 
 /// What is found in a file.
@@ -104,7 +101,7 @@ fn of_refusal(
         file: String::from_str(alloc, name)?,
         rule: String::from_str(alloc, word)?,
         message: format!(in alloc; "{text}: driver {driver}, routine {routine}, position {at}")?,
-        region: region_of(alloc, bytes, refusal)?,
+        region: refusal_region(alloc, bytes, refusal)?,
         fingerprint: format!(in alloc; "{word}/{driver}/{routine}/{at}")?,
     })
 }
@@ -118,23 +115,6 @@ pub(crate) fn words_of(rule: Rule) -> (&'static str, &'static str)
         unreachable!()
     };
     words
-}
-
-/// Where a refusal is in the bytes of a file.
-fn region_of(alloc: Global, bytes: &[u8], refusal: &Refusal) -> Result<Option<Region>, AllocError>
-    ensures { IfOk result (λ region. region ≡ refusal_region bytes.now refusal.now) }
-{
-    if begins_image(bytes) {
-        return Ok(None);
-    }
-    let source = routine_source(alloc, bytes, refusal.driver, refusal.routine)?;
-    let Some(spot) = source.lines.get(refusal.at as usize) else {
-        return Ok(None);
-    };
-    let Some(raw) = line_at(bytes, spot) else {
-        return Ok(None);
-    };
-    Ok(Some(region_on(spot.number, raw)))
 }
 
 /// That the file of a name has a fault of a kind.

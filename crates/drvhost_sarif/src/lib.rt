@@ -4,6 +4,5 @@
 
 pub mod checking;
 mod finding;
-mod region;
 mod results;
 mod rules;

@@ -28,7 +28,7 @@ use Rattle.drvhost_commands.specs.declared.job.Page.TheVariants.{Rule, LockOrder
 use Rattle.drvhost_commands.specs.declared.job.Task.{Task}
 use Rattle.drvhost_commands.specs.declared.job.Task.TheVariants.{Mend, List as Listing, Hunt}
 use Rattle.drvhost_commands.specs.declared.job.Judging.{Judging}
-use Rattle.drvhost_commands.specs.declared.job.Judging.TheVariants.{Check, CheckJson, Explain}
+use Rattle.drvhost_commands.specs.declared.job.Judging.TheVariants.{Check, CheckJson, Explain, ExplainJson}
 use Rattle.drvhost_commands.specs.declared.job.Way.{Way}
 use Rattle.drvhost_commands.specs.declared.job.Way.TheVariants.{Trace, TraceJson, Tell, Draw}
 use Rattle.drvhost_commands.specs.CommandLine.{Names, NamesJob, program, usage}
@@ -158,6 +158,8 @@ FileEnds CheckJson supply name opened reads writes before after status told =
     WorkEnds (Judge CheckJson) supply name opened reads writes before after status told
 FileEnds (Explain extent) supply name opened reads writes before after status told =
     WorkEnds (Judge (Explain extent)) supply name opened reads writes before after status told
+FileEnds (ExplainJson extent) supply name opened reads writes before after status told =
+    WorkEnds (Judge (ExplainJson extent)) supply name opened reads writes before after status told
 
 -- how that of the sets does that were found for paths: of one file alone as it is, and of others
 -- each told with its name

@@ -267,7 +267,7 @@ fn judge_file<F: Files, O: Sink, E: Sink>(
 {
     match judging {
         Judging::Check => check_file(alloc, set, files, out, err),
-        Judging::CheckJson | Judging::Explain(_) => {
+        Judging::CheckJson | Judging::Explain(_) | Judging::ExplainJson(_) => {
             work_file(alloc, Work::Judge(judging), set, files, out, err)
         }
     }

@@ -5,6 +5,6 @@
 pub mod event;
 pub mod fault;
 pub mod json_lines;
-mod member;
+pub mod member;
 pub mod to_json;
 pub mod verdict;

@@ -7,7 +7,7 @@ use json::Writer;
 use std::alloc::AllocError;
 
 /// Adds a member that is a number.
-pub(crate) fn put_number(out: &mut Writer, name: &str, value: u64) -> Result<(), AllocError>
+pub fn put_number(out: &mut Writer, name: &str, value: u64) -> Result<(), AllocError>
     ensures before { out.new.before ≡ out.old.before }
     ensures tokens { OnOk result
         (out.new.tokens ≡ out.old.tokens ++ key name.now ∷ number (decimal value) ∷ []) }
@@ -18,7 +18,7 @@ pub(crate) fn put_number(out: &mut Writer, name: &str, value: u64) -> Result<(),
 }
 
 /// Adds a member that is a text.
-pub(crate) fn put_text(out: &mut Writer, name: &str, text: &str) -> Result<(), AllocError>
+pub fn put_text(out: &mut Writer, name: &str, text: &str) -> Result<(), AllocError>
     ensures before { out.new.before ≡ out.old.before }
     ensures tokens { OnOk result
         (out.new.tokens ≡ out.old.tokens ++ key name.now ∷ string text.now ∷ []) }
@@ -39,7 +39,7 @@ pub(crate) fn put_long(out: &mut Writer, name: &str, value: u64) -> Result<(), A
 }
 
 /// Begins an object by the name of its shape, and the file that it is about.
-pub(crate) fn begin(out: &mut Writer, format: &str, file: &str) -> Result<(), AllocError>
+pub fn begin(out: &mut Writer, format: &str, file: &str) -> Result<(), AllocError>
     ensures before { out.new.before ≡ out.old.before }
     ensures tokens { OnOk result (out.new.tokens ≡ out.old.tokens
         ++ begin_object ∷ key (codes "format") ∷ string format.now

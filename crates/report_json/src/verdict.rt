@@ -54,7 +54,7 @@ impl ToJson for Acceptance<'_> {
 }
 
 /// Writes routines, to the end of the array.
-fn write_routines(out: &mut Writer, routines: &[CertifiedRoutine]) -> Result<(), AllocError>
+pub fn write_routines(out: &mut Writer, routines: &[CertifiedRoutine]) -> Result<(), AllocError>
     ensures before { out.new.before ≡ out.old.before }
     ensures tokens { OnOk result
         (out.new.tokens ≡ out.old.tokens ++ items_tokens (routines_json routines.now)) }
@@ -126,7 +126,7 @@ impl ToJson for FileRefusal<'_> {
 }
 
 /// Adds a rule by its number, as `V1`, and by its name.
-fn put_rule(out: &mut Writer, rule: Rule) -> Result<(), AllocError>
+pub fn put_rule(out: &mut Writer, rule: Rule) -> Result<(), AllocError>
     ensures before { out.new.before ≡ out.old.before }
     ensures tokens { OnOk result (out.new.tokens ≡ out.old.tokens ++ key (codes "rule")
         ∷ string (rule_word rule) ∷ key (codes "rule_name") ∷ string (rule_name rule) ∷ []) }

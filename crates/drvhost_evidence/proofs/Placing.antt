@@ -1,25 +1,12 @@
 -- Where lines stand, and the instruction of a refusal.
-use Rattle.std.proofs.Common.{◌≡◌, ◌∙◌, ◌-◌, ◌+◌, ◌<◌, ℕ, suc, List, [], ◌∷◌, false, Option, arith, None, Some, ap, option_and_then, option_map, slice_get, subst, sym}
+use Rattle.std.proofs.Common.{◌≡◌, ◌∙◌, ◌-◌, ◌+◌, ◌<◌, ℕ, suc, List, [], ◌∷◌, Option, arith, None, Some, ap, option_and_then, option_map, slice_get, subst, sym}
 use Rattle.std.proofs.lemmas.List.Elements.{All-get_or}
 use Rattle.std.proofs.lemmas.Option.{slice_get-get_or, slice_get-map, slice_get_within}
 use Rattle.std.specs.Prelude.{All, get_or, unwrap_or}
-use Rattle.asm_places.specs.Source.{instruction_lines}
-use Rattle.model.specs.declared.abs.Refusal.{Refusal}
 use Rattle.text.specs.declared.spot.Spot.{Spot}
 use Rattle.text.specs.Places.{IsIn, numbers}
 use Rattle.text.specs.Cut.{lines_of}
-use Rattle.drvhost_devices.specs.Answer.{is_image}
-use Rattle.drvhost_sarif.specs.Regions.{instruction_region, refusal_region, region_at, region_on}
-
-pub place_of : (text : List ℕ) (refusal : Refusal) (spots : List Spot)
-    → numbers spots ≡ instruction_lines refusal.driver refusal.routine text
-    → instruction_region text refusal
-    ≡ option_and_then (region_at text)
-    (option_map (λ spot. spot.number) (slice_get spots refusal.at))
-place_of text refusal spots numbered =
-    ap (option_and_then (region_at text))
-    (ap (λ ns. slice_get ns refusal.at) (sym numbered)
-    ∙ slice_get-map (λ (spot : Spot). spot.number) spots refusal.at)
+use Rattle.drvhost_evidence.specs.Regions.{region_at, region_on}
 
 -- one of them stands in the text
 pub spot_there : (text : List ℕ) (spots : List Spot) (at : ℕ) (spot : Spot)
@@ -32,23 +19,18 @@ spot_there text spots at spot all got =
     subst (IsIn 0 text) same (All-get_or (IsIn 0 text) spots at spot within all)
 
 -- the region of one of them
-pub region_of_spot : (text : List ℕ) (refusal : Refusal) (spots : List Spot) (spot : Spot)
-    (raw : List ℕ) → is_image text ≡ false
-    → numbers spots ≡ instruction_lines refusal.driver refusal.routine text
-    → slice_get spots refusal.at ≡ Some spot
-    → Some raw ≡ slice_get (lines_of text) (spot.number - 0 - 1)
-    → Some (region_on spot.number raw) ≡ refusal_region text refusal
-region_of_spot text refusal spots spot raw text_is numbered got line =
+pub region_of_spot : (text : List ℕ) (spots : List Spot) (at : ℕ) (spot : Spot) (raw : List ℕ)
+    → slice_get spots at ≡ Some spot → Some raw ≡ slice_get (lines_of text) (spot.number - 0 - 1)
+    → Some (region_on spot.number raw)
+    ≡ option_and_then (region_at text) (slice_get (numbers spots) at)
+region_of_spot text spots at spot raw got line =
     let nothing_off : spot.number - 0 ≡ spot.number = omega arith in
-    let placed = place_of text refusal spots numbered in
-    let here : option_and_then (region_at text)
-    (option_map (λ spot. spot.number) (slice_get spots refusal.at)) ≡ region_at text spot.number =
-    ap (λ (o : Option Spot). option_and_then (region_at text) (option_map (λ spot. spot.number) o)) got
-    in
-    let is : Some (region_on spot.number raw) ≡ instruction_region text refusal =
+    let numbered : slice_get (numbers spots) at ≡ Some spot.number =
+    slice_get-map (λ (spot : Spot). spot.number) spots at
+    ∙ ap (option_map (λ (spot : Spot). spot.number)) got in
     ap (option_map (region_on spot.number))
-    (line ∙ ap (λ (i : ℕ). slice_get (lines_of text) (i - 1)) nothing_off) ∙ sym here ∙ sym placed in
-    rw text_is is
+    (line ∙ ap (λ (i : ℕ). slice_get (lines_of text) (i - 1)) nothing_off)
+    ∙ sym (ap (option_and_then (region_at text)) numbered)
 
 -- line after line: what is sought is a line nearer
 get_behind : {A : Type 0} (x : A) (xs : List A) (m p : ℕ) → m ≡ suc p

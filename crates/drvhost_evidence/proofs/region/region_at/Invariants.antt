@@ -1,6 +1,6 @@
 use Rattle.std.proofs.Common.{◌≡◌, ◌-◌, slice_get}
 use Rattle.text.specs.Cut.{lines_of}
-use Rattle.drvhost_sarif.proofs.region.region_at.Given as goal
+use Rattle.drvhost_evidence.proofs.region.region_at.Given as goal
 
 abbrev pub invariant-loop : goal.invariant-loop
 invariant-loop l =

@@ -1,7 +1,7 @@
 use Rattle.std.proofs.Common.{◌-◌, ◌∙◌, ap, Some, arith}
 use Rattle.text.specs.Cut.{lines_of}
-use Rattle.drvhost_sarif.proofs.Placing.{at_next, none_at, some_at}
-use Rattle.drvhost_sarif.proofs.region.region_at.Goals as goal
+use Rattle.drvhost_evidence.proofs.Placing.{at_next, none_at, some_at}
+use Rattle.drvhost_evidence.proofs.region.region_at.Goals as goal
 
 pub returns-in_err-next : goal.returns-in_err-next
 returns-in_err-next c =

@@ -1,6 +1,6 @@
 use Rattle.std.proofs.Common.{◌≡◌, ◌+◌, ◌*◌, ◌≤◌, drop}
-use Rattle.drvhost_sarif.specs.Regions.{units}
-use Rattle.drvhost_sarif.proofs.region.units.Given as goal
+use Rattle.drvhost_evidence.specs.Regions.{units}
+use Rattle.drvhost_evidence.proofs.region.units.Given as goal
 
 abbrev pub invariant-loop-byte : goal.invariant-loop-byte
 invariant-loop-byte l =

@@ -1,6 +1,6 @@
 use Rattle.std.proofs.Common.{◌≡◌, ◌+◌, ◌-◌, ◌≤◌, drop, length}
-use Rattle.drvhost_sarif.specs.Regions.{indent}
-use Rattle.drvhost_sarif.proofs.region.indent.Given as goal
+use Rattle.drvhost_evidence.specs.Regions.{indent}
+use Rattle.drvhost_evidence.proofs.region.indent.Given as goal
 
 abbrev pub invariant-loop-count : goal.invariant-loop-count
 invariant-loop-count l =

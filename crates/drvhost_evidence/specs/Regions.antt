@@ -1,5 +1,5 @@
 -- Where the lines of a text stand, as regions of SARIF.
-use Rattle.std.specs.Prelude.{ℕ, ◌+◌, ◌-◌, if◌then◌else◌, nat_lt, List, [], ◌∷◌, Option, None, slice_get}
+use Rattle.std.specs.Prelude.{ℕ, ◌+◌, ◌-◌, if◌then◌else◌, nat_lt, List, [], ◌∷◌, Option, slice_get}
 use Rattle.std.specs.Option.{option_and_then, option_map}
 use Rattle.asm_places.specs.Source.{instruction_lines}
 use Rattle.model.specs.declared.abs.Refusal.{Refusal}
@@ -30,13 +30,16 @@ region_on number raw = record { line = number; start = 1 + indent raw; end = 1 +
 abbrev pub region_at : List ℕ → ℕ → Option Region
 region_at text number = option_map (region_on number) (slice_get (lines_of text) (number - 1))
 
--- that of the instruction of a position of a routine of a driver
-abbrev pub instruction_region : List ℕ → Refusal → Option Region
-instruction_region text refusal =
-    option_and_then (region_at text)
-    (slice_get (instruction_lines refusal.driver refusal.routine text) refusal.at)
+-- the numbers of the lines of a routine's instructions in the bytes of a file: an image has none
+abbrev pub position_lines : List ℕ → ℕ → ℕ → List ℕ
+position_lines bytes driver routine =
+    if is_image bytes then [] else instruction_lines driver routine bytes
 
--- where a refusal is in the bytes of a file: an image has no lines
+-- where the instruction of a position of a routine is, and where a refusal is
+abbrev pub position_region : List ℕ → ℕ → ℕ → ℕ → Option Region
+position_region bytes driver routine at =
+    option_and_then (region_at bytes) (slice_get (position_lines bytes driver routine) at)
+
 abbrev pub refusal_region : List ℕ → Refusal → Option Region
 refusal_region bytes refusal =
-    if is_image bytes then None else instruction_region bytes refusal
+    position_region bytes refusal.driver refusal.routine refusal.at

@@ -1,0 +1,152 @@
+-- The lines of refusals that are explained.
+use Rattle.std.proofs.Common.{◌≡◌, ◌∙◌, ◌+◌, ◌<◌, ◌≤◌, ◌++◌, ℕ, suc, List, [], ◌∷◌, OnOk, Option, Result, Ok, Err, ap, append_assoc, append-nil, length, refl, subst, sym, take}
+use Rattle.std.specs.Prelude.{get_or}
+use Rattle.std.proofs.lemmas.List.{get_or-map, take_all, take_more}
+use Rattle.std.proofs.lemmas.List.Elements.{All-get_or}
+use Rattle.model.specs.declared.abs.Refusal.{Refusal}
+use Rattle.model.specs.Set.{Set}
+use Rattle.model.specs.Typable.{IsFirstFault}
+use Rattle.report_json.specs.Line.{json_line}
+use Rattle.report_sarif.specs.declared.log.Region.{Region}
+use Rattle.verifier_evidence.specs.declared.evidence.Evidence.{Evidence}
+use Rattle.verifier_evidence.specs.Evidence.{IsEvidence}
+use Rattle.verifier_words.specs.declared.telling.Told.{Told}
+use Rattle.verifier_words.specs.Faults.{AreFaults, refusals}
+use Rattle.drvhost_evidence.specs.declared.shown.Shown.{Shown}
+use Rattle.drvhost_evidence.specs.Faults.{IsFaultOf}
+use Rattle.drvhost_evidence.specs.Regions.{refusal_region}
+use Rattle.drvhost_evidence.specs.Shown.{IsShownBy}
+use Rattle.drvhost_evidence.proofs.EachFault.{each_is_fault}
+use Rattle.drvhost_options.specs.declared.extent.Extent.{Extent}
+use Rattle.drvhost_options.specs.declared.extent.Extent.TheVariants.{First, Each}
+use Rattle.drvhost_formats.specs.declared.outcome.Outcome.TheVariants.{Stopped}
+use Rattle.drvhost_formats.specs.Explain.{AreLinesOf, AreRefusalLines, IsRefusalExplained, IsRefusalLine}
+use Rattle.drvhost_formats.specs.Explanation.{Lesson, refusal_explained_json}
+use Rattle.drvhost_formats.specs.Told.{told}
+
+-- the line of a refusal was added
+pub line_added : {A E : Type 0} (r : Result A E) (name bytes : List ℕ) (set : Set)
+    (refusal : Refusal) (evidence : Option Evidence) (region : Option Region) (shown : Shown)
+    (lesson : Lesson) (old l : List ℕ) → IsEvidence set refusal evidence
+    → IsShownBy bytes refusal evidence shown → region ≡ refusal_region bytes refusal
+    → OnOk r (l ≡ old ++ json_line (refusal_explained_json name refusal region shown lesson))
+    → OnOk r ((line : List ℕ) × IsRefusalLine name bytes set refusal line × (l ≡ old ++ line))
+line_added (Ok a) name bytes set refusal evidence region shown lesson old l shows by_it placed added = (
+  json_line (refusal_explained_json name refusal region shown lesson),
+  record {
+    evidence = evidence;
+    shows = shows;
+    shown = shown;
+    by_it = by_it;
+    lesson = lesson;
+    is = ap (λ place. json_line (refusal_explained_json name refusal place shown lesson)) placed;
+  },
+  added,
+)
+line_added (Err e) name bytes set refusal evidence region shown lesson old l shows by_it placed added =
+    added
+
+-- those of a refused set were, by how many are asked for
+pub of_first : {A E : Type 0} (r : Result A E) (extent : Extent) (name bytes : List ℕ) (set : Set)
+    (refusal : Refusal) (old l : List ℕ) → extent ≡ First
+    → OnOk r ((line : List ℕ) × IsRefusalLine name bytes set refusal line × (l ≡ old ++ line))
+    → OnOk r ((text : List ℕ) × AreLinesOf extent name bytes set refusal text × (l ≡ old ++ text))
+of_first r extent name bytes set refusal old l is h = rw is h
+
+pub of_each : {A E : Type 0} (r : Result A E) (extent : Extent) (name bytes : List ℕ) (set : Set)
+    (refusal : Refusal) (old l : List ℕ) → extent ≡ Each
+    → OnOk r ((all : List Refusal) × (text : List ℕ) × AreFaults set all
+    × AreRefusalLines name bytes set all text × (l ≡ old ++ text))
+    → OnOk r ((text : List ℕ) × AreLinesOf extent name bytes set refusal text × (l ≡ old ++ text))
+of_each (Ok a) extent name bytes set refusal old l is (all, text, faults, are, added) =
+    rw is (text, (all, faults, are), added)
+of_each (Err e) extent name bytes set refusal old l is h = h
+
+-- as many refusals are told of as are told
+length_told : (all : List Told) → length (refusals all) ≡ length all
+length_told [] = refl
+length_told (one ∷ all) = ap (λ n. suc n) (length_told all)
+
+-- one of several that are told
+module _ (set : Set) (all : List Told) (i : ℕ) (one : Told) (within : i < length all)
+    (is : one ≡ get_or all i one) where
+  pub told_at : one.refusal ≡ get_or (refusals all) i one.refusal
+  told_at =
+      ap (λ (t : Told). t.refusal) is
+      ∙ sym (get_or-map (λ (t : Told). t.refusal) all i one one.refusal within)
+
+  pub within_told : i < length (refusals all)
+  within_told = rw (length_told all) within
+
+  pub fault_at : AreFaults set (refusals all) → IsFaultOf set one.refusal
+  fault_at are =
+      subst (IsFaultOf set) (sym told_at)
+      (All-get_or (IsFaultOf set) (refusals all) i one.refusal within_told
+      (each_is_fault set (refusals all) are))
+
+-- a refused set, whose lines were added
+pub refused : (extent : Extent) (name bytes : List ℕ) (set : Set) (refusal : Refusal)
+    (old l : List ℕ) → old ≡ [] → IsFirstFault set refusal
+    → ((text : List ℕ) × AreLinesOf extent name bytes set refusal text × (l ≡ old ++ text))
+    → IsRefusalExplained extent name bytes set (told Stopped l)
+refused extent name bytes set refusal old l empty first (text, are, added) =
+    let same : l ≡ text = rw empty at added in
+    (refusal, text, first, are, ap (told Stopped) same)
+
+-- one more line
+pub lines_more : (name bytes : List ℕ) (set : Set) (some : List Refusal) (refusal : Refusal)
+    (text line : List ℕ) → AreRefusalLines name bytes set some text
+    → IsRefusalLine name bytes set refusal line
+    → AreRefusalLines name bytes set (some ++ refusal ∷ []) (text ++ line)
+lines_more name bytes set [] refusal text line none is =
+    (line, [], is, refl, ap (λ x. x ++ line) none ∙ sym (append-nil line))
+lines_more name bytes set (first ∷ some) refusal text line (own, rest, its, others, whole) is = (
+  own,
+  rest ++ line,
+  its,
+  lines_more name bytes set some refusal rest line others is,
+  ap (λ x. x ++ line) whole ∙ append_assoc own rest line,
+)
+
+-- those of the first of several, and of one more
+pub lines_next : (name bytes : List ℕ) (set : Set) (all : List Refusal) (i : ℕ) (refusal : Refusal)
+    (text line : List ℕ) → i < length all → refusal ≡ get_or all i refusal
+    → AreRefusalLines name bytes set (take i all) text
+    → IsRefusalLine name bytes set refusal line
+    → AreRefusalLines name bytes set (take (i + 1) all) (text ++ line)
+lines_next name bytes set all i refusal text line within is so its =
+    let next : take (i + 1) all ≡ take i all ++ refusal ∷ [] =
+    take_more all i refusal within ∙ ap (λ r. take i all ++ r ∷ []) (sym is) in
+    subst (λ some. AreRefusalLines name bytes set some (text ++ line)) (sym next)
+    (lines_more name bytes set (take i all) refusal text line so its)
+
+-- the same of what is told
+pub told_next : (name bytes : List ℕ) (set : Set) (all : List Told) (i : ℕ) (one : Told)
+    (old m l : List ℕ) → i < length all → one ≡ get_or all i one
+    → ((text : List ℕ) × AreRefusalLines name bytes set (take i (refusals all)) text
+    × (m ≡ old ++ text))
+    → ((line : List ℕ) × IsRefusalLine name bytes set one.refusal line × (l ≡ m ++ line))
+    → (text : List ℕ) × AreRefusalLines name bytes set (take (i + 1) (refusals all)) text
+    × (l ≡ old ++ text)
+told_next name bytes set all i one old m l within is (text, so, was) (line, its, more) = (
+  text ++ line,
+  lines_next name bytes set (refusals all) i one.refusal text line
+      (within_told set all i one within is) (told_at set all i one within is) so its,
+  more ∙ ap (λ x. x ++ line) was ∙ append_assoc old text line,
+)
+
+-- all of them
+pub told_all : (name bytes : List ℕ) (set : Set) (all : List Told) (i : ℕ) (old l : List ℕ)
+    → length all ≤ i → AreFaults set (refusals all)
+    → ((text : List ℕ) × AreRefusalLines name bytes set (take i (refusals all)) text
+    × (l ≡ old ++ text))
+    → (each : List Refusal) × (text : List ℕ) × AreFaults set each
+    × AreRefusalLines name bytes set each text × (l ≡ old ++ text)
+told_all name bytes set all i old l passed faults (text, so, was) =
+    let past : length (refusals all) ≤ i = rw (length_told all) passed in (
+      refusals all,
+      text,
+      faults,
+      subst (λ each. AreRefusalLines name bytes set each text) (take_all i (refusals all) past) so,
+      was,
+    )

@@ -1,0 +1,8 @@
+use Rattle.drvhost_formats.specs.Explain.{IsExplainJsonOf}
+use Rattle.drvhost_sets.proofs.Answering.{alone}
+use Rattle.drvhost_formats.proofs.explain.explain_json.Goals as goal
+
+pub returns : goal.returns
+returns g c =
+    alone (IsExplainJsonOf c.args.extent c.args.name.now (g.S.Source.supply c.args.set.now))
+    _ _ _ _ _ _ _ _ c.answer.ensures.answers

@@ -1,0 +1,236 @@
+//! The verdict on a driver set explained, in lines of JSON.
+
+ghost use Rattle.std.specs.Prelude.{◌≡◌, ◌++◌, ◌⊎◌, List, [], ℕ, IfOk, OnOk};
+ghost use Rattle.mend_search.specs.Offers.{AreOffersOf};
+ghost use Rattle.model.specs.declared.abs.Refusal.{Refusal as RefusalValue};
+ghost use Rattle.model.specs.Typable.{IsFirstFault, IsTypable, at_start};
+ghost use Rattle.verifier_words.specs.Faults.{AreFaults};
+ghost use Rattle.drvhost_devices.specs.Device.{CanCount, Says};
+ghost use Rattle.drvhost_devices.specs.Ends.{Answers};
+ghost use Rattle.drvhost_evidence.specs.Faults.{IsFaultOf};
+ghost use Rattle.drvhost_formats.specs.Explain.{AreLinesOf, AreRefusalLines, IsAcceptanceExplained, IsExplainJsonOf, IsExplainedJson, IsRefusalExplained, IsRefusalLine};
+ghost use Rattle.drvhost_formats.specs.Told.{told};
+
+use crate::certified::certified_routines;
+use crate::explanation::{ExplainedAcceptance, ExplainedRefusal};
+use crate::job::{Job, answer};
+use crate::names::routine_names;
+use crate::outcome::Outcome;
+use drvhost_devices::device::{Sink, Source};
+use drvhost_devices::fault::Fault;
+use drvhost_evidence::faults::evidence_of_fault;
+use drvhost_evidence::region::refusal_region;
+use drvhost_evidence::shown::show;
+use drvhost_options::extent::Extent;
+use drvhost_sets::advising::{Advisor, why_and_mend};
+use drvhost_sets::explaining::origin_of;
+use image::DriverSet;
+use model::abs::{Refusal, Rule};
+use report_json::json_lines::JsonLines;
+use std::alloc::{AllocError, Global};
+use verifier::{Accepted, verify};
+use verifier_warnings::acceptance;
+use verifier_words::explanations;
+
+/// Writes the verdict on the driver set of the file of a name, explained, in lines of JSON: one for
+/// an accepted set, with words on its routines and on the order in which its drivers take their
+/// locks; or for the first fault of a refused one, and, if asked for, for that of each other
+/// routine, with its place, the paths that lead there and what is known at each of their steps, why
+/// the rule is broken, and how to mend it; or for the fault of its text or its image. The answer is
+/// the exit status, as that of [`check_json`](crate::check::check_json).
+pub fn explain_json<S: Source, O: Sink, E: Sink>(
+    alloc: Global,
+    extent: Extent,
+    name: &str,
+    set: &mut S,
+    out: &mut O,
+    err: &mut E,
+) -> u8
+    requires set { CanCount (S.failures set.old) }
+    requires out { CanCount (O.failures out.old) }
+    requires err { CanCount (E.failures err.old) }
+    ensures { Answers (IsExplainJsonOf extent name.now (S.supply set.old))
+        (S.failures set.old) (S.failures set.new) (O.failures out.old) (O.failures out.new)
+        (O.contents out.old) (O.contents out.new)
+        (Says (E.failures err.old) (E.failures err.new) (E.contents err.old) (E.contents err.new))
+        result }
+{
+    answer(
+        &mut Explaining { file: name, extent },
+        alloc,
+        name,
+        set,
+        out,
+        err,
+    )
+}
+
+/// The job of explaining the verdict on the set of the file of a name.
+#[derive(Drop)]
+struct Explaining<'n> {
+    file: &'n str,
+    extent: Extent,
+}
+
+impl Job for Explaining<'_> {
+    ghost use Rattle.drvhost_formats.specs.Explain.{IsExplainedJson};
+
+    ghost right = { λ job. IsExplainedJson job.extent job.file.now };
+
+    fn perform<O: Sink>(
+        &mut self,
+        alloc: Global,
+        bytes: &[u8],
+        set: DriverSet,
+        lines: &mut JsonLines,
+        _out: &mut O,
+    ) -> Result<Outcome, Fault> {
+        let read = ReadFile {
+            name: self.file,
+            bytes,
+        };
+        Ok(explain(alloc, self.extent, read, set, lines)?)
+    }
+
+    ghost stays_kept = { λ _. (tt, tt) };
+}
+
+/// A file that was read: its name, and its bytes.
+#[derive(Clone, Copy)]
+struct ReadFile<'a> {
+    name: &'a str,
+    bytes: &'a [u8],
+}
+
+/// Explains the verdict on the set that a file is, and adds its lines.
+fn explain(
+    alloc: Global,
+    extent: Extent,
+    file: ReadFile<'_>,
+    set: DriverSet,
+    lines: &mut JsonLines,
+) -> Result<Outcome, AllocError>
+    requires { lines.old ≡ [] }
+    ensures { IfOk result (λ outcome. IsExplainedJson extent file.entry.name.now
+        file.entry.bytes.now set (told outcome lines.new)) }
+{
+    match verify(alloc, set) {
+        Ok(accepted) => accept(alloc, file, &accepted, lines),
+        Err((set, refusal)) => refuse(alloc, extent, file, &set, &refusal, lines),
+    }
+}
+
+/// Adds the line of an accepted set.
+fn accept(
+    alloc: Global,
+    file: ReadFile<'_>,
+    accepted: &Accepted,
+    lines: &mut JsonLines,
+) -> Result<Outcome, AllocError>
+    requires { lines.old ≡ [] }
+    ensures { IfOk result (λ outcome. IsTypable accepted.now → IsAcceptanceExplained
+        file.entry.name.now file.entry.bytes.now accepted.now (told outcome lines.new)) }
+{
+    let words = acceptance(alloc, origin_of(file.bytes), accepted)?;
+    let names = routine_names(alloc, file.bytes)?;
+    let routines = certified_routines(alloc, accepted, names)?;
+    lines.add(&ExplainedAcceptance {
+        file: file.name,
+        routines: routines.as_slice(),
+        words: words.as_str(),
+    })?;
+    Ok(Outcome::Complete)
+}
+
+/// Adds the lines of a refused set; a refusal for want of memory is no verdict.
+fn refuse(
+    alloc: Global,
+    extent: Extent,
+    file: ReadFile<'_>,
+    set: &DriverSet,
+    refusal: &Refusal,
+    lines: &mut JsonLines,
+) -> Result<Outcome, AllocError>
+    requires first { (refusal.now ≡ at_start Rule.Memory) ⊎ IsFirstFault set.now refusal.now }
+    requires empty { lines.old ≡ [] }
+    ensures { IfOk result (λ outcome. IsRefusalExplained extent file.entry.name.now
+        file.entry.bytes.now set.now (told outcome lines.new)) }
+{
+    if refusal.rule == Rule::Memory {
+        return Err(AllocError);
+    }
+    add_faults(alloc, extent, file, set, refusal, lines)?;
+    Ok(Outcome::Stopped)
+}
+
+/// Adds a line for the first fault of a set, or for that of each routine.
+fn add_faults(
+    alloc: Global,
+    extent: Extent,
+    file: ReadFile<'_>,
+    set: &DriverSet,
+    refusal: &Refusal,
+    lines: &mut JsonLines,
+) -> Result<(), AllocError>
+    requires { IsFirstFault set.now refusal.now }
+    ensures { OnOk result ((text : List ℕ)
+        × AreLinesOf extent file.entry.name.now file.entry.bytes.now set.now refusal.now text
+        × (lines.new ≡ lines.old ++ text)) }
+{
+    let advisor = Advisor::of(alloc, extent, origin_of(file.bytes), set)?;
+    match extent {
+        Extent::First => add_refusal(alloc, file, set, &advisor, refusal, lines),
+        Extent::Each => add_each(alloc, file, set, &advisor, lines),
+    }
+}
+
+/// Adds a line for the first fault of each routine, the set's own first.
+fn add_each(
+    alloc: Global,
+    file: ReadFile<'_>,
+    set: &DriverSet,
+    advisor: &Advisor<'_>,
+    lines: &mut JsonLines,
+) -> Result<(), AllocError>
+    requires { AreOffersOf set.now advisor.now.offers }
+    ensures { OnOk result ((all : List RefusalValue) × (text : List ℕ) × AreFaults set.now all
+        × AreRefusalLines file.entry.name.now file.entry.bytes.now set.now all text
+        × (lines.new ≡ lines.old ++ text)) }
+{
+    let all = explanations(alloc, origin_of(file.bytes), set)?;
+    for told in all.as_slice() {
+        add_refusal(alloc, file, set, advisor, &told.refusal, lines)?;
+    }
+    Ok(())
+}
+
+/// Adds the line of a refusal.
+fn add_refusal(
+    alloc: Global,
+    file: ReadFile<'_>,
+    set: &DriverSet,
+    advisor: &Advisor<'_>,
+    refusal: &Refusal,
+    lines: &mut JsonLines,
+) -> Result<(), AllocError>
+    requires fault { IsFaultOf set.now refusal.now }
+    requires offers { AreOffersOf set.now advisor.now.offers }
+    ensures { OnOk result ((line : List ℕ)
+        × IsRefusalLine file.entry.name.now file.entry.bytes.now set.now refusal.now line
+        × (lines.new ≡ lines.old ++ line)) }
+{
+    let origin = origin_of(file.bytes);
+    let evidence = evidence_of_fault(alloc, set, refusal)?;
+    let shown = show(alloc, origin, file.bytes, set, refusal, &evidence)?;
+    let region = refusal_region(alloc, file.bytes, refusal)?;
+    let words = advisor.advised(alloc, set, refusal, shown.why.as_str())?;
+    let (why, fix) = why_and_mend(words.as_str());
+    lines.add(&ExplainedRefusal {
+        file: file.name,
+        refusal: *refusal,
+        region,
+        shown: &shown,
+        why,
+        fix,
+    })
+}

@@ -1,0 +1,161 @@
+//! The objects of verdicts that are explained.
+
+ghost use Rattle.std.specs.Prelude.{◌≡◌, ◌++◌, ◌∷◌, [], OnOk, Some, codes, decimal};
+ghost use Rattle.json.specs.Json.{array};
+ghost use Rattle.json.specs.Token.{key, number, string};
+ghost use Rattle.json.specs.Tree.{items_tokens, json_tokens};
+ghost use Rattle.model.specs.Words.{rule_word};
+ghost use Rattle.report.specs.Rule.{rule_name};
+ghost use Rattle.drvhost_formats.specs.Explanation.{region_json, step_json, steps_json};
+
+use drvhost_evidence::shown::{Shown, Step};
+use json::Writer;
+use model::abs::Refusal;
+use report_json::member::{begin, put_number, put_text};
+use report_json::to_json::ToJson;
+use report_json::verdict::{CertifiedRoutine, put_rule, write_routines};
+use report_sarif::log::Region;
+use std::alloc::AllocError;
+
+/// The name of the shape of an explanation, and its edition.
+const FORMAT: &str = "pafteis.explanation/1";
+
+/// That the set of a file is accepted, with its routines, and words on them and on the order of
+/// locks.
+#[derive(Clone, Copy)]
+pub(crate) struct ExplainedAcceptance<'a> {
+    pub(crate) file: &'a str,
+    pub(crate) routines: &'a [CertifiedRoutine],
+    pub(crate) words: &'a str,
+}
+
+impl ToJson for ExplainedAcceptance<'_> {
+    ghost use Rattle.drvhost_formats.specs.Explanation.{acceptance_explained_json};
+    ghost use Rattle.drvhost_formats.specs.Nesting.{accepted_nests};
+
+    ghost json = { λ told. acceptance_explained_json told.file.now told.routines.now told.words.now };
+
+    fn write(&self, out: &mut Writer) -> Result<(), AllocError> {
+        begin(out, FORMAT, self.file)?;
+        put_text(out, "verdict", "accepted")?;
+        out.key("routines")?;
+        out.begin_array()?;
+        write_routines(out, self.routines)?;
+        put_text(out, "words", self.words)?;
+        out.end_object()
+    }
+
+    ghost nests = { λ told. accepted_nests told.file.now told.routines.now told.words.now };
+}
+
+/// That the set of a file is refused, where, what shows it, why, and how to mend it.
+#[derive(Clone, Copy)]
+pub(crate) struct ExplainedRefusal<'a> {
+    pub(crate) file: &'a str,
+    pub(crate) refusal: Refusal,
+    pub(crate) region: Option<Region>,
+    pub(crate) shown: &'a Shown,
+    pub(crate) why: &'a str,
+    pub(crate) fix: &'a str,
+}
+
+impl ToJson for ExplainedRefusal<'_> {
+    ghost use Rattle.drvhost_formats.specs.Explanation.{refusal_explained_json};
+    ghost use Rattle.drvhost_formats.specs.Nesting.{explained_nests};
+
+    ghost json = { λ told. refusal_explained_json told.file.now told.refusal told.region
+        told.shown.now (record { why = told.why.now; fix = told.fix.now }) };
+
+    fn write(&self, out: &mut Writer) -> Result<(), AllocError> {
+        begin(out, FORMAT, self.file)?;
+        put_text(out, "verdict", "refused")?;
+        put_place(out, self.refusal)?;
+        put_region(out, self.region)?;
+        put_steps(out, "path", self.shown.path.as_slice())?;
+        put_steps(out, "other_path", self.shown.other.as_slice())?;
+        put_text(out, "why", self.why)?;
+        put_text(out, "fix", self.fix)?;
+        out.end_object()
+    }
+
+    ghost nests = { λ told. explained_nests told.file.now told.refusal told.region told.shown.now
+        (record { why = told.why.now; fix = told.fix.now }) };
+}
+
+/// Adds a rule, and the place where it is broken, by numbers.
+fn put_place(out: &mut Writer, refusal: Refusal) -> Result<(), AllocError>
+    ensures before { out.new.before ≡ out.old.before }
+    ensures tokens { OnOk result (out.new.tokens ≡ out.old.tokens ++ key (codes "rule")
+        ∷ string (rule_word refusal.rule) ∷ key (codes "rule_name")
+        ∷ string (rule_name refusal.rule) ∷ key (codes "driver")
+        ∷ number (decimal refusal.driver) ∷ key (codes "routine")
+        ∷ number (decimal refusal.routine) ∷ key (codes "position")
+        ∷ number (decimal refusal.at) ∷ []) }
+{
+    put_rule(out, refusal.rule)?;
+    put_number(out, "driver", refusal.driver as u64)?;
+    put_number(out, "routine", refusal.routine as u64)?;
+    put_number(out, "position", refusal.at as u64)
+}
+
+/// Adds where something stands in a text.
+fn put_region(out: &mut Writer, region: Option<Region>) -> Result<(), AllocError>
+    ensures before { out.new.before ≡ out.old.before }
+    ensures tokens { OnOk result (out.new.tokens
+        ≡ out.old.tokens ++ key (codes "region") ∷ json_tokens (region_json region)) }
+{
+    out.key("region")?;
+    match region {
+        Some(region) => write_region(out, region),
+        None => out.null(),
+    }
+}
+
+/// Writes a region of a text.
+fn write_region(out: &mut Writer, region: Region) -> Result<(), AllocError>
+    ensures before { out.new.before ≡ out.old.before }
+    ensures tokens { OnOk result
+        (out.new.tokens ≡ out.old.tokens ++ json_tokens (region_json (Some region))) }
+{
+    out.begin_object()?;
+    put_number(out, "line", region.line)?;
+    put_number(out, "column", region.start)?;
+    put_number(out, "end", region.end)?;
+    out.end_object()
+}
+
+/// Adds the steps of a path.
+fn put_steps(out: &mut Writer, name: &str, steps: &[Step]) -> Result<(), AllocError>
+    ensures before { out.new.before ≡ out.old.before }
+    ensures tokens { OnOk result (out.new.tokens
+        ≡ out.old.tokens ++ key name.now ∷ json_tokens (array (steps_json steps.now))) }
+{
+    out.key(name)?;
+    out.begin_array()?;
+    write_steps(out, steps)
+}
+
+/// Writes steps, to the end of the array.
+fn write_steps(out: &mut Writer, steps: &[Step]) -> Result<(), AllocError>
+    ensures before { out.new.before ≡ out.old.before }
+    ensures tokens { OnOk result
+        (out.new.tokens ≡ out.old.tokens ++ items_tokens (steps_json steps.now)) }
+{
+    for step in steps {
+        write_step(out, step)?;
+    }
+    out.end_array()
+}
+
+/// Writes a step.
+fn write_step(out: &mut Writer, step: &Step) -> Result<(), AllocError>
+    ensures before { out.new.before ≡ out.old.before }
+    ensures tokens { OnOk result
+        (out.new.tokens ≡ out.old.tokens ++ json_tokens (step_json step.now)) }
+{
+    out.begin_object()?;
+    put_number(out, "position", step.position as u64)?;
+    put_region(out, step.region)?;
+    put_text(out, "known", step.known.as_str())?;
+    out.end_object()
+}
