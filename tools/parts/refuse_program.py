@@ -261,20 +261,20 @@ def is_fault(kind, wanted, found):
     said = wanted[2] is None or wanted[2].startswith(told)
     return (status == 2 and wanted[1].startswith(out) and told == 'write failed\n') or (wanted[:2] == found[:2] and said)
 
-def holds_rightly(words, kind, whole, held):
+def holds_rightly(words, wanted, found, held):
     """Whether the file that a run writes has the text, or what it had where the answer isn't whole; a write to it that fails
-    leaves a beginning of the text."""
+    behind the answer leaves a beginning of the text."""
     if words not in WRITTEN:
         return True
     name, text = WRITTEN[words]
-    if whole:
+    if is_whole(wanted, found):
         return held == text
-    return held == FILES[name] or kind == 'WRITE' and text.startswith(held)
+    return held == FILES[name] or wanted[1] == found[1] and text.startswith(held)
 
 def sweep(program, folder, library, words, wanted, kind):
     """The calls of a kind of a run, how many of them ended in a fault, and how many in another answer."""
     whole, held, calls = run(program, words, folder, library, kind, 0)
-    if not is_whole(wanted, whole) or not holds_rightly(words, kind, True, held):
+    if not is_whole(wanted, whole) or not holds_rightly(words, wanted, whole, held):
         print('drvhost %s: %r' % (words, whole))
         return calls, 0, 1
     ended = wrong = 0
@@ -282,7 +282,7 @@ def sweep(program, folder, library, words, wanted, kind):
         found, held, _ = run(program, words, folder, library, kind, number)
         whole, fault = is_whole(wanted, found), is_fault(kind, wanted, found)
         ended += fault and not whole
-        if not (whole or fault) or not holds_rightly(words, kind, whole, held):
+        if not (whole or fault) or not holds_rightly(words, wanted, found, held):
             wrong += 1
             print('drvhost %s, %s %d of %d refused: %r' % (words, kind.lower(), number, calls, found))
     return calls, ended, wrong
