@@ -174,7 +174,7 @@ ALONE = {
         'image': (0, 'accepted\ndriver 0 routine 0 dispatch certificate 2\n'
                   'driver 0 routine 0: driver d0, routine f0 (dispatch)\n'
                   'No threads ever wait for each other in a ring, and every routine ends.\n', ''),
-        'twice': (1, EXPLAINED, ''),
+        'twice': (1, EXPLAINED + HUNT + 'twice\n', ''),
         'open': (2, '', UNCLOSED),
     },
 }
