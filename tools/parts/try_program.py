@@ -204,7 +204,7 @@ FED = [
     ('check -', TWICE, 1, REFUSED, b''),
     ('check -', IMAGE, 0, ACCEPTED, b''),
     ('check -', b'', 1, b'refused V1 Malformed driver 0 routine 0 at 0\n', b''),
-    ('explain -', TWICE, 1, EXPLAINED, b''),
+    ('explain -', TWICE, 1, EXPLAINED + HUNT + b'-\n', b''),
     ('check good.drv -', TWICE, 1, b'good.drv: accepted\ngood.drv: driver 0 routine 0 dispatch certificate 2\n'
      b'-: refused V5 DoubleCompletion driver 0 routine 0 at 1\n', b''),
     ('list -', IMAGE, 0, LISTED, b''),
