@@ -8,22 +8,18 @@ use text_faults::add_lines_round;
 
 /// A faulty line in its schedule.
 #[derive(Drop)]
-pub(crate) struct FaultyLine<'a> {
-    pub(crate) text: &'a [u8],
+pub struct FaultyLine<'a> {
+    pub text: &'a [u8],
     /// Where it stands; behind the last line where the text ends too early.
-    pub(crate) spot: Spot,
+    pub spot: Spot,
     /// Whether a line before it has a token, and says how many threads there are.
-    pub(crate) opened: bool,
-    pub(crate) tokens: Vec<Piece<'a>>,
+    pub opened: bool,
+    pub tokens: Vec<Piece<'a>>,
 }
 
 impl<'a> FaultyLine<'a> {
     /// The line of a number in a text.
-    pub(crate) fn of(
-        alloc: Global,
-        text: &'a [u8],
-        number: u64,
-    ) -> Result<FaultyLine<'a>, AllocError> {
+    pub fn of(alloc: Global, text: &'a [u8], number: u64) -> Result<FaultyLine<'a>, AllocError> {
         let mut opened = false;
         let mut left = PlacedLines::of(text);
         let mut spot = left.end();
@@ -44,24 +40,24 @@ impl<'a> FaultyLine<'a> {
     }
 
     /// The token of a place, from 0, the first word at 0.
-    pub(crate) fn token(&self, place: usize) -> Option<&'a [u8]> {
+    pub fn token(&self, place: usize) -> Option<&'a [u8]> {
         Some(self.tokens.get(place)?.bytes())
     }
 
     /// The first word, without bytes where there is none.
-    pub(crate) fn word(&self) -> &'a [u8] {
+    pub fn word(&self) -> &'a [u8] {
         self.token(0).unwrap_or(&[])
     }
 
     /// Adds where it stands, and the lines round it.
-    pub(crate) fn add_place(&self, prose: &mut String) -> Result<(), AllocError> {
+    pub fn add_place(&self, prose: &mut String) -> Result<(), AllocError> {
         write!(prose, "\nin line {}:\n", self.spot.number)?;
         add_lines_round(prose, self.text, self.spot)
     }
 }
 
 /// The tokens of a line.
-fn tokens_of<'a>(alloc: Global, line: &'a [u8]) -> Result<Vec<Piece<'a>>, AllocError> {
+pub fn tokens_of<'a>(alloc: Global, line: &'a [u8]) -> Result<Vec<Piece<'a>>, AllocError> {
     let mut tokens = Tokens::of(line);
     let mut all = Vec::new(alloc);
     while let Some(token) = tokens.next() {

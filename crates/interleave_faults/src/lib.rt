@@ -3,9 +3,9 @@
 //! memory it needs and writes nothing itself.
 #![tactic(auto)]
 
-mod faulty;
+pub mod faulty;
 mod form;
 mod telling;
-mod wording;
+pub mod wording;
 
 pub use telling::fault_words;

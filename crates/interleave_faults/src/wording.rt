@@ -94,7 +94,7 @@ fn add_other(prose: &mut String, token: &[u8], wanted: Operand) -> Result<(), Al
 }
 
 /// Adds the major function that may be meant.
-fn add_major(prose: &mut String, token: &[u8]) -> Result<(), AllocError> {
+pub fn add_major(prose: &mut String, token: &[u8]) -> Result<(), AllocError> {
     match token.strip_prefix(b"IRP_MJ_".as_slice()) {
         Some(major) if is_major(major) => add_meant(
             prose,

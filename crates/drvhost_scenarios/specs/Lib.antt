@@ -1,0 +1,2 @@
+pub mod Scenarios
+pub mod Telling

@@ -1,0 +1,98 @@
+-- What is told of a scenario that is played: whether all that it expects holds, or its first line that
+-- fails; and, as `schedule` answers it, the plain schedule of what it makes happen.
+use Rattle.std.specs.Prelude.{ℕ, ◌≡◌, ◌⊎◌, ◌++◌, Bool, true, false, List, [], Option, None, Some, Result, Ok, Err, codes, decimal, if◌then◌else◌}
+use Rattle.drvhost_devices.specs.Answer.{Answer, IsOfFile, IsTraced, ended, faulty, is_image}
+use Rattle.drvhost_devices.specs.declared.fault.End.{End}
+use Rattle.drvhost_devices.specs.declared.fault.End.TheVariants.{Complete, Stopped}
+use Rattle.drvhost_devices.specs.declared.verification.Verification.{Verification}
+use Rattle.drvhost_devices.specs.Device.{Holds, Supply}
+use Rattle.interleave.specs.declared.schedule.ScheduleFault.{ScheduleFault}
+use Rattle.interleave.specs.Listing.{Lists}
+use Rattle.model.specs.Set.{Set}
+use Rattle.report.specs.Fault.{schedule_fault_line}
+use Rattle.scenario_run.specs.Acting.{Played, played}
+use Rattle.scenario_run.specs.Playing.{Playing, begun}
+use Rattle.scenario_text.specs.declared.scenario.Scenario.{Scenario}
+use Rattle.scenario_text.specs.declared.scenario.Step.{Step}
+use Rattle.scenario_text.specs.Listing.{Listed, scenario_in}
+use Rattle.scenario_text.specs.Names.{Named, names_of, nothing}
+use Rattle.drvhost_scenarios.specs.declared.telling.Asked.{Asked}
+use Rattle.drvhost_scenarios.specs.declared.telling.Asked.TheVariants.{Schedule, Test}
+
+-- what the bytes of a file name: an image names nothing
+abbrev pub names_in : List ℕ → Named
+names_in bytes = if is_image bytes then nothing else names_of bytes
+
+-- how a scenario plays over a set
+abbrev pub play_of : Set → Listed → Played
+play_of set scenario = played (begun set scenario.threads) scenario.steps
+
+-- all holds in the scenario of a name
+abbrev pub ok_line : List ℕ → List ℕ
+ok_line name = codes "ok " ++ (name ++ codes "\n")
+
+-- the step in the line of a number fails, with some words
+abbrev pub failure : List ℕ → ℕ → List ℕ → List ℕ
+failure name line words =
+    codes "failed " ++ (name ++ (codes " line " ++ (decimal line ++ words)))
+
+-- all holds, or the first step that fails is told
+abbrev pub IsOutcome : List ℕ → Option Step → Answer → Type 0
+IsOutcome name None answer = answer ≡ ended Complete (ok_line name)
+IsOutcome name (Some step) answer =
+    (words : List ℕ) × (answer ≡ ended Stopped (failure name step.line words))
+
+abbrev pub IsTested : List ℕ → Set → Listed → Answer → Type 0
+IsTested name set scenario answer = IsOutcome name (play_of set scenario).failed answer
+
+-- a job on a scenario that came to its end, or to a step that fails
+abbrev pub end_of : Option Step → End
+end_of None = Complete
+end_of (Some step) = Stopped
+
+-- a text that lists what has happened, up to the first step that fails; or that what was written lists
+-- something else, read back
+abbrev pub unlisted_line : List ℕ
+unlisted_line = codes "; the schedule, read back, is another one\n"
+
+abbrev pub IsScheduleTold : Playing → Option Step → Answer → Type 0
+IsScheduleTold p failed answer =
+    ((text : List ℕ) × Lists text (record { threads = p.threads; events = p.events })
+    × (answer ≡ ended (end_of failed) text))
+    ⊎ (answer ≡ ended Stopped unlisted_line)
+
+-- what is right for what is asked of a scenario that has played so
+abbrev pub right_of_play : Asked → Played → Answer → Type 0
+right_of_play (Test name) play answer = IsOutcome name.now play.failed answer
+right_of_play Schedule play answer = IsScheduleTold play.now play.failed answer
+
+abbrev pub right_of : Asked → Set → Listed → Answer → Type 0
+right_of asked set scenario answer = right_of_play asked (play_of set scenario) answer
+
+-- what a scenario that was read lists
+abbrev pub listed : Scenario → Listed
+listed scenario = record { threads = scenario.threads; steps = scenario.steps.items }
+
+-- what is right for the scenario that a text lists, or its first fault
+abbrev pub IsOfScenario : (Set → Listed → Answer → Type 0) → Set → Result Listed ScheduleFault
+    → Answer → Type 0
+IsOfScenario Right set (Ok scenario) answer = Right set scenario answer
+IsOfScenario Right set (Err fault) answer = answer ≡ faulty (schedule_fault_line fault)
+
+-- for the scenario that a source has, with the names of a set's file
+abbrev pub IsPlayedOf : (Set → Listed → Answer → Type 0) → List ℕ → Supply → Set → Answer → Type 0
+IsPlayedOf Right bytes supply set answer =
+    (text : List ℕ) × Holds supply text
+    × IsOfScenario Right set (scenario_in (names_in bytes) text) answer
+
+-- for what both sources have: it reads the scenario's for a run alone
+abbrev pub IsOfSources : (Set → Listed → Answer → Type 0) → Verification → Supply → Supply
+    → Answer → Type 0
+IsOfSources Right verification supply scenario answer =
+    (bytes : List ℕ) × Holds supply bytes
+    × IsOfFile (IsTraced verification (IsPlayedOf Right bytes scenario)) bytes answer
+
+-- what `schedule` answers for what its sources have
+abbrev pub IsScheduleOf : Verification → Supply → Supply → Answer → Type 0
+IsScheduleOf verification supply scenario answer =
+    IsOfSources (right_of Schedule) verification supply scenario answer

@@ -1,0 +1,10 @@
+//! What the program answers to a scenario, over any devices: whether all that it expects holds, or
+//! the plain schedule of what it makes happen.
+#![tactic(auto)]
+
+mod listing;
+mod outcome;
+mod play;
+pub mod schedule;
+pub mod telling;
+mod words;

@@ -1,0 +1,302 @@
+//! What is said of a step that fails: what its line says, and what is there instead.
+
+use asm_line::status_text;
+use checked::Checked;
+use hunt_ends::amiss::Amiss;
+use model::event::Reply;
+use model::view::PacketView;
+use scenario_run::holding::{amiss, top_out_of};
+use scenario_run::playing::Playing;
+use scenario_text::scenario::{Action, Expectation, Step};
+use std::alloc::{AllocError, Global};
+use tell_audit::ring::waits_for;
+use tell_audit::sites::{Site, sites_of};
+use tell_names::{Book, add_lock, add_number};
+use text::add_bytes;
+use text::cut::Lines;
+use text::token::Tokens;
+
+/// What is said of a step of a scenario that fails, behind the number of its line: with the names of
+/// a text that names its set.
+///
+/// # Errors
+///
+/// When memory runs out.
+pub(crate) fn failure_words(
+    alloc: Global,
+    source: &[u8],
+    text: &[u8],
+    playing: &Playing,
+    step: &Step,
+) -> Result<String, AllocError> {
+    let book = Book::of(alloc, source)?;
+    let mut words = String::new(alloc);
+    let mut tokens = Tokens::of(line_of(text, step.line));
+    words.push_str(":")?;
+    match step.action {
+        Action::Expect(expectation) => {
+            let _expect = tokens.next();
+            add_subject(&mut words, &expectation, &mut tokens)?;
+            words.push_str(" expected")?;
+            add_tokens(&mut words, tokens)?;
+            words.push_str(", ")?;
+            add_found(alloc, &mut words, &book, playing, &expectation)?;
+        }
+        _ => {
+            add_tokens(&mut words, tokens)?;
+            words.push_str(": ")?;
+            add_reply(&mut words, &book, playing)?;
+        }
+    }
+    words.push_str("\n")?;
+    Ok(words)
+}
+
+/// The line of a number.
+fn line_of(text: &[u8], number: u64) -> &[u8] {
+    let mut left = Lines::of(text);
+    for _ in 1..number {
+        let _before = left.next();
+    }
+    left.next().unwrap_or(&[])
+}
+
+/// Adds the tokens that are left of a line.
+fn add_tokens(words: &mut String, mut tokens: Tokens<'_>) -> Result<(), AllocError> {
+    while let Some(token) = tokens.next() {
+        words.push_str(" ")?;
+        add_bytes(words, token)?;
+    }
+    Ok(())
+}
+
+/// Adds of what something is expected.
+fn add_subject(
+    words: &mut String,
+    expectation: &Expectation,
+    tokens: &mut Tokens<'_>,
+) -> Result<(), AllocError> {
+    let sort = match expectation {
+        Expectation::Clean | Expectation::Bug(_) => return Ok(()),
+        Expectation::Packet { .. } => " packet ",
+        Expectation::Thread { .. } => " ",
+        Expectation::Device { .. } => " device ",
+    };
+    words.push_str(sort)?;
+    if let Expectation::Thread { .. } = expectation {
+        add_bytes(words, tokens.next().unwrap_or(&[]))?;
+        words.push_str(" ")?;
+    }
+    add_bytes(words, tokens.next().unwrap_or(&[]))?;
+    words.push_str(":")
+}
+
+/// Adds what is there.
+fn add_found(
+    alloc: Global,
+    words: &mut String,
+    book: &Book<'_>,
+    playing: &Playing,
+    expectation: &Expectation,
+) -> Result<(), AllocError> {
+    match *expectation {
+        Expectation::Clean => add_amiss(alloc, words, book, playing),
+        Expectation::Bug(_) => add_reply(words, book, playing),
+        Expectation::Packet { packet, .. } => add_packet(alloc, words, book, playing, packet),
+        Expectation::Thread { thread, .. } => add_thread(words, book, playing.machine(), thread),
+        Expectation::Device { device, .. } => add_device(words, playing.machine(), device),
+    }
+}
+
+/// Adds what is amiss in a run.
+fn add_amiss(
+    alloc: Global,
+    words: &mut String,
+    book: &Book<'_>,
+    playing: &Playing,
+) -> Result<(), AllocError> {
+    if playing.machine().stopped() {
+        return words.push_str("the run has stopped");
+    }
+    match amiss(alloc, playing)? {
+        Some(found) => add_found_amiss(words, book, &found),
+        None => words.push_str("nothing is amiss"),
+    }
+}
+
+/// Adds what was found amiss.
+fn add_found_amiss(words: &mut String, book: &Book<'_>, found: &Amiss) -> Result<(), AllocError> {
+    match *found {
+        Amiss::Stopped(_) => words.push_str("the run has stopped"),
+        Amiss::Lost(packet) => {
+            add_numbered(words, "packet ", packet, " is lost: no place names it")
+        }
+        Amiss::Left(left) => {
+            add_lock(words, book, left.lock)?;
+            let thread = u64::from(left.thread);
+            add_numbered(words, " is left behind by thread ", thread, "")
+        }
+        Amiss::Ringed(thread) => {
+            add_numbered(words, "thread ", u64::from(thread), " waits in a ring")
+        }
+        Amiss::Disagrees(location_use) => add_numbered(
+            words,
+            "packet ",
+            location_use.packet(),
+            ": a status was returned that disagrees with the mark",
+        ),
+    }
+}
+
+/// Adds a number between words.
+fn add_numbered(
+    words: &mut String,
+    before: &str,
+    number: u64,
+    behind: &str,
+) -> Result<(), AllocError> {
+    words.push_str(before)?;
+    add_number(words, number)?;
+    words.push_str(behind)
+}
+
+/// Adds how a packet stands.
+fn add_packet(
+    alloc: Global,
+    words: &mut String,
+    book: &Book<'_>,
+    playing: &Playing,
+    packet: usize,
+) -> Result<(), AllocError> {
+    let Some(number) = playing.number_of(packet) else {
+        return words.push_str("it wasn't issued");
+    };
+    if let PacketView::Live(live) = playing.machine().packet(number) {
+        words.push_str(if live.cancel {
+            "it is live and cancelled"
+        } else {
+            "it is live"
+        })?;
+        return add_sites(alloc, words, book, playing.machine(), number);
+    }
+    match top_out_of(playing.past(), number) {
+        Some(top) => {
+            words.push_str("it is topped ")?;
+            words.push_str(status_text(top.status))?;
+            add_numbered(words, " information ", top.info, "")
+        }
+        None => words.push_str("it wasn't issued"),
+    }
+}
+
+/// Adds which lists a packet stands in, and which frames have it.
+fn add_sites(
+    alloc: Global,
+    words: &mut String,
+    book: &Book<'_>,
+    machine: &Checked,
+    number: u64,
+) -> Result<(), AllocError> {
+    let sites = sites_of(alloc, machine, number)?;
+    for site in sites.iter() {
+        add_site(words, book, machine, site)?;
+    }
+    Ok(())
+}
+
+fn add_site(
+    words: &mut String,
+    book: &Book<'_>,
+    machine: &Checked,
+    site: &Site,
+) -> Result<(), AllocError> {
+    match *site {
+        Site::Queue { device, queue } => {
+            words.push_str(", in queue ")?;
+            let driver = match machine.set().devices().get(device as usize) {
+                Some(device) => device.driver,
+                None => return Ok(()),
+            };
+            book.add_queue(words, driver, queue)?;
+            words.push_str(" of ")?;
+            book.add_device(words, device)
+        }
+        Site::StartList { device } => {
+            words.push_str(", in the start list of ")?;
+            book.add_device(words, device)
+        }
+        Site::DeviceQueue { device } => {
+            words.push_str(", in the device queue of ")?;
+            book.add_device(words, device)
+        }
+        Site::Slot { device } => {
+            words.push_str(", current on ")?;
+            book.add_device(words, device)
+        }
+        Site::Completing { thread, .. } => {
+            add_numbered(words, ", completed on thread ", thread as u64, "")
+        }
+        Site::Register { .. } | Site::CancelWord(_) => Ok(()),
+    }
+}
+
+/// Adds how a thread stands.
+fn add_thread(
+    words: &mut String,
+    book: &Book<'_>,
+    machine: &Checked,
+    thread: u8,
+) -> Result<(), AllocError> {
+    let Some(view) = machine.thread(thread) else {
+        return words.push_str("there is no such thread");
+    };
+    let Some(top) = view.top else {
+        return words.push_str("it is idle");
+    };
+    words.push_str("it is busy in ")?;
+    book.add_spot(words, top)?;
+    match waits_for(machine, thread) {
+        Some(owner) => add_numbered(words, ", waiting for thread ", u64::from(owner), ""),
+        None => Ok(()),
+    }
+}
+
+/// Adds how a device stands.
+fn add_device(words: &mut String, machine: &Checked, device: u8) -> Result<(), AllocError> {
+    let Some(start) = machine.shared().start_of(device) else {
+        return words.push_str("there is no such device");
+    };
+    words.push_str(if start.is_busy() {
+        "it is busy"
+    } else {
+        "it is idle"
+    })?;
+    words.push_str(if machine.shared().is_queued(device) {
+        ", its DPC is queued"
+    } else {
+        ", its DPC isn't queued"
+    })
+}
+
+/// Adds the last reply.
+fn add_reply(words: &mut String, book: &Book<'_>, playing: &Playing) -> Result<(), AllocError> {
+    let Some(last) = playing.past().last() else {
+        return words.push_str("nothing can happen");
+    };
+    match last.reply {
+        Reply::Idle => words.push_str("nothing to do"),
+        Reply::Finished => words.push_str("the packet has topped out"),
+        Reply::Bug(bug) => {
+            words.push_str("bug ")?;
+            words.push_str(bug.check.as_str())
+        }
+        Reply::Wrong(place) => {
+            words.push_str("a wrong operand in ")?;
+            book.add_routine(words, place.driver, place.routine)
+        }
+        Reply::Refused => words.push_str("refused"),
+        Reply::Started(_) | Reply::Stepped | Reply::Topped { .. } | Reply::Waited => {
+            words.push_str("it comes to no end")
+        }
+    }
+}
