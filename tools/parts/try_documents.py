@@ -110,7 +110,8 @@ def run(program, example, write):
             names.append('%d.%s' % (number, kind))
             with open(os.path.join(folder, names[-1]), 'wb') as out:
                 out.write(file_bytes(kind, text))
-        return answer(program, [command, *names, *options], folder)
+        told, status = answer(program, [command, *names, *options], folder)
+        return told.replace('drvhost hunt 0.', 'drvhost hunt driver.'), status
 
 def is_as(wanted, told):
     return bool(told) if wanted == '...\n' else wanted == told
