@@ -29,7 +29,11 @@ def answered(words):
 
 
 def wanted(program, words, folder):
-    """What the program answers; the image that it writes to a file stands for its output."""
+    """What the program answers; the image that it writes to a file stands for its output. The
+    library explains bytes, which have no name: the command of a hunt is the program's alone."""
+    if words[0] == "explain":
+        status, output, told = answered([program, *words])
+        return status, output.removesuffix(f"show it: drvhost hunt {words[-1]}\n".encode()), told
     if words[0] != "rewrite":
         return answered([program, *words])
     image = pathlib.Path(folder, "image")
