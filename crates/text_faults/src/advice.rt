@@ -1,8 +1,8 @@
 //! The sentences of what is told.
 
 use crate::nearest::nearest;
+use crate::quoting::add_shown;
 use std::alloc::AllocError;
-use text::add_bytes;
 
 /// Adds the token that is at fault, and what is wrong with it.
 pub fn add_at_fault(prose: &mut String, token: &[u8], why: &str) -> Result<(), AllocError> {
@@ -36,7 +36,7 @@ pub fn add_meant(prose: &mut String, meant: &[u8], because: &str) -> Result<(), 
 /// Adds a token, marked as one.
 pub fn add_token(prose: &mut String, token: &[u8]) -> Result<(), AllocError> {
     prose.push_str("`")?;
-    add_bytes(prose, token)?;
+    add_shown(prose, token)?;
     prose.push_str("`")
 }
 

@@ -1,7 +1,8 @@
 //! Letters that aren't ASCII, and files that aren't of plain bytes.
 
+use crate::quoting::add_excerpt;
 use std::alloc::AllocError;
-use text::{Spot, add_excerpt};
+use text::Spot;
 
 /// How a file is encoded that no text is, by its first bytes.
 #[derive(Clone, Copy)]

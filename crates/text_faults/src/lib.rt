@@ -9,5 +9,6 @@ pub mod fit;
 mod letters;
 pub mod lexing;
 pub mod nearest;
+mod quoting;
 
 pub use letters::add_lines_round;
