@@ -1,7 +1,7 @@
 #!/usr/bin/env python3
 """tools/try pages: whether docs/RULES.md says of each rule what its page in crates/verifier_pages/src/pages.rt says, which `drvhost
-explain --rule` prints: what the rule says, what it goes with, and the example, refused and mended; and likewise of the warning on the order of
-locks. It tells each difference.
+explain --rule` prints: what the rule says, what it goes with, the example, refused and mended, and the hunt that shows it; and likewise of the
+warning on the order of locks. It tells each difference.
 The last line counts."""
 import os, re, sys
 
@@ -12,6 +12,8 @@ DOCUMENT = 'docs/RULES.md'
 WARNING = 'LockOrder'
 PAGE = re.compile(r'^const (\w+): Page = Page \{\n(.*?)^\};', re.M | re.S)
 TEXT = re.compile(r'\b(says|source|refused|mend|mended): "((?:[^"\\]|\\.)*)"', re.S)
+SHOWN = re.compile(r'\bshown_by: Some\((?:"(.*?)"|(FIRST_TEXT))\)')
+FIRST = re.compile(r'^const FIRST_TEXT: &str = "(.*)";', re.M)
 
 def read(name):
     with open(os.path.join(TOP, name)) as source:
@@ -25,6 +27,9 @@ def pages():
     """The texts of each rule's page, by the name of the rule, and of the warning's."""
     source = read(PAGES)
     constants = {name: {field: meant(text) for field, text in TEXT.findall(body)} for name, body in PAGE.findall(source)}
+    for name, body in PAGE.findall(source):
+        for other, first in SHOWN.findall(body):
+            constants[name]['shown by'] = other or FIRST.search(source)[1]
     rules = {rule: constants[name] for rule, name in re.findall(r'Rule::(\w+) => (\w+),', source)}
     return {**rules, WARNING: constants['LOCK_ORDER']}
 
@@ -55,6 +60,13 @@ def differences(page, section):
         yield 'source'
     if 'refused' in page and (page['refused'], page['mended']) not in zip(drivers, drivers[1:]):
         yield 'example'
+    if 'shown by' in page and shown_by(page['shown by']) not in section.split('\n'):
+        yield 'shown by'
+
+def shown_by(hunted):
+    """What the document says of the hunt that shows a rule."""
+    file, _, how = hunted.partition(',')
+    return 'Shown by: `drvhost hunt %s`%s.' % (file, how and ',' + how)
 
 def main():
     told, named, differ = sections(), titles(), 0

@@ -148,6 +148,8 @@ def page_of(title, page):
     if 'refused' in page:
         wrong, right = ABOVE[title == WARNING]
         told += '\n%s:\n\n%s\nmend it: %s\n%s:\n\n%s' % (wrong, page['refused'], page['mend'], right, page['mended'])
+    if 'shown by' in page:
+        told += '\n%s%s\n' % (HUNT, page['shown by'])
     return told.splitlines()
 
 def answer_of_document(told, part):

@@ -1,5 +1,5 @@
-//! Each rule on a page of its own: what it says, where that is written, and a short text that it
-//! refuses, beside the same one mended. docs/RULES.md has the same examples.
+//! Each rule on a page of its own: what it says, where that is written, a short text that it
+//! refuses, beside the same one mended, and the hunt that shows it. docs/RULES.md has the same.
 
 use model::abs::Rule;
 use std::alloc::{AllocError, Global};
@@ -12,13 +12,18 @@ struct Example {
     mended: &'static str,
 }
 
-/// What a rule says, where that is written, and an example of it, where a text can be one.
+/// What a rule says, where that is written, an example of it, where a text can be one, and what a
+/// hunt takes that finds a run which shows it, where there is one.
 #[derive(Clone, Copy)]
 struct Page {
     says: &'static str,
     source: &'static str,
     example: Option<Example>,
+    shown_by: Option<&'static str>,
 }
+
+/// What a hunt takes where the refused text itself shows it.
+const FIRST_TEXT: &str = "FILE, with the first of these texts in FILE";
 
 /// What is said above the text of an example, and above the same one mended.
 #[derive(Clone, Copy)]
@@ -87,6 +92,7 @@ fn page_words(alloc: Global, page: Page, titles: Titles) -> Result<String, Alloc
         says,
         source,
         example,
+        shown_by,
     } = page;
     let mut prose = String::new(alloc);
     write!(prose, "\n{says}\nsee: {source}\n")?;
@@ -105,6 +111,9 @@ fn page_words(alloc: Global, page: Page, titles: Titles) -> Result<String, Alloc
         write!(prose, "\n{wrong}:\n\n{refused}")?;
         write!(prose, "\nmend it: {mend}\n{right}:\n\n{mended}")?;
     }
+    if let Some(hunted) = shown_by {
+        write!(prose, "\nshow it: drvhost hunt {hunted}\n")?;
+    }
     Ok(prose)
 }
 
@@ -115,6 +124,7 @@ at most four are nested.",
     source: "nothing of the Kit: it is what makes a certificate possible",
     example: Some(Example {
         refused: "driver d
+dpc f
 routine f dpc
 const r0 0
 endr
@@ -123,6 +133,7 @@ device v d 1
 ",
         mend: "end it with a `ret`",
         mended: "driver d
+dpc f
 routine f dpc
 const r0 0
 ret void
@@ -131,6 +142,7 @@ endd
 device v d 1
 ",
     }),
+    shown_by: Some(FIRST_TEXT),
 };
 
 const UNREACHABLE: Page = Page {
@@ -154,6 +166,7 @@ endd
 device v d 1
 ",
     }),
+    shown_by: None,
 };
 
 const STATES_DIFFER: Page = Page {
@@ -185,6 +198,7 @@ endd
 device v d 1
 ",
     }),
+    shown_by: None,
 };
 
 const WRONG_KIND: Page = Page {
@@ -195,6 +209,7 @@ driver's status. A register whose packet was completed or given away is blank.",
         thing",
     example: Some(Example {
         refused: "driver d
+dpc f
 routine f dpc
 store c0 r0
 ret void
@@ -204,6 +219,7 @@ device v d 1
 ",
         mend: "set the register first",
         mended: "driver d
+dpc f
 routine f dpc
 const r0 1
 store c0 r0
@@ -213,6 +229,7 @@ endd
 device v d 1
 ",
     }),
+    shown_by: Some(FIRST_TEXT),
 };
 
 const DOUBLE_COMPLETION: Page = Page {
@@ -220,6 +237,7 @@ const DOUBLE_COMPLETION: Page = Page {
     source: "Static Driver Verifier, DoubleCompletion; IoCompleteRequest; bug check 0x44",
     example: Some(Example {
         refused: "driver d
+dispatch READ f
 routine f dispatch
 complete r0 SUCCESS
 complete r0 SUCCESS
@@ -230,6 +248,7 @@ device v d 1
 ",
         mend: "complete it once",
         mended: "driver d
+dispatch READ f
 routine f dispatch
 complete r0 SUCCESS
 ret SUCCESS
@@ -238,6 +257,7 @@ endd
 device v d 1
 ",
     }),
+    shown_by: Some(FIRST_TEXT),
 };
 
 const MARK_IRP_PENDING: Page = Page {
@@ -250,6 +270,7 @@ same location was not, nor is one marked twice.",
         STATUS_PENDING\"",
     example: Some(Example {
         refused: "driver d
+dispatch READ f
 routine f dispatch
 complete r0 SUCCESS
 ret PENDING
@@ -259,6 +280,7 @@ device v d 1
 ",
         mend: "mark it before it is completed, or return the status",
         mended: "driver d
+dispatch READ f
 routine f dispatch
 mark r0
 complete r0 SUCCESS
@@ -268,6 +290,7 @@ endd
 device v d 1
 ",
     }),
+    shown_by: Some(FIRST_TEXT),
 };
 
 const CANCEL_SPIN_LOCK: Page = Page {
@@ -278,6 +301,7 @@ and releases it.",
         bug checks 0x0F and 0x10",
     example: Some(Example {
         refused: "driver d
+dpc f
 routine f dpc
 relc
 ret void
@@ -287,6 +311,7 @@ device v d 1
 ",
         mend: "acquire it first, or leave it alone",
         mended: "driver d
+dpc f
 routine f dpc
 acqc
 relc
@@ -296,6 +321,7 @@ endd
 device v d 1
 ",
     }),
+    shown_by: Some(FIRST_TEXT),
 };
 
 const SPIN_LOCK: Page = Page {
@@ -305,6 +331,7 @@ and not kept at a return.",
         and 0x10",
     example: Some(Example {
         refused: "driver d
+dpc f
 routine f dpc
 acquire l0
 ret void
@@ -314,6 +341,7 @@ device v d 1
 ",
         mend: "release it on each path",
         mended: "driver d
+dpc f
 routine f dpc
 acquire l0
 release l0
@@ -323,6 +351,7 @@ endd
 device v d 1
 ",
     }),
+    shown_by: Some(FIRST_TEXT),
 };
 
 const LOCK_HELD: Page = Page {
@@ -352,6 +381,7 @@ endd
 device v d 1
 ",
     }),
+    shown_by: None,
 };
 
 const LEVEL: Page = Page {
@@ -360,6 +390,7 @@ no lock. All others may run at DISPATCH_LEVEL.",
     source: "the Driver Kit on IRQL; bug check 0x0A",
     example: Some(Example {
         refused: "driver d
+dpc f
 routine f dpc
 loadp r0 p0
 ret void
@@ -369,6 +400,7 @@ device v d 1
 ",
         mend: "use a cell that is not paged, or touch it in a dispatch routine before the lock",
         mended: "driver d
+dpc f
 routine f dpc
 load r0 c0
 ret void
@@ -377,6 +409,7 @@ endd
 device v d 1
 ",
     }),
+    shown_by: Some(FIRST_TEXT),
 };
 
 const GUARD: Page = Page {
@@ -411,6 +444,7 @@ endd
 device v d 1
 ",
     }),
+    shown_by: Some("examples/guide/step-5-wrong.drv"),
 };
 
 const CANCEL_STATE: Page = Page {
@@ -447,6 +481,7 @@ endd
 device v d 1
 ",
     }),
+    shown_by: Some("examples/race.drv"),
 };
 
 const DROPPED: Page = Page {
@@ -455,6 +490,7 @@ const DROPPED: Page = Page {
         and kept",
     example: Some(Example {
         refused: "driver d
+dispatch READ f
 routine f dispatch
 ret SUCCESS
 endr
@@ -463,6 +499,7 @@ device v d 1
 ",
         mend: "complete it",
         mended: "driver d
+dispatch READ f
 routine f dispatch
 complete r0 SUCCESS
 ret SUCCESS
@@ -471,6 +508,7 @@ endd
 device v d 1
 ",
     }),
+    shown_by: Some(FIRST_TEXT),
 };
 
 const TOKEN: Page = Page {
@@ -500,6 +538,7 @@ endd
 device v d 1
 ",
     }),
+    shown_by: Some("--stuck examples/stuck.drv"),
 };
 
 const SORT: Page = Page {
@@ -512,6 +551,7 @@ queue has a cancel routine. Each cancel routine is that of exactly one queue or
     source: "the Driver Kit on each sort of routine",
     example: Some(Example {
         refused: "driver d
+dispatch READ f
 routine f dispatch
 complete r0 SUCCESS
 ret void
@@ -521,6 +561,7 @@ device v d 1
 ",
         mend: "return as the sort does",
         mended: "driver d
+dispatch READ f
 routine f dispatch
 complete r0 SUCCESS
 ret SUCCESS
@@ -529,6 +570,7 @@ endd
 device v d 1
 ",
     }),
+    shown_by: Some(FIRST_TEXT),
 };
 
 const COMPLETION: Page = Page {
@@ -559,6 +601,7 @@ endd
 device v d 1
 ",
     }),
+    shown_by: Some("examples/forgets.drv"),
 };
 
 const STACK_TOO_SMALL: Page = Page {
@@ -569,6 +612,7 @@ more than the device under it; where it passes on (`pass`), at least as many.",
         refused: "driver disk
 endd
 driver filter
+dispatch READ f
 routine f dispatch
 call r0
 ret lower r0
@@ -581,6 +625,7 @@ device up filter 1 low
         mended: "driver disk
 endd
 driver filter
+dispatch READ f
 routine f dispatch
 call r0
 ret lower r0
@@ -590,6 +635,7 @@ device low disk 1
 device up filter 2 low
 ",
     }),
+    shown_by: Some(FIRST_TEXT),
 };
 
 const NO_LOWER: Page = Page {
@@ -597,6 +643,7 @@ const NO_LOWER: Page = Page {
     source: "the Driver Kit on IoCallDriver; a run stops there with `wrong`",
     example: Some(Example {
         refused: "driver d
+dispatch READ f
 routine f dispatch
 pass r0
 ret lower r0
@@ -608,6 +655,7 @@ device v d 1
         mended: "driver disk
 endd
 driver filter
+dispatch READ f
 routine f dispatch
 pass r0
 ret lower r0
@@ -617,6 +665,7 @@ device low disk 1
 device up filter 1 low
 ",
     }),
+    shown_by: Some(FIRST_TEXT),
 };
 
 const TOO_LONG: Page = Page {
@@ -649,6 +698,7 @@ endd
 device v d 1
 ",
     }),
+    shown_by: None,
 };
 
 const MEMORY: Page = Page {
@@ -656,6 +706,7 @@ const MEMORY: Page = Page {
 error, with status 3, and says nothing of the set. No text mends it.",
     source: "nothing of the Kit: it is no fault of the set",
     example: None,
+    shown_by: None,
 };
 
 const LOCK_ORDER: Page = Page {
@@ -713,4 +764,5 @@ endd
 device v d 1
 ",
     }),
+    shown_by: Some(FIRST_TEXT),
 };
