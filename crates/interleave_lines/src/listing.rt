@@ -85,6 +85,16 @@ fn are_same(some: &[Event], others: &[Event]) -> bool
 fn is_same(one: &Event, other: &Event) -> bool
     ensures { IsTrue result → one.now ≡ other.now }
 {
+    match *one {
+        Event::Issue { .. } | Event::Cancel { .. } => is_same_call(one, other),
+        _ => is_same_turn(one, other),
+    }
+}
+
+/// Whether both are the same of what a caller asks for.
+fn is_same_call(one: &Event, other: &Event) -> bool
+    ensures { IsTrue result → one.now ≡ other.now }
+{
     match (*one, *other) {
         (
             Event::Issue {
@@ -112,6 +122,15 @@ fn is_same(one: &Event, other: &Event) -> bool
                 level: l,
             },
         ) => thread == t && packet == p && level == l,
+        _ => false,
+    }
+}
+
+/// Whether both are the same of what comes to a device, or lets a thread go on.
+fn is_same_turn(one: &Event, other: &Event) -> bool
+    ensures { IsTrue result → one.now ≡ other.now }
+{
+    match (*one, *other) {
         (Event::Interrupt { device }, Event::Interrupt { device: d }) => device == d,
         (
             Event::Dpc { thread, device },
