@@ -1,0 +1,3 @@
+pub mod Alike
+pub mod Framing
+pub mod Shapes

@@ -1,0 +1,6 @@
+use Rattle.std.proofs.Common.{arith}
+use Rattle.hunt_worlds.proofs.cells.same_cells.Goals as goal
+
+pub returns : goal.returns
+returns c =
+    λ holds k low. c.loop-device.invariant k (omega (arith, low, c.loop-device-test.false))
