@@ -1,0 +1,13 @@
+use Rattle.std.proofs.Common.{◌∙◌, ◌++◌, ap, inr, sym}
+use Rattle.drvhost_colors.proofs.Painting.{painted_whole}
+use Rattle.drvhost_colors.proofs.paint.paint.Goals as goal
+
+pub returns-then-has_escape : goal.returns-then-has_escape
+returns-then-has_escape c =
+    inr (c.in_ok-extend_from_slice.ensures.items
+    ∙ ap (λ x. x ++ c.args.text.now) c.new-painted.ensures.items)
+
+pub returns : goal.returns
+returns c =
+    painted_whole c.args.text.now _ (sym c.has_escape.ensures ∙ c.if-has_escape.false)
+    (rw c.new-painted.ensures.items at c.in_ok-paint_lines.ensures)
