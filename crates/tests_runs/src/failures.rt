@@ -390,13 +390,7 @@ fn answer<R: Threads + Wait + Sync>(
         }
         Job::Tell(schedule, verification, detail) => {
             let mut schedule = Slow::new(schedule, devices.step, devices.orders);
-            let telling = Telling {
-                verification,
-                manner: Manner {
-                    detail,
-                    strictness: Strictness::Lenient,
-                },
-            };
+            let telling = telling_by(verification, detail);
             tell(alloc, set, &mut schedule, telling, out, err)
         }
         Job::Draw(schedule, verification) => {
@@ -419,6 +413,17 @@ fn answer<R: Threads + Wait + Sync>(
             };
             host(alloc, set, &mut script, &hosting, out, err)
         }
+    }
+}
+
+/// How a run is told in such detail.
+fn telling_by(verification: Verification, detail: Detail) -> Telling {
+    Telling {
+        verification,
+        manner: Manner {
+            detail,
+            strictness: Strictness::Lenient,
+        },
     }
 }
 
