@@ -177,7 +177,7 @@ fn add_faults(
         × AreLinesOf extent file.entry.name.now file.entry.bytes.now set.now refusal.now text
         × (lines.new ≡ lines.old ++ text)) }
 {
-    let advisor = Advisor::of(alloc, extent, origin_of(file.bytes), set)?;
+    let advisor = Advisor::of(alloc, extent, origin_of(file.bytes), set, refusal)?;
     match extent {
         Extent::First => add_refusal(alloc, file, set, &advisor, refusal, lines),
         Extent::Each => add_each(alloc, file, set, &advisor, lines),

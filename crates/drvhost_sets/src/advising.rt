@@ -2,19 +2,20 @@
 //! sentence of its rule.
 
 ghost use Rattle.std.specs.Prelude.{IfOk};
+ghost use Rattle.model.specs.Typable.{IsFirstFault};
 ghost use Rattle.mend_search.specs.Offers.{AreOffersOf};
 
 use asm_listing::listing;
 use drvhost_options::extent::Extent;
 use image::DriverSet;
 use mend_advice::advise;
-use mend_search::offers::{Offers, find_first_offers, find_offers};
+use mend_edits::Change;
+use mend_search::advice::{find_likely, find_sure};
+use mend_search::offers::Mending;
 use model::abs::Refusal;
+use model::items::Items;
 use std::alloc::{AllocError, Global};
 use verifier_names::{Origin, Source};
-
-/// How many mends are tried of a faulty routine.
-const TRIES: u64 = 2_000;
 
 /// What stands before the sentence of a rule, which is the last of the words on a refusal.
 const MEND: &str = "\nmend it: ";
@@ -23,11 +24,11 @@ const MEND: &str = "\nmend it: ";
 #[derive(Drop)]
 pub struct Advisor<'a> {
     text: Source<'a>,
-    pub offers: Offers,
+    pub offers: Items<Mending>,
 }
 
 impl<'a> Advisor<'a> {
-    /// What is offered for the first fault of a set that was read from there, or for each.
+    /// What is soon found for the first fault of a set that was read from there, or for each.
     ///
     /// # Errors
     ///
@@ -37,15 +38,20 @@ impl<'a> Advisor<'a> {
         extent: Extent,
         origin: Origin<'a>,
         set: &DriverSet,
+        refusal: &Refusal,
     ) -> Result<Advisor<'a>, AllocError>
+        requires { IsFirstFault set.now refusal.now }
         ensures { IfOk result (λ advisor. AreOffersOf set.now advisor.offers) }
     {
-        let offers = offers_for(alloc, extent, set)?;
+        let offers = offers_for(alloc, extent, set, refusal)?;
         let text = match origin {
             Origin::Text(text) => Source::Text(text),
             Origin::Image => Source::Listing(listing(alloc, set)?),
         };
-        Ok(Advisor { text, offers })
+        Ok(Advisor {
+            text,
+            offers: Items::of(offers),
+        })
     }
 
     /// The words on a refusal, with what is offered in the place of the sentence of its rule.
@@ -62,19 +68,45 @@ impl<'a> Advisor<'a> {
     ) -> Result<String, AllocError>
         requires { AreOffersOf set.now self.now.offers }
     {
-        let mut words = String::new(alloc);
-        let found = advise(alloc, self.text.bytes(), set, &self.offers, refusal)?;
-        match (found, told.rsplit_once(MEND)) {
-            (Some(advice), Some((before, _sentence))) => {
-                words.push_str(before)?;
-                words.push_str(MEND)?;
-                words.push_str(advice.words.as_str())?;
-                words.push_str("\n")?;
-            }
-            _ => words.push_str(told)?,
-        }
-        Ok(words)
+        Ok(self.advised_with(alloc, set, refusal, told)?.words)
     }
+
+    /// The same words, with the changes of the text that they offer.
+    ///
+    /// # Errors
+    ///
+    /// When memory runs out.
+    pub fn advised_with(
+        &self,
+        alloc: Global,
+        set: &DriverSet,
+        refusal: &Refusal,
+        told: &str,
+    ) -> Result<Advised, AllocError>
+        requires { AreOffersOf set.now self.now.offers }
+    {
+        let (text, offers) = (self.text.bytes(), self.offers.as_slice());
+        let mut words = String::new(alloc);
+        let found = advise(alloc, text, set, offers, refusal)?;
+        let (Some(advice), Some((before, _sentence))) = (found, told.rsplit_once(MEND)) else {
+            words.push_str(told)?;
+            let changes = Vec::new(alloc);
+            return Ok(Advised { words, changes });
+        };
+        words.push_str(before)?;
+        words.push_str(MEND)?;
+        words.push_str(advice.words.as_str())?;
+        words.push_str("\n")?;
+        let changes = advice.changes;
+        Ok(Advised { words, changes })
+    }
+}
+
+/// Words on a refusal, and the changes of the text that they offer: none, where they offer none.
+#[derive(Drop)]
+pub struct Advised {
+    pub words: String,
+    pub changes: Vec<Change>,
 }
 
 /// The words on a refusal up to how it is mended, and how it is.
@@ -85,12 +117,18 @@ pub fn why_and_mend(words: &str) -> (&str, &str) {
     }
 }
 
-/// What is offered for the first fault of a set, or for each.
-fn offers_for(alloc: Global, extent: Extent, set: &DriverSet) -> Result<Offers, AllocError>
-    ensures { IfOk result (AreOffersOf set.now) }
+/// What is soon found for the first fault of a set, or for each.
+fn offers_for(
+    alloc: Global,
+    extent: Extent,
+    set: &DriverSet,
+    refusal: &Refusal,
+) -> Result<Vec<Mending>, AllocError>
+    requires { IsFirstFault set.now refusal.now }
+    ensures { IfOk result (λ mendings. AreOffersOf set.now mendings.items) }
 {
     match extent {
-        Extent::First => find_first_offers(alloc, set, TRIES),
-        Extent::Each => find_offers(alloc, set, TRIES),
+        Extent::First => find_sure(alloc, set, refusal),
+        Extent::Each => find_likely(alloc, set),
     }
 }

@@ -272,8 +272,11 @@ fn refusal_words(
     requires { (refusal.now ≡ at_start Rule.Memory) ⊎ IsFirstFault set.now refusal.now }
     ensures { IfOk result (λ words. AreWordsOf asked.entry.extent set.now words.items) }
 {
+    if refusal.rule == Rule::Memory {
+        return Err(AllocError);
+    }
     let Asked { extent, origin } = asked;
-    let advisor = Advisor::of(alloc, extent, origin, set)?;
+    let advisor = Advisor::of(alloc, extent, origin, set, refusal)?;
     match extent {
         Extent::First => {
             let told = explanation(alloc, origin, set, refusal)?;

@@ -7,7 +7,7 @@ use Rattle.model.specs.Typable.{IsFirstFault}
 use Rattle.mend_search.specs.declared.offers.Mending.{Mending}
 use Rattle.mend_search.specs.declared.offers.Offer.{Offer}
 use Rattle.mend_search.specs.declared.offers.Standing.TheVariants.{Sure}
-use Rattle.mend_search.specs.Offers.{IsOffer, Lead, after_first}
+use Rattle.mend_search.specs.Offers.{AreOffersOf, IsOffer, after_first}
 use Rattle.mend_advice.specs.Advice.{IsAdvised}
 
 -- what holds of all offers holds of the first
@@ -18,14 +18,14 @@ first_is set refusal (o ∷ os) offer all is =
     let same : o ≡ offer = cc in
     subst (IsOffer set refusal) same (all 0 o (omega arith))
 
-pub advised : (set last : Set) (mendings : List Mending) (place : ℕ) (mending : Mending)
-    (offer : Offer) → Lead set mendings last → slice_get mendings place ≡ Some mending
+pub advised : (set : Set) (mendings : List Mending) (place : ℕ) (mending : Mending)
+    (offer : Offer) → AreOffersOf set mendings → slice_get mendings place ≡ Some mending
     → slice_get mending.offers 0 ≡ Some offer → offer.standing ≡ Sure
     → IsAdvised set mending.refusal offer
-advised set last [] place mending offer lead is first sure = absurd (cc is)
-advised set last (m ∷ ms) zero mending offer (fault, are, lead) is first sure =
+advised set [] place mending offer lead is first sure = absurd (cc is)
+advised set (m ∷ ms) zero mending offer (fault, are, lead) is first sure =
     let same : m ≡ mending = cc in
-    let offers = subst (λ (m : Mending). All (IsOffer set m.refusal) m.offers) same are.are.0 in (
+    let offers = subst (λ (m : Mending). All (IsOffer set m.refusal) m.offers) same are.0 in (
       [],
       set,
       refl,
@@ -33,7 +33,7 @@ advised set last (m ∷ ms) zero mending offer (fault, are, lead) is first sure 
       first_is set mending.refusal mending.offers offer offers first,
       sure,
     )
-advised set last (m ∷ ms) (suc place) mending offer (fault, are, lead) is first sure =
+advised set (m ∷ ms) (suc place) mending offer (fault, are, lead) is first sure =
     let (before, at, leads, of, is_one, its) =
-    advised (after_first set m.offers) last ms place mending offer lead is first sure in
+    advised (after_first set m.offers) ms place mending offer lead is first sure in
     (m ∷ before, at, (fault, are, leads), of, is_one, its)

@@ -5,21 +5,23 @@ ghost use Rattle.mend_search.specs.Offers.{AreOffersOf};
 ghost use Rattle.mend_advice.specs.Advice.{IsAdvised};
 
 use driver_set::DriverSet;
-use mend_search::offers::{Offer, Offers, Standing};
+use mend_edits::Change;
+use mend_search::offers::{Mending, Offer, Standing};
 use mend_sentences::reason;
 use mend_texts::{Mend, mend_text};
 use model::abs::{Refusal, Rule};
 use std::alloc::{AllocError, Global};
 
-/// An offer that is most likely what was meant, in words.
+/// An offer that is most likely what was meant, in words and as changes of the text.
 #[derive(Drop)]
 pub struct Advice<'o> {
     pub offer: &'o Offer,
     pub words: String,
+    pub changes: Vec<Change>,
 }
 
-/// The first of the offers for a refusal, if it is sure: they are of the set that a text names, and
-/// the words are about the lines of that.
+/// The first offer for a refusal, if it is sure: mendings are of the set that a text names, and the
+/// words are about the lines of that.
 ///
 /// # Errors
 ///
@@ -28,14 +30,14 @@ pub fn advise<'o>(
     alloc: Global,
     text: &[u8],
     set: &DriverSet,
-    offers: &'o Offers,
+    mendings: &'o [Mending],
     refusal: &Refusal,
 ) -> Result<Option<Advice<'o>>, AllocError>
-    requires { AreOffersOf set.now offers.now }
+    requires { AreOffersOf set.now mendings.now }
     ensures { IfOk result
         (λ found. IfSome found (λ advice. IsAdvised set.now refusal.now advice.offer.now)) }
 {
-    let Some(offer) = sure_offer(set, offers, refusal) else {
+    let Some(offer) = sure_offer(set, mendings, refusal) else {
         return Ok(None);
     };
     let mend = Mend {
@@ -46,15 +48,19 @@ pub fn advise<'o>(
         return Ok(None);
     };
     let words = told_once(alloc, mended.sentences.as_slice(), refusal.rule)?;
-    Ok(Some(Advice { offer, words }))
+    Ok(Some(Advice {
+        offer,
+        words,
+        changes: mended.changes,
+    }))
 }
 
-/// The first of the offers for a refusal, if it is sure.
-fn sure_offer<'o>(set: &DriverSet, offers: &'o Offers, refusal: &Refusal) -> Option<&'o Offer>
-    requires { AreOffersOf set.now offers.now }
+/// The first offer for a refusal, if it is sure.
+fn sure_offer<'o>(set: &DriverSet, mendings: &'o [Mending], refusal: &Refusal) -> Option<&'o Offer>
+    requires { AreOffersOf set.now mendings.now }
     ensures { IfSome result (λ offer. IsAdvised set.now refusal.now offer.now) }
 {
-    for mending in offers.mendings.as_slice() {
+    for mending in mendings {
         if is_same(&mending.refusal, refusal) {
             let first = mending.offers.as_slice().first()?;
             return if first.standing == Standing::Sure {

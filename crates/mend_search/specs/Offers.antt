@@ -1,5 +1,5 @@
 -- What the offers of mends for a driver set are worth.
-use Rattle.std.specs.Prelude.{ℕ, ◌≡◌, ◌+◌, ◌<◌, ◌≤◌, ◌⊎◌, List, [], ◌∷◌, All, length, Option, None, Some}
+use Rattle.std.specs.Prelude.{ℕ, ⊤, ◌≡◌, ◌+◌, ◌<◌, ◌≤◌, ◌⊎◌, List, [], ◌∷◌, All, length, Option, None, Some}
 use Rattle.std.specs.Prelude.{unwrap_or}
 use Rattle.model.specs.declared.abs.Refusal.{Refusal}
 use Rattle.model.specs.Set.{Set}
@@ -71,13 +71,25 @@ abbrev pub after_first : Set → List Offer → Set
 after_first set [] = set
 after_first set (offer ∷ offers) = unwrap_or (edited_by set offer.edits) set
 
--- mendings take the first faults of a set by turns, each behind the first offer of the one before
-abbrev pub Lead : Set → List Mending → Set → Type 0
-Lead set [] last = set ≡ last
-Lead set (mending ∷ mendings) last =
+-- mendings take the first faults of a set by turns, each behind the first offer of the one before,
+-- and such a fact holds of the offers of each
+abbrev pub LeadWith : (Set → Refusal → List Offer → Type 0) → Set → List Mending → Set → Type 0
+LeadWith P set [] last = set ≡ last
+LeadWith P set (mending ∷ mendings) last =
     IsFirstFault set mending.refusal
-    × IsWhole set mending.refusal mending.offers
-    × Lead (after_first set mending.offers) mendings last
+    × P set mending.refusal mending.offers
+    × LeadWith P (after_first set mending.offers) mendings last
+
+abbrev pub Lead : Set → List Mending → Set → Type 0
+Lead set mendings last = LeadWith AreOffers set mendings last
+
+-- the same of mendings that may lead anywhere
+abbrev pub AreOffersOf : Set → List Mending → Type 0
+AreOffersOf set [] = ⊤
+AreOffersOf set (mending ∷ mendings) =
+    IsFirstFault set mending.refusal
+    × AreOffers set mending.refusal mending.offers
+    × AreOffersOf (after_first set mending.offers) mendings
 
 -- the set behind all first offers, and what the verifier says of it
 abbrev pub set_at : Ending → Set
@@ -88,5 +100,6 @@ abbrev pub IsEnding : Ending → Type 0
 IsEnding (Accepted set) = IsTypable set
 IsEnding (Refused set refusal) = IsFirstFault set refusal
 
-abbrev pub AreOffersOf : Set → Offers → Type 0
-AreOffersOf set offers = Lead set offers.mendings (set_at offers.ending) × IsEnding offers.ending
+abbrev pub AreAllOffersOf : Set → Offers → Type 0
+AreAllOffersOf set offers =
+    LeadWith IsWhole set offers.mendings (set_at offers.ending) × IsEnding offers.ending

@@ -1,6 +1,7 @@
 //! What a search has tried: edits that lead on, by cost, and those after which a routine has no
 //! fault.
 
+use crate::aim::Aim;
 use crate::pairs::Made;
 use driver_set::DriverSet;
 use mend_reading::{Manner, Placed};
@@ -9,12 +10,6 @@ use std::collections::{BTreeSet, BinaryHeap};
 
 /// Edits of a routine, at most.
 pub(crate) const MAX_EDITS: u8 = 4;
-
-/// Offers for a routine, at most.
-pub(crate) const MAX_OFFERS: usize = 3;
-
-/// What an offer may cost more than the first, in hundredths.
-const WINDOW: u32 = 100;
 
 /// Edits that were tried, and lead on from others.
 #[derive(Clone, Copy)]
@@ -54,12 +49,13 @@ pub(crate) struct Ledger {
     pub(crate) made: Vec<DriverSet>,
     /// How many sets with edited lines there are.
     sets: usize,
-    left: u64,
+    /// What is looked for, with the tries and the work that are left.
+    aim: Aim,
 }
 
 impl Ledger {
-    /// Begins with no edit, and so many tries.
-    pub(crate) fn begin(alloc: Global, tries: u64) -> Result<Ledger, AllocError> {
+    /// Begins with no edit.
+    pub(crate) fn begin(alloc: Global, aim: Aim) -> Result<Ledger, AllocError> {
         let mut ledger = Ledger {
             alloc,
             nodes: Vec::new(alloc),
@@ -69,7 +65,7 @@ impl Ledger {
             queue: BinaryHeap::new(alloc),
             made: Vec::new(alloc),
             sets: 0,
-            left: tries,
+            aim,
         };
         let made = Made {
             manner: Manner::Line,
@@ -81,11 +77,28 @@ impl Ledger {
         Ok(ledger)
     }
 
-    /// Whether there are tries left, of which one is used.
-    pub(crate) fn uses_try(&mut self) -> bool {
-        let some = self.left > 0;
-        self.left = self.left.saturating_sub(1);
+    /// Whether a try of code of so many instructions is left, which is used.
+    pub(crate) fn uses_try(&mut self, length: usize) -> bool {
+        let some = self.is_left();
+        self.aim.tries = self.aim.tries.saturating_sub(1);
+        self.aim.work = self.aim.work.saturating_sub(length as u64);
         some
+    }
+
+    /// Whether anything may still be tried.
+    fn is_left(&self) -> bool {
+        self.aim.tries > 0 && self.aim.work > 0
+    }
+
+    /// Whether so many tries of code of so many instructions are more than are left.
+    pub(crate) fn lacks_tries(&self, tries: usize, length: usize) -> bool {
+        let work = (tries as u64).saturating_mul(length as u64);
+        self.aim.tries < tries as u64 || self.aim.work < work
+    }
+
+    /// Whether what costs so much counts.
+    pub(crate) fn counts(&self, cost: u32) -> bool {
+        cost < self.aim.dearest
     }
 
     /// The next node to be looked at, with its number: none where the offers are settled.
@@ -93,15 +106,20 @@ impl Ledger {
         let key = !self.queue.pop()?;
         let number = (key & 0xffff_ffff) as usize;
         let node = self.nodes.get(number).copied()?;
-        let all = self.solutions.get(MAX_OFFERS - 1);
-        let settled = all.is_some_and(|last| last.cost <= node.cost);
-        let first = self.solutions.first();
-        let far = first.is_some_and(|first| first.cost.saturating_add(WINDOW) < node.cost);
-        if settled || far || self.left == 0 {
+        if self.is_settled(node.cost) || !self.is_left() {
             None
         } else {
             Some((number, node))
         }
+    }
+
+    /// Whether no offer is looked for that costs so much.
+    fn is_settled(&self, cost: u32) -> bool {
+        let all = self.solutions.get(self.aim.offers.saturating_sub(1));
+        let window = self.aim.window;
+        let first = self.solutions.first();
+        let far = first.is_some_and(|first| first.cost.saturating_add(window) < cost);
+        far || all.is_some_and(|last| last.cost <= cost)
     }
 
     /// The node of a number.

@@ -1,6 +1,9 @@
 //! The search for mends of refused driver sets.
 #![tactic(auto)]
 
+pub mod advice;
+mod aim;
+mod cut;
 mod draft;
 mod ledger;
 pub mod offers;

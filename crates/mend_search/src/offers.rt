@@ -3,13 +3,13 @@
 ghost use Rattle.std.specs.Prelude.{◌≡◌, ◌↔◌, [], All, IsTrue, IfNone, IfOk, IfSome, Some};
 ghost use Rattle.mend_changes.specs.Edited.{edited_by};
 ghost use Rattle.model.specs.Typable.{IsFirstFault};
-ghost use Rattle.mend_search.specs.Offers.{AreOffers, AreOffersOf, IsKept, IsLater, IsLeft, IsOffer};
+ghost use Rattle.mend_search.specs.Offers.{AreOffers, AreAllOffersOf, IsKept, IsLater, IsLeft, IsOffer};
 ghost use Rattle.mend_search.specs.Offers.{IsUnmended, IsUnmendedBelow, IsWhole, NoneTakenOut};
 ghost use Rattle.mend_search.specs.Offers.{after_first, taken_out};
 
-use crate::ledger::MAX_OFFERS;
-use crate::search::Found;
-use crate::spread::mends;
+use crate::aim::{Aim, LEAD, MAX_OFFERS, SURE};
+use crate::search::{Found, search};
+use crate::spread::completed;
 use driver_set::{DriverSet, Items};
 use mend_changes::{Change, Edit, edited_by};
 use std::alloc::{AllocError, Global};
@@ -60,12 +60,7 @@ pub struct Offers {
 }
 
 /// Routines with faults that are looked at, at most: as many as a set may have.
-const MAX_MENDINGS: u16 = 256;
-
-/// What an offer costs, at most, that is sure, and by how much it leads.
-const SURE: u32 = 300;
-
-const LEAD: u32 = 40;
+pub(crate) const MAX_MENDINGS: u16 = 256;
 
 /// What it costs to take out an instruction that the search wouldn't.
 const TAKEN_OUT: u32 = 400;
@@ -77,36 +72,18 @@ const TAKEN_OUT: u32 = 400;
 ///
 /// When memory runs out.
 pub fn find_offers(alloc: Global, set: &DriverSet, tries: u64) -> Result<Offers, AllocError>
-    ensures { IfOk result (AreOffersOf set.now) }
-{
-    find_some(alloc, set, tries, MAX_MENDINGS)
-}
-
-/// The mends of the first routine with a fault alone, as [`find_offers`] finds them.
-///
-/// # Errors
-///
-/// When memory runs out.
-pub fn find_first_offers(alloc: Global, set: &DriverSet, tries: u64) -> Result<Offers, AllocError>
-    ensures { IfOk result (AreOffersOf set.now) }
-{
-    find_some(alloc, set, tries, 1)
-}
-
-/// The mends of so many routines at most.
-fn find_some(alloc: Global, set: &DriverSet, tries: u64, turns: u16) -> Result<Offers, AllocError>
-    ensures { IfOk result (AreOffersOf set.now) }
+    ensures { IfOk result (AreAllOffersOf set.now) }
 {
     let Ok(copy) = set.copy(alloc) else {
         return Err(AllocError);
     };
-    offers_for(alloc, copy, tries, turns)
+    offers_for(alloc, copy, tries, MAX_MENDINGS)
 }
 
 /// The mends of a set, of so many routines at most.
 #[cycle(mending)]
 fn offers_for(alloc: Global, set: DriverSet, tries: u64, turns: u16) -> Result<Offers, AllocError>
-    ensures { IfOk result (AreOffersOf set) }
+    ensures { IfOk result (AreAllOffersOf set) }
 {
     match verify(alloc, set) {
         Ok(accepted) => Ok(Offers {
@@ -138,7 +115,7 @@ fn offers_at(
     turns: u16,
 ) -> Result<Offers, AllocError>
     requires { IsFirstFault set refusal }
-    ensures { IfOk result (AreOffersOf set) }
+    ensures { IfOk result (AreAllOffersOf set) }
 {
     let offers = offers_of(alloc, &set, &refusal, tries)?;
     let Some(next) = first_made(alloc, &set, &refusal, offers.as_slice())? else {
@@ -161,7 +138,7 @@ fn offers_at(
 fn unmended(alloc: Global, set: DriverSet, refusal: Refusal) -> Result<Offers, AllocError>
     requires first { IsFirstFault set refusal }
     requires none { NoneTakenOut set refusal }
-    ensures { IfOk result (AreOffersOf set) }
+    ensures { IfOk result (AreAllOffersOf set) }
 {
     let mut mendings = Vec::new(alloc);
     mendings.push(Mending {
@@ -193,7 +170,7 @@ fn first_made(
 }
 
 /// What an offer makes of a set.
-fn made_by(
+pub(crate) fn made_by(
     alloc: Global,
     set: &DriverSet,
     refusal: &Refusal,
@@ -277,17 +254,15 @@ fn offers_found(
 ) -> Result<Vec<Offer>, AllocError>
     ensures { IfOk result (λ offers. AreOffers set.now refusal.now offers.items) }
 {
-    let found = mends(alloc, set, refusal, tries)?;
+    let aim = Aim::offers(tries);
+    let found = search(alloc, set, refusal.driver, refusal.routine, aim)?;
     let mut offers = Vec::new(alloc);
     for (place, one) in found.iter().enumerate() {
         if offers.len() >= MAX_OFFERS {
             break;
         }
-        let price = Price {
-            cost: one.cost,
-            standing: standing_of(found.as_slice(), place),
-        };
-        let Some(offer) = judged(alloc, set, refusal, one.edits.as_slice(), price)? else {
+        let standing = standing_of(found.as_slice(), place);
+        let Some(offer) = judged_mend(alloc, set, refusal, one, standing, aim)? else {
             continue;
         };
         offers.push(offer)?;
@@ -295,8 +270,28 @@ fn offers_found(
     Ok(offers)
 }
 
+/// An offer of a mend that was found, with those of the routines that it reaches into, if the
+/// verifier finds that it is one.
+pub(crate) fn judged_mend(
+    alloc: Global,
+    set: &DriverSet,
+    refusal: &Refusal,
+    found: &Found,
+    standing: Standing,
+    aim: Aim,
+) -> Result<Option<Offer>, AllocError>
+    ensures { IfOk result (λ offer. IfSome offer (IsOffer set.now refusal.now)) }
+{
+    let edits = completed(alloc, set, refusal, found, aim)?;
+    let price = Price {
+        cost: found.cost,
+        standing,
+    };
+    judged(alloc, set, refusal, edits.as_slice(), price)
+}
+
 /// What an offer is among those that were found.
-fn standing_of(found: &[Found], place: usize) -> Standing {
+pub(crate) fn standing_of(found: &[Found], place: usize) -> Standing {
     let (Some(first), 0) = (found.first(), place) else {
         return Standing::Guess;
     };

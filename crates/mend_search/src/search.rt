@@ -1,10 +1,12 @@
 //! The search: best first by cost, ties by the order in which candidates were made.
 
+use crate::aim::Aim;
+use crate::cut::Cut;
 use crate::draft::{Draft, first_changed, followed};
 use crate::ledger::{Ledger, MAX_EDITS, Node};
-use crate::pairs::{Made, rebate};
+use crate::pairs::{MOST_REBATE, Made, rebate};
 use absstate::Rule;
-use driver_set::{DriverSet, Instr, Items};
+use driver_set::{Driver, DriverSet, Instr, Items};
 use mend_candidates::Scene;
 use mend_changes::{Edit, edited};
 use mend_groups::add_all;
@@ -17,6 +19,14 @@ use verifier::check_routine;
 /// Solutions that are told, at most.
 const MAX_FOUND: usize = 6;
 
+/// What an edit costs at least.
+const LEAST: u32 = 15;
+
+/// What it costs less, at most, for what becomes usual, and with what it completes as well.
+const MOST_LESS: u32 = 30;
+
+const MOST_OFF: u32 = MOST_LESS + MOST_REBATE;
+
 /// Edits that may be offered, and what they cost.
 #[derive(Drop)]
 pub(crate) struct Found {
@@ -24,13 +34,61 @@ pub(crate) struct Found {
     pub(crate) cost: u32,
 }
 
-/// The routine that is mended, by number, and what is usual in its set.
+/// The routine that is mended, by number, the part of it that is searched, what is usual in its set,
+/// and how many instructions that has.
 #[derive(Drop)]
 struct Task {
     alloc: Global,
     driver: u8,
     routine: u8,
+    cut: Cut,
+    code: Vec<Instr>,
     usual: Usual,
+    size: usize,
+}
+
+impl Task {
+    /// The task of mending a routine, if it is there.
+    fn of(
+        alloc: Global,
+        set: &DriverSet,
+        driver: u8,
+        routine: u8,
+    ) -> Result<Option<Task>, AllocError> {
+        let Some(subject) = Subject::of(set, driver, routine) else {
+            return Ok(None);
+        };
+        let whole = code_of(&subject);
+        let cut = Cut::of(alloc, &subject, whole)?;
+        let mut code = Vec::new(alloc);
+        cut.add_code(whole, &mut code)?;
+        Ok(Some(Task {
+            alloc,
+            driver,
+            routine,
+            cut,
+            code,
+            usual: Usual::of(alloc, set)?,
+            size: size_of(set),
+        }))
+    }
+
+    /// The part of the routine that is searched, in a set.
+    fn subject<'s>(&self, set: &'s DriverSet) -> Option<Subject<'s>> {
+        let subject = Subject::of(set, self.driver, self.routine)?;
+        Some(self.cut.subject(subject))
+    }
+}
+
+/// The code of a routine.
+fn code_of<'s>(subject: &Subject<'s>) -> &'s [Instr] {
+    let Some(driver) = subject.set.drivers().get(subject.driver as usize) else {
+        return &[];
+    };
+    match driver.routines.as_slice().get(subject.routine as usize) {
+        Some(routine) => routine.code.as_slice(),
+        None => &[],
+    }
 }
 
 /// The set that is mended, and those with edited lines.
@@ -69,20 +127,18 @@ struct Tried<'a> {
     code: &'a [Instr],
 }
 
-/// Mends of a routine of a set, by number, the best first. So many edits are tried, at most.
-/// Routines before it may have faults behind edits of lines.
+/// Mends of a routine of a set, by number, the best first, as far as they are looked for. Routines
+/// before it may have faults behind edits of lines.
 pub(crate) fn search(
     alloc: Global,
     set: &DriverSet,
     driver: u8,
     routine: u8,
-    tries: u64,
+    aim: Aim,
 ) -> Result<Vec<Found>, AllocError> {
-    let task = Task {
-        alloc,
-        driver,
-        routine,
-        usual: Usual::of(alloc, set)?,
+    let task = match Task::of(alloc, set, driver, routine)? {
+        Some(task) if task.cut.jumps <= aim.jumps => task,
+        _ => return Ok(Vec::new(alloc)),
     };
     let mut sets = Sets {
         base: set,
@@ -95,12 +151,12 @@ pub(crate) fn search(
         next: Reading::new(alloc),
         list: Candidates::new(alloc),
     };
-    let mut ledger = Ledger::begin(alloc, tries)?;
-    for _ in 0..tries {
+    let mut ledger = Ledger::begin(alloc, aim)?;
+    for _ in 0..aim.tries {
         let Some((number, node)) = ledger.next() else {
             break;
         };
-        if node.edits < MAX_EDITS && rebuild(&task, &sets, &ledger, number, &mut bench.draft)? {
+        if node.edits < MAX_EDITS && rebuild(&task, &ledger, number, &mut bench.draft)? {
             expand(&task, &sets, &mut ledger, &mut bench, number)?;
             sets.take(&mut ledger)?;
         }
@@ -130,18 +186,11 @@ impl<'a> Sets<'a> {
 /// Makes the code of a node.
 fn rebuild(
     task: &Task,
-    sets: &Sets,
     ledger: &Ledger,
     number: usize,
     draft: &mut Draft,
 ) -> Result<bool, AllocError> {
-    let Some(driver) = sets.base.drivers().get(task.driver as usize) else {
-        return Ok(false);
-    };
-    let Some(routine) = driver.routines.as_slice().get(task.routine as usize) else {
-        return Ok(false);
-    };
-    draft.take(routine.code.as_slice())?;
+    draft.take(task.code.as_slice())?;
     for node in ledger.path(number)?.as_slice() {
         let changes = ledger.changes_of(node);
         if !draft.apply(changes)? {
@@ -163,7 +212,7 @@ fn expand(
     let Some(node) = ledger.node(number) else {
         return Ok(());
     };
-    let Some(subject) = Subject::of(sets.get(node.set), task.driver, task.routine) else {
+    let Some(subject) = task.subject(sets.get(node.set)) else {
         return Ok(());
     };
     let code = bench.draft.code.as_slice();
@@ -184,27 +233,70 @@ fn expand(
     if let Some(scene) = Scene::of(task.alloc, &subject, code, &bench.reading, touched)? {
         add_all(task.alloc, &scene, &mut bench.list)?;
     }
-    for place in 0..bench.list.as_slice().len() {
-        if !ledger.uses_try() {
+    try_all(task, &subject, &here, ledger, bench)
+}
+
+/// Tries the candidates in their order; where there are more than tries are left, the cheapest.
+fn try_all(
+    task: &Task,
+    subject: &Subject,
+    here: &Here,
+    ledger: &mut Ledger,
+    bench: &mut Bench,
+) -> Result<(), AllocError> {
+    let (count, length) = (bench.list.as_slice().len(), bench.draft.code.len());
+    let by_cost = ledger.lacks_tries(count, length);
+    for place in order_of(task.alloc, &bench.list, by_cost)? {
+        let Some(candidate) = bench.list.as_slice().get(place).copied() else {
+            return Ok(());
+        };
+        if !ledger.counts(least_cost(here, &candidate)) {
+            continue;
+        }
+        let read = match candidate.manner {
+            Manner::Line => task.size,
+            _ => length,
+        };
+        if !ledger.uses_try(read) {
             return Ok(());
         }
-        try_candidate(task, &subject, &here, ledger, bench, place)?;
+        try_candidate(task, subject, here, ledger, bench, candidate)?;
     }
     Ok(())
 }
 
-/// Tries a candidate, by its place in the list.
+/// The places of candidates, in their order or by what they cost.
+fn order_of(alloc: Global, list: &Candidates, by_cost: bool) -> Result<Vec<usize>, AllocError> {
+    let mut places = Vec::new(alloc);
+    for place in 0..list.as_slice().len() {
+        places.push(place)?;
+    }
+    if by_cost {
+        places.sort_by_key(|place| cost_at(list, *place))?;
+    }
+    Ok(places)
+}
+
+/// What the candidate at a place costs.
+fn cost_at(list: &Candidates, place: usize) -> u32 {
+    list.as_slice().get(place).map_or(0, |one| one.cost)
+}
+
+/// What a node costs at least that a candidate leads to.
+fn least_cost(here: &Here, candidate: &Candidate) -> u32 {
+    let cost = candidate.cost.saturating_sub(MOST_OFF).max(LEAST);
+    here.node.cost.saturating_add(cost)
+}
+
+/// Tries a candidate.
 fn try_candidate(
     task: &Task,
     subject: &Subject,
     here: &Here,
     ledger: &mut Ledger,
     bench: &mut Bench,
-    place: usize,
+    candidate: Candidate,
 ) -> Result<(), AllocError> {
-    let Some(candidate) = bench.list.as_slice().get(place).copied() else {
-        return Ok(());
-    };
     let changes = bench.list.changes_of(&candidate);
     let old = bench.draft.code.as_slice();
     if candidate.manner == Manner::Line {
@@ -234,25 +326,29 @@ fn try_candidate(
         changes,
         code,
     };
-    let cost = cost_of(task, subject, here, ledger, &tried)?;
     match bench.next.fault {
-        Some(fault) => keep_on(here, ledger, &tried, fault, cost),
-        None => keep_solution(here, ledger, &tried, cost),
+        Some(fault) => keep_on(task, subject, here, ledger, &tried, fault),
+        None => {
+            let cost = cost_of(task, subject, here, ledger, &tried)?;
+            keep_solution(here, ledger, &tried, cost)
+        }
     }
 }
 
 /// Keeps a candidate that leads on to another fault, if it does and its code is new.
 fn keep_on(
+    task: &Task,
+    subject: &Subject,
     here: &Here,
     ledger: &mut Ledger,
     tried: &Tried,
     fault: Fault,
-    cost: u32,
 ) -> Result<(), AllocError> {
-    let Some(cost) = cost_on(here, tried, fault, cost) else {
+    let Some(more) = cost_on(here, tried, fault) else {
         return Ok(());
     };
-    if ledger.note(key_of(tried.code, here.node.set))? {
+    let cost = cost_of(task, subject, here, ledger, tried)?.saturating_add(more);
+    if ledger.counts(cost) && ledger.note(key_of(tried.code, here.node.set))? {
         let made = made_by(&tried.candidate);
         let number = ledger.add(Some(here.number), made, cost, here.node.set, tried.changes)?;
         ledger.wait(number, cost)?;
@@ -297,26 +393,24 @@ fn made_by(candidate: &Candidate) -> Made {
     }
 }
 
-/// What a node costs that a candidate leads to, if it leads on: its fault is later, or at the same
-/// place with a greater rule. A deletion or replacement elsewhere may leave it as it is.
-fn cost_on(here: &Here, tried: &Tried, fault: Fault, cost: u32) -> Option<u32> {
+/// What a node costs more that a candidate leads to, if it leads on: its fault is later, or at the
+/// same place with a greater rule. A deletion or replacement elsewhere may leave it as it is.
+fn cost_on(here: &Here, tried: &Tried, fault: Fault) -> Option<u32> {
     let (old, changes) = (here.fault, tried.changes);
     let Some(place) = followed(changes, old.at) else {
         let behind = followed(changes, old.at.saturating_add(1));
         return match behind {
             Some(behind) if fault.at < behind => None,
-            _ => Some(cost),
+            _ => Some(0),
         };
     };
     let greater = fault.rule.number() > old.rule.number();
     if fault.at > place || fault.at == place && greater {
-        return Some(cost);
+        return Some(0);
     }
     let apart = changes.iter().all(|placed| placed.at != old.at);
     match tried.candidate.manner {
-        Manner::Delete | Manner::Replace if fault.at == place && apart => {
-            Some(cost.saturating_add(30))
-        }
+        Manner::Delete | Manner::Replace if fault.at == place && apart => Some(30),
         _ => None,
     }
 }
@@ -359,9 +453,9 @@ fn cost_of(
     let cost = candidate.cost.saturating_add(more).saturating_add(wrong);
     let cost = cost.saturating_add(empty).saturating_add(alone);
     let cost = cost
-        .saturating_sub(less.min(30))
+        .saturating_sub(less.min(MOST_LESS))
         .saturating_sub(rebate)
-        .max(15);
+        .max(LEAST);
     Ok(here.node.cost.saturating_add(cost))
 }
 
@@ -399,7 +493,7 @@ fn try_line(
     let Some(set) = set_with(task, subject.set, tried.changes)? else {
         return Ok(());
     };
-    let Some(edited) = Subject::of(&set, task.driver, task.routine) else {
+    let Some(edited) = task.subject(&set) else {
         return Ok(());
     };
     let mut reading = Reading::new(task.alloc);
@@ -417,7 +511,8 @@ fn try_line(
         let next = ledger.add(Some(here.number), made, cost, number, tried.changes)?;
         return ledger.solve(next, cost, u64::MAX);
     };
-    if let Some(cost) = cost_on(here, tried, fault, cost) {
+    if let Some(more) = cost_on(here, tried, fault) {
+        let cost = cost.saturating_add(more);
         let next = ledger.add(Some(here.number), made, cost, number, tried.changes)?;
         ledger.keep(set)?;
         ledger.wait(next, cost)?;
@@ -446,11 +541,12 @@ fn set_with(
 
 /// The edit that a change of the routine is.
 fn edit_of(task: &Task, placed: &Placed) -> Edit {
+    let Placed { at, change } = task.cut.raised(placed);
     Edit {
         driver: task.driver,
         routine: task.routine,
-        at: placed.at,
-        change: placed.change,
+        at,
+        change,
     }
 }
 
@@ -499,4 +595,22 @@ fn found_edits(task: &Task, ledger: &Ledger) -> Result<Vec<Found>, AllocError> {
         })?;
     }
     Ok(found)
+}
+
+/// How many instructions a set has.
+pub(crate) fn size_of(set: &DriverSet) -> usize {
+    let mut size = 0_usize;
+    for driver in set.drivers() {
+        size = size.saturating_add(size_of_driver(driver));
+    }
+    size
+}
+
+/// How many a driver has.
+fn size_of_driver(driver: &Driver) -> usize {
+    let mut size = 0_usize;
+    for routine in driver.routines.as_slice() {
+        size = size.saturating_add(routine.code.as_slice().len());
+    }
+    size
 }

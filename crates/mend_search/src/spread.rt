@@ -1,8 +1,9 @@
 //! Mends that reach into other routines: an edit of a line may bring a fault to one before.
 
+use crate::aim::Aim;
 use crate::draft::is_line;
 use crate::search::{Found, search};
-use driver_set::{DriverSet, Items};
+use driver_set::DriverSet;
 use mend_changes::{Edit, edited_by};
 use std::alloc::{AllocError, Global};
 use verifier::{Refusal, Rule, verify};
@@ -10,50 +11,27 @@ use verifier::{Refusal, Rule, verify};
 /// Other routines that are mended too, at most.
 const MAX_OTHERS: u8 = 8;
 
-/// Mends of the routine of a refusal, the best first. So many edits are tried, at most, for it and
-/// for each other routine that is mended with it.
-pub(crate) fn mends(
+/// The edits of a mend of the routine of a refusal, and behind those of lines the ones that mend the
+/// routines before it which have a fault then: as much is tried for each of them.
+pub(crate) fn completed(
     alloc: Global,
     set: &DriverSet,
     refusal: &Refusal,
-    tries: u64,
-) -> Result<Vec<Found>, AllocError> {
-    let mut mends = Vec::new(alloc);
-    for found in search(alloc, set, refusal.driver, refusal.routine, tries)? {
-        let lines = found
-            .edits
-            .as_slice()
-            .iter()
-            .any(|edit| is_line(&edit.change));
-        if lines {
-            mends.push(completed(alloc, set, refusal, found, tries)?)?;
-        } else {
-            mends.push(found)?;
-        }
+    found: &Found,
+    aim: Aim,
+) -> Result<Vec<Edit>, AllocError> {
+    let mut edits = Vec::from_slice(alloc, found.edits.as_slice())?;
+    if !edits.iter().any(|edit| is_line(&edit.change)) {
+        return Ok(edits);
     }
-    Ok(mends)
-}
-
-/// A mend with those of the routines before it that have a fault then.
-fn completed(
-    alloc: Global,
-    set: &DriverSet,
-    refusal: &Refusal,
-    found: Found,
-    tries: u64,
-) -> Result<Found, AllocError> {
-    let mut edits = found.edits.into_vec();
     for _ in 0..MAX_OTHERS {
-        let more = next_edits(alloc, set, refusal, edits.as_slice(), tries)?;
+        let more = next_edits(alloc, set, refusal, edits.as_slice(), aim)?;
         if more.is_empty() {
             break;
         }
         edits.extend_from_slice(more.as_slice())?;
     }
-    Ok(Found {
-        edits: Items::of(edits),
-        cost: found.cost,
-    })
+    Ok(edits)
 }
 
 /// The best edits for a routine, before that of a refusal, that has a fault behind other edits.
@@ -62,7 +40,7 @@ fn next_edits(
     set: &DriverSet,
     refusal: &Refusal,
     edits: &[Edit],
-    tries: u64,
+    aim: Aim,
 ) -> Result<Vec<Edit>, AllocError> {
     let none = Vec::new(alloc);
     let Some(made) = edited_by(alloc, set, edits)? else {
@@ -78,7 +56,7 @@ fn next_edits(
     if left.driver > refusal.driver || same {
         return Ok(none);
     }
-    match search(alloc, &made, left.driver, left.routine, tries)?.first() {
+    match search(alloc, &made, left.driver, left.routine, aim.of_others())?.first() {
         Some(found) => Vec::from_slice(alloc, found.edits.as_slice()),
         None => Ok(none),
     }

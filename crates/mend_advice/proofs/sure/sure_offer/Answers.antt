@@ -2,7 +2,6 @@ use Rattle.std.proofs.Common.{rules, ◌≡◌, Some, slice_get, refl, subst}
 use Rattle.std.proofs.lemmas.Option.{slice_get_read}
 use Rattle.model.specs.declared.abs.Refusal.{Refusal}
 use Rattle.mend_search.specs.declared.offers.Standing.TheVariants.{Sure}
-use Rattle.mend_search.specs.Offers.{Lead, set_at}
 use Rattle.mend_advice.specs.Advice.{IsAdvised}
 use Rattle.mend_advice.proofs.Advised.{advised}
 use Rattle.mend_advice.proofs.sure.sure_offer.Goals as goal
@@ -10,16 +9,13 @@ use Rattle.mend_advice.proofs.sure.sure_offer.Goals as goal
 pub returns-then-eq : goal.returns-then-eq
 returns-then-eq c =
     let set = c.args.set.now in
-    let last = set_at c.args.offers.now.ending in
-    let items = c.as_slice-mending-items.result.now in
+    let items = c.args.mendings.now in
     let mending = c.mending-item.result in
     let offer = c.in_ok-first.first.now in
-    let lead : Lead set items last =
-    rw c.as_slice-mending-items.ensures c.requires.0 in
     let is : slice_get items c.loop-mending.mending-index ≡ Some mending =
     slice_get_read items _ _ mending refl c.loop-mending-test.true c.mending-item.is in
     let first : slice_get mending.offers 0 ≡ Some offer = search rules in
     let sure : offer.standing ≡ Sure = search rules in
     let same : mending.refusal ≡ c.args.refusal.now = search rules in
     subst (λ (r : Refusal). IsAdvised set r offer) same
-    (advised set last items _ mending offer lead is first sure)
+    (advised set items _ mending offer c.requires is first sure)
