@@ -4,6 +4,8 @@
 
 pub mod extent;
 pub mod figure;
+pub mod jobs;
 pub mod manner;
+pub mod surroundings;
 pub mod tries;
 pub mod wanted;
