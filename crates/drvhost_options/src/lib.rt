@@ -5,6 +5,7 @@
 pub mod extent;
 pub mod figure;
 pub mod jobs;
+pub mod logging;
 pub mod manner;
 pub mod surroundings;
 pub mod tries;
