@@ -1,15 +1,17 @@
 -- Which refusals evidence can be asked for.
-use Rattle.std.proofs.Common.{◌≡◌, ◌⊎◌, ◌≢◌, ◌∙◌, ℕ, zero, suc, List, [], inl, inr, length, Option, None, Some, ap, option_and_then, option_map, option_to_list, refl, slice_get, subst, sym}
+use Rattle.std.proofs.Common.{◌≡◌, ◌⊎◌, ◌≢◌, ◌∙◌, ◌<◌, ◌≤◌, ℕ, zero, suc, List, [], ◌∷◌, inl, inr, length, Option, None, Some, ap, option_and_then, option_map, option_to_list, refl, slice_get, subst, sym}
 use Rattle.std.proofs.lemmas.Bool.Decides.{eqb_tells}
-use Rattle.std.proofs.lemmas.List.Elements.{All-append, All-cons, All-nil}
-use Rattle.std.specs.Prelude.{All}
+use Rattle.std.proofs.lemmas.List.{get_or-map}
+use Rattle.std.proofs.lemmas.List.Elements.{All-append, All-cons, All-get_or, All-nil}
+use Rattle.std.specs.Prelude.{All, get_or}
 use Rattle.model.specs.declared.abs.Refusal.{Refusal}
 use Rattle.model.specs.declared.abs.Rule.TheVariants.{Malformed, Memory}
 use Rattle.model.specs.declared.set.Driver.{Driver}
 use Rattle.model.specs.Set.{Member, Set, member}
 use Rattle.model.specs.Typable.{IsFirstFault, at_start}
 use Rattle.verifier_evidence.specs.Path.{member_of}
-use Rattle.verifier_words.specs.Faults.{AreBefore, AreFaults, AreOfDriver, AreOfRoutines, IsFound, own_fault}
+use Rattle.verifier_words.specs.declared.telling.Told.{Told}
+use Rattle.verifier_words.specs.Faults.{AreBefore, AreFaults, AreOfDriver, AreOfRoutines, IsFound, own_fault, refusals}
 use Rattle.drvhost_evidence.specs.Faults.{IsFaultIn, IsFaultOf}
 
 -- the first fault of a set is one
@@ -79,3 +81,29 @@ faults_before set (suc number) all (before, own, those, its, is) =
 pub each_is_fault : (set : Set) (all : List Refusal) → AreFaults set all
     → All (IsFaultOf set) all
 each_is_fault set all h = faults_before set (length set.drivers) all h
+
+-- as many refusals are told of as are told
+length_told : (all : List Told) → length (refusals all) ≡ length all
+length_told [] = refl
+length_told (one ∷ all) = ap (λ n. suc n) (length_told all)
+
+-- one of several that are told
+module _ (set : Set) (all : List Told) (i : ℕ) (one : Told) (within : i < length all)
+    (is : one ≡ get_or all i one) where
+  pub told_at : one.refusal ≡ get_or (refusals all) i one.refusal
+  told_at =
+      ap (λ (t : Told). t.refusal) is
+      ∙ sym (get_or-map (λ (t : Told). t.refusal) all i one one.refusal within)
+
+  pub within_told : i < length (refusals all)
+  within_told = rw (length_told all) within
+
+  pub fault_at : AreFaults set (refusals all) → IsFaultOf set one.refusal
+  fault_at are =
+      subst (IsFaultOf set) (sym told_at)
+      (All-get_or (IsFaultOf set) (refusals all) i one.refusal within_told
+      (each_is_fault set (refusals all) are))
+
+-- behind the last of them
+pub past_told : (all : List Told) (i : ℕ) → length all ≤ i → length (refusals all) ≤ i
+past_told all i passed = rw (length_told all) passed

@@ -3,12 +3,12 @@ use Rattle.std.specs.Prelude.{ℕ, ◌≡◌, ◌++◌, List, [], ◌∷◌, map
 use Rattle.std.specs.Option.{option_and_then}
 use Rattle.model.specs.declared.abs.Refusal.{Refusal}
 use Rattle.report_sarif.specs.declared.log.Region.{Region}
+use Rattle.report_sarif.specs.declared.log.Step.{Step}
 use Rattle.verifier_evidence.specs.declared.evidence.Evidence.{Evidence}
 use Rattle.verifier_evidence.specs.declared.evidence.Evidence.TheVariants.{Misplaced, Unreached, NotEntered, Broken, Differing, Unlike, TooLong}
 use Rattle.verifier_evidence.specs.declared.trail.Path.{Path}
 use Rattle.verifier_evidence.specs.declared.trail.Step.{Step as PathStep}
 use Rattle.drvhost_evidence.specs.declared.shown.Shown.{Shown}
-use Rattle.drvhost_evidence.specs.declared.shown.Step.{Step}
 use Rattle.drvhost_evidence.specs.Regions.{position_lines, region_at}
 
 -- a position, and where its instruction stands

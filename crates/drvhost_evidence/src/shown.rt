@@ -7,21 +7,12 @@ ghost use Rattle.drvhost_evidence.specs.Shown.{AreStepsBy, AreStepsOf, IsShownBy
 use crate::region::{position_lines, region_by};
 use driver_set::DriverSet;
 use model::abs::Refusal;
-use report_sarif::log::Region;
+use report_sarif::log::Step;
 use std::alloc::{AllocError, Global};
 use text::Spots;
 use verifier_evidence::{Evidence, Path, Step as PathStep};
 use verifier_names::Origin;
 use verifier_words::{RefusedRoutine, set_refused};
-
-/// A step of a path: a position of the routine, where its instruction stands, and in words what is
-/// known where the path arrives there.
-#[derive(Drop)]
-pub struct Step {
-    pub position: u16,
-    pub region: Option<Region>,
-    pub known: String,
-}
 
 /// What shows a refusal: the path to its place, if there is one, and the other one where two differ;
 /// and in words why the rule is broken, and how to mend it.

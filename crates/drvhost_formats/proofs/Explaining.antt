@@ -1,8 +1,7 @@
 -- The lines of refusals that are explained.
-use Rattle.std.proofs.Common.{◌≡◌, ◌∙◌, ◌+◌, ◌<◌, ◌≤◌, ◌++◌, ℕ, suc, List, [], ◌∷◌, OnOk, Option, Result, Ok, Err, ap, append_assoc, append-nil, length, refl, subst, sym, take}
+use Rattle.std.proofs.Common.{◌≡◌, ◌∙◌, ◌+◌, ◌<◌, ◌≤◌, ◌++◌, ℕ, List, [], ◌∷◌, OnOk, Option, Result, Ok, Err, ap, append_assoc, append-nil, length, refl, subst, sym, take}
 use Rattle.std.specs.Prelude.{get_or}
-use Rattle.std.proofs.lemmas.List.{get_or-map, take_all, take_more}
-use Rattle.std.proofs.lemmas.List.Elements.{All-get_or}
+use Rattle.std.proofs.lemmas.List.{take_all, take_more}
 use Rattle.model.specs.declared.abs.Refusal.{Refusal}
 use Rattle.model.specs.Set.{Set}
 use Rattle.model.specs.Typable.{IsFirstFault}
@@ -13,10 +12,9 @@ use Rattle.verifier_evidence.specs.Evidence.{IsEvidence}
 use Rattle.verifier_words.specs.declared.telling.Told.{Told}
 use Rattle.verifier_words.specs.Faults.{AreFaults, refusals}
 use Rattle.drvhost_evidence.specs.declared.shown.Shown.{Shown}
-use Rattle.drvhost_evidence.specs.Faults.{IsFaultOf}
 use Rattle.drvhost_evidence.specs.Regions.{refusal_region}
 use Rattle.drvhost_evidence.specs.Shown.{IsShownBy}
-use Rattle.drvhost_evidence.proofs.EachFault.{each_is_fault}
+use Rattle.drvhost_evidence.proofs.EachFault.{past_told, told_at, within_told}
 use Rattle.drvhost_options.specs.declared.extent.Extent.{Extent}
 use Rattle.drvhost_options.specs.declared.extent.Extent.TheVariants.{First, Each}
 use Rattle.drvhost_formats.specs.declared.outcome.Outcome.TheVariants.{Stopped}
@@ -61,28 +59,6 @@ pub of_each : {A E : Type 0} (r : Result A E) (extent : Extent) (name bytes : Li
 of_each (Ok a) extent name bytes set refusal old l is (all, text, faults, are, added) =
     rw is (text, (all, faults, are), added)
 of_each (Err e) extent name bytes set refusal old l is h = h
-
--- as many refusals are told of as are told
-length_told : (all : List Told) → length (refusals all) ≡ length all
-length_told [] = refl
-length_told (one ∷ all) = ap (λ n. suc n) (length_told all)
-
--- one of several that are told
-module _ (set : Set) (all : List Told) (i : ℕ) (one : Told) (within : i < length all)
-    (is : one ≡ get_or all i one) where
-  pub told_at : one.refusal ≡ get_or (refusals all) i one.refusal
-  told_at =
-      ap (λ (t : Told). t.refusal) is
-      ∙ sym (get_or-map (λ (t : Told). t.refusal) all i one one.refusal within)
-
-  pub within_told : i < length (refusals all)
-  within_told = rw (length_told all) within
-
-  pub fault_at : AreFaults set (refusals all) → IsFaultOf set one.refusal
-  fault_at are =
-      subst (IsFaultOf set) (sym told_at)
-      (All-get_or (IsFaultOf set) (refusals all) i one.refusal within_told
-      (each_is_fault set (refusals all) are))
 
 -- a refused set, whose lines were added
 pub refused : (extent : Extent) (name bytes : List ℕ) (set : Set) (refusal : Refusal)
@@ -143,7 +119,7 @@ pub told_all : (name bytes : List ℕ) (set : Set) (all : List Told) (i : ℕ) (
     → (each : List Refusal) × (text : List ℕ) × AreFaults set each
     × AreRefusalLines name bytes set each text × (l ≡ old ++ text)
 told_all name bytes set all i old l passed faults (text, so, was) =
-    let past : length (refusals all) ≤ i = rw (length_told all) passed in (
+    let past = past_told all i passed in (
       refusals all,
       text,
       faults,

@@ -7,8 +7,8 @@ use Rattle.report.specs.Rule.{rule_name}
 use Rattle.report_json.specs.declared.verdict.CertifiedRoutine.{CertifiedRoutine}
 use Rattle.report_json.specs.Verdict.{routines_json}
 use Rattle.report_sarif.specs.declared.log.Region.{Region}
+use Rattle.report_sarif.specs.declared.log.Step.{Step}
 use Rattle.drvhost_evidence.specs.declared.shown.Shown.{Shown}
-use Rattle.drvhost_evidence.specs.declared.shown.Step.{Step}
 
 -- the name of the shape, and its edition
 abbrev pub explanation_format : List ℕ

@@ -6,8 +6,8 @@ use Rattle.model.specs.declared.abs.Refusal.{Refusal}
 use Rattle.report_json.specs.declared.verdict.CertifiedRoutine.{CertifiedRoutine}
 use Rattle.report_json.specs.Nesting.{acceptance_nests}
 use Rattle.report_sarif.specs.declared.log.Region.{Region}
+use Rattle.report_sarif.specs.declared.log.Step.{Step}
 use Rattle.drvhost_evidence.specs.declared.shown.Shown.{Shown}
-use Rattle.drvhost_evidence.specs.declared.shown.Step.{Step}
 use Rattle.drvhost_formats.specs.Explanation.{Lesson, acceptance_explained_json, refusal_explained_json, region_json, step_json, steps_json}
 
 region_nests : (region : Option Region) → depth (region_json region) ≤ 1

@@ -8,13 +8,13 @@ ghost use Rattle.model.specs.Words.{rule_word};
 ghost use Rattle.report.specs.Rule.{rule_name};
 ghost use Rattle.drvhost_formats.specs.Explanation.{region_json, step_json, steps_json};
 
-use drvhost_evidence::shown::{Shown, Step};
+use drvhost_evidence::shown::Shown;
 use json::Writer;
 use model::abs::Refusal;
 use report_json::member::{begin, put_number, put_text};
 use report_json::to_json::ToJson;
 use report_json::verdict::{CertifiedRoutine, put_rule, write_routines};
-use report_sarif::log::Region;
+use report_sarif::log::{Region, Step};
 use std::alloc::AllocError;
 
 /// The name of the shape of an explanation, and its edition.

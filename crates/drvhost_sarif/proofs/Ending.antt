@@ -1,4 +1,4 @@
--- How files are checked with one log.
+-- How files are answered with one log.
 use Rattle.std.proofs.Common.{◌≡◌, ◌+◌, ℕ, List, [], Option, Result, Ok, String, arith, codes, inl, inr, refl, subst}
 use Rattle.std.specs.Global.{Global}
 use Rattle.std.specs.Io.KnownBytes.{Appends}
@@ -7,7 +7,8 @@ use Rattle.drvhost_devices.specs.Device.{Says, Supply, TakesBeginning}
 use Rattle.drvhost_devices.specs.Ends.{Answers, Ends, OutOfMemory, Rightly, WriteFailed}
 use Rattle.drvhost_devices.proofs.Writing.{appends_none, keeps_same}
 use Rattle.drvhost_many.specs.All.{Counted}
-use Rattle.drvhost_sarif.specs.declared.results.Results.{Results}
+use Rattle.drvhost_options.specs.declared.logging.Logging.{Logging}
+use Rattle.drvhost_sarif.specs.declared.found.Found.{Found}
 use Rattle.drvhost_sarif.specs.Found.{ReadsAll}
 use Rattle.drvhost_sarif.specs.Log.{FilesEnd, IsLogOf, IsLogged}
 
@@ -62,12 +63,13 @@ log_unmade status findings exit reads w e f b p q is says =
     }
 
 -- all files are read, and the log is made
-pub files_end : {E : Type 0} (supply : List ℕ → Supply) (names : List (String Global))
-    (o p r s w x : ℕ) (b n : Option (List ℕ)) (Tells : List ℕ → Type 0) (exit : ℕ)
-    (results : Results) → ReadsAll {E = E} supply names o p r s (Ok results)
-    → Answers (IsLogged results.status results.findings.items) 0 0 w x b n Tells exit
-    → Counted (FilesEnd supply names) o p r s w x b n Tells exit
-files_end supply names o p r s w x b n Tells exit results read told =
+pub files_end : {E : Type 0} (logging : Logging) (supply : List ℕ → Supply)
+    (names : List (String Global)) (o p r s w x : ℕ) (b n : Option (List ℕ))
+    (Tells : List ℕ → Type 0) (exit : ℕ) (found : Found)
+    → ReadsAll {E = E} logging supply names o p r s (Ok found)
+    → Answers (IsLogged found.status found.findings.items) 0 0 w x b n Tells exit
+    → Counted (FilesEnd logging supply names) o p r s w x b n Tells exit
+files_end logging supply names o p r s w x b n Tells exit found read told =
     let none : told.reads ≡ 0 = omega (arith, told.reads_are) in
     record {
       opened = read.opened;
@@ -80,21 +82,22 @@ files_end supply names o p r s w x b n Tells exit results read told =
       tells = told.tells;
       ends =
           inl (
-            results.status,
-            results.findings.items,
+            found.status,
+            found.findings.items,
             read.found.1,
             read.found.0,
-            subst (λ k. Ends (IsLogged results.status results.findings.items) k told.writes b n exit
+            subst (λ k. Ends (IsLogged found.status found.findings.items) k told.writes b n exit
                 told.told) none told.ends,
           );
     }
 
 -- memory runs out while they are
-pub files_unread : {E : Type 0} (supply : List ℕ → Supply) (names : List (String Global))
-    (o p r s w e f : ℕ) (b t u : Option (List ℕ)) (exit : ℕ) (result : Result Results E)
-    → ReadsAll supply names o p r s result → exit ≡ 3 → Says e f t u (codes "out of memory\n")
-    → Counted (FilesEnd supply names) o p r s w w b b (Says e f t u) exit
-files_unread supply names o p r s w e f b t u exit result read is says =
+pub files_unread : {E : Type 0} (logging : Logging) (supply : List ℕ → Supply)
+    (names : List (String Global)) (o p r s w e f : ℕ) (b t u : Option (List ℕ)) (exit : ℕ)
+    (result : Result Found E) → ReadsAll logging supply names o p r s result → exit ≡ 3
+    → Says e f t u (codes "out of memory\n")
+    → Counted (FilesEnd logging supply names) o p r s w w b b (Says e f t u) exit
+files_unread logging supply names o p r s w e f b t u exit result read is says =
     record {
       opened = read.opened;
       reads = read.reads;

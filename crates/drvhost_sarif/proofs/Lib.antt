@@ -1,2 +1,4 @@
 pub mod Adding
 pub mod Ending
+pub mod Explained
+pub mod Single

@@ -1,90 +1,148 @@
-//! What is wrong with a file, as a result of SARIF.
+//! What is found in a file, as results of SARIF.
 
-ghost use Rattle.std.specs.Prelude.{◌≡◌, ◌≢◌, ◌∷◌, [], IfOk, IfSome, IfNone, Option, None};
+ghost use Rattle.std.specs.Prelude.{◌≡◌, ◌⊎◌, IfOk};
+ghost use Rattle.model.specs.Typable.{IsFirstFault, at_start};
 ghost use Rattle.model.specs.Words.{rule_word};
 ghost use Rattle.report.specs.Rule.{rule_name};
 ghost use Rattle.report_sarif.specs.declared.log.Region.{Region as PlacedRegion};
-ghost use Rattle.drvhost_sarif.specs.Found.{IsFaultFound, IsFoundIn, IsRefusalFound, IsVerdictFound, found_findings, found_status, refusal_print, refusal_words};
+ghost use Rattle.drvhost_sarif.specs.Found.{AreTold, IsFault, IsFaultFound, IsFoundIn, IsPass, IsPassed, IsRefused, IsRefusalFound, IsVerdictFound, refusal_print, refusal_words};
 
+use crate::explaining::explained;
+use crate::found::{Found, only};
 use drvhost_devices::fault::Fault;
 use drvhost_devices::reading::set_of;
 use drvhost_evidence::region::{refusal_region, region_at};
+use drvhost_options::logging::{Account, Logging, Passes};
 use image::DriverSet;
 use model::abs::{Refusal, Rule};
 use report::fault::{image_fault_name, text_kind_name};
-use report_sarif::log::{Finding, Region};
+use report_sarif::log::{Finding, Kind, Region};
 use std::alloc::{AllocError, Global};
 use verifier::verify;
 
+/// The word under which an accepted set stands.
+pub(crate) const ACCEPTED: &str = "Accepted";
+
+/// A file that was read: its name, and its bytes.
+#[derive(Clone, Copy)]
+pub(crate) struct ReadFile<'a> {
+    pub(crate) name: &'a str,
+    pub(crate) bytes: &'a [u8],
+}
+
 /// What is found in a file.
-#[derive(Drop)]
-pub enum Found {
-    /// An accepted set.
-    Nothing,
-    /// A refused set: its first fault.
-    Refusal(Finding),
-    /// No set: the first fault of the file, or that it can't be read.
-    Fault(Finding),
-}
-
-impl Found {
-    /// The exit status.
-    pub(crate) fn status(&self) -> u8
-        ensures { result ≡ found_status self.now }
-    {
-        match self {
-            Found::Nothing => 0,
-            Found::Refusal(_) => 1,
-            Found::Fault(_) => 2,
-        }
-    }
-
-    /// What is wrong, if something is.
-    pub(crate) fn into_finding(self) -> Option<Finding>
-        ensures some { IfSome result (λ finding. found_findings self ≡ finding ∷ []) }
-        ensures none { IfNone result (found_findings self ≡ []) }
-    {
-        match self {
-            Found::Nothing => None,
-            Found::Refusal(finding) | Found::Fault(finding) => Some(finding),
-        }
-    }
-}
-
-/// What is found in the bytes of the file of a name.
-pub(crate) fn found_in(alloc: Global, name: &str, bytes: &[u8]) -> Result<Found, AllocError>
-    ensures { IfOk result (IsFoundIn name.now bytes.now) }
+pub(crate) fn found_in(
+    alloc: Global,
+    logging: Logging,
+    file: ReadFile<'_>,
+) -> Result<Found, AllocError>
+    ensures { IfOk result (IsFoundIn logging file.entry.name.now file.entry.bytes.now) }
 {
-    match set_of(alloc, bytes) {
-        Ok(set) => judged(alloc, name, bytes, set),
+    match set_of(alloc, file.bytes) {
+        Ok(set) => judged(alloc, logging, file, set),
         Err(Fault::Text(fault)) => {
-            let region = region_at(bytes, fault.line);
-            fault_in(alloc, name, text_kind_name(fault.kind), region)
+            let region = region_at(file.bytes, fault.line);
+            fault_in(alloc, file.name, text_kind_name(fault.kind), region)
         }
-        Err(Fault::Image(fault)) => fault_in(alloc, name, image_fault_name(fault), None),
+        Err(Fault::Image(fault)) => fault_in(alloc, file.name, image_fault_name(fault), None),
         Err(_) => Err(AllocError),
     }
 }
 
-/// What is found in the set that the bytes of the file of a name are.
-fn judged(alloc: Global, name: &str, bytes: &[u8], set: DriverSet) -> Result<Found, AllocError>
-    ensures { IfOk result (IsVerdictFound name.now bytes.now set) }
+/// What is found in the set that a file is.
+fn judged(
+    alloc: Global,
+    logging: Logging,
+    file: ReadFile<'_>,
+    set: DriverSet,
+) -> Result<Found, AllocError>
+    ensures { IfOk result (IsVerdictFound logging file.entry.name.now file.entry.bytes.now set) }
 {
     match verify(alloc, set) {
-        Ok(_accepted) => Ok(Found::Nothing),
-        Err((_set, refusal)) => Ok(Found::Refusal(of_refusal(alloc, name, bytes, &refusal)?)),
+        Ok(_accepted) => passed(alloc, logging.passes, file.name),
+        Err((set, refusal)) => refused(alloc, logging.account, file, &set, &refusal),
     }
 }
 
-/// The finding of a refusal; one for want of memory is none.
-fn of_refusal(
+/// What is found in an accepted set.
+fn passed(alloc: Global, passes: Passes, name: &str) -> Result<Found, AllocError>
+    ensures { IfOk result (IsPassed passes name.now) }
+{
+    match passes {
+        Passes::Omitted => Ok(Found::new(alloc)),
+        Passes::Listed => {
+            let finding = of_pass(alloc, name)?;
+            Found::one(alloc, 0, finding)
+        }
+    }
+}
+
+/// The result of an accepted set.
+fn of_pass(alloc: Global, name: &str) -> Result<Finding, AllocError>
+    ensures { IfOk result (IsPass name.now) }
+{
+    Ok(Finding {
+        file: String::from_str(alloc, name)?,
+        kind: Kind::Pass,
+        rule: String::from_str(alloc, ACCEPTED)?,
+        message: String::from_str(alloc, "the set is accepted")?,
+        region: None,
+        path: Vec::new(alloc),
+        other: Vec::new(alloc),
+        fingerprint: String::from_str(alloc, ACCEPTED)?,
+    })
+}
+
+/// What is found in a refused set; one that is refused for want of memory is none.
+fn refused(
     alloc: Global,
-    name: &str,
-    bytes: &[u8],
+    account: Account,
+    file: ReadFile<'_>,
+    set: &DriverSet,
+    refusal: &Refusal,
+) -> Result<Found, AllocError>
+    requires { (refusal.now ≡ at_start Rule.Memory) ⊎ IsFirstFault set.now refusal.now }
+    ensures { IfOk result (IsRefused account file.entry.name.now file.entry.bytes.now set.now) }
+{
+    if refusal.rule == Rule::Memory {
+        return Err(AllocError);
+    }
+    let findings = told(alloc, account, file, set, refusal)?;
+    Ok(Found {
+        status: 1,
+        findings,
+    })
+}
+
+/// What is told of a refused set.
+fn told(
+    alloc: Global,
+    account: Account,
+    file: ReadFile<'_>,
+    set: &DriverSet,
+    refusal: &Refusal,
+) -> Result<Vec<Finding>, AllocError>
+    requires { IsFirstFault set.now refusal.now }
+    ensures { IfOk result (λ findings. AreTold account file.entry.name.now file.entry.bytes.now
+        set.now refusal.now findings.items) }
+{
+    match account {
+        Account::Verdict => {
+            let finding = of_refusal(alloc, file, refusal)?;
+            only(alloc, finding)
+        }
+        Account::Explanation(extent) => explained(alloc, extent, file, set, refusal),
+    }
+}
+
+/// The result of a refusal.
+pub(crate) fn of_refusal(
+    alloc: Global,
+    file: ReadFile<'_>,
     refusal: &Refusal,
 ) -> Result<Finding, AllocError>
-    ensures found { IfOk result (IsRefusalFound name.now bytes.now refusal.now) }
-    ensures memory { IfOk result (λ _. refusal.now.rule ≢ Rule.Memory) }
+    ensures { IfOk result
+        (IsRefusalFound file.entry.name.now file.entry.bytes.now refusal.now) }
 {
     let Refusal {
         driver,
@@ -92,16 +150,16 @@ fn of_refusal(
         at,
         rule,
     } = *refusal;
-    if rule == Rule::Memory {
-        return Err(AllocError);
-    }
     let (word, _name) = words_of(rule);
     let text = rule.as_str();
     Ok(Finding {
-        file: String::from_str(alloc, name)?,
+        file: String::from_str(alloc, file.name)?,
+        kind: Kind::Fail,
         rule: String::from_str(alloc, word)?,
         message: format!(in alloc; "{text}: driver {driver}, routine {routine}, position {at}")?,
-        region: refusal_region(alloc, bytes, refusal)?,
+        region: refusal_region(alloc, file.bytes, refusal)?,
+        path: Vec::new(alloc),
+        other: Vec::new(alloc),
         fingerprint: format!(in alloc; "{word}/{driver}/{routine}/{at}")?,
     })
 }
@@ -126,11 +184,27 @@ pub(crate) fn fault_in(
 ) -> Result<Found, AllocError>
     ensures { IfOk result (IsFaultFound name.now kind.now region) }
 {
-    Ok(Found::Fault(Finding {
+    let finding = of_fault(alloc, name, kind, region)?;
+    Found::one(alloc, 2, finding)
+}
+
+/// The result of a fault.
+fn of_fault(
+    alloc: Global,
+    name: &str,
+    kind: &str,
+    region: Option<Region>,
+) -> Result<Finding, AllocError>
+    ensures { IfOk result (IsFault name.now kind.now region) }
+{
+    Ok(Finding {
         file: String::from_str(alloc, name)?,
+        kind: Kind::Fail,
         rule: String::from_str(alloc, kind)?,
         message: format!(in alloc; "the file is faulty: {kind}")?,
         region,
+        path: Vec::new(alloc),
+        other: Vec::new(alloc),
         fingerprint: String::from_str(alloc, kind)?,
-    }))
+    })
 }

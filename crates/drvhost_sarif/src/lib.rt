@@ -1,8 +1,10 @@
-//! What is wrong with driver sets, as one log of SARIF for several files, with the place in its
-//! text of each thing.
+//! What is found in the driver sets of several files, as one log of SARIF, with the place in its text
+//! of each thing that is wrong.
 #![tactic(auto)]
 
-pub mod checking;
+mod explaining;
 mod finding;
+mod found;
+pub mod logging;
 mod results;
 mod rules;

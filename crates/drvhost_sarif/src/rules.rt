@@ -1,11 +1,12 @@
-//! What can be wrong with a file, in words: the rules with their pages, and the kinds of faults.
+//! What can be told of a file, in words: the rules with their pages, the kinds of faults, and that
+//! a set is accepted.
 
 ghost use Rattle.std.specs.Prelude.{◌≡◌, IfOk, map, string_bytes};
-ghost use Rattle.drvhost_sarif.specs.Log.{IsLogOf, all_words, id_and_name, kind_words, rule_words};
+ghost use Rattle.drvhost_sarif.specs.Log.{IsLogOf, all_entries, entry_of, fault_entry, pass_entry, rule_entry};
 
-use crate::finding::words_of;
+use crate::finding::{ACCEPTED, words_of};
 use model::abs::Rule;
-use report_sarif::log::{Finding, RuleText, log};
+use report_sarif::log::{Finding, Kind, RuleText, log};
 use std::alloc::{AllocError, Global};
 use verifier_pages::rule_words;
 
@@ -49,7 +50,7 @@ const KINDS: [&str; 12] = [
     "Unreadable",
 ];
 
-/// The line of the log of what is wrong with files.
+/// The line of the log of these results.
 pub(crate) fn log_of(alloc: Global, findings: &[Finding]) -> Result<String, AllocError>
     ensures { IfOk result (λ log. IsLogOf findings.now (string_bytes log)) }
 {
@@ -59,19 +60,20 @@ pub(crate) fn log_of(alloc: Global, findings: &[Finding]) -> Result<String, Allo
     Ok(log)
 }
 
-/// All that can be wrong, in words.
+/// All that can be told, in words.
 fn texts(alloc: Global) -> Result<Vec<RuleText>, AllocError>
-    ensures { IfOk result (λ texts. map id_and_name texts.items ≡ all_words) }
+    ensures { IfOk result (λ texts. map entry_of texts.items ≡ all_entries) }
 {
     let mut texts = rule_texts(alloc, &RULES)?;
     let mut kinds = kind_texts(alloc, &KINDS)?;
     texts.append(&mut kinds)?;
+    texts.push(pass_text(alloc)?)?;
     Ok(texts)
 }
 
 /// Rules, each with its page.
 fn rule_texts(alloc: Global, rules: &[Rule]) -> Result<Vec<RuleText>, AllocError>
-    ensures { IfOk result (λ texts. map id_and_name texts.items ≡ map rule_words rules.now) }
+    ensures { IfOk result (λ texts. map entry_of texts.items ≡ map rule_entry rules.now) }
 {
     let mut texts = Vec::new(alloc);
     for rule in rules {
@@ -82,20 +84,21 @@ fn rule_texts(alloc: Global, rules: &[Rule]) -> Result<Vec<RuleText>, AllocError
 
 /// A rule, with its page.
 fn rule_text(alloc: Global, rule: Rule) -> Result<RuleText, AllocError>
-    ensures { IfOk result (λ text. id_and_name text ≡ rule_words rule) }
+    ensures { IfOk result (λ text. entry_of text ≡ rule_entry rule) }
 {
     let (word, name) = words_of(rule);
     Ok(RuleText {
         id: String::from_str(alloc, word)?,
         name: String::from_str(alloc, name)?,
         page: rule_words(alloc, rule)?,
+        kind: Kind::Fail,
     })
 }
 
 /// Kinds of faults.
 fn kind_texts(alloc: Global, kinds: &[&str]) -> Result<Vec<RuleText>, AllocError>
     ensures { IfOk result (λ texts.
-        map id_and_name texts.items ≡ map (λ kind. kind_words kind.now) kinds.now) }
+        map entry_of texts.items ≡ map (λ kind. fault_entry kind.now) kinds.now) }
 {
     let mut texts = Vec::new(alloc);
     for kind in kinds {
@@ -106,11 +109,24 @@ fn kind_texts(alloc: Global, kinds: &[&str]) -> Result<Vec<RuleText>, AllocError
 
 /// A kind of fault.
 fn kind_text(alloc: Global, kind: &str) -> Result<RuleText, AllocError>
-    ensures { IfOk result (λ text. id_and_name text ≡ kind_words kind.now) }
+    ensures { IfOk result (λ text. entry_of text ≡ fault_entry kind.now) }
 {
     Ok(RuleText {
         id: String::from_str(alloc, kind)?,
         name: String::from_str(alloc, kind)?,
         page: format!(in alloc; "the file is faulty: {kind}")?,
+        kind: Kind::Fail,
+    })
+}
+
+/// That a set is accepted.
+fn pass_text(alloc: Global) -> Result<RuleText, AllocError>
+    ensures { IfOk result (λ text. entry_of text ≡ pass_entry) }
+{
+    Ok(RuleText {
+        id: String::from_str(alloc, ACCEPTED)?,
+        name: String::from_str(alloc, ACCEPTED)?,
+        page: String::from_str(alloc, "The set breaks none of the rules.")?,
+        kind: Kind::Pass,
     })
 }

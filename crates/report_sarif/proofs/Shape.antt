@@ -1,5 +1,5 @@
 -- The text of a log: how deep it nests, and that no number in it is a float.
-use Rattle.std.proofs.Common.{◌≡◌, ◌≤◌, ℕ, List, [], ◌∷◌, map, Option, None, Some, IfOk, Result, Ok, Err, String, false, refl, arith, string_bytes, subst}
+use Rattle.std.proofs.Common.{◌≡◌, ◌≤◌, ◌++◌, ℕ, List, [], ◌∷◌, map, Option, None, Some, IfOk, Result, Ok, Err, String, false, refl, arith, string_bytes, subst}
 use Rattle.std.specs.Global.{Global}
 use Rattle.serde_json.specs.Data.{Data, depth, items_depth}
 use Rattle.serde_json.specs.Read.{max_depth, read}
@@ -8,7 +8,8 @@ use Rattle.serde_json.specs.Written.{compact_text, has_float, items_have_float}
 use Rattle.report_sarif.specs.declared.log.Finding.{Finding}
 use Rattle.report_sarif.specs.declared.log.Region.{Region}
 use Rattle.report_sarif.specs.declared.log.RuleText.{RuleText}
-use Rattle.report_sarif.specs.Log.{log_data, physical_data, result_data, rule_data}
+use Rattle.report_sarif.specs.declared.log.Step.{Step}
+use Rattle.report_sarif.specs.Log.{flows_data, log_data, physical_data, result_data, rule_data, step_data, steps_flows}
 
 rules_shallow : (rules : List RuleText) → items_depth (items_of (map rule_data rules)) ≤ 2
 rules_shallow [] = omega arith
@@ -18,12 +19,41 @@ physical_shallow : (file : List ℕ) (region : Option Region) → depth (physica
 physical_shallow file None = omega arith
 physical_shallow file (Some region) = omega arith
 
+steps_shallow : (file : List ℕ) (steps : List Step)
+    → items_depth (items_of (map (step_data file) steps)) ≤ 5
+steps_shallow file [] = omega arith
+steps_shallow file (step ∷ steps) =
+    omega (arith, physical_shallow file step.region, steps_shallow file steps)
+
+-- behind the paths of some steps
+behind_shallow : (file : List ℕ) (steps : List Step) (flows : List Data)
+    → items_depth (items_of flows) ≤ 10
+    → items_depth (items_of (steps_flows file steps ++ flows)) ≤ 10
+behind_shallow file [] flows h = h
+behind_shallow file (step ∷ steps) flows h =
+    omega (arith, steps_shallow file (step ∷ steps), h)
+
+alone_shallow : (file : List ℕ) (steps : List Step)
+    → items_depth (items_of (steps_flows file steps)) ≤ 10
+alone_shallow file [] = omega arith
+alone_shallow file (step ∷ steps) = omega (arith, steps_shallow file (step ∷ steps))
+
+flows_shallow : (finding : Finding) → items_depth (items_of (flows_data finding)) ≤ 10
+flows_shallow finding =
+    let file = string_bytes finding.file in
+    behind_shallow file finding.path.items (steps_flows file finding.other.items)
+    (alone_shallow file finding.other.items)
+
 results_shallow : (findings : List Finding)
-    → items_depth (items_of (map result_data findings)) ≤ 6
+    → items_depth (items_of (map result_data findings)) ≤ 20
 results_shallow [] = omega arith
 results_shallow (finding ∷ findings) =
-    omega
-    (arith, physical_shallow (string_bytes finding.file) finding.region, results_shallow findings)
+    omega (
+      arith,
+      flows_shallow finding,
+      physical_shallow (string_bytes finding.file) finding.region,
+      results_shallow findings,
+    )
 
 log_shallow : (rules : List RuleText) (findings : List Finding)
     → depth (log_data rules findings) ≤ max_depth
@@ -38,11 +68,39 @@ physical_plain : (file : List ℕ) (region : Option Region)
 physical_plain file None = refl
 physical_plain file (Some region) = refl
 
+steps_plain : (file : List ℕ) (steps : List Step)
+    → items_have_float (items_of (map (step_data file) steps)) ≡ false
+steps_plain file [] = refl
+steps_plain file (step ∷ steps) =
+    rw (physical_plain file step.region, steps_plain file steps) refl
+
+behind_plain : (file : List ℕ) (steps : List Step) (flows : List Data)
+    → items_have_float (items_of flows) ≡ false
+    → items_have_float (items_of (steps_flows file steps ++ flows)) ≡ false
+behind_plain file [] flows h = h
+behind_plain file (step ∷ steps) flows h = rw (steps_plain file (step ∷ steps), h) refl
+
+alone_plain : (file : List ℕ) (steps : List Step)
+    → items_have_float (items_of (steps_flows file steps)) ≡ false
+alone_plain file [] = refl
+alone_plain file (step ∷ steps) = rw (steps_plain file (step ∷ steps)) refl
+
+flows_plain : (finding : Finding) → items_have_float (items_of (flows_data finding)) ≡ false
+flows_plain finding =
+    let file = string_bytes finding.file in
+    behind_plain file finding.path.items (steps_flows file finding.other.items)
+    (alone_plain file finding.other.items)
+
 results_plain : (findings : List Finding)
     → items_have_float (items_of (map result_data findings)) ≡ false
 results_plain [] = refl
 results_plain (finding ∷ findings) =
-    rw (physical_plain (string_bytes finding.file) finding.region, results_plain findings) refl
+    rw (
+      flows_plain finding,
+      physical_plain (string_bytes finding.file) finding.region,
+      results_plain findings,
+    )
+    refl
 
 log_plain : (rules : List RuleText) (findings : List Finding)
     → has_float (log_data rules findings) ≡ false

@@ -1,25 +1,38 @@
--- A log of SARIF 2.1.0 (OASIS, Static Analysis Results Interchange Format): the rules, and a result
--- for each thing that is wrong with a file. Members of objects stand in the order of their names.
-use Rattle.std.specs.Prelude.{ℕ, List, map, codes, Option, None, Some, string_bytes}
+-- A log of SARIF 2.1.0 (OASIS, Static Analysis Results Interchange Format): the rules, and the
+-- results for files, with the paths that lead to them. Members of objects stand in the order of
+-- their names.
+use Rattle.std.specs.Prelude.{ℕ, ◌++◌, List, [], ◌∷◌, map, codes, decimal, Option, None, Some, string_bytes}
 use Rattle.serde_json.specs.Data.{Data, number, unsigned, string, array, object, no_items, item, member, no_members}
 use Rattle.serde_json.specs.View.{items_of}
 use Rattle.report_sarif.specs.declared.log.Finding.{Finding}
+use Rattle.report_sarif.specs.declared.log.Kind.{Kind}
+use Rattle.report_sarif.specs.declared.log.Kind.TheVariants.{Fail, Pass}
 use Rattle.report_sarif.specs.declared.log.Region.{Region}
 use Rattle.report_sarif.specs.declared.log.RuleText.{RuleText}
+use Rattle.report_sarif.specs.declared.log.Step.{Step}
 use Rattle.report_sarif.specs.Uri.{uri_of}
 
 -- a text (3.11, 3.12)
 abbrev pub text_data : List ℕ → Data
 text_data text = object (member (codes "text") (string text) no_members)
 
+-- the word for whether something is wrong (3.27.9), and its level (3.27.10)
+abbrev pub kind_word : Kind → List ℕ
+kind_word Fail = codes "fail"
+kind_word Pass = codes "pass"
+
+abbrev pub level_word : Kind → List ℕ
+level_word Fail = codes "error"
+level_word Pass = codes "none"
+
 -- a rule (3.49)
-abbrev pub level_data : Data
-level_data = object (member (codes "level") (string (codes "error")) no_members)
+abbrev pub level_data : Kind → Data
+level_data kind = object (member (codes "level") (string (level_word kind)) no_members)
 
 abbrev pub rule_data : RuleText → Data
 rule_data words =
     object
-    (member (codes "defaultConfiguration") level_data
+    (member (codes "defaultConfiguration") (level_data words.kind)
     (member (codes "fullDescription") (text_data (string_bytes words.page))
     (member (codes "help") (text_data (string_bytes words.page))
     (member (codes "id") (string (string_bytes words.id))
@@ -54,6 +67,41 @@ abbrev pub location_data : List ℕ → Option Region → Data
 location_data file region =
     object (member (codes "physicalLocation") (physical_data file region) no_members)
 
+-- a step of a path (3.38), with its position and what is known there
+abbrev pub message_at : Step → List ℕ
+message_at step =
+    codes "at " ++ (decimal step.position ++ (codes ": " ++ string_bytes step.known))
+
+abbrev pub step_data : List ℕ → Step → Data
+step_data file step =
+    object
+    (member (codes "location")
+    (object
+    (member (codes "message") (text_data (message_at step))
+    (member (codes "physicalLocation") (physical_data file step.region)
+    no_members)))
+    no_members)
+
+-- a path as that of one thread (3.36, 3.37)
+abbrev pub thread_data : List ℕ → List Step → Data
+thread_data file steps =
+    object (member (codes "locations") (array (items_of (map (step_data file) steps))) no_members)
+
+abbrev pub flow_data : List ℕ → List Step → Data
+flow_data file steps =
+    object
+    (member (codes "threadFlows") (array (item (thread_data file steps) no_items)) no_members)
+
+-- the paths to what is wrong: none of no steps
+abbrev pub steps_flows : List ℕ → List Step → List Data
+steps_flows file [] = []
+steps_flows file (step ∷ steps) = flow_data file (step ∷ steps) ∷ []
+
+abbrev pub flows_data : Finding → List Data
+flows_data finding =
+    let file = string_bytes finding.file in
+    steps_flows file finding.path.items ++ steps_flows file finding.other.items
+
 -- what is equal in two results that are the same, wherever their lines were moved (3.27.17)
 abbrev pub fingerprints_data : List ℕ → Data
 fingerprints_data fingerprint =
@@ -63,13 +111,15 @@ fingerprints_data fingerprint =
 abbrev pub result_data : Finding → Data
 result_data finding =
     object
-    (member (codes "level") (string (codes "error"))
+    (member (codes "codeFlows") (array (items_of (flows_data finding)))
+    (member (codes "kind") (string (kind_word finding.kind))
+    (member (codes "level") (string (level_word finding.kind))
     (member (codes "locations")
     (array (item (location_data (string_bytes finding.file) finding.region) no_items))
     (member (codes "message") (text_data (string_bytes finding.message))
     (member (codes "partialFingerprints") (fingerprints_data (string_bytes finding.fingerprint))
     (member (codes "ruleId") (string (string_bytes finding.rule))
-    no_members)))))
+    no_members)))))))
 
 -- the tool (3.18, 3.19)
 abbrev pub driver_data : List RuleText → Data

@@ -1,23 +1,53 @@
 //! A log of SARIF.
 
-ghost use Rattle.std.specs.Prelude.{◌≡◌, ◌∷◌, [], IfOk, Some, map, string_bytes};
+ghost use Rattle.std.specs.Prelude.{◌≡◌, ◌++◌, ◌∷◌, [], IfOk, OnOk, Some, map, string_bytes};
 ghost use Rattle.serde_json.specs.Data.{array};
 ghost use Rattle.serde_json.specs.Read.{read};
 ghost use Rattle.serde_json.specs.View.{items_of, view};
 ghost use Rattle.serde_json.specs.Written.{compact_text};
-ghost use Rattle.report_sarif.specs.Log.{driver_data, log_data, physical_data, region_data, result_data, rule_data, run_data, text_data, tool_data};
+ghost use Rattle.report_sarif.specs.Log.{driver_data, flow_data, flows_data, kind_word, level_word, log_data, message_at, physical_data, region_data, result_data, rule_data, run_data, step_data, steps_flows, text_data, tool_data};
 
 use crate::uri::uri_of;
 use serde_json::{Value, json};
 use std::alloc::{AllocError, Global};
 
-/// What can be wrong with a file, in words: a rule, or a kind of fault.
+/// Whether something is wrong.
+#[derive(Clone, Copy)]
+pub enum Kind {
+    Fail,
+    Pass,
+}
+
+impl Kind {
+    /// Its word.
+    fn as_str(self) -> &'static str
+        ensures { result.now ≡ kind_word self }
+    {
+        match self {
+            Kind::Fail => "fail",
+            Kind::Pass => "pass",
+        }
+    }
+
+    /// How bad it is.
+    fn level(self) -> &'static str
+        ensures { result.now ≡ level_word self }
+    {
+        match self {
+            Kind::Fail => "error",
+            Kind::Pass => "none",
+        }
+    }
+}
+
+/// What can be told of a file, in words: a rule, a kind of fault, or that nothing is wrong.
 #[derive(Drop)]
 pub struct RuleText {
     /// Under which it is found.
     pub id: String,
     pub name: String,
     pub page: String,
+    pub kind: Kind,
 }
 
 /// A part of a line of a text: the number of the line, and the columns in it, in units of UTF-16,
@@ -29,15 +59,28 @@ pub struct Region {
     pub end: u64,
 }
 
-/// What is wrong with the file of a name.
+/// A step of a path: a position of the routine, where its instruction stands, and in words what is
+/// known where the path arrives there.
+#[derive(Drop)]
+pub struct Step {
+    pub position: u16,
+    pub region: Option<Region>,
+    pub known: String,
+}
+
+/// What is wrong with the file of a name, or that nothing is.
 #[derive(Drop)]
 pub struct Finding {
     pub file: String,
+    pub kind: Kind,
     /// The rule that is broken, or the kind of fault.
     pub rule: String,
     pub message: String,
     /// Where; an image has no lines.
     pub region: Option<Region>,
+    /// The path there, and the other one of two: none where they are empty.
+    pub path: Vec<Step>,
+    pub other: Vec<Step>,
     /// What is the same of two of them that are one, wherever their lines were moved.
     pub fingerprint: String,
 }
@@ -119,7 +162,7 @@ fn rules_value(alloc: Global, rules: &[RuleText]) -> Result<Value, AllocError>
 fn rule_value(alloc: Global, words: &RuleText) -> Result<Value, AllocError>
     ensures { IfOk result (λ value. view value ≡ rule_data words.now) }
 {
-    let level = json!(in alloc; {"level": "error"})?;
+    let level = json!(in alloc; {"level": words.kind.level()})?;
     let full = text_value(alloc, words.page.as_str())?;
     let help = text_value(alloc, words.page.as_str())?;
     let short = text_value(alloc, words.name.as_str())?;
@@ -160,13 +203,88 @@ fn result_value(alloc: Global, finding: &Finding) -> Result<Value, AllocError>
     let locations = only(alloc, location)?;
     let message = text_value(alloc, finding.message.as_str())?;
     let fingerprints = json!(in alloc; {"pafteis/v1": &finding.fingerprint})?;
+    let flows = flows_value(alloc, finding)?;
     json!(in alloc; {
-        "level": "error",
+        "codeFlows": flows,
+        "kind": finding.kind.as_str(),
+        "level": finding.kind.level(),
         "locations": locations,
         "message": message,
         "partialFingerprints": fingerprints,
         "ruleId": &finding.rule,
     })
+}
+
+/// The paths to what is wrong.
+fn flows_value(alloc: Global, finding: &Finding) -> Result<Value, AllocError>
+    ensures { IfOk result (λ value. view value ≡ array (items_of (flows_data finding.now))) }
+{
+    let mut list = Vec::new(alloc);
+    add_flow(
+        alloc,
+        &mut list,
+        finding.file.as_str(),
+        finding.path.as_slice(),
+    )?;
+    add_flow(
+        alloc,
+        &mut list,
+        finding.file.as_str(),
+        finding.other.as_slice(),
+    )?;
+    Ok(Value::Array(list))
+}
+
+/// Adds a path, if there is one.
+fn add_flow(
+    alloc: Global,
+    list: &mut Vec<Value>,
+    file: &str,
+    steps: &[Step],
+) -> Result<(), AllocError>
+    ensures { OnOk result (map view list.new.items
+        ≡ map view list.old.items ++ steps_flows file.now steps.now) }
+{
+    if !steps.is_empty() {
+        list.push(flow_value(alloc, file, steps)?)?;
+    }
+    Ok(())
+}
+
+/// A path, as that of one thread.
+fn flow_value(alloc: Global, file: &str, steps: &[Step]) -> Result<Value, AllocError>
+    ensures { IfOk result (λ value. view value ≡ flow_data file.now steps.now) }
+{
+    let mut list = Vec::new(alloc);
+    for step in steps {
+        list.push(step_value(alloc, file, step)?)?;
+    }
+    let thread = json!(in alloc; {"locations": Value::Array(list)})?;
+    let threads = only(alloc, thread)?;
+    json!(in alloc; {"threadFlows": threads})
+}
+
+/// A step of a path.
+fn step_value(alloc: Global, file: &str, step: &Step) -> Result<Value, AllocError>
+    ensures { IfOk result (λ value. view value ≡ step_data file.now step.now) }
+{
+    let told = message_at(alloc, step)?;
+    let message = text_value(alloc, told.as_str())?;
+    let physical = physical_value(alloc, file, step.region)?;
+    let location = json!(in alloc; {"message": message, "physicalLocation": physical})?;
+    json!(in alloc; {"location": location})
+}
+
+/// What is known at a step, with its position.
+fn message_at(alloc: Global, step: &Step) -> Result<String, AllocError>
+    ensures { IfOk result (λ text. string_bytes text ≡ message_at step.now) }
+{
+    let Step {
+        position,
+        known,
+        ..
+    } = step;
+    format!(in alloc; "at {position}: {known}")
 }
 
 /// Where a result is.

@@ -1,5 +1,6 @@
 use Rattle.std.proofs.Common.{arith}
-use Rattle.drvhost_formats.proofs.Explaining.{fault_at, told_all, told_next}
+use Rattle.drvhost_evidence.proofs.EachFault.{fault_at}
+use Rattle.drvhost_formats.proofs.Explaining.{told_all, told_next}
 use Rattle.drvhost_formats.proofs.explain.add_each.Goals as goal
 
 pub add_refusal-requires-clause-fault : goal.add_refusal-requires-clause-fault

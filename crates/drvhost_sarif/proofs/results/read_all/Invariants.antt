@@ -12,6 +12,6 @@ invariant-loop-name g l =
       found :
           (reads : ℕ) × (reads ≤ l.name-index)
           × (g.F.Files.failures l.files ≡ g.F.Files.failures l.initial.files + reads)
-          × AreFoundIn (g.F.Files.supply l.initial.files) (take l.name-index l.names) reads
-          l.results.status l.results.findings.items;
+          × AreFoundIn l.logging (g.F.Files.supply l.initial.files) (take l.name-index l.names) reads
+          l.all.status l.all.findings.items;
     }

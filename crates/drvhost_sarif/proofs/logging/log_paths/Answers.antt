@@ -1,10 +1,10 @@
 use Rattle.std.proofs.Common.{arith, codes, inl, inr, refl}
 use Rattle.drvhost_devices.proofs.Writing.{keeps_same}
-use Rattle.drvhost_sarif.proofs.checking.check_sarif.Goals as goal
+use Rattle.drvhost_sarif.proofs.logging.log_paths.Goals as goal
 
 pub returns-in-Ok-clause-answers : goal.returns-in-Ok-clause-answers
 returns-in-Ok-clause-answers g c =
-    let told = rw c.as_slice.ensures.value at c.check_files.ensures.answers in
+    let told = rw c.as_slice.ensures.value at c.log_files.ensures.answers in
     record {
       opened = told.opened;
       reads = told.reads;

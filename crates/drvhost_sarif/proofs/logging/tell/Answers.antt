@@ -1,6 +1,6 @@
 use Rattle.std.proofs.Common.{string_bytes}
 use Rattle.drvhost_sarif.proofs.Ending.{log_broken, log_unmade, log_written}
-use Rattle.drvhost_sarif.proofs.checking.tell.Goals as goal
+use Rattle.drvhost_sarif.proofs.logging.tell.Goals as goal
 
 pub returns-in-Err : goal.returns-in-Err
 returns-in-Err g c = λ reads.

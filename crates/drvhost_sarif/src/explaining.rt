@@ -1,0 +1,111 @@
+//! The faults of a refused set, explained, as results of SARIF.
+
+ghost use Rattle.std.specs.Prelude.{◌≡◌, ◌++◌, ◌∷◌, IfOk, List, string_bytes};
+ghost use Rattle.std.specs.List.{AllZip};
+ghost use Rattle.mend_search.specs.Offers.{AreOffersOf};
+ghost use Rattle.model.specs.declared.abs.Refusal.{Refusal as RefusalValue};
+ghost use Rattle.model.specs.Typable.{IsFirstFault};
+ghost use Rattle.verifier_words.specs.Faults.{AreFaults};
+ghost use Rattle.drvhost_evidence.specs.Faults.{IsFaultOf};
+ghost use Rattle.drvhost_sarif.specs.Found.{AreExplained, IsExplained, IsRefusal, refusal_words};
+
+use crate::finding::{ReadFile, of_refusal};
+use crate::found::only;
+use drvhost_evidence::faults::evidence_of_fault;
+use drvhost_evidence::shown::{Shown, show};
+use drvhost_options::extent::Extent;
+use drvhost_sets::advising::Advisor;
+use drvhost_sets::explaining::origin_of;
+use image::DriverSet;
+use model::abs::Refusal;
+use report_sarif::log::Finding;
+use std::alloc::{AllocError, Global};
+use verifier_words::explanations;
+
+/// The first fault of a refused set, or that of each routine, explained.
+pub(crate) fn explained(
+    alloc: Global,
+    extent: Extent,
+    file: ReadFile<'_>,
+    set: &DriverSet,
+    refusal: &Refusal,
+) -> Result<Vec<Finding>, AllocError>
+    requires { IsFirstFault set.now refusal.now }
+    ensures { IfOk result (λ findings. AreExplained extent file.entry.name.now
+        file.entry.bytes.now set.now refusal.now findings.items) }
+{
+    let advisor = Advisor::of(alloc, extent, origin_of(file.bytes), set)?;
+    match extent {
+        Extent::First => {
+            let finding = explain(alloc, file, set, &advisor, refusal)?;
+            only(alloc, finding)
+        }
+        Extent::Each => explain_each(alloc, file, set, &advisor),
+    }
+}
+
+/// The first fault of each routine, explained, the set's own first.
+fn explain_each(
+    alloc: Global,
+    file: ReadFile<'_>,
+    set: &DriverSet,
+    advisor: &Advisor<'_>,
+) -> Result<Vec<Finding>, AllocError>
+    requires { AreOffersOf set.now advisor.now.offers }
+    ensures { IfOk result (λ findings. (all : List RefusalValue) × AreFaults set.now all
+        × AllZip (IsExplained file.entry.name.now file.entry.bytes.now set.now) all
+        findings.items) }
+{
+    let all = explanations(alloc, origin_of(file.bytes), set)?;
+    let mut findings = Vec::new(alloc);
+    for told in all.as_slice() {
+        let finding = explain(alloc, file, set, advisor, &told.refusal)?;
+        findings.push(finding)?;
+    }
+    Ok(findings)
+}
+
+/// A fault, explained: behind its place in words why the rule is broken and how to mend it, and the
+/// paths to it.
+fn explain(
+    alloc: Global,
+    file: ReadFile<'_>,
+    set: &DriverSet,
+    advisor: &Advisor<'_>,
+    refusal: &Refusal,
+) -> Result<Finding, AllocError>
+    requires fault { IsFaultOf set.now refusal.now }
+    requires offers { AreOffersOf set.now advisor.now.offers }
+    ensures { IfOk result
+        (IsExplained file.entry.name.now file.entry.bytes.now set.now refusal.now) }
+{
+    let evidence = evidence_of_fault(alloc, set, refusal)?;
+    let origin = origin_of(file.bytes);
+    let shown = show(alloc, origin, file.bytes, set, refusal, &evidence)?;
+    let words = advisor.advised(alloc, set, refusal, shown.why.as_str())?;
+    of_shown(alloc, file, refusal, shown, words.as_str().trim_end())
+}
+
+/// The result of a refusal, with the paths that show it, and words behind its place.
+fn of_shown(
+    alloc: Global,
+    file: ReadFile<'_>,
+    refusal: &Refusal,
+    shown: Shown,
+    words: &str,
+) -> Result<Finding, AllocError>
+    ensures result { IfOk result
+        (IsRefusal file.entry.name.now file.entry.bytes.now refusal.now) }
+    ensures message { IfOk result (λ finding.
+        string_bytes finding.message ≡ refusal_words refusal.now ++ 10 ∷ words.now) }
+    ensures path { IfOk result (λ finding. finding.path.items ≡ shown.path.items) }
+    ensures other { IfOk result (λ finding. finding.other.items ≡ shown.other.items) }
+{
+    let Shown { path, other, .. } = shown;
+    let mut finding = of_refusal(alloc, file, refusal)?;
+    finding.message.push('\n')?;
+    finding.message.push_str(words)?;
+    finding.path = path;
+    finding.other = other;
+    Ok(finding)
+}
