@@ -33,6 +33,10 @@ use Rattle.drvhost_options.specs.declared.wanted.Wanted.TheVariants.{Sure, Numbe
 use Rattle.drvhost_options.specs.declared.extent.Extent.TheVariants.{First, Each}
 use Rattle.drvhost_options.specs.declared.figure.Figure.{Figure}
 use Rattle.drvhost_options.specs.declared.figure.Figure.TheVariants.{Picture, Tracks}
+use Rattle.drvhost_options.specs.declared.logging.Account.{Account}
+use Rattle.drvhost_options.specs.declared.logging.Account.TheVariants.{Verdict, Explanation}
+use Rattle.drvhost_options.specs.declared.logging.Logging.{Logging}
+use Rattle.drvhost_options.specs.declared.logging.Passes.TheVariants.{Listed, Omitted}
 use Rattle.drvhost_commands.specs.declared.job.Judging.{Judging}
 use Rattle.drvhost_commands.specs.declared.job.Judging.TheVariants.{Check, CheckJson, Explain, ExplainJson}
 use Rattle.drvhost_options.specs.declared.manner.Detail.{Detail}
@@ -101,17 +105,18 @@ schedule_command name rules =
 abbrev pub format_option : Rule
 format_option = value_option (codes "format") (codes "format") AnyText
 
--- `check PATH.. [--format FORMAT]`
+-- `check PATH.. [--format FORMAT] [--pass]`
 abbrev pub check_command : App
 check_command =
-    command (codes "check") (required (values_argument (codes "PATH")) ∷ format_option ∷ [])
+    command (codes "check")
+    (required (values_argument (codes "PATH")) ∷ format_option ∷ flag (codes "pass") ∷ [])
 
--- `explain [PATH..] [--all] [--format FORMAT] [--rule RULE]`, of which `NamesBy` says what goes with
--- what
+-- `explain [PATH..] [--all] [--format FORMAT] [--pass] [--rule RULE]`, of which `NamesBy` says what
+-- goes with what
 abbrev pub explain_command : App
 explain_command =
     command (codes "explain")
-    (values_argument (codes "PATH") ∷ flag (codes "all") ∷ format_option
+    (values_argument (codes "PATH") ∷ flag (codes "all") ∷ format_option ∷ flag (codes "pass")
     ∷ value_option (codes "RULE") (codes "rule") AnyText ∷ [])
 
 -- `tell FILE SCHEDULE [--unchecked] [--quiet] [--every] [--strict]`, of which `NamesBy` says that
@@ -288,14 +293,28 @@ NamesPaths found paths judging =
     (all_of (codes "PATH") found.1 ≡ Some (map (λ path. path.now) paths))
     × NamesJudging found judging
 
--- one log is asked for, and the paths for which it is
+-- one log is asked for
 abbrev pub IsLogAsked : List Row → Type 0
 IsLogAsked rows = first_of (codes "format") rows ≡ Some (codes "sarif")
 
-abbrev pub NamesLog : Text × List Row → List (Bor (List ℕ)) → Type 0
-NamesLog found paths = (found.0 ≡ codes "check")
-    × (all_of (codes "PATH") found.1 ≡ Some (map (λ path. path.now) paths))
-    × IsLogAsked found.1
+-- what it tells of refused sets
+abbrev pub NamesAccount : Text × List Row → Account → Type 0
+NamesAccount found Verdict = found.0 ≡ codes "check"
+NamesAccount found (Explanation extent) = (found.0 ≡ codes "explain")
+    × (first_of (codes "RULE") found.1 ≡ None)
+    × IsChosen (first_of (codes "all") found.1) Each First extent
+
+-- what stands in it, by that and by `--pass`
+pub record IsLogging (found : Text × List Row) (logging : Logging) : Type 0 where
+  pub asked : IsLogAsked found.1
+  pub account : NamesAccount found logging.account
+  pub passes : IsChosen (first_of (codes "pass") found.1) Listed Omitted logging.passes
+
+-- the paths for which it is
+abbrev pub NamesLog : Text × List Row → List (Bor (List ℕ)) → Logging → Type 0
+NamesLog found paths logging =
+    (all_of (codes "PATH") found.1 ≡ Some (map (λ path. path.now) paths))
+    × IsLogging found logging
 
 -- a task with a set
 abbrev pub NamesTask : Text × List Row → Task → Type 0
@@ -346,7 +365,7 @@ NamesFiles found _ = ⊥
 abbrev pub NamesBy : Text × List Row → Job → Type 0
 NamesBy found (OfPage page) = NamesPage found page
 NamesBy found (OnPaths paths judging) = NamesPaths found paths.items judging
-NamesBy found (Log paths) = NamesLog found paths.items
+NamesBy found (Log paths logging) = NamesLog found paths.items logging
 NamesBy found (OnSet set task) = NamesSet found set.now task
 NamesBy found (OnRun set input way) = NamesRun found set.now input.now way
 NamesBy found job = NamesFiles found job

@@ -57,21 +57,22 @@ const FORMAT: Argument<'static> = Argument::Value(
     "How the answer is written, text or json; text where none is given",
 );
 
+const VERDICT_FORMAT: Argument<'static> = Argument::Value(
+    "format",
+    "format",
+    ValueParser::String,
+    "How the answer is written, text, json or sarif; text where none is given",
+);
+
+const PASS: Argument<'static> = Argument::Flag("pass", "Tells accepted sets in a log of SARIF too");
+
 /// All commands, in the order of the texts of help.
 const COMMANDS: [Entry<'static>; 11] = [
     Entry {
         name: "check",
         about: "Accepts or refuses driver sets",
         usage: None,
-        arguments: &[
-            Argument::Files("PATH", PATHS),
-            Argument::Value(
-                "format",
-                "format",
-                ValueParser::String,
-                "How the answer is written, text, json or sarif; text where none is given",
-            ),
-        ],
+        arguments: &[Argument::Files("PATH", PATHS), VERDICT_FORMAT, PASS],
     },
     Entry {
         name: "explain",
@@ -80,7 +81,8 @@ const COMMANDS: [Entry<'static>; 11] = [
         arguments: &[
             Argument::AnyFiles("PATH", PATHS),
             Argument::Flag("all", "Explains the first fault of each routine"),
-            FORMAT,
+            VERDICT_FORMAT,
+            PASS,
             Argument::Value(
                 "RULE",
                 "rule",

@@ -16,6 +16,7 @@ use drvhost_devices::fault::say;
 use drvhost_devices::verification::Verification;
 use drvhost_options::extent::Extent;
 use drvhost_options::figure::Figure;
+use drvhost_options::logging::Logging;
 use drvhost_options::manner::Manner;
 use drvhost_options::wanted::Wanted;
 use hunt_bounds::reach::Reach;
@@ -42,9 +43,11 @@ pub enum Job<'a> {
         paths: Vec<&'a str>,
         judging: Judging,
     },
-    /// `check PATH.. --format sarif`: one log of the driver sets that paths stand for
+    /// `check PATH.. --format sarif [--pass]`, or `explain PATH.. [--all] --format sarif [--pass]`:
+    /// one log of the driver sets that paths stand for
     Log {
         paths: Vec<&'a str>,
+        logging: Logging,
     },
     /// `rewrite FILE OUT`
     Rewrite {

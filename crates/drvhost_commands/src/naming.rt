@@ -3,13 +3,14 @@
 ghost use Rattle.std.specs.Prelude.{◌≡◌, ◌≤◌, codes, false, map, option_map, IfNone, IfOk, IfSome, IsTrue, None, Some, ℕ, List};
 ghost use Rattle.std.specs.Borrow.{Bor};
 ghost use Rattle.clap.specs.Words.{all_of, first_of, found_of, rows_of, subcommand_rows_of};
-ghost use Rattle.drvhost_commands.specs.CommandLine.{IsChosen, IsDetail, IsFigure, IsFormat, IsGiven, IsLogAsked, IsManner, IsReach, IsWanted, Names, NamesBy, NamesFiles, NamesJudging, NamesLog, NamesPage, NamesPaths, NamesRun, NamesSet, NamesTask, NamesWay, any_number_asked, number_asked};
+ghost use Rattle.drvhost_commands.specs.CommandLine.{IsChosen, IsDetail, IsFigure, IsFormat, IsGiven, IsLogAsked, IsLogging, IsManner, IsReach, IsWanted, Names, NamesAccount, NamesBy, NamesFiles, NamesJudging, NamesLog, NamesPage, NamesPaths, NamesRun, NamesSet, NamesTask, NamesWay, any_number_asked, number_asked};
 
 use crate::job::{Job, Judging, Page, Task, Way, Workers};
 use clap::ArgMatches;
 use drvhost_devices::verification::Verification;
 use drvhost_options::extent::Extent;
 use drvhost_options::figure::Figure;
+use drvhost_options::logging::{Account, Logging, Passes};
 use drvhost_options::manner::{Detail, Manner, Strictness};
 use drvhost_options::tries::{MAX_TRIES, USUAL_TRIES};
 use drvhost_options::wanted::{MAX_OFFERS, Wanted};
@@ -171,35 +172,76 @@ fn log_named<'a>(
 ) -> Result<Option<Job<'a>>, AllocError>
     ensures some { IfOk result (λ named.
         IfSome named (NamesBy (command.now, rows_of (found_of matches.now)))) }
-    ensures none { IfOk result (λ named. IfNone named ((paths : List (Bor (List ℕ)))
-        → NamesLog (command.now, rows_of (found_of matches.now)) paths → ⊥)) }
+    ensures none { IfOk result (λ named. IfNone named
+        ((paths : List (Bor (List ℕ))) (logging : Logging)
+        → NamesLog (command.now, rows_of (found_of matches.now)) paths logging → ⊥)) }
 {
-    match command {
-        "check" => sets_to_log(alloc, matches),
-        _ => Ok(None),
-    }
-}
-
-/// The paths of sets to check, if one log of them is asked for.
-fn sets_to_log<'a>(alloc: Global, matches: &ArgMatches<'a>) -> Result<Option<Job<'a>>, AllocError>
-    ensures some { IfOk result (λ named.
-        IfSome named (NamesBy (codes "check", rows_of (found_of matches.now)))) }
-    ensures none { IfOk result (λ named. IfNone named ((paths : List (Bor (List ℕ)))
-        → NamesLog (codes "check", rows_of (found_of matches.now)) paths → ⊥)) }
-{
-    if !is_log_asked(matches) {
+    let Some(logging) = logging_named(command, matches) else {
         return Ok(None);
-    }
+    };
     let Some(given) = arguments(matches, "PATH") else {
         return Ok(None);
     };
     let mut paths = Vec::new(alloc);
     paths.extend_from_slice(given)?;
-    Ok(Some(Job::Log { paths }))
+    Ok(Some(Job::Log { paths, logging }))
+}
+
+/// What is to stand in it.
+fn logging_named(command: &str, matches: &ArgMatches<'_>) -> Option<Logging>
+    ensures some { IfSome result (IsLogging (command.now, rows_of (found_of matches.now))) }
+    ensures none { IfNone result ((logging : Logging)
+        → IsLogging (command.now, rows_of (found_of matches.now)) logging → ⊥) }
+{
+    if !is_log_asked(matches) {
+        return None;
+    }
+    let account = account_named(command, matches)?;
+    let passes = passes_asked(matches);
+    Some(Logging { account, passes })
+}
+
+/// What is to be told of refused sets in it.
+fn account_named(command: &str, matches: &ArgMatches<'_>) -> Option<Account>
+    ensures some { IfSome result (NamesAccount (command.now, rows_of (found_of matches.now))) }
+    ensures none { IfNone result ((account : Account)
+        → NamesAccount (command.now, rows_of (found_of matches.now)) account → ⊥) }
+{
+    match command {
+        "check" => Some(Account::Verdict),
+        "explain" => account_to_explain(matches),
+        _ => None,
+    }
+}
+
+/// The same where sets are explained, and no rule is.
+fn account_to_explain(matches: &ArgMatches<'_>) -> Option<Account>
+    ensures some { IfSome result
+        (NamesAccount (codes "explain", rows_of (found_of matches.now))) }
+    ensures none { IfNone result ((account : Account)
+        → NamesAccount (codes "explain", rows_of (found_of matches.now)) account → ⊥) }
+{
+    let extent = extent_asked(matches);
+    match argument(matches, "RULE") {
+        Some(_) => None,
+        None => Some(Account::Explanation(extent)),
+    }
+}
+
+/// Whether accepted sets are to be told.
+fn passes_asked(matches: &ArgMatches<'_>) -> Passes
+    ensures { IsChosen (first_of (codes "pass") (rows_of (found_of matches.now)))
+        Passes.Listed Passes.Omitted result }
+{
+    if is_given(matches, "pass") {
+        Passes::Listed
+    } else {
+        Passes::Omitted
+    }
 }
 
 /// Whether one log is asked for.
-fn is_log_asked(matches: &ArgMatches<'_>) -> bool
+pub(crate) fn is_log_asked(matches: &ArgMatches<'_>) -> bool
     ensures asked { IsTrue result → IsLogAsked (rows_of (found_of matches.now)) }
     ensures other { result ≡ false → IsLogAsked (rows_of (found_of matches.now)) → ⊥ }
 {

@@ -1,6 +1,6 @@
 //! What is told of words that the command line takes, and that name no job.
 
-use crate::naming::{argument, format_asked};
+use crate::naming::{argument, format_asked, is_log_asked};
 use clap::{ArgMatches, Command};
 use report::rule::rule_named;
 use std::alloc::{AllocError, Global};
@@ -21,7 +21,7 @@ const TRACE_USAGE: &str = "drvhost trace [OPTIONS] <FILE> <SCHEDULE>";
 /// How `draw` is used.
 const DRAW_USAGE: &str = "drvhost draw [OPTIONS] <FILE> <SCHEDULE>";
 
-/// The formats of verdicts, those of explanations and of traces, and those of drawn runs.
+/// The formats of verdicts and explanations, those of traces, and those of drawn runs.
 const VERDICTS: &str = "text, json or sarif";
 
 const ANSWERS: &str = "text or json";
@@ -37,8 +37,10 @@ pub(crate) fn unnamed(
     matches: &ArgMatches<'_>,
 ) -> Result<String, AllocError> {
     match matches.subcommand() {
-        Some(("explain", inner)) if format_asked(inner).is_some() => unexplained(alloc, inner),
-        Some(("explain", inner)) => unwritten(alloc, inner, ANSWERS, EXPLAIN_USAGE),
+        Some(("explain", inner)) if format_asked(inner).is_some() || is_log_asked(inner) => {
+            unexplained(alloc, inner)
+        }
+        Some(("explain", inner)) => unwritten(alloc, inner, VERDICTS, EXPLAIN_USAGE),
         Some(("tell", _)) => untold(alloc),
         Some(("check", inner)) => unwritten(alloc, inner, VERDICTS, CHECK_USAGE),
         Some(("trace", inner)) => unwritten(alloc, inner, ANSWERS, TRACE_USAGE),
@@ -63,7 +65,7 @@ fn unexplained(alloc: Global, matches: &ArgMatches<'_>) -> Result<String, AllocE
             write!(text, "there is no rule '{word}': the rules are\n")?;
             add_rules(alloc, &mut text)?;
         }
-        Some(_) => text.push_str("'--rule' goes with no PATH, no '--all' and no JSON")?,
+        Some(_) => text.push_str("'--rule' goes with no PATH, no '--all', no JSON and no SARIF")?,
     }
     add_usage(&mut text, EXPLAIN_USAGE)?;
     Ok(text)

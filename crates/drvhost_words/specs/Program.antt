@@ -188,8 +188,9 @@ JobEnds stands supply (OfPage page) opened reads writes before after status told
     (opened ≡ 0) × Ends (IsPage page) reads writes before after status told
 JobEnds stands supply (OnPaths paths judging) opened reads writes before after status told =
     PathsEnd stands supply paths.items judging opened reads writes before after status told
-JobEnds stands supply (Log paths) opened reads writes before after status told =
-    LogEnds (λ path. stands path.now) supply paths.items opened reads writes before after status told
+JobEnds stands supply (Log paths logging) opened reads writes before after status told =
+    LogEnds logging (λ path. stands path.now) supply paths.items opened reads writes before after
+    status told
 JobEnds stands supply (Rewrite set output) opened reads writes before after status told =
     (opened ≡ 1)
     × Ends (IsQuietly (IsRewriteOf (supply set.now))) reads writes before after status told

@@ -29,7 +29,7 @@ use drvhost_mends::apply::{self, apply};
 use drvhost_mends::mend::{self, mend};
 use drvhost_runs::host::{Hosting, host};
 use drvhost_runs::trace::trace;
-use drvhost_sarif::checking::check_sarif;
+use drvhost_sarif::logging::log_paths;
 use drvhost_sets::check::check;
 use drvhost_sets::list::list;
 use drvhost_sets::rewriting::rewrite;
@@ -164,7 +164,9 @@ fn perform<F: Files, O: Sink, E: Sink, R: Threads + Wait + Sync>(
         Job::OnPaths { paths, judging } => {
             judge_paths(alloc, *judging, paths.as_slice(), files, out, err)
         }
-        Job::Log { paths } => check_sarif(alloc, paths.as_slice(), files, out, err),
+        Job::Log { paths, logging } => {
+            log_paths(alloc, *logging, paths.as_slice(), files, out, err)
+        }
         Job::Rewrite { set, output } => rewrite_file(alloc, set, output, files, err),
         Job::Apply { set, tries, wanted } => {
             let asked = apply::Asked {

@@ -28,13 +28,13 @@ pub returns-in-Log-clause-answers : goal.returns-in-Log-clause-answers
 returns-in-Log-clause-answers g c =
     rw c.in-Log.is
     (counted_beside _ _ _ _ _ _ _ _ _ _ _ _ _
-    (rw c.as_slice-in-Log.ensures.value at c.check_sarif.ensures.answers)
-    c.check_sarif.ensures.unwritten)
+    (rw c.as_slice-in-Log.ensures.value at c.log_paths.ensures.answers)
+    c.log_paths.ensures.unwritten)
 
 pub returns-in-Log-clause-stores : goal.returns-in-Log-clause-stores
 returns-in-Log-clause-stores g c =
     rw c.in-Log.is
-    (record { supply = c.check_sarif.ensures.supply; none = c.check_sarif.ensures.created })
+    (record { supply = c.log_paths.ensures.supply; none = c.log_paths.ensures.created })
 
 pub returns-in-Rewrite-clause-answers : goal.returns-in-Rewrite-clause-answers
 returns-in-Rewrite-clause-answers g c =
