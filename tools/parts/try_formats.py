@@ -1,10 +1,12 @@
 #!/usr/bin/env python3
 """Whether the examples of docs/FORMATS.md are what their schemas say: each schema takes its
-examples, and refuses each of them where a member lacks or is of another type.
+examples, and refuses each of them where a member lacks or is of another type. A log of SARIF is what
+its standard wants, too.
 
     tools/try formats [FILE ..]     these documents, or docs/FORMATS.md
 
-It needs a validator of JSON Schema, on Debian `python3-jsonschema`.
+It needs a validator of JSON Schema, and the classes of SARIF: on Debian `python3-jsonschema` and
+`python3-sarif-python-om`.
 """
 
 import copy
@@ -14,6 +16,8 @@ import re
 import sys
 
 from jsonschema import Draft202012Validator
+
+import sarif_standard
 
 TOP = os.path.dirname(os.path.dirname(os.path.dirname(os.path.abspath(__file__))))
 BLOCK = re.compile(r"<!-- format: (\w+) -->\n```json\n(.*?)```", re.S)
@@ -51,11 +55,13 @@ def wrong_ones(value):
             yield key, changed
 
 
-def faults_of(validator, line):
-    """What is wrong with an example."""
+def faults_of(shape, validator, line):
+    """What is wrong with an example of a shape."""
     value = json.loads(line)
     if json.dumps(value, separators=(",", ":"), ensure_ascii=False) != line:
         yield "isn't written as the program writes it"
+    if shape == "log":
+        yield from sarif_standard.faults_of(value)
     for error in validator.iter_errors(value):
         yield f"is refused: {error.message}"
     for key, changed in wrong_ones(value):
@@ -73,7 +79,7 @@ def main():
             validator = validator_of(shape)
             for line in block.splitlines():
                 tried += 1
-                for fault in faults_of(validator, line):
+                for fault in faults_of(shape, validator, line):
                     wrong += 1
                     print(f"{line}\n    {fault}")
     print(f"{tried} examples tried, {wrong} faults")

@@ -1,0 +1,138 @@
+#!/usr/bin/env python3
+"""Whether the logs of SARIF that the program writes are what their schema and the standard say.
+
+    tools/try logs PROGRAM [PATH ..]     of these paths, or of the gallery and of files that can't be read
+
+Each is written by `check` and by `explain`, with accepted sets and without them. Beside the schema
+docs/schemas/log.json and the standard's classes it looks whether each region is in its file and holds
+a line of it, whether a result of `explain` is that of `check` with more behind its message, whether a
+path ends where its result is, and whether `--pass` adds results of accepted sets alone.
+
+It needs, on Debian, `python3-jsonschema` and `python3-sarif-python-om`."""
+
+import itertools
+import json
+import os
+import subprocess
+import sys
+import urllib.parse
+
+from jsonschema import Draft202012Validator
+
+import sarif_standard
+
+TOP = os.path.dirname(os.path.dirname(os.path.dirname(os.path.abspath(__file__))))
+
+
+def validator():
+    """The validator of the shape."""
+    with open(os.path.join(TOP, "docs", "schemas", "log.json"), encoding="ascii") as file:
+        return Draft202012Validator(json.load(file))
+
+
+def log_of(program, words):
+    """The log that the program writes."""
+    ran = subprocess.run([program, *words], capture_output=True, cwd=TOP, check=False)
+    return json.loads(ran.stdout)
+
+
+def results_of(log):
+    """The results of a log."""
+    return log["runs"][0]["results"]
+
+
+def place_of(location):
+    """The file of a location, and the line in it that its region says, or None."""
+    physical = location["physicalLocation"]
+    region = physical.get("region")
+    return physical["artifactLocation"]["uri"], region and region["startLine"]
+
+
+def region_faults(location):
+    """Whether a region is a line of its file from its first byte that is no blank to its end."""
+    physical = location["physicalLocation"]
+    if "region" not in physical:
+        return
+    region = physical["region"]
+    name = urllib.parse.unquote_to_bytes(physical["artifactLocation"]["uri"])
+    with open(os.path.join(os.fsencode(TOP), name), encoding="utf-8") as file:
+        line = file.read().split("\n")[region["startLine"] - 1]
+    start = 1 + len(line) - len(line.lstrip("\t\r "))
+    end = 1 + len(line.encode("utf-16-le")) // 2
+    if (region["startColumn"], region["endColumn"]) != (start, end):
+        yield f"{region} isn't {start} to {end}, of {line!r}"
+    if region["endLine"] != region["startLine"]:
+        yield f"{region} is of two lines"
+
+
+def flow_faults(result):
+    """What is wrong with the paths of a result."""
+    for flow in result["codeFlows"]:
+        steps = [each["location"] for each in flow["threadFlows"][0]["locations"]]
+        for step in steps:
+            yield from region_faults(step)
+        if not steps[0]["message"]["text"].startswith("at 0: "):
+            yield "a path doesn't begin at 0"
+    for flow in result["codeFlows"][:1]:
+        last = flow["threadFlows"][0]["locations"][-1]["location"]
+        is_loop = len(result["codeFlows"]) == 2 and result["ruleId"] == "V3"
+        if place_of(last) != place_of(result["locations"][0]) and not is_loop:
+            yield "a path ends elsewhere"
+
+
+def key_of(result):
+    """What is the same of a result of `check` and of `explain`."""
+    return (
+        result["ruleId"],
+        json.dumps(result["locations"], sort_keys=True),
+        result["partialFingerprints"]["pafteis/v1"],
+    )
+
+
+def pair_faults(checked, explained):
+    """What differs between the results of `check` and of `explain`."""
+    if [key_of(each) for each in checked] != [key_of(each) for each in explained]:
+        yield "explain has other results than check"
+    for one, other in zip(checked, explained):
+        if one["codeFlows"]:
+            yield "check has a path"
+        if not other["message"]["text"].startswith(one["message"]["text"]):
+            yield "explain has another message than check"
+
+
+def faults_in(check, log):
+    """What is wrong with a log by itself."""
+    for error in check.iter_errors(log):
+        yield f"is refused: {error.message[:200]}"
+    yield from sarif_standard.faults_of(log)
+    for result in results_of(log):
+        for location in result["locations"]:
+            yield from region_faults(location)
+        yield from flow_faults(result)
+
+
+def main():
+    program, paths = os.path.abspath(sys.argv[1]), sys.argv[2:]
+    paths = paths or ["examples", "examples/gone.drv"]
+    check, logs, wrong = validator(), {}, 0
+    words = itertools.product(("check", "explain"), ((), ("--pass",), ("--all",)))
+    for command, flags in words:
+        if command == "check" and "--all" in flags:
+            continue
+        logs[command, flags] = log_of(program, [command, *paths, "--format", "sarif", *flags])
+        for fault in faults_in(check, logs[command, flags]):
+            wrong += 1
+            print(f"{command} {' '.join(flags)}: {fault}")
+    faults = list(pair_faults(*(results_of(logs[each, ()]) for each in ("check", "explain"))))
+    for command in "check", "explain":
+        more = [each for each in results_of(logs[command, ("--pass",)]) if each["kind"] == "fail"]
+        if more != results_of(logs[command, ()]):
+            faults.append(f"--pass changes what fails of {command}")
+    for fault in faults:
+        print(fault)
+    count = sum(len(results_of(log)) for log in logs.values())
+    print(f"{len(logs)} logs tried, {count} results, {wrong + len(faults)} faults")
+    sys.exit(wrong + len(faults) > 0 or count == 0)
+
+
+main()
