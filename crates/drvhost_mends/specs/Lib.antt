@@ -1,2 +1,3 @@
+pub mod Fix
 pub mod Apply
 pub mod Mend

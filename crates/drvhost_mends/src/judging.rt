@@ -58,7 +58,11 @@ pub(crate) fn judge(
 }
 
 /// How much is mended where a text is made of one that names a refused set.
-fn extent_of(alloc: Global, made: &[u8], refusal: &Refusal) -> Result<Option<Extent>, AllocError>
+pub(crate) fn extent_of(
+    alloc: Global,
+    made: &[u8],
+    refusal: &Refusal,
+) -> Result<Option<Extent>, AllocError>
     ensures { IfOk result
         (λ judged. IfSome judged (λ extent. NamesOf extent refusal.now made.now)) }
 {

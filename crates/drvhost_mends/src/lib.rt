@@ -4,8 +4,9 @@
 
 pub mod apply;
 mod choosing;
+pub mod fixing;
 mod judged_offers;
-mod judging;
+pub mod judging;
 pub mod mend;
 mod proposing;
 mod reply;
