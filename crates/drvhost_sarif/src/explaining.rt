@@ -34,7 +34,7 @@ pub(crate) fn explained(
     ensures { IfOk result (λ findings. AreExplained extent file.entry.name.now
         file.entry.bytes.now set.now refusal.now findings.items) }
 {
-    let advisor = Advisor::of(alloc, extent, origin_of(file.bytes), set)?;
+    let advisor = Advisor::of(alloc, extent, origin_of(file.bytes), set, refusal)?;
     match extent {
         Extent::First => {
             let finding = explain(alloc, file, set, &advisor, refusal)?;
