@@ -1,0 +1,5 @@
+pub mod Amiss
+pub mod Exact
+pub mod Moves
+pub mod Searched
+pub mod Within

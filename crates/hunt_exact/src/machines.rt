@@ -1,0 +1,48 @@
+//! The machines that a search runs.
+
+ghost use Rattle.std.specs.Prelude.{◌≡◌, IfOk, IsTrue};
+ghost use Rattle.hunt_exact.specs.Searched.{LeadsThere};
+ghost use Rattle.model.specs.Machine.{ShowsWhole};
+
+use crate::scope::Scope;
+use checked::Checked;
+use hunt_worlds::world::same_world;
+use model::event::Event;
+use std::alloc::{AllocError, Global};
+
+/// The machine behind these events.
+pub(crate) fn machine_at(
+    alloc: Global,
+    scope: &Scope,
+    path: &[Event],
+) -> Result<Checked, AllocError>
+    ensures set { IfOk result (λ machine. machine.set ≡ scope.now.set) }
+    ensures shows { IfOk result (λ machine. ShowsWhole machine scope.now.threads path.now) }
+{
+    let Ok(set) = scope.set().copy(alloc) else {
+        return Err(AllocError);
+    };
+    match Checked::run(alloc, set, scope.threads(), path) {
+        Ok(machine) => Ok(machine),
+        Err(_refused) => Err(AllocError),
+    }
+}
+
+/// Whether these events lead to the world of a machine, and the run doesn't stop with them.
+pub(crate) fn leads_to(
+    alloc: Global,
+    scope: &Scope,
+    path: &[Event],
+    machine: &Checked,
+) -> Result<bool, AllocError>
+    ensures { IfOk result (λ same. IsTrue same
+        → LeadsThere scope.now path.now machine.now) }
+{
+    let there = machine_at(alloc, scope, path)?;
+    let halted = there.stopped();
+    if halted {
+        return Ok(false);
+    }
+    let same = same_world(&there, machine);
+    Ok(same)
+}
