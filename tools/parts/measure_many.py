@@ -1,15 +1,16 @@
 #!/usr/bin/env python3
-"""tools/measure many [--sets N] [PROGRAM]: what the program (crates/drvhost/out/drvhost, if none is named) takes to check N sets
-(1,000 if left out) of 60 lines in one folder, by one process and by one for each set, and the most memory of the one process, also
-for a tenth of the sets: it doesn't grow with their number, but for their names."""
+"""tools/measure many [--sets N] [--lines N] [PROGRAM]: what the program (crates/drvhost/out/drvhost, if none is named) takes to
+check N sets (1,000 if left out) of N lines (60) in one folder, by one process with one job and by a process for each set; with 2,
+4 and 8 jobs; and the most memory of one job and of four, also for a tenth of the sets: it doesn't grow with their number, but for
+their names."""
 import argparse, os, subprocess, tempfile, time
 
 TOP = os.path.dirname(os.path.dirname(os.path.dirname(os.path.abspath(__file__))))
 
-def text(number):
-    """A set of 60 lines, each with another number of routines that only step."""
+def text(number, count):
+    """A set of so many lines, each with another number of routines that only step."""
     lines = ['driver d', 'dispatch READ f', 'routine f dispatch', 'complete r0 SUCCESS', 'ret SUCCESS', 'endr']
-    rest = 60 - len(lines) - 2
+    rest = count - len(lines) - 2
     lines += ['routine g dpc'] + ['const r%d %d' % (1 + place % 8, number) for place in range(rest - 3)] + ['ret void', 'endr']
     return '\n'.join(lines + ['endd', 'device v d 1', ''])
 
@@ -33,6 +34,7 @@ def most_memory(program, words):
 def main():
     asked = argparse.ArgumentParser()
     asked.add_argument('--sets', type=int, default=1000)
+    asked.add_argument('--lines', type=int, default=60)
     asked.add_argument('program', nargs='?', default=os.path.join(TOP, 'crates/drvhost/out/drvhost'))
     asked = asked.parse_args()
     with tempfile.TemporaryDirectory() as folder:
@@ -40,14 +42,23 @@ def main():
             os.mkdir(os.path.join(folder, part))
             for number in range(count):
                 with open(os.path.join(folder, part, '%05d.drv' % number), 'w') as out:
-                    out.write(text(number))
+                    out.write(text(number, asked.lines))
         every = [os.path.join(folder, 'all', name) for name in sorted(os.listdir(os.path.join(folder, 'all')))]
         apart = sum(spent(asked.program, ['check', name]) for name in every)
-        together = min(spent(asked.program, ['check', os.path.join(folder, 'all')]) for _ in range(5))
-        print('%d sets: %.0f ms by one process, %.0f ms by one each (%.1f times)'
+        every_one, some = ([os.path.join(folder, part)] for part in ('all', 'some'))
+        def best(jobs):
+            return min(spent(asked.program, ['check', '--jobs', str(jobs), *every_one]) for _ in range(9))
+        together = best(1)
+        print('%d sets: %.1f ms by one process, %.0f ms by one each (%.1f times)'
               % (asked.sets, together * 1000, apart * 1000, apart / together))
-        print('memory: %d KiB for %d sets, %d KiB for %d' % (most_memory(asked.program, ['check', os.path.join(folder, 'all')]),
-              asked.sets, most_memory(asked.program, ['check', os.path.join(folder, 'some')]), asked.sets // 10))
+        for jobs in 2, 4, 8:
+            took = best(jobs)
+            print('%d jobs on %d processors: %.1f ms (%.1f times as fast as one)'
+                  % (jobs, len(os.sched_getaffinity(0)), took * 1000, together / took))
+        for jobs in '1', '4':
+            print('memory with %s: %d KiB for %d sets, %d KiB for %d' % (jobs,
+                  most_memory(asked.program, ['check', '--jobs', jobs, *every_one]), asked.sets,
+                  most_memory(asked.program, ['check', '--jobs', jobs, *some]), asked.sets // 10))
 
 if __name__ == '__main__':
     main()

@@ -4,16 +4,22 @@
 
 use drvhost_devices::device::Writer;
 use drvhost_files::files::Disk;
-use drvhost_words::answer::answer;
-use std::env;
-use std::io::ErrorKind;
+use drvhost_options::surroundings::Surroundings;
+use drvhost_words::answer::{Setting, answer};
+use std::env::{self, VarError};
+use std::io::{ErrorKind, IsTerminal};
 use std::process::ExitCode;
+use std::thread::available_parallelism;
 
 fn main(rt: HostRuntime) -> ExitCode {
     let mut files = Disk::new(&rt);
     let mut out = Writer::new(rt.stdout());
     let mut err = Writer::new(rt.stderr());
-    let status = answer(&rt, rt.alloc(), words(&rt), &mut files, &mut out, &mut err);
+    let setting = Setting {
+        alloc: rt.alloc(),
+        surroundings: surroundings(&rt),
+    };
+    let status = answer(&rt, setting, words(&rt), &mut files, &mut out, &mut err);
     ExitCode::from(status)
 }
 
@@ -23,4 +29,27 @@ fn words(rt: &HostRuntime) -> Result<Vec<String>, ErrorKind> {
     words
         .collect(rt.alloc())
         .map_err(|_refused| ErrorKind::OutOfMemory)
+}
+
+/// What the program finds around it.
+fn surroundings(rt: &HostRuntime) -> Surroundings {
+    let processors = match available_parallelism(rt) {
+        Ok(count) => count.get(),
+        Err(_unknown) => 1,
+    };
+    Surroundings {
+        is_output_terminal: rt.stdout().is_terminal(),
+        is_error_terminal: rt.stderr().is_terminal(),
+        is_colorless: is_colorless(rt),
+        processors,
+    }
+}
+
+/// Whether `NO_COLOR` is set to anything but an empty text.
+fn is_colorless(rt: &HostRuntime) -> bool {
+    match env::var(rt, "NO_COLOR") {
+        Ok(text) => !text.is_empty(),
+        Err(VarError::NotPresent) => false,
+        Err(_other) => true,
+    }
 }

@@ -24,14 +24,15 @@ is_some T None a is h = cc
 is_some T (Some b) a is h = let same : b ≡ a = search rules in subst T same h
 
 module _ (found : Text × List Row) (page : (p : Page) → NamesPage found p → ⊥)
-    (on_paths : (paths : List (Bor (List ℕ))) (judging : Judging) → NamesPaths found paths judging → ⊥)
+    (on_paths : (paths : List (Bor (List ℕ))) (judging : Judging) (jobs : Option ℕ)
+    → NamesPaths found paths judging jobs → ⊥)
     (on_log : (paths : List (Bor (List ℕ))) (logging : Logging)
     → NamesLog found paths logging → ⊥)
     (on_set : (set : List ℕ) (task : Task) → NamesSet found set task → ⊥)
     (on_run : (set input : List ℕ) (way : Way) → NamesRun found set input way → ⊥) where
   by_none : ((job : Job) → NamesFiles found job → ⊥) → (job : Job) → NamesBy found job → ⊥
   by_none files (OfPage p) names = page p names
-  by_none files (OnPaths paths judging) names = on_paths paths.items judging names
+  by_none files (OnPaths paths judging jobs) names = on_paths paths.items judging jobs names
   by_none files (Log paths logging) names = on_log paths.items logging names
   by_none files (OnSet set task) names = on_set set.now task names
   by_none files (OnRun set input way) names = on_run set.now input.now way names

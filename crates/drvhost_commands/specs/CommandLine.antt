@@ -26,6 +26,7 @@ use Rattle.drvhost_commands.specs.declared.job.JobFault.TheVariants.{Usage, Memo
 use Rattle.drvhost_commands.specs.declared.naming.Format.{Format}
 use Rattle.drvhost_commands.specs.declared.naming.Format.TheVariants.{Plain, Json}
 use Rattle.hunt_bounds.specs.declared.reach.TheConstants.{MAX_PACKETS, MAX_WORLDS, USUAL_PACKETS, USUAL_THREADS, USUAL_WORLDS}
+use Rattle.drvhost_options.specs.declared.jobs.TheConstants.{MAX_JOBS}
 use Rattle.drvhost_options.specs.declared.tries.TheConstants.{MAX_TRIES, USUAL_TRIES}
 use Rattle.drvhost_options.specs.declared.wanted.TheConstants.{MAX_OFFERS}
 use Rattle.drvhost_options.specs.declared.wanted.Wanted.{Wanted}
@@ -105,18 +106,24 @@ schedule_command name rules =
 abbrev pub format_option : Rule
 format_option = value_option (codes "format") (codes "format") AnyText
 
--- `check PATH.. [--format FORMAT] [--pass]`
+-- `--jobs N`
+abbrev pub jobs_option : Rule
+jobs_option = number_option (codes "jobs") MAX_JOBS
+
+-- `check PATH.. [--format FORMAT] [--pass] [--jobs N]`
 abbrev pub check_command : App
 check_command =
     command (codes "check")
-    (required (values_argument (codes "PATH")) ∷ format_option ∷ flag (codes "pass") ∷ [])
+    (required (values_argument (codes "PATH")) ∷ format_option ∷ flag (codes "pass")
+    ∷ jobs_option ∷ [])
 
--- `explain [PATH..] [--all] [--format FORMAT] [--pass] [--rule RULE]`, of which `NamesBy` says what
--- goes with what
+-- `explain [PATH..] [--all] [--format FORMAT] [--pass] [--jobs N] [--rule RULE]`, of which `NamesBy`
+-- says what goes with what
 abbrev pub explain_command : App
 explain_command =
     command (codes "explain")
     (values_argument (codes "PATH") ∷ flag (codes "all") ∷ format_option ∷ flag (codes "pass")
+    ∷ jobs_option
     ∷ value_option (codes "RULE") (codes "rule") AnyText ∷ [])
 
 -- `tell FILE SCHEDULE [--unchecked] [--quiet] [--every] [--strict]`, of which `NamesBy` says that
@@ -226,6 +233,11 @@ abbrev pub any_number_asked : Option Text → Option (Option ℕ)
 any_number_asked None = Some None
 any_number_asked (Some text) = option_map Some (number_within 0 (2 ^ 64 - 1) text)
 
+-- how many jobs are asked for by the value of `--jobs`: None where nothing is said of it
+abbrev pub jobs_asked : Option Text → Option (Option ℕ)
+jobs_asked None = Some None
+jobs_asked (Some text) = option_map Some (number_within 1 MAX_JOBS text)
+
 -- how far a hunt goes and what it looks for, by the values of its options
 pub record IsReach (rows : List Row) (reach : Bounds) : Type 0 where
   pub threads : number_asked USUAL_THREADS MAX_THREADS (first_of (codes "threads") rows)
@@ -287,11 +299,11 @@ NamesJudging found (ExplainJson extent) = (found.0 ≡ codes "explain")
     × IsChosen (first_of (codes "all") found.1) Each First extent
     × IsFormat (first_of (codes "format") found.1) Json
 
--- the paths for which they are, one or more
-abbrev pub NamesPaths : Text × List Row → List (Bor (List ℕ)) → Judging → Type 0
-NamesPaths found paths judging =
+-- the paths for which they are, one or more, and how many jobs share them
+abbrev pub NamesPaths : Text × List Row → List (Bor (List ℕ)) → Judging → Option ℕ → Type 0
+NamesPaths found paths judging jobs =
     (all_of (codes "PATH") found.1 ≡ Some (map (λ path. path.now) paths))
-    × NamesJudging found judging
+    × NamesJudging found judging × (jobs_asked (first_of (codes "jobs") found.1) ≡ Some jobs)
 
 -- one log is asked for
 abbrev pub IsLogAsked : List Row → Type 0
@@ -364,7 +376,7 @@ NamesFiles found _ = ⊥
 -- any job
 abbrev pub NamesBy : Text × List Row → Job → Type 0
 NamesBy found (OfPage page) = NamesPage found page
-NamesBy found (OnPaths paths judging) = NamesPaths found paths.items judging
+NamesBy found (OnPaths paths judging jobs) = NamesPaths found paths.items judging jobs
 NamesBy found (Log paths logging) = NamesLog found paths.items logging
 NamesBy found (OnSet set task) = NamesSet found set.now task
 NamesBy found (OnRun set input way) = NamesRun found set.now input.now way

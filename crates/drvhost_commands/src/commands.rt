@@ -10,6 +10,7 @@ use crate::arguments::{Argument, arg_of};
 use crate::usage::EXPLAIN_USAGE;
 use clap::Command;
 use clap::builder::ValueParser;
+use drvhost_options::jobs::MAX_JOBS;
 use drvhost_options::tries::MAX_TRIES;
 use drvhost_options::wanted::MAX_OFFERS;
 use hunt_bounds::reach::{MAX_PACKETS, MAX_WORLDS};
@@ -66,13 +67,20 @@ const VERDICT_FORMAT: Argument<'static> = Argument::Value(
 
 const PASS: Argument<'static> = Argument::Flag("pass", "Tells accepted sets in a log of SARIF too");
 
+const JOBS: Argument<'static> = Argument::Value(
+    "jobs",
+    "jobs",
+    ValueParser::Signed(1, MAX_JOBS as i64),
+    "Jobs that share the files, 1 to 64; one for each processor where none is given",
+);
+
 /// All commands, in the order of the texts of help.
 const COMMANDS: [Entry<'static>; 11] = [
     Entry {
         name: "check",
         about: "Accepts or refuses driver sets",
         usage: None,
-        arguments: &[Argument::Files("PATH", PATHS), VERDICT_FORMAT, PASS],
+        arguments: &[Argument::Files("PATH", PATHS), VERDICT_FORMAT, PASS, JOBS],
     },
     Entry {
         name: "explain",
@@ -83,6 +91,7 @@ const COMMANDS: [Entry<'static>; 11] = [
             Argument::Flag("all", "Explains the first fault of each routine"),
             VERDICT_FORMAT,
             PASS,
+            JOBS,
             Argument::Value(
                 "RULE",
                 "rule",

@@ -38,10 +38,12 @@ const USAGE: &str = "Usage: drvhost <COMMAND>";
 pub enum Job<'a> {
     /// A page that stands in the program.
     Page(Page),
-    /// The driver sets that paths stand for are judged.
+    /// The driver sets that paths stand for are judged, with `--jobs N` by so many jobs at once, and
+    /// else by one for each processor.
     OnPaths {
         paths: Vec<&'a str>,
         judging: Judging,
+        jobs: Option<u64>,
     },
     /// `check PATH.. --format sarif [--pass]`, or `explain PATH.. [--all] --format sarif [--pass]`:
     /// one log of the driver sets that paths stand for

@@ -1,15 +1,16 @@
 //! Which job the matches of a command line name.
 
-ghost use Rattle.std.specs.Prelude.{◌≡◌, ◌≤◌, codes, false, map, option_map, IfNone, IfOk, IfSome, IsTrue, None, Some, ℕ, List};
+ghost use Rattle.std.specs.Prelude.{◌≡◌, ◌≤◌, codes, false, map, option_map, IfNone, IfOk, IfSome, IsTrue, None, Option, Some, ℕ, List};
 ghost use Rattle.std.specs.Borrow.{Bor};
 ghost use Rattle.clap.specs.Words.{all_of, first_of, found_of, rows_of, subcommand_rows_of};
-ghost use Rattle.drvhost_commands.specs.CommandLine.{IsChosen, IsDetail, IsFigure, IsFormat, IsGiven, IsLogAsked, IsLogging, IsManner, IsReach, IsWanted, Names, NamesAccount, NamesBy, NamesFiles, NamesJudging, NamesLog, NamesPage, NamesPaths, NamesRun, NamesSet, NamesTask, NamesWay, any_number_asked, number_asked};
+ghost use Rattle.drvhost_commands.specs.CommandLine.{IsChosen, IsDetail, IsFigure, IsFormat, IsGiven, IsLogAsked, IsLogging, IsManner, IsReach, IsWanted, Names, NamesAccount, NamesBy, NamesFiles, NamesJudging, NamesLog, NamesPage, NamesPaths, NamesRun, NamesSet, NamesTask, NamesWay, any_number_asked, jobs_asked, number_asked};
 
 use crate::job::{Job, Judging, Page, Task, Way, Workers};
 use clap::ArgMatches;
 use drvhost_devices::verification::Verification;
 use drvhost_options::extent::Extent;
 use drvhost_options::figure::Figure;
+use drvhost_options::jobs::MAX_JOBS;
 use drvhost_options::logging::{Account, Logging, Passes};
 use drvhost_options::manner::{Detail, Manner, Strictness};
 use drvhost_options::tries::{MAX_TRIES, USUAL_TRIES};
@@ -109,10 +110,13 @@ fn paths_named<'a>(
     ensures some { IfOk result (λ named.
         IfSome named (NamesBy (command.now, rows_of (found_of matches.now)))) }
     ensures none { IfOk result (λ named. IfNone named
-        ((paths : List (Bor (List ℕ))) (judging : Judging)
-        → NamesPaths (command.now, rows_of (found_of matches.now)) paths judging → ⊥)) }
+        ((paths : List (Bor (List ℕ))) (judging : Judging) (jobs : Option ℕ)
+        → NamesPaths (command.now, rows_of (found_of matches.now)) paths judging jobs → ⊥)) }
 {
     let Some(judging) = judging_named(command, matches) else {
+        return Ok(None);
+    };
+    let Some(jobs) = jobs_asked(matches) else {
         return Ok(None);
     };
     let Some(given) = arguments(matches, "PATH") else {
@@ -120,7 +124,22 @@ fn paths_named<'a>(
     };
     let mut paths = Vec::new(alloc);
     paths.extend_from_slice(given)?;
-    Ok(Some(Job::OnPaths { paths, judging }))
+    Ok(Some(Job::OnPaths {
+        paths,
+        judging,
+        jobs,
+    }))
+}
+
+/// How many jobs are to share the files, or none where nothing is said of it, unless they are too
+/// many.
+fn jobs_asked(matches: &ArgMatches<'_>) -> Option<Option<u64>>
+    ensures { result ≡ jobs_asked (first_of (codes "jobs") (rows_of (found_of matches.now))) }
+{
+    match argument(matches, "jobs") {
+        Some(text) => Some(Some(number_within(1, MAX_JOBS, text.as_bytes())?)),
+        None => Some(None),
+    }
 }
 
 /// How sets are to be judged.

@@ -1,6 +1,7 @@
 pub mod Collected
 pub mod Finding
 pub mod Joining
+pub mod Reading
 pub mod Ending
 pub mod Judged
 pub mod Alone

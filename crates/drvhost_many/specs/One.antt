@@ -1,6 +1,6 @@
 -- What is answered for one of several files.
-use Rattle.std.specs.Prelude.{ℕ, ◌≡◌, ◌+◌, ◌⊎◌, Bool, true, false, List, codes, IfOk, Option, Result, Ok, Err}
-use Rattle.std.specs.Io.KnownBytes.{Appends, Keeps}
+use Rattle.std.specs.Prelude.{ℕ, ◌≡◌, ◌+◌, ◌⊎◌, Bool, true, false, List, codes, Option, Result, Ok, Err}
+use Rattle.std.specs.Io.KnownBytes.{Appends}
 use Rattle.drvhost_commands.specs.declared.job.Judging.{Judging}
 use Rattle.drvhost_commands.specs.declared.job.Judging.TheVariants.{Check, CheckJson, Explain, ExplainJson}
 use Rattle.drvhost_devices.specs.Answer.{Answer, faulty}
@@ -12,7 +12,6 @@ use Rattle.drvhost_formats.specs.Told.{IsUnopenedJson}
 use Rattle.drvhost_sets.specs.Explained.{IsFileExplained}
 use Rattle.drvhost_many.specs.declared.many.Halt.{Halt}
 use Rattle.drvhost_many.specs.declared.many.Halt.TheVariants.{Memory, Write}
-use Rattle.drvhost_many.specs.Marked.{named_answer, noted}
 
 -- what is answered for a set that is judged, where its file has this name and this to give
 abbrev pub IsJudged : Judging → List ℕ → Supply → Answer → Type 0
@@ -46,14 +45,6 @@ IsOfOne judging name supply reads answer =
     ((reads ≡ 0) × IsJudgedFile judging name supply answer)
     ⊎ ((reads ≡ 1) × (answer ≡ faulty (codes "read failed\n")))
 
--- the same of a call, by the failed reads before and after it, told so; or memory ran out
-abbrev pub IsToldOne : {E : Type 0} → Judging → List ℕ → Supply → (Answer → Answer) → ℕ → ℕ
-    → Result Answer E → Type 0
-IsToldOne judging name supply telling before after result =
-    (reads : ℕ) × (after ≡ before + reads)
-    × IfOk result (λ told. (answer : Answer) × IsOfOne judging name supply reads answer
-    × (told ≡ telling answer))
-
 -- the exit status for what keeps from going on
 abbrev pub halt_status : Halt → ℕ
 halt_status Write = 2
@@ -70,13 +61,3 @@ Delivers answer writes_before writes_after before after Tells (Err Write) =
     (writes_after ≡ writes_before + 1) × TakesBeginning before after answer.output
     × Tells (codes "write failed\n")
 Delivers answer writes_before writes_after before after Tells (Err Memory) = ⊥
-
--- how it goes with one of several files: its answer is delivered, or memory runs out
-abbrev pub GoesOne : Judging → Supply → List ℕ → ℕ → ℕ → ℕ → ℕ → Option (List ℕ) → Option (List ℕ)
-    → (List ℕ → Type 0) → Result ℕ Halt → Type 0
-GoesOne judging supply name reads_before reads_after writes_before writes_after before after Tells end =
-    (reads : ℕ) × (reads_after ≡ reads_before + reads)
-    × (((answer : Answer) × IsOfOne judging name supply reads answer
-    × Delivers (named_answer judging name answer) writes_before writes_after before after Tells end)
-    ⊎ ((end ≡ Err Memory) × (writes_after ≡ writes_before) × Keeps before after
-    × Tells (noted judging name (codes "out of memory\n"))))

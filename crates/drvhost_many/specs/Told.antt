@@ -2,10 +2,11 @@
 use Rattle.std.specs.Prelude.{ℕ, ◌≡◌, ◌≢◌, List, Option, Some}
 use Rattle.drvhost_devices.specs.Answer.{Answer}
 
--- no write failed and memory was found, and the answer is what was written
-pub record Collects (exit unwritten : ℕ) (written : Option (List ℕ)) (untold : ℕ)
+-- no read and no write failed, memory was found, and the answer is what was written
+pub record Collects (exit unread unwritten : ℕ) (written : Option (List ℕ)) (untold : ℕ)
     (errors : Option (List ℕ)) (answer : Answer) : Type 0 where
   pub found : exit ≢ 3
+  pub read : unread ≡ 0
   pub wrote : unwritten ≡ 0
   pub said : untold ≡ 0
   pub status : answer.status ≡ exit

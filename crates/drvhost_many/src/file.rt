@@ -1,89 +1,82 @@
 //! The answer for one file.
 
-ghost use Rattle.std.specs.Prelude.{◌≡◌, ◌+◌, ◌<◌, ◌^◌, IsTrue};
-ghost use Rattle.drvhost_devices.specs.Device.{CanCount, Closed, Says};
+ghost use Rattle.std.specs.Prelude.{◌≡◌, IfOk, codes};
+ghost use Rattle.drvhost_devices.specs.Answer.{faulty};
+ghost use Rattle.drvhost_devices.specs.Device.{Bytes, CanCount, Says};
 ghost use Rattle.drvhost_devices.specs.Ends.{Answers};
-ghost use Rattle.drvhost_many.specs.Marked.{named_answer};
-ghost use Rattle.drvhost_many.specs.One.{IsJudged, IsJudgedFile, IsToldOne, is_in_json};
+ghost use Rattle.drvhost_formats.specs.Told.{IsUnopenedJson};
+ghost use Rattle.drvhost_many.specs.Held.{IsAnswerTo, IsToldOf};
+ghost use Rattle.drvhost_many.specs.One.{IsJudged, is_in_json};
 
+use crate::held::{Contents, Held};
 use crate::named::{One, with_name};
 use crate::told::{Told, collected};
 use drvhost_commands::job::Judging;
-use drvhost_devices::device::{Sink, Source, Writer};
-use drvhost_files::files::Files;
+use drvhost_devices::device::{Reader, Sink, Source, Writer};
 use drvhost_formats::check::check_json;
 use drvhost_formats::explain::explain_json;
 use drvhost_formats::unopened::unopened_json;
 use drvhost_sets::check::check;
 use drvhost_sets::showing::explain_file;
+use report::fault::READ_FAILED;
 use std::alloc::{AllocError, Global};
 
-/// What is answered for one of several files, told with its name.
-pub(crate) fn answer_file<F: Files>(
+/// What is answered for a file that was read, told with its name.
+pub(crate) fn answer_held(
     alloc: Global,
-    one: One<'_>,
-    files: &mut F,
+    judging: Judging,
+    held: &Held<'_>,
 ) -> Result<Told, AllocError>
-    requires opened { F.opened files.old + 1 < 2 ^ 64 }
-    requires files { CanCount (F.failures files.old) }
-    ensures answer { IsToldOne one.entry.judging one.entry.name.now
-        (F.supply files.old one.entry.name.now)
-        (named_answer one.entry.judging one.entry.name.now) (F.failures files.old)
-        (F.failures files.new) result }
-    ensures opened { F.opened files.new ≡ F.opened files.old + 1 }
-    ensures supply { F.supply files.new ≡ F.supply files.old }
-    ensures created { F.created files.new ≡ F.created files.old }
-    ensures unwritten { F.unwritten files.new ≡ F.unwritten files.old }
+    ensures { IfOk result (IsToldOf judging held.now) }
 {
-    let told = answer_alone(alloc, one, files)?;
-    with_name(alloc, one, &told)
+    let told = answer_alone(alloc, judging, held)?;
+    with_name(alloc, One::of(judging, held.name), &told)
 }
 
-/// What is answered for a file.
-fn answer_alone<F: Files>(alloc: Global, one: One<'_>, files: &mut F) -> Result<Told, AllocError>
-    requires opened { F.opened files.old + 1 < 2 ^ 64 }
-    requires files { CanCount (F.failures files.old) }
-    ensures answer { IsToldOne one.entry.judging one.entry.name.now
-        (F.supply files.old one.entry.name.now) (λ answer. answer)
-        (F.failures files.old) (F.failures files.new) result }
-    ensures opened { F.opened files.new ≡ F.opened files.old + 1 }
-    ensures supply { F.supply files.new ≡ F.supply files.old }
-    ensures created { F.created files.new ≡ F.created files.old }
-    ensures unwritten { F.unwritten files.new ≡ F.unwritten files.old }
+/// What is answered for it alone.
+fn answer_alone(alloc: Global, judging: Judging, held: &Held<'_>) -> Result<Told, AllocError>
+    ensures { IfOk result (IsAnswerTo judging held.now.name.now held.now.contents) }
 {
-    let mut file = files.open(one.name);
-    let is_closed = files.is_closed(&file);
+    match &held.contents {
+        Contents::Whole(bytes) => judge_bytes(alloc, judging, held.name, bytes.as_slice()),
+        Contents::Unread => tell_unread(alloc),
+        Contents::Unopened => tell_unopened(alloc, held.name),
+    }
+}
+
+/// What is answered for the bytes of a file of this name.
+fn judge_bytes(
+    alloc: Global,
+    judging: Judging,
+    name: &str,
+    bytes: &[u8],
+) -> Result<Told, AllocError>
+    ensures { IfOk result (IsJudged judging name.now (Bytes bytes.now)) }
+{
+    let mut set = Reader::new(Some(bytes));
     let mut output = Writer::new(Vec::new(alloc));
     let mut errors = Writer::new(Vec::new(alloc));
-    let exit = judge_file(alloc, one, is_closed, &mut file, &mut output, &mut errors);
-    files.close(file);
-    collected(exit, output, errors)
+    let exit = judge(alloc, judging, name, &mut set, &mut output, &mut errors);
+    collected(exit, set.failures(), output, errors)
 }
 
-/// Judges the set of a file, which may be closed, since it can't be opened: that is a line of JSON
-/// where the verdict is.
-fn judge_file<S: Source, O: Sink, E: Sink>(
-    alloc: Global,
-    one: One<'_>,
-    is_closed: bool,
-    file: &mut S,
-    out: &mut O,
-    err: &mut E,
-) -> u8
-    requires file { CanCount (S.failures file.old) }
-    requires out { CanCount (O.failures out.old) }
-    requires err { CanCount (E.failures err.old) }
-    requires closed { IsTrue is_closed → S.supply file.old ≡ Closed }
-    ensures { Answers (IsJudgedFile one.entry.judging one.entry.name.now (S.supply file.old))
-        (S.failures file.old) (S.failures file.new) (O.failures out.old) (O.failures out.new)
-        (O.contents out.old) (O.contents out.new)
-        (Says (E.failures err.old) (E.failures err.new) (E.contents err.old) (E.contents err.new))
-        result }
+/// What is answered for a file of which a read failed.
+fn tell_unread(alloc: Global) -> Result<Told, AllocError>
+    ensures { IfOk result (λ told. told ≡ faulty (codes "read failed\n")) }
 {
-    if is_closed && is_in_json(one.judging) {
-        return unopened_json(alloc, one.name, out, err);
-    }
-    judge(alloc, one.judging, one.name, file, out, err)
+    let mut errors = Vec::new(alloc);
+    errors.extend_from_slice(READ_FAILED.as_bytes())?;
+    Ok(Told::of(2, Vec::new(alloc), errors))
+}
+
+/// What is answered in JSON for a file of this name that can't be opened.
+fn tell_unopened(alloc: Global, name: &str) -> Result<Told, AllocError>
+    ensures { IfOk result (IsUnopenedJson name.now) }
+{
+    let mut output = Writer::new(Vec::new(alloc));
+    let mut errors = Writer::new(Vec::new(alloc));
+    let exit = unopened_json(alloc, name, &mut output, &mut errors);
+    collected(exit, 0, output, errors)
 }
 
 /// Whether all that is answered is JSON.

@@ -3,6 +3,7 @@
 #![tactic(auto)]
 
 pub mod file;
+mod held;
 pub mod many;
 mod named;
 pub mod paths;

@@ -1,11 +1,14 @@
-//! The driver sets of several files, judged one after the other.
+//! The driver sets of several files, judged by several jobs at once.
 
-ghost use Rattle.std.specs.Prelude.{◌≡◌, ◌+◌, ◌<◌, ◌^◌, max};
+ghost use Rattle.std.specs.Prelude.{◌≡◌, ◌+◌, ◌≤◌, ◌<◌, ◌^◌, IfOk, length, max};
+ghost use Rattle.std.specs.List.{AllZip};
 ghost use Rattle.drvhost_devices.specs.Device.{CanCount, Says, SaysBehind};
-ghost use Rattle.drvhost_many.specs.All.{AnswersEach};
-ghost use Rattle.drvhost_many.specs.One.{Delivers, GoesOne, halt_status};
+ghost use Rattle.drvhost_many.specs.All.{AnswersEach, Counted, EachGoes, end_status, width_of};
+ghost use Rattle.drvhost_many.specs.Held.{DeliversEach, IsToldOf};
+ghost use Rattle.drvhost_many.specs.One.{Delivers, halt_status};
 
-use crate::file::answer_file;
+use crate::file::answer_held;
+use crate::held::{Held, read_each};
 use crate::named::{One, tell_no_memory};
 use crate::told::Told;
 use drvhost_commands::job::Judging;
@@ -13,17 +16,47 @@ use drvhost_devices::device::{Failed, Sink};
 use drvhost_devices::transfer::write_whole;
 use drvhost_devices::unopened::say_behind;
 use drvhost_files::files::Files;
+use rayon::prelude::*;
 use report::fault::WRITE_FAILED;
 use std::alloc::{AllocError, Global};
+use std::thread::Threads;
 
-/// Judges the set of each of these files, in order. What is answered for one goes out before the
-/// next is opened, with its name: before each line of a verdict, in a line of JSON, or in a line
-/// above an explanation. The answer is the greatest exit status. A file that can't be read, or is
-/// faulty, doesn't keep from the others; a write that fails does, and want of memory.
-pub fn answer_each<F: Files, O: Sink, E: Sink>(
-    alloc: Global,
-    judging: Judging,
-    names: &[String],
+/// How many files a job is handed at once.
+const FILES_EACH: usize = 16;
+
+/// The driver sets of several files, and how they are judged.
+#[derive(Clone, Copy)]
+pub struct Sets<'n> {
+    pub alloc: Global,
+    pub judging: Judging,
+    /// How many jobs share them, at most.
+    pub jobs: u8,
+    /// The names of the files.
+    pub names: &'n [String],
+}
+
+impl<'n> Sets<'n> {
+    /// How many files are in hand at once.
+    fn width(self) -> usize
+        ensures width { result ≡ width_of self.entry.jobs }
+        ensures some { 0 < result }
+    {
+        if self.jobs < 2 {
+            return 1;
+        }
+        FILES_EACH * self.jobs as usize
+    }
+}
+
+/// Judges the set of each of these files, by so many jobs at once, and tells the answers in order,
+/// each with the name of its file: before each line of a verdict, in a line of JSON, or in a line
+/// above an explanation. With one job what is answered for a file goes out before the next is
+/// opened. For several 16 files each are read, one after another, and then judged. The answer is the
+/// greatest exit status. A file that can't be read, or is faulty, doesn't keep from the others; a
+/// write that fails does, and want of memory.
+pub fn answer_each<R: Threads + Sync, F: Files, O: Sink, E: Sink>(
+    rt: &R,
+    sets: Sets<'_>,
     files: &mut F,
     out: &mut O,
     err: &mut E,
@@ -32,25 +65,171 @@ pub fn answer_each<F: Files, O: Sink, E: Sink>(
     requires files { F.failures files.old < 2 ^ 63 }
     requires out { CanCount (O.failures out.old) }
     requires err { CanCount (E.failures err.old) }
-    ensures answers { AnswersEach judging (F.supply files.old) names.now (F.opened files.old)
-        (F.opened files.new) (F.failures files.old) (F.failures files.new) (O.failures out.old)
-        (O.failures out.new) (O.contents out.old) (O.contents out.new)
+    ensures answers { AnswersEach sets.entry.judging (width_of sets.entry.jobs)
+        (F.supply files.old) sets.entry.names.now (F.opened files.old) (F.opened files.new)
+        (F.failures files.old) (F.failures files.new) (O.failures out.old) (O.failures out.new)
+        (O.contents out.old) (O.contents out.new)
         (Says (E.failures err.old) (E.failures err.new) (E.contents err.old) (E.contents err.new))
         result }
     ensures supply { F.supply files.new ≡ F.supply files.old }
     ensures created { F.created files.new ≡ F.created files.old }
     ensures unwritten { F.unwritten files.new ≡ F.unwritten files.old }
 {
+    match answer_all(rt, sets, files, out, err) {
+        Ok(status) => status,
+        Err(halt) => halt.status(),
+    }
+}
+
+/// Judges the set of each of these files, some at a time.
+fn answer_all<R: Threads + Sync, F: Files, O: Sink, E: Sink>(
+    rt: &R,
+    sets: Sets<'_>,
+    files: &mut F,
+    out: &mut O,
+    err: &mut E,
+) -> Result<u8, Halt>
+    requires opened { F.opened files.old < 2 ^ 63 }
+    requires files { F.failures files.old < 2 ^ 63 }
+    requires out { CanCount (O.failures out.old) }
+    requires err { CanCount (E.failures err.old) }
+    ensures answers { Counted
+        (EachGoes sets.entry.judging (width_of sets.entry.jobs) (F.supply files.old)
+        sets.entry.names.now result)
+        (F.opened files.old) (F.opened files.new) (F.failures files.old) (F.failures files.new)
+        (O.failures out.old) (O.failures out.new) (O.contents out.old) (O.contents out.new)
+        (Says (E.failures err.old) (E.failures err.new) (E.contents err.old) (E.contents err.new))
+        (end_status result) }
+    ensures supply { F.supply files.new ≡ F.supply files.old }
+    ensures created { F.created files.new ≡ F.created files.old }
+    ensures unwritten { F.unwritten files.new ≡ F.unwritten files.old }
+{
     let failures = err.failures();
+    let width = sets.width();
     let mut status = 0;
-    for name in names {
-        let one = One::of(judging, name.as_str());
-        match answer_one(alloc, one, files, out, failures, err) {
+    let mut rest = sets.names;
+    while !rest.is_empty() {
+        let (some, behind) = rest.split_at(width.min(rest.len()));
+        let window = Window {
+            sets,
+            names: some,
+            failures,
+        };
+        match answer_window(rt, &window, files, out, err) {
             Ok(answered) => status = greater(status, answered),
-            Err(halt) => return halt.status(),
+            Err(halt) => return Err(halt),
+        }
+        rest = behind;
+    }
+    Ok(status)
+}
+
+/// Some of these files, which are judged at once. What an error writer is told of them stands behind
+/// what it was told since it had failed so often.
+#[derive(Clone, Copy)]
+struct Window<'n> {
+    sets: Sets<'n>,
+    names: &'n [String],
+    failures: u64,
+}
+
+/// Judges the set of each of some files, at once.
+fn answer_window<R: Threads + Sync, F: Files, O: Sink, E: Sink>(
+    rt: &R,
+    window: &Window<'_>,
+    files: &mut F,
+    out: &mut O,
+    err: &mut E,
+) -> Result<u8, Halt>
+    requires some { 0 < length window.now.names.now }
+    requires few { length window.now.names.now ≤ width_of window.now.sets.jobs }
+    requires opened { F.opened files.old + length window.now.names.now < 2 ^ 64 }
+    requires files { F.failures files.old + length window.now.names.now < 2 ^ 64 }
+    requires out { CanCount (O.failures out.old) }
+    requires failures { CanCount window.now.failures }
+    ensures answers { Counted
+        (EachGoes window.now.sets.judging (width_of window.now.sets.jobs) (F.supply files.old)
+        window.now.names.now result)
+        (F.opened files.old) (F.opened files.new) (F.failures files.old) (F.failures files.new)
+        (O.failures out.old) (O.failures out.new) (O.contents out.old) (O.contents out.new)
+        (SaysBehind window.now.failures (E.failures err.old) (E.failures err.new)
+        (E.contents err.old) (E.contents err.new)) (end_status result) }
+    ensures supply { F.supply files.new ≡ F.supply files.old }
+    ensures created { F.created files.new ≡ F.created files.old }
+    ensures unwritten { F.unwritten files.new ≡ F.unwritten files.old }
+{
+    let judging = window.sets.judging;
+    let ahead = read_each(window.sets.alloc, judging, window.names, files);
+    let told = judge_each(rt, window.sets.alloc, judging, ahead.held.as_slice());
+    let Ok(told) = told else {
+        let one = One::of(judging, window.names[0].as_str());
+        tell_no_memory(one, window.failures, err);
+        return Err(Halt::Memory);
+    };
+    let held = ahead.held.as_slice();
+    let status = match deliver_each(judging, held, told.as_slice(), out, window.failures, err) {
+        Ok(status) => status,
+        Err(halt) => return Err(halt),
+    };
+    if ahead.is_whole {
+        return Ok(status);
+    }
+    let one = One::of(judging, window.names[held.len()].as_str());
+    tell_no_memory(one, window.failures, err);
+    Err(Halt::Memory)
+}
+
+/// Judges files that were read, in threads: what is answered for each, in order, where there was
+/// memory for it.
+fn judge_each<R: Threads + Sync>(
+    rt: &R,
+    alloc: Global,
+    judging: Judging,
+    held: &[Held<'_>],
+) -> Result<Vec<Result<Told, AllocError>>, AllocError>
+    ensures { IfOk result (λ told.
+        AllZip (λ one answer. IfOk answer (IsToldOf judging one)) held.now told.items) }
+{
+    held.par_iter()
+        .with_min_len(FILES_EACH)
+        .map(
+            |one: &Held<'_>| -> Result<Told, AllocError>
+                ensures { IfOk result (IsToldOf judging one.now) }
+            { answer_held(alloc, judging, one) },
+        )
+        .collect::<Vec<_>>(rt, alloc)
+}
+
+/// Writes the answers for files that were read to their writers, in order.
+fn deliver_each<O: Sink, E: Sink>(
+    judging: Judging,
+    held: &[Held<'_>],
+    told: &[Result<Told, AllocError>],
+    out: &mut O,
+    failures: u64,
+    err: &mut E,
+) -> Result<u8, Halt>
+    requires told { AllZip (λ one answer. IfOk answer (IsToldOf judging one)) held.now told.now }
+    requires out { CanCount (O.failures out.old) }
+    requires failures { CanCount failures }
+    ensures { DeliversEach judging held.now (O.failures out.old) (O.failures out.new)
+        (O.contents out.old) (O.contents out.new)
+        (SaysBehind failures (E.failures err.old) (E.failures err.new) (E.contents err.old)
+        (E.contents err.new)) result }
+{
+    let mut status = 0;
+    for i in 0..held.len() {
+        let one = One::of(judging, held[i].name);
+        let Ok(answer) = &told[i] else {
+            tell_no_memory(one, failures, err);
+            return Err(Halt::Memory);
+        };
+        match deliver(answer, out, failures, err) {
+            Ok(answered) => status = greater(status, answered),
+            Err(halt) => return Err(halt),
         }
     }
-    status
+    Ok(status)
 }
 
 /// The greater of two exit statuses.
@@ -77,39 +256,6 @@ impl Halt {
         match self {
             Halt::Write => 2,
             Halt::Memory => 3,
-        }
-    }
-}
-
-/// Judges the set of one of several files. What an error writer is told stands behind
-/// what it was told since it had failed so often. The answer is the exit status.
-fn answer_one<F: Files, O: Sink, E: Sink>(
-    alloc: Global,
-    one: One<'_>,
-    files: &mut F,
-    out: &mut O,
-    failures: u64,
-    err: &mut E,
-) -> Result<u8, Halt>
-    requires opened { F.opened files.old + 1 < 2 ^ 64 }
-    requires files { CanCount (F.failures files.old) }
-    requires out { CanCount (O.failures out.old) }
-    requires failures { CanCount failures }
-    ensures goes { GoesOne one.entry.judging (F.supply files.old one.entry.name.now) one.entry.name.now
-        (F.failures files.old) (F.failures files.new) (O.failures out.old) (O.failures out.new)
-        (O.contents out.old) (O.contents out.new)
-        (SaysBehind failures (E.failures err.old) (E.failures err.new) (E.contents err.old)
-        (E.contents err.new)) result }
-    ensures opened { F.opened files.new ≡ F.opened files.old + 1 }
-    ensures supply { F.supply files.new ≡ F.supply files.old }
-    ensures created { F.created files.new ≡ F.created files.old }
-    ensures unwritten { F.unwritten files.new ≡ F.unwritten files.old }
-{
-    match answer_file(alloc, one, files) {
-        Ok(told) => deliver(&told, out, failures, err),
-        Err(AllocError) => {
-            tell_no_memory(one, failures, err);
-            Err(Halt::Memory)
         }
     }
 }

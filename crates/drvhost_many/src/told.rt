@@ -61,18 +61,19 @@ impl Told {
 /// The exit status where memory ran out.
 const NO_MEMORY: u8 = 3;
 
-/// What a call answered with this exit status, which wrote to writers in memory. None where a write
-/// failed: what fails in memory is a growth alone.
+/// What a call answered with this exit status, of which so many reads failed, and which wrote to
+/// writers in memory. None where a read or a write failed: what fails in memory is a growth alone.
 pub(crate) fn collected(
     exit: u8,
+    reads: u64,
     output: Writer<Vec<u8>>,
     errors: Writer<Vec<u8>>,
 ) -> Result<Told, AllocError>
-    ensures { IfOk result (Collects exit
+    ensures { IfOk result (Collects exit reads
         (⟦<Writer<Vec<u8>> as Sink>⟧.failures output) (⟦<Writer<Vec<u8>> as Sink>⟧.contents output)
         (⟦<Writer<Vec<u8>> as Sink>⟧.failures errors) (⟦<Writer<Vec<u8>> as Sink>⟧.contents errors)) }
 {
-    if exit == NO_MEMORY || output.failures() > 0 || errors.failures() > 0 {
+    if exit == NO_MEMORY || reads > 0 || output.failures() > 0 || errors.failures() > 0 {
         return Err(AllocError);
     }
     Ok(Told {

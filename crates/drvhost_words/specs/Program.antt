@@ -1,6 +1,6 @@
 -- How the program answers the words of its command line, which files it opens, and what it writes to
 -- one.
-use Rattle.std.specs.Prelude.{ℕ, ◌≡◌, ◌≢◌, ◌+◌, ◌++◌, ◌⊎◌, Bool, List, [], None, Option, Some, false, map, true, Result, Ok, Err, String, drop, string_bytes}
+use Rattle.std.specs.Prelude.{ℕ, ◌≡◌, ◌≢◌, ◌+◌, ◌++◌, ◌≤◌, ◌⊎◌, Bool, List, [], None, Option, Some, false, map, min, true, Result, Ok, Err, String, drop, string_bytes}
 use Rattle.std.specs.Borrow.{Bor}
 use Rattle.std.specs.Global.{Global, Vec}
 use Rattle.std.specs.declared.io.ErrorKind.{ErrorKind}
@@ -34,8 +34,9 @@ use Rattle.drvhost_commands.specs.declared.job.Way.TheVariants.{Trace, TraceJson
 use Rattle.drvhost_commands.specs.CommandLine.{Names, NamesJob, program, usage}
 use Rattle.drvhost_files.specs.Files.{Has, IsWritten}
 use Rattle.drvhost_found.specs.declared.find.Found.{Found}
-use Rattle.drvhost_many.specs.All.{AreFound, EachEnds, IsAlone, IsUnfound}
+use Rattle.drvhost_many.specs.All.{AreFound, EachEnds, IsAlone, IsUnfound, width_of}
 use Rattle.drvhost_many.specs.One.{IsJudged, is_in_json as judged_in_json}
+use Rattle.drvhost_options.specs.declared.jobs.TheConstants.{MAX_JOBS}
 use Rattle.drvhost_sarif.specs.Log.{PathsEnd as LogEnds}
 use Rattle.drvhost_words.specs.declared.work.Work.{Work}
 use Rattle.drvhost_words.specs.declared.work.Work.TheVariants.{Do, Judge}
@@ -161,22 +162,28 @@ FileEnds (Explain extent) supply name opened reads writes before after status to
 FileEnds (ExplainJson extent) supply name opened reads writes before after status told =
     WorkEnds (Judge (ExplainJson extent)) supply name opened reads writes before after status told
 
+-- so many jobs share several files, where so many are asked for: 64 at most
+abbrev pub IsJobCount : Option ℕ → ℕ → Type 0
+IsJobCount None count = count ≤ MAX_JOBS
+IsJobCount (Some asked) count = count ≡ min asked MAX_JOBS
+
 -- how that of the sets does that were found for paths: of one file alone as it is, and of others
--- each told with its name
-abbrev pub FoundEnds : Judging → (List ℕ → Supply) → List (Bor (List ℕ)) → List (String Global)
-    → ℕ → ℕ → ℕ → Option (List ℕ) → Option (List ℕ) → ℕ → List ℕ → Type 0
-FoundEnds judging supply paths names opened reads writes before after status told =
+-- each told with its name, where so many jobs are asked for
+abbrev pub FoundEnds : Judging → Option ℕ → (List ℕ → Supply) → List (Bor (List ℕ))
+    → List (String Global) → ℕ → ℕ → ℕ → Option (List ℕ) → Option (List ℕ) → ℕ → List ℕ → Type 0
+FoundEnds judging jobs supply paths names opened reads writes before after status told =
     ((path : List ℕ) × IsAlone paths names path
     × FileEnds judging supply path opened reads writes before after status told)
     ⊎ (((path : List ℕ) → IsAlone paths names path → ⊥)
-    × EachEnds judging supply names opened reads writes before after status told)
+    × (count : ℕ) × IsJobCount jobs count
+    × EachEnds judging (width_of count) supply names opened reads writes before after status told)
 
 -- how that of the sets does that paths stand for
 abbrev pub PathsEnd : (List ℕ → Found → Type 0) → (List ℕ → Supply) → List (Bor (List ℕ))
-    → Judging → ℕ → ℕ → ℕ → Option (List ℕ) → Option (List ℕ) → ℕ → List ℕ → Type 0
-PathsEnd stands supply paths judging opened reads writes before after status told =
+    → Judging → Option ℕ → ℕ → ℕ → ℕ → Option (List ℕ) → Option (List ℕ) → ℕ → List ℕ → Type 0
+PathsEnd stands supply paths judging jobs opened reads writes before after status told =
     ((names : List (String Global)) × AreFound (λ path. stands path.now) paths names
-    × FoundEnds judging supply paths names opened reads writes before after status told)
+    × FoundEnds judging jobs supply paths names opened reads writes before after status told)
     ⊎ IsUnfound opened reads writes before after status told
 
 -- how a job ends, where paths stand for such files, and the files of names have this to give: by the
@@ -186,8 +193,8 @@ abbrev pub JobEnds : (List ℕ → Found → Type 0) → (List ℕ → Supply) �
     → Option (List ℕ) → Option (List ℕ) → ℕ → List ℕ → Type 0
 JobEnds stands supply (OfPage page) opened reads writes before after status told =
     (opened ≡ 0) × Ends (IsPage page) reads writes before after status told
-JobEnds stands supply (OnPaths paths judging) opened reads writes before after status told =
-    PathsEnd stands supply paths.items judging opened reads writes before after status told
+JobEnds stands supply (OnPaths paths judging jobs) opened reads writes before after status told =
+    PathsEnd stands supply paths.items judging jobs opened reads writes before after status told
 JobEnds stands supply (Log paths logging) opened reads writes before after status told =
     LogEnds logging (λ path. stands path.now) supply paths.items opened reads writes before after
     status told

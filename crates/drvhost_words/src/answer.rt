@@ -1,7 +1,7 @@
 //! What the program answers.
 
 ghost use Rattle.std.specs.Prelude.{◌≡◌, ◌+◌, ◌<◌, ◌^◌, ◌⊎◌, ℕ, List, Option, drop, map, string_bytes, true};
-ghost use Rattle.drvhost_words.specs.Program.{FileEnds, IsAnswerToLost, IsDoneOf, IsOfApply, IsOfWork, IsPage, IsRunBy, IsTaskOf, IsUnopenedBy, OpensToTrace, IsQuietly, EndsAtOnce, JobEnds, JobStores, MendsFile, PathsEnd, ProgramEnds, ProgramStores, RewritesFile, WordsEnd, WordsStore, is_in_json, verification_of};
+ghost use Rattle.drvhost_words.specs.Program.{FileEnds, IsAnswerToLost, IsDoneOf, IsOfApply, IsOfWork, IsPage, IsRunBy, IsJobCount, IsTaskOf, IsUnopenedBy, OpensToTrace, IsQuietly, EndsAtOnce, JobEnds, JobStores, MendsFile, PathsEnd, ProgramEnds, ProgramStores, RewritesFile, WordsEnd, WordsStore, is_in_json, verification_of};
 ghost use Rattle.drvhost_many.specs.All.{Counted};
 ghost use Rattle.drvhost_words.specs.Unread.{IsNamedUnread, IsOneOf, SaysAround, SaysMore};
 ghost use Rattle.drvhost_devices.specs.Device.{CanCount, Says};
@@ -23,10 +23,12 @@ use drvhost_formats::trace::{Asked, trace_json};
 use drvhost_formats::unopened::unopened_json;
 use drvhost_hunts::hunt::hunt;
 use drvhost_many::file::{self, judge};
-use drvhost_many::many::answer_each;
+use drvhost_many::many::{Sets, answer_each};
 use drvhost_many::paths::{alone, find_all};
 use drvhost_mends::apply::{self, apply};
 use drvhost_mends::mend::{self, mend};
+use drvhost_options::jobs::MAX_JOBS;
+use drvhost_options::surroundings::Surroundings;
 use drvhost_runs::host::{Hosting, host};
 use drvhost_runs::trace::trace;
 use drvhost_sarif::logging::log_paths;
@@ -43,13 +45,21 @@ use std::sync::Wait;
 use std::thread::Threads;
 use workers::Gate;
 
+/// Where the program runs.
+#[derive(Clone, Copy)]
+pub struct Setting {
+    pub alloc: Global,
+    /// What it finds around it.
+    pub surroundings: Surroundings,
+}
+
 /// Does what the words of a command line ask for, the program's own name first, or says why they
 /// can't be had. Each file that they name is opened, read and handed back when its turn comes. The
 /// answer is the exit status: that of the job that they name; 2 where they name none, and the
 /// writer for errors is then told how the program is used; 3 where memory ran out.
 pub fn answer<F: Files, O: Sink, E: Sink, R: Threads + Wait + Sync>(
     rt: &R,
-    alloc: Global,
+    setting: Setting,
     words: Result<Vec<String>, ErrorKind>,
     files: &mut F,
     out: &mut O,
@@ -71,7 +81,7 @@ pub fn answer<F: Files, O: Sink, E: Sink, R: Threads + Wait + Sync>(
         (F.created files.old) (F.created files.new) result }
 {
     match words {
-        Ok(words) => answer_words(rt, alloc, arguments(words.as_slice()), files, out, err),
+        Ok(words) => answer_words(rt, setting, arguments(words.as_slice()), files, out, err),
         Err(kind) => refuse_lost_words(kind, err),
     }
 }
@@ -106,7 +116,7 @@ fn refuse_lost_words<E: Sink>(kind: ErrorKind, err: &mut E) -> u8
 /// Does what the words ask for, without the program's name.
 fn answer_words<F: Files, O: Sink, E: Sink, R: Threads + Wait + Sync>(
     rt: &R,
-    alloc: Global,
+    setting: Setting,
     words: &[String],
     files: &mut F,
     out: &mut O,
@@ -128,17 +138,17 @@ fn answer_words<F: Files, O: Sink, E: Sink, R: Threads + Wait + Sync>(
     ensures stores { WordsStore (map string_bytes words.now) (F.supply files.old) (F.supply files.new)
         (F.created files.old) (F.created files.new) result }
 {
-    match Job::of(alloc, words) {
-        Ok(job) => perform(rt, alloc, &job, files, out, err),
+    match Job::of(setting.alloc, words) {
+        Ok(job) => perform(rt, setting, &job, files, out, err),
         Err(fault) => refuse_words(&fault, err),
     }
 }
 
-/// Does a job with the files that it names. Only what does `host` is given the runtime: nothing else
-/// starts a thread, or waits.
+/// Does a job with the files that it names. Only what does `host`, or judges several files, is given
+/// the runtime: nothing else starts a thread, or waits.
 fn perform<F: Files, O: Sink, E: Sink, R: Threads + Wait + Sync>(
     rt: &R,
-    alloc: Global,
+    setting: Setting,
     job: &Job<'_>,
     files: &mut F,
     out: &mut O,
@@ -159,10 +169,21 @@ fn perform<F: Files, O: Sink, E: Sink, R: Threads + Wait + Sync>(
     ensures stores { JobStores job.now (F.supply files.old) (F.supply files.new)
         (F.created files.old) (F.created files.new) result }
 {
+    let alloc = setting.alloc;
     match job {
         Job::Page(page) => write_page(alloc, *page, out, err),
-        Job::OnPaths { paths, judging } => {
-            judge_paths(alloc, *judging, paths.as_slice(), files, out, err)
+        Job::OnPaths {
+            paths,
+            judging,
+            jobs,
+        } => {
+            let paths = Paths {
+                setting,
+                judging: *judging,
+                jobs: *jobs,
+                paths: paths.as_slice(),
+            };
+            judge_paths(rt, paths, files, out, err)
         }
         Job::Log { paths, logging } => {
             log_paths(alloc, *logging, paths.as_slice(), files, out, err)
@@ -212,12 +233,21 @@ fn write_page<O: Sink, E: Sink>(alloc: Global, page: Page, out: &mut O, err: &mu
     }
 }
 
+/// Paths of which the driver sets are judged.
+#[derive(Clone, Copy)]
+struct Paths<'p> {
+    setting: Setting,
+    judging: Judging,
+    /// How many jobs are to share them, or none where nothing is said of it.
+    jobs: Option<u64>,
+    paths: &'p [&'p str],
+}
+
 /// Judges the sets that paths stand for: that of one file alone as it is, and others each told with
 /// its name.
-fn judge_paths<F: Files, O: Sink, E: Sink>(
-    alloc: Global,
-    judging: Judging,
-    paths: &[&str],
+fn judge_paths<R: Threads + Sync, F: Files, O: Sink, E: Sink>(
+    rt: &R,
+    asked: Paths<'_>,
     files: &mut F,
     out: &mut O,
     err: &mut E,
@@ -227,7 +257,8 @@ fn judge_paths<F: Files, O: Sink, E: Sink>(
     requires out { CanCount (O.failures out.old) }
     requires err { CanCount (E.failures err.old) }
     ensures answers { Counted
-        (PathsEnd (F.stands files.old) (F.supply files.old) paths.now judging)
+        (PathsEnd (F.stands files.old) (F.supply files.old) asked.entry.paths.now
+        asked.entry.judging asked.entry.jobs)
         (F.opened files.old) (F.opened files.new) (F.failures files.old) (F.failures files.new)
         (O.failures out.old) (O.failures out.new) (O.contents out.old) (O.contents out.new)
         (Says (E.failures err.old) (E.failures err.new) (E.contents err.old) (E.contents err.new))
@@ -236,13 +267,34 @@ fn judge_paths<F: Files, O: Sink, E: Sink>(
     ensures created { F.created files.new ≡ F.created files.old }
     ensures unwritten { F.unwritten files.new ≡ F.unwritten files.old }
 {
-    match find_all(alloc, paths, files) {
-        Ok(names) => match alone(paths, names.as_slice()) {
-            Some(path) => judge_file(alloc, judging, path, files, out, err),
-            None => answer_each(alloc, judging, names.as_slice(), files, out, err),
+    let alloc = asked.setting.alloc;
+    match find_all(alloc, asked.paths, files) {
+        Ok(names) => match alone(asked.paths, names.as_slice()) {
+            Some(path) => judge_file(alloc, asked.judging, path, files, out, err),
+            None => {
+                let sets = Sets {
+                    alloc,
+                    judging: asked.judging,
+                    jobs: job_count(asked.jobs, asked.setting.surroundings.processors),
+                    names: names.as_slice(),
+                };
+                answer_each(rt, sets, files, out, err)
+            }
         },
         Err(AllocError) => no_memory(err),
     }
+}
+
+/// How many jobs share several files, where so many are asked for, or else by how many processors
+/// there are.
+fn job_count(asked: Option<u64>, processors: usize) -> u8
+    ensures { IsJobCount asked result }
+{
+    let count = match asked {
+        Some(count) => count,
+        None => processors as u64,
+    };
+    count.min(MAX_JOBS) as u8
 }
 
 /// Judges the set of one file alone.

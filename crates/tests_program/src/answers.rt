@@ -1,6 +1,6 @@
 //! What the program answers where the words of its command line name no job.
 
-use crate::shelf::{Shelf, given};
+use crate::shelf::{Shelf, given, plain};
 use drvhost_devices::device::Writer;
 use drvhost_words::answer::answer;
 use std::alloc::Global;
@@ -18,7 +18,7 @@ fn told_of<R: Threads + Wait + Sync>(
     let mut files = Shelf::new(alloc);
     let mut out = Writer::new(Vec::<u8>::new(alloc));
     let mut err = Writer::new(Vec::<u8>::new(alloc));
-    let answered = answer(rt, alloc, words, &mut files, &mut out, &mut err);
+    let answered = answer(rt, plain(alloc), words, &mut files, &mut out, &mut err);
     let opened = files.opened > 0 || files.created > 0;
     if answered == status && !opened && out.into_inner().is_empty() {
         err.into_inner()

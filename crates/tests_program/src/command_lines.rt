@@ -233,6 +233,7 @@ fn is_to_check(job: &Job<'_>, wanted: &[&str]) -> bool {
         Job::OnPaths {
             paths,
             judging: Judging::Check,
+            jobs: _,
         } => are(paths.as_slice(), wanted),
         _ => false,
     }
@@ -244,6 +245,7 @@ fn is_to_check_in_json(job: &Job<'_>, wanted: &[&str]) -> bool {
         Job::OnPaths {
             paths,
             judging: Judging::CheckJson,
+            jobs: _,
         } => are(paths.as_slice(), wanted),
         _ => false,
     }
@@ -255,6 +257,7 @@ fn is_to_explain(job: &Job<'_>, wanted: &[&str], all: Extent) -> bool {
         Job::OnPaths {
             paths,
             judging: Judging::Explain(extent),
+            jobs: _,
         } => are(paths.as_slice(), wanted) && *extent == all,
         _ => false,
     }

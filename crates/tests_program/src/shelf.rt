@@ -6,6 +6,8 @@ ghost use Rattle.drvhost_devices.specs.Device.{Unknown};
 use drvhost_devices::device::{Reader, Sink, Source};
 use drvhost_files::files::{Files, Output};
 use drvhost_found::find::{Found, alone};
+use drvhost_options::surroundings::PLAIN;
+use drvhost_words::answer::Setting;
 use std::alloc::{AllocError, Global};
 use tests_sets::vectors::{OLD_ONE_READ, ONE_READ, ONE_READ_TEXT};
 
@@ -102,6 +104,14 @@ impl Files for Shelf {
         self.created += 1;
         self.unwritten += target.failures();
         self.written = target.into_inner();
+    }
+}
+
+/// Where no stream is a terminal, and one job does all.
+pub(crate) fn plain(alloc: Global) -> Setting {
+    Setting {
+        alloc,
+        surroundings: PLAIN,
     }
 }
 

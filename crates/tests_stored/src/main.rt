@@ -8,7 +8,8 @@ mod texts;
 
 use drvhost_devices::device::Writer;
 use drvhost_files::files::Disk;
-use drvhost_words::answer::answer;
+use drvhost_options::surroundings::PLAIN;
+use drvhost_words::answer::{Setting, answer};
 use std::alloc::{AllocError, Global};
 use std::fs::{self, Files};
 use std::io::{self, Input, Write};
@@ -49,7 +50,11 @@ where
     let mut files = Disk::new(rt);
     let mut lines = Writer::new(Vec::<u8>::new(alloc));
     let mut told = Writer::new(Vec::<u8>::new(alloc));
-    let status = answer(rt, alloc, Ok(words), &mut files, &mut lines, &mut told);
+    let setting = Setting {
+        alloc,
+        surroundings: PLAIN,
+    };
+    let status = answer(rt, setting, Ok(words), &mut files, &mut lines, &mut told);
     out.write_all(lines.into_inner().as_slice())?;
     write_told(told.into_inner().as_slice(), out)?;
     let opened = files.opened();

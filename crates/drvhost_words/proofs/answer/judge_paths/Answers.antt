@@ -1,5 +1,5 @@
 use Rattle.std.proofs.Common.{inl, inr}
-use Rattle.drvhost_many.specs.All.{EachEnds}
+use Rattle.drvhost_many.specs.All.{EachEnds, width_of}
 use Rattle.drvhost_words.specs.Program.{FileEnds, PathsEnd}
 use Rattle.drvhost_words.proofs.Ending.{counted_as, counted_unfound}
 use Rattle.drvhost_words.proofs.answer.judge_paths.Goals as goal
@@ -8,9 +8,9 @@ pub returns-in-Some-clause-answers : goal.returns-in-Some-clause-answers
 returns-in-Some-clause-answers g c =
     let stands = g.F.Files.stands c.args.files.now in
     let supply = g.F.Files.supply c.args.files.now in
-    let judging = c.args.judging in
+    let judging = c.args.asked.judging in
     counted_as (FileEnds judging supply c.in-Some.path.now)
-    (PathsEnd stands supply c.args.paths.now judging) _ _ _ _ _ _ _ _ _ _
+    (PathsEnd stands supply c.args.asked.paths.now judging c.args.asked.jobs) _ _ _ _ _ _ _ _ _ _
     (λ opened reads writes told ends. inl (
       c.in-Ok.names.items,
       c.in-Ok.ensures,
@@ -22,13 +22,16 @@ pub returns-in-Ok-clause-answers : goal.returns-in-Ok-clause-answers
 returns-in-Ok-clause-answers g c =
     let stands = g.F.Files.stands c.args.files.now in
     let supply = g.F.Files.supply c.args.files.now in
-    let judging = c.args.judging in
-    counted_as (EachEnds judging supply c.in-Ok.names.items)
-    (PathsEnd stands supply c.args.paths.now judging) _ _ _ _ _ _ _ _ _ _
+    let judging = c.args.asked.judging in
+    counted_as (EachEnds judging (width_of c.job_count.result) supply c.in-Ok.names.items)
+    (PathsEnd stands supply c.args.asked.paths.now judging c.args.asked.jobs) _ _ _ _ _ _ _ _ _ _
     (λ opened reads writes told ends. inl (
       c.in-Ok.names.items,
       c.in-Ok.ensures,
-      inr (rw c.as_slice.ensures.value at c.in-None.ensures.none, ends),
+      inr (
+        rw c.as_slice.ensures.value at c.in-None.ensures.none,
+        (c.job_count.result, c.job_count.ensures, ends),
+      ),
     ))
     (rw c.as_slice-in-None.ensures.value at c.answer_each.ensures.answers)
 
@@ -36,5 +39,6 @@ pub returns-clause-answers : goal.returns-clause-answers
 returns-clause-answers g c =
     let stands = g.F.Files.stands c.args.files.now in
     let supply = g.F.Files.supply c.args.files.now in
-    counted_unfound (PathsEnd stands supply c.args.paths.now c.args.judging) _ _ _ _ _ _
+    counted_unfound
+    (PathsEnd stands supply c.args.asked.paths.now c.args.asked.judging c.args.asked.jobs) _ _ _ _ _ _
     c.no_memory.ensures.status c.no_memory.ensures.told (λ unfound. inr unfound)

@@ -1,0 +1,221 @@
+-- Files that were read, and the answers for them.
+use Rattle.std.proofs.Common.{◌≡◌, ◌∙◌, ◌+◌, ◌≤◌, ℕ, zero, suc, List, [], ◌∷◌, ◌++◌, ◌<◌, Bool, true, false, String, ap, append_assoc, arith, drop, get_or, inl, inr, length, refl, string_bytes, subst, sym, take}
+use Rattle.std.specs.Global.{Global}
+use Rattle.std.specs.List.{AllZip, sum_by}
+use Rattle.std.proofs.lemmas.List.{drop_more, length-append, take-append-drop, take_more}
+use Rattle.std.proofs.lemmas.List.Sums.{sum_by-append, sum_by-cons}
+use Rattle.std.proofs.lemmas.Slice.Zip.{AllZip-long}
+use Rattle.drvhost_commands.specs.declared.job.Judging.{Judging}
+use Rattle.drvhost_devices.specs.Answer.{Answer}
+use Rattle.drvhost_devices.specs.Device.{Bytes, Closed, Holds, IsSuppliedAs, Supply, Unknown}
+use Rattle.drvhost_many.specs.declared.held.Contents.{Contents}
+use Rattle.drvhost_many.specs.declared.held.Contents.TheVariants.{Whole, Unread, Unopened}
+use Rattle.drvhost_many.specs.declared.held.Held.{Held}
+use Rattle.drvhost_many.specs.All.{AreOf, IsAt, joined, nothing}
+use Rattle.drvhost_many.specs.Held.{AreToldOf, HoldsSome, IsAmong, IsAnswerTo, IsHeld, IsReadOf, IsToldOf, held_reads, reads_of}
+use Rattle.drvhost_many.specs.Marked.{named_answer}
+use Rattle.drvhost_many.specs.One.{IsOfOne}
+use Rattle.drvhost_many.proofs.Collected.{judged_known}
+use Rattle.drvhost_many.proofs.Joining.{joined_assoc, joined_none}
+use Rattle.drvhost_many.proofs.Judged.{unopened_in_json}
+
+-- two lists that belong together, with one more each
+pub zip_more : {A B : Type 0} (R : A → B → Type 0) (xs : List A) (ys : List B) (x : A) (y : B)
+    → AllZip R xs ys → R x y → AllZip R (xs ++ x ∷ []) (ys ++ y ∷ [])
+zip_more R [] [] x y h r = (r, tt)
+zip_more R [] (b ∷ ys) x y h r = absurd h
+zip_more R (a ∷ xs) [] x y h r = absurd h
+zip_more R (a ∷ xs) (b ∷ ys) x y (here, h) r = (here, zip_more R xs ys x y h r)
+
+-- and split at one
+pub zip_split : {A B : Type 0} (R : A → B → Type 0) (xs : List A) (before : List B) (one : B)
+    (behind : List B) → AllZip R xs (before ++ one ∷ behind)
+    → (first : List A) × (x : A) × (rest : List A) × (xs ≡ first ++ x ∷ rest)
+    × AllZip R first before × R x one × AllZip R rest behind
+zip_split R [] [] one behind h = absurd h
+zip_split R (x ∷ xs) [] one behind (r, h) = ([], x, xs, refl, tt, r, h)
+zip_split R [] (b ∷ before) one behind h = absurd h
+zip_split R (x ∷ xs) (b ∷ before) one behind (r, h) =
+    let p = zip_split R xs before one behind h in
+    (x ∷ p.0, p.1, p.2, ap (λ l. x ∷ l) p.3, (r, p.4), p.5, p.6)
+
+-- and at an index
+pub zip_at : {A B : Type 0} (R : A → B → Type 0) (xs : List A) (ys : List B) (i : ℕ) (d : A) (e : B)
+    → AllZip R xs ys → i < length xs → R (get_or xs i d) (get_or ys i e)
+zip_at R [] ys i d e h less = let no : ⊥ = omega (arith, less) in absurd no
+zip_at R (x ∷ xs) [] i d e h less = absurd h
+zip_at R (x ∷ xs) (y ∷ ys) zero d e (r, h) less = r
+zip_at R (x ∷ xs) (y ∷ ys) (suc i) d e (r, h) less = zip_at R xs ys i d e h (omega (arith, less))
+
+held_known : (supply : Supply) (bytes : List ℕ) → Holds supply bytes
+    → IsSuppliedAs supply (Bytes bytes)
+held_known Unknown bytes h = tt
+held_known Closed bytes h = absurd h
+held_known (Bytes held) bytes h = ap (λ b. Bytes b) h
+
+of_contents : (judging : Judging) (name : List ℕ) (supply : Supply) (contents : Contents)
+    (answer : Answer) → IsReadOf judging supply contents → IsAnswerTo judging name contents answer
+    → IsOfOne judging name supply (reads_of contents) answer
+of_contents judging name supply (Whole bytes) answer holds is =
+    inl (
+      refl,
+      inl (judged_known judging name supply (Bytes bytes.items)
+          (held_known supply bytes.items holds) answer is),
+    )
+of_contents judging name supply Unread answer h is = inr (refl, is)
+of_contents judging name supply Unopened answer (closed, json) is =
+    inl (refl, inr (closed, unopened_in_json judging name answer json is))
+
+-- what is answered for what was read of a file is answered for the file
+pub of_held : (judging : Judging) (supply : List ℕ → Supply) (name : String Global) (held : Held)
+    (told : Answer) → IsHeld judging supply name held → IsToldOf judging held told
+    → (answer : Answer)
+    × IsOfOne judging (string_bytes name) (supply (string_bytes name)) (held_reads held) answer
+    × (told ≡ named_answer judging (string_bytes name) answer)
+of_held judging supply name held told h (answer, is, same) = (
+  answer,
+  of_contents judging (string_bytes name) (supply (string_bytes name)) held.contents answer h.read
+      (subst (λ n. IsAnswerTo judging n held.contents answer) h.name_is is),
+  subst (λ n. told ≡ named_answer judging n answer) h.name_is same,
+)
+
+-- for several
+pub of_all : (judging : Judging) (supply : List ℕ → Supply) (names : List (String Global))
+    (files : List Held) (whole : Answer) → AllZip (IsHeld judging supply) names files
+    → AreToldOf judging files whole → AreOf judging supply names (sum_by held_reads files) whole
+of_all judging supply [] [] whole h is = (refl, is)
+of_all judging supply [] (file ∷ files) whole h is = absurd h
+of_all judging supply (name ∷ names) [] whole h is = absurd h
+of_all judging supply (name ∷ names) (file ∷ files) whole (here, h) (told, rest, one, more, is) =
+    let o = of_held judging supply name file told here one in (
+      held_reads file,
+      sum_by held_reads files,
+      o.0,
+      rest,
+      o.1,
+      of_all judging supply names files rest h more,
+      sum_by-cons held_reads file files,
+      is ∙ ap (λ t. joined t rest) o.2,
+    )
+
+-- for one more
+pub told_more : (judging : Judging) (files : List Held) (file : Held) (first told : Answer)
+    → AreToldOf judging files first → IsToldOf judging file told
+    → AreToldOf judging (files ++ file ∷ []) (joined first told)
+told_more judging [] file first told none is =
+    (told, nothing, is, refl, ap (λ a. joined a told) none ∙ joined_none told)
+told_more judging (one ∷ files) file first told (early, rest, here, more, whole) is = (
+  early,
+  joined rest told,
+  here,
+  told_more judging files file rest told more is,
+  ap (λ a. joined a told) whole ∙ joined_assoc early rest told,
+)
+
+-- those up to an index are answered, and the one there
+pub told_next : (judging : Judging) (files : List Held) (i : ℕ) (one : Held) (first told : Answer)
+    → i < length files → one ≡ get_or files i one → AreToldOf judging (take i files) first
+    → IsToldOf judging one told → AreToldOf judging (take (i + 1) files) (joined first told)
+told_next judging files i one first told h at are is =
+    let next : take i files ++ one ∷ [] ≡ take (i + 1) files =
+    ap (λ x. take i files ++ x ∷ []) at ∙ sym (take_more files i one h) in
+    subst (λ l. AreToldOf judging l (joined first told)) next
+    (told_more judging (take i files) one first told are is)
+
+-- a list up to an element, that, and what is behind it
+pub split_at : {A : Type 0} (xs : List A) (i : ℕ) (x : A) → i < length xs → x ≡ get_or xs i x
+    → xs ≡ take i xs ++ x ∷ drop (i + 1) xs
+split_at xs i x h is =
+    sym (take-append-drop i xs)
+    ∙ ap (λ l. take i xs ++ l) (drop_more xs i x h ∙ ap (λ y. y ∷ drop (i + 1) xs) (sym is))
+
+pub among_at : (judging : Judging) (files : List Held) (i : ℕ) (one : Held) (first : Answer)
+    → i < length files → one ≡ get_or files i one → AreToldOf judging (take i files) first
+    → IsAmong judging files one first
+among_at judging files i one first h at are =
+    record {
+      before = take i files;
+      behind = drop (i + 1) files;
+      split = split_at files i one h at;
+      answers = are;
+    }
+
+-- one read at most fails of a file
+pub reads_few : (contents : Contents) → reads_of contents ≤ 1
+reads_few (Whole bytes) = omega arith
+reads_few Unread = omega arith
+reads_few Unopened = omega arith
+
+pub sum_few : (files : List Held) → sum_by held_reads files ≤ length files
+sum_few [] = omega arith
+sum_few (file ∷ files) =
+    let sum = sum_by-cons held_reads file files in
+    let one = reads_few file.contents in
+    let more = sum_few files in
+    omega (arith, sum, one, more)
+
+-- at least those that are held were opened, and at most all
+pub bounds : (is_whole : Bool) (count all opened reads : ℕ)
+    → HoldsSome is_whole count all opened reads → (count + reads ≤ opened) × (opened ≤ all)
+bounds true count all opened reads h = (omega (arith, h.0, h.1, h.2), omega (arith, h.1))
+bounds false count all opened reads h = (omega (arith, h.1, h.2), omega (arith, h.0, h.1))
+
+-- one of the files that were read, by its name, and where it stands among those that were named
+pub record Placed (judging : Judging) (width : ℕ) (supply : List ℕ → Supply)
+    (names : List (String Global)) (files : List Held) (opened reads : ℕ) (one : Held)
+    (first : Answer) : Type 0 where
+  pub name : String Global
+  pub others : ℕ
+  pub held : IsHeld judging supply name one
+  pub at : IsAt judging width supply names opened (string_bytes name) others first
+  pub sum : sum_by held_reads files + reads ≡ others + held_reads one
+
+module _ (judging : Judging) (width : ℕ) (supply : List ℕ → Supply) (names : List (String Global))
+    (files : List Held) (is_whole : Bool) (opened reads : ℕ)
+    (held : AllZip (IsHeld judging supply) (take (length files) names) files)
+    (some : HoldsSome is_whole (length files) (length names) opened reads)
+    (few : length names ≤ width) where
+  pub placed : (one : Held) (first : Answer) → IsAmong judging files one first
+      → Placed judging width supply names files opened reads one first
+  placed one first among =
+      let R = IsHeld judging supply in
+      let count = length files in
+      let p =
+      zip_split R (take count names) among.before one among.behind
+      (subst (λ f. AllZip R (take count names) f) among.split held) in
+      let early = sum_by held_reads among.before in
+      let later = sum_by held_reads among.behind in
+      let whole : sum_by held_reads files ≡ early + (held_reads one + later) =
+      ap (λ f. sum_by held_reads f) among.split
+      ∙ sum_by-append held_reads among.before (one ∷ among.behind)
+      ∙ ap (λ n. early + n) (sum_by-cons held_reads one among.behind) in
+      let long : count ≡ length among.before + (length among.behind + 1) =
+      let all = ap (λ f. length f) among.split in
+      let parts = length-append among.before (one ∷ among.behind) in
+      omega (arith, all, parts) in
+      let same = AllZip-long R p.0 among.before p.4 in
+      let least = sum_few among.behind in
+      let b = bounds is_whole count (length names) opened reads some in
+      record {
+        name = p.1;
+        others = early + (later + reads);
+        held = p.5;
+        at =
+            record {
+              before = p.0;
+              one = p.1;
+              behind = p.2 ++ drop count names;
+              some = early;
+              ahead = later + reads;
+              split =
+                  sym (take-append-drop count names) ∙ ap (λ l. l ++ drop count names) p.3
+                  ∙ append_assoc p.0 (p.1 ∷ p.2) (drop count names);
+              name_is = refl;
+              answers = of_all judging supply p.0 among.before first p.4 among.answers;
+              reads_are = refl;
+              opened_some = omega (arith, same, least, long, b.0);
+              opened_few = omega (arith, b.1, few);
+              opened_most = b.1;
+            };
+        sum = omega (arith, whole);
+      }

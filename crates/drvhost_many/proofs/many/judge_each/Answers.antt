@@ -1,0 +1,20 @@
+use Rattle.std.proofs.Common.{◌≡◌, ◌∙◌, IfOk, ap, subst}
+use Rattle.rayon.proofs.ListFacts.{IfOk-then}
+use Rattle.rayon.proofs.ToStd.{slice-AllZip}
+use Rattle.std.specs.List.{AllZip}
+use Rattle.drvhost_many.specs.Held.{IsToldOf}
+use Rattle.drvhost_many.proofs.many.judge_each.Goals as goal
+
+pub returns : goal.returns
+returns g c =
+    let slice =
+    ap (λ it. it.base.slice.now) c.map.ensures.base
+    ∙ ap (λ it. it.slice.now) c.with_min_len.ensures.base ∙ c.par_iter.ensures in
+    let same : c.map.result.f.1.now ≡ c.args.judging =
+    ap (λ f. f.1.now) c.map.ensures.f in
+    IfOk-then c.collect.result _ _ c.collect.ensures (λ v h.
+    let chain = h.1 in
+    subst (λ j. AllZip (λ one answer. IfOk answer (IsToldOf j one)) c.args.held.now v.items) same
+    (rw h.2
+    (slice-AllZip chain.0 c.args.held.now (chain.1 ∙ slice)
+    (λ one answer. IfOk answer (IsToldOf c.map.result.f.1.now one)) h.0 chain.2)))
