@@ -105,6 +105,17 @@ pub enum Judging {
     ExplainJson(Extent),
 }
 
+/// How tests are reported.
+#[derive(Clone, Copy)]
+pub enum Report {
+    /// In a line each.
+    Lines,
+    /// In the form of TAP, version 14.
+    Tap,
+    /// In the form of JUnit.
+    JUnit,
+}
+
 /// What is done with a driver set alone.
 #[derive(Clone, Copy)]
 pub enum Task {

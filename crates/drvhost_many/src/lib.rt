@@ -5,6 +5,6 @@
 pub mod file;
 mod held;
 pub mod many;
-mod named;
+pub mod named;
 pub mod paths;
-mod told;
+pub mod told;

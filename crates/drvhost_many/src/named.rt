@@ -68,7 +68,11 @@ fn note(alloc: Global, one: One<'_>, text: &[u8]) -> Result<Vec<u8>, AllocError>
 }
 
 /// A text with a name before each of its lines.
-fn name_lines(alloc: Global, name: &str, text: &[u8]) -> Result<Vec<u8>, AllocError>
+///
+/// # Errors
+///
+/// When memory runs out.
+pub fn name_lines(alloc: Global, name: &str, text: &[u8]) -> Result<Vec<u8>, AllocError>
     ensures { IfOk result (λ bytes. bytes.items ≡ lines_named name.now true text.now) }
 {
     let mut bytes = Vec::new(alloc);

@@ -1,6 +1,7 @@
 //! An answer in memory.
 
-ghost use Rattle.std.specs.Prelude.{◌≡◌, IfOk};
+ghost use Rattle.std.specs.Prelude.{◌≡◌, IfOk, OnOk};
+ghost use Rattle.drvhost_many.specs.All.{joined};
 ghost use Rattle.drvhost_many.specs.Told.{Collects};
 
 use drvhost_devices::device::{Sink, Writer};
@@ -10,7 +11,7 @@ use std::marker::Model;
 /// What is answered for a file: its exit status, and what goes to the two streams. Contracts see it
 /// as the answer.
 #[derive(Drop)]
-pub(crate) struct Told {
+pub struct Told {
     exit: u8,
     written: Vec<u8>,
     errors: Vec<u8>,
@@ -26,7 +27,7 @@ impl Model for Told {
 
 impl Told {
     /// An answer of this exit status.
-    pub(crate) fn of(exit: u8, written: Vec<u8>, errors: Vec<u8>) -> Told
+    pub fn of(exit: u8, written: Vec<u8>, errors: Vec<u8>) -> Told
         ensures { result ≡ record { status = exit; output = written.items; told = errors.items } }
     {
         Told {
@@ -37,24 +38,39 @@ impl Told {
     }
 
     /// The exit status.
-    pub(crate) fn status(&self) -> u8
+    pub fn status(&self) -> u8
         ensures { result ≡ self.now.status }
     {
         self.exit
     }
 
     /// What goes to the standard output.
-    pub(crate) fn output(&self) -> &[u8]
+    pub fn output(&self) -> &[u8]
         ensures { result.now ≡ self.now.output }
     {
         self.written.as_slice()
     }
 
     /// What goes to the standard error output.
-    pub(crate) fn told(&self) -> &[u8]
+    pub fn told(&self) -> &[u8]
         ensures { result.now ≡ self.now.told }
     {
         self.errors.as_slice()
+    }
+
+    /// Adds an answer behind it: the greater exit status is that of both.
+    ///
+    /// # Errors
+    ///
+    /// When memory runs out.
+    pub fn add(&mut self, other: &Told) -> Result<(), AllocError>
+        ensures { OnOk result (self.new ≡ joined self.old other.now) }
+    {
+        if self.exit < other.exit {
+            self.exit = other.exit;
+        }
+        self.written.extend_from_slice(other.output())?;
+        self.errors.extend_from_slice(other.told())
     }
 }
 

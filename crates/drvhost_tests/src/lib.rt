@@ -1,0 +1,9 @@
+//! What the program answers to tests of a driver set: the scenarios of files by name, played one
+//! after another.
+#![tactic(auto)]
+
+mod reporting;
+mod scenario;
+mod set;
+mod telling;
+pub mod test;

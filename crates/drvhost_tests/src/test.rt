@@ -1,0 +1,82 @@
+//! Tests of a driver set.
+
+ghost use Rattle.std.specs.Prelude.{◌≡◌, ◌<◌, ◌^◌, ℕ};
+ghost use Rattle.drvhost_devices.specs.Device.{CanCount, Says};
+ghost use Rattle.drvhost_devices.specs.Ends.{Answers};
+ghost use Rattle.drvhost_many.specs.All.{Counted};
+ghost use Rattle.drvhost_tests.specs.Tests.{TestsEnd};
+ghost use Rattle.drvhost_tests.specs.Told.{asked_of};
+
+use crate::set::test_set;
+use drvhost_commands::job::Report;
+use drvhost_devices::device::{Failed, Sink};
+use drvhost_devices::fault::{no_memory, say};
+use drvhost_devices::transfer::write_whole;
+use drvhost_devices::verification::Verification;
+use drvhost_files::files::Files;
+use drvhost_many::told::Told;
+use report::fault::WRITE_FAILED;
+use std::alloc::{AllocError, Global};
+
+/// Tests of a driver set: the file of the set, those of the scenarios, whether the set has to be
+/// accepted, and how the tests are reported.
+#[derive(Clone, Copy)]
+pub struct Tests<'n> {
+    pub set: &'n str,
+    pub scenarios: &'n [&'n str],
+    pub verification: Verification,
+    pub report: Report,
+}
+
+/// Plays scenarios over a driver set, one after another, and writes a line for each: that all that it
+/// expects holds, or the first step that fails, with what is there instead. Where verification is
+/// required, a refused set isn't run, and what is written is the line of its refusal. The answer is the
+/// exit status, the greatest of those of the scenarios: 0 where all holds, 1 where a step fails or the
+/// set is refused, 2 where a file is faulty or can't be read, which is told with its name; 2 where a
+/// write failed, and 3 where memory ran out.
+pub fn test<F: Files, O: Sink, E: Sink>(
+    alloc: Global,
+    tests: Tests<'_>,
+    files: &mut F,
+    out: &mut O,
+    err: &mut E,
+) -> u8
+    requires opened { F.opened files.old < 2 ^ 62 }
+    requires files { F.failures files.old < 2 ^ 62 }
+    requires out { CanCount (O.failures out.old) }
+    requires err { CanCount (E.failures err.old) }
+    ensures answers { Counted (TestsEnd (asked_of tests.entry) (F.supply files.old))
+        (F.opened files.old) (F.opened files.new) (F.failures files.old) (F.failures files.new)
+        (O.failures out.old) (O.failures out.new) (O.contents out.old) (O.contents out.new)
+        (Says (E.failures err.old) (E.failures err.new) (E.contents err.old) (E.contents err.new))
+        result }
+    ensures supply { F.supply files.new ≡ F.supply files.old }
+    ensures created { F.created files.new ≡ F.created files.old }
+    ensures unwritten { F.unwritten files.new ≡ F.unwritten files.old }
+{
+    match test_set(alloc, tests, files) {
+        Ok(told) => deliver(&told, out, err),
+        Err(AllocError) => no_memory(err),
+    }
+}
+
+/// Writes an answer to its writers.
+fn deliver<O: Sink, E: Sink>(told: &Told, out: &mut O, err: &mut E) -> u8
+    requires out { CanCount (O.failures out.old) }
+    requires err { CanCount (E.failures err.old) }
+    ensures { (reads : ℕ) → Answers (λ answer. answer ≡ told.now) reads reads
+        (O.failures out.old) (O.failures out.new) (O.contents out.old) (O.contents out.new)
+        (Says (E.failures err.old) (E.failures err.new) (E.contents err.old) (E.contents err.new))
+        result }
+{
+    match write_whole(out, told.output()) {
+        Ok(()) => {
+            say(err, told.told());
+            told.status()
+        }
+        Err(Failed) => {
+            say(err, WRITE_FAILED.as_bytes());
+            2
+        }
+    }
+}
