@@ -5,7 +5,8 @@ import os, re
 from commands import bare, commands
 from versions import TOP
 
-ENDINGS = {"PATH": "*.(drv|image)", "FILE": "*.(drv|image)", "SCHEDULE": "*.sched", "SCRIPT": "*.script"}
+ENDINGS = {"PATH": "*.(drv|image)", "FILE": "*.(drv|image)", "SCHEDULE": "*.sched",
+           "SCENARIO": "*.scenario", "SCRIPT": "*.script"}
 
 def rules():
     """Numbers and names of the rules, and the warning's, by the headings of docs/RULES.md."""
@@ -17,7 +18,7 @@ def values(flag):
     """What may stand behind a flag; nothing where it takes no value, or any."""
     known = {"--rule RULE": rules(), "--workers N": [str(2 ** power) for power in range(7)],
              "--format FORMAT": ["text", "json", "sarif"],
-             "--format FIGURE": ["svg", "perfetto"]}
+             "--format FIGURE": ["svg", "perfetto"], "--format FORM": ["text", "tap", "junit"]}
     return known.get(flag, [])
 
 BASH = """\

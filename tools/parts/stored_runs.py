@@ -33,7 +33,7 @@ HUNT = 'show it: drvhost hunt '
 ASKED = 'driver.drv', 'events.sched', 'mended.drv'
 END = re.compile(r'^status [0-9]+, opened [0-9]+(, failed reads [1-9][0-9]*)?$')
 ENDLESS = 'did not end within the time limit'
-TEXT = re.compile(r'\.(drv|image|sched|script)$')
+TEXT = re.compile(r'\.(drv|image|sched|scenario|script)$')
 
 class Run:
     """The words of a command line, and the lines of the answer."""

@@ -3,14 +3,16 @@ use Rattle.std.proofs.Common.{◌≡◌, List, None, Option, Some, ℕ, rules, s
 use Rattle.std.specs.Prelude.{IfNone, IfSome}
 use Rattle.std.specs.Borrow.{Bor}
 use Rattle.clap.specs.Words.{Row, Text}
+use Rattle.drvhost_devices.specs.declared.verification.Verification.{Verification}
 use Rattle.drvhost_commands.specs.declared.job.Judging.{Judging}
 use Rattle.drvhost_commands.specs.declared.job.Job.{Job}
-use Rattle.drvhost_commands.specs.declared.job.Job.TheVariants.{Page as OfPage, OnPaths, Log, Rewrite, Apply, OnSet, OnRun, Host}
+use Rattle.drvhost_commands.specs.declared.job.Job.TheVariants.{Page as OfPage, OnPaths, Log, Test, Rewrite, Apply, OnSet, OnRun, Host}
 use Rattle.drvhost_commands.specs.declared.job.Page.{Page}
+use Rattle.drvhost_commands.specs.declared.job.Report.{Report}
 use Rattle.drvhost_commands.specs.declared.job.Task.{Task}
 use Rattle.drvhost_commands.specs.declared.job.Way.{Way}
 use Rattle.drvhost_options.specs.declared.logging.Logging.{Logging}
-use Rattle.drvhost_commands.specs.CommandLine.{NamesBy, NamesFiles, NamesLog, NamesPage, NamesPaths, NamesRun, NamesSet}
+use Rattle.drvhost_commands.specs.CommandLine.{NamesBy, NamesFiles, NamesLog, NamesPage, NamesPaths, NamesRun, NamesSet, NamesTests}
 
 -- what is said of a result that is none
 pub is_none : {A T : Type 0} (result : Option A) → result ≡ None → IfNone result T → T
@@ -28,12 +30,16 @@ module _ (found : Text × List Row) (page : (p : Page) → NamesPage found p →
     → NamesPaths found paths judging jobs → ⊥)
     (on_log : (paths : List (Bor (List ℕ))) (logging : Logging)
     → NamesLog found paths logging → ⊥)
+    (on_tests : (set : List ℕ) (scenarios : List (Bor (List ℕ))) (verification : Verification)
+    (report : Report) → NamesTests found set scenarios verification report → ⊥)
     (on_set : (set : List ℕ) (task : Task) → NamesSet found set task → ⊥)
     (on_run : (set input : List ℕ) (way : Way) → NamesRun found set input way → ⊥) where
   by_none : ((job : Job) → NamesFiles found job → ⊥) → (job : Job) → NamesBy found job → ⊥
   by_none files (OfPage p) names = page p names
   by_none files (OnPaths paths judging jobs) names = on_paths paths.items judging jobs names
   by_none files (Log paths logging) names = on_log paths.items logging names
+  by_none files (Test set scenarios verification report) names =
+      on_tests set.now scenarios.items verification report names
   by_none files (OnSet set task) names = on_set set.now task names
   by_none files (OnRun set input way) names = on_run set.now input.now way names
   by_none files (Rewrite set output) names = files (Rewrite set output) names

@@ -14,13 +14,15 @@ use Rattle.model.specs.declared.abs.Rule.{Rule as VerdictRule}
 use Rattle.model.specs.declared.limits.TheConstants.{MAX_THREADS}
 use Rattle.report.specs.Rule.{IsRuleWord}
 use Rattle.drvhost_commands.specs.declared.job.Job.{Job}
-use Rattle.drvhost_commands.specs.declared.job.Job.TheVariants.{Page as OfPage, OnPaths, Log, Rewrite, Apply, OnSet, OnRun, Host}
+use Rattle.drvhost_commands.specs.declared.job.Job.TheVariants.{Page as OfPage, OnPaths, Log, Test, Rewrite, Apply, OnSet, OnRun, Host}
 use Rattle.drvhost_commands.specs.declared.job.Page.{Page}
 use Rattle.drvhost_commands.specs.declared.job.Page.TheVariants.{Rule as PageOfRule, LockOrder, Version}
+use Rattle.drvhost_commands.specs.declared.job.Report.{Report}
+use Rattle.drvhost_commands.specs.declared.job.Report.TheVariants.{Lines, Tap, JUnit}
 use Rattle.drvhost_commands.specs.declared.job.Task.{Task}
 use Rattle.drvhost_commands.specs.declared.job.Task.TheVariants.{Mend, List as Listing, Hunt}
 use Rattle.drvhost_commands.specs.declared.job.Way.{Way}
-use Rattle.drvhost_commands.specs.declared.job.Way.TheVariants.{Trace, TraceJson, Tell, Draw}
+use Rattle.drvhost_commands.specs.declared.job.Way.TheVariants.{Trace, TraceJson, Tell, Draw, Schedule}
 use Rattle.drvhost_commands.specs.declared.job.JobFault.{JobFault}
 use Rattle.drvhost_commands.specs.declared.job.JobFault.TheVariants.{Usage, Memory}
 use Rattle.drvhost_commands.specs.declared.naming.Format.{Format}
@@ -97,10 +99,14 @@ command name rules = with_all with_rule (new_app name) rules
 abbrev pub set_command : Text → List Rule → App
 set_command name rules = command name (file_argument (codes "FILE") ∷ rules)
 
--- `NAME FILE SCHEDULE [--unchecked] ..`, which runs it by a schedule
+-- `NAME FILE INPUT [--unchecked] ..`, which runs it by an input
+abbrev pub run_command : Text → Text → List Rule → App
+run_command name input rules =
+    set_command name (file_argument input ∷ flag (codes "unchecked") ∷ rules)
+
+-- `NAME FILE SCHEDULE [--unchecked] ..`
 abbrev pub schedule_command : Text → List Rule → App
-schedule_command name rules =
-    set_command name (file_argument (codes "SCHEDULE") ∷ flag (codes "unchecked") ∷ rules)
+schedule_command name rules = run_command name (codes "SCHEDULE") rules
 
 -- `--format FORMAT`
 abbrev pub format_option : Rule
@@ -158,6 +164,12 @@ mend_command =
     (number_option (codes "tries") MAX_TRIES ∷ flag (codes "apply")
     ∷ number_option (codes "nth") MAX_OFFERS ∷ [])
 
+-- `test FILE SCENARIO.. [--unchecked] [--format FORMAT]`
+abbrev pub test_command : App
+test_command =
+    set_command (codes "test")
+    (required (values_argument (codes "SCENARIO")) ∷ flag (codes "unchecked") ∷ format_option ∷ [])
+
 -- all commands, in the order of the texts of help
 abbrev pub commands : List App
 commands =
@@ -167,6 +179,8 @@ commands =
     ∷ schedule_command (codes "trace") (format_option ∷ [])
     ∷ tell_command
     ∷ schedule_command (codes "draw") (format_option ∷ [])
+    ∷ test_command
+    ∷ run_command (codes "schedule") (codes "SCENARIO") []
     ∷ hunt_command
     ∷ host_command
     ∷ set_command (codes "list") []
@@ -269,6 +283,12 @@ abbrev pub IsFigure : Option Text → Figure → Type 0
 IsFigure value Picture = (value ≡ None) ⊎ (value ≡ Some (codes "svg"))
 IsFigure value Tracks = value ≡ Some (codes "perfetto")
 
+-- how tests are reported, by the same
+abbrev pub IsReport : Option Text → Report → Type 0
+IsReport value Lines = (value ≡ None) ⊎ (value ≡ Some (codes "text"))
+IsReport value Tap = value ≡ Some (codes "tap")
+IsReport value JUnit = value ≡ Some (codes "junit")
+
 -- a command with its matches names a page; where it explains one there is no path and no `--all`, and
 -- it is text
 abbrev pub NamesPage : Text × List Row → Page → Type 0
@@ -328,6 +348,14 @@ NamesLog found paths logging =
     (all_of (codes "PATH") found.1 ≡ Some (map (λ path. path.now) paths))
     × IsLogging found logging
 
+-- a set is tested by scenarios, one or more
+abbrev pub NamesTests : Text × List Row → List ℕ → List (Bor (List ℕ)) → Verification → Report
+    → Type 0
+NamesTests found set scenarios verification report = (found.0 ≡ codes "test")
+    × (first_of (codes "FILE") found.1 ≡ Some set)
+    × (all_of (codes "SCENARIO") found.1 ≡ Some (map (λ name. name.now) scenarios))
+    × IsVerified found.1 verification × IsReport (first_of (codes "format") found.1) report
+
 -- a task with a set
 abbrev pub NamesTask : Text × List Row → Task → Type 0
 NamesTask found (Mend tries) = (found.0 ≡ codes "mend")
@@ -352,10 +380,20 @@ NamesWay found (Tell verification manner) =
 NamesWay found (Draw verification figure) =
     (found.0 ≡ codes "draw") × IsVerified found.1 verification
     × IsFigure (first_of (codes "format") found.1) figure
+NamesWay found (Schedule verification) =
+    (found.0 ≡ codes "schedule") × IsVerified found.1 verification
+
+-- the name of the file of its input, a schedule's or a scenario's
+abbrev pub first_given : Option Text → Option Text → Option Text
+first_given (Some one) other = Some one
+first_given None other = other
+
+abbrev pub input_of : List Row → Option Text
+input_of rows = first_given (first_of (codes "SCHEDULE") rows) (first_of (codes "SCENARIO") rows)
 
 abbrev pub NamesRun : Text × List Row → List ℕ → List ℕ → Way → Type 0
 NamesRun found set input way = (first_of (codes "FILE") found.1 ≡ Some set)
-    × (first_of (codes "SCHEDULE") found.1 ≡ Some input) × NamesWay found way
+    × (input_of found.1 ≡ Some input) × NamesWay found way
 
 -- a job that is neither of these, nor a page
 abbrev pub NamesFiles : Text × List Row → Job → Type 0
@@ -378,6 +416,8 @@ abbrev pub NamesBy : Text × List Row → Job → Type 0
 NamesBy found (OfPage page) = NamesPage found page
 NamesBy found (OnPaths paths judging jobs) = NamesPaths found paths.items judging jobs
 NamesBy found (Log paths logging) = NamesLog found paths.items logging
+NamesBy found (Test set scenarios verification report) =
+    NamesTests found set.now scenarios.items verification report
 NamesBy found (OnSet set task) = NamesSet found set.now task
 NamesBy found (OnRun set input way) = NamesRun found set.now input.now way
 NamesBy found job = NamesFiles found job

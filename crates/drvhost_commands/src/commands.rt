@@ -46,6 +46,9 @@ const PATHS: &str = "Texts or images of driver sets, or folders with such files"
 
 const SCHEDULE: Argument<'static> = Argument::File("SCHEDULE", "The threads and the events");
 
+/// What stands in a scenario.
+const PLAYED: &str = "What is made to happen, and what is expected of it";
+
 const UNCHECKED: Argument<'static> = Argument::Flag(
     "unchecked",
     "Runs the set whether or not it is accepted",
@@ -75,7 +78,7 @@ const JOBS: Argument<'static> = Argument::Value(
 );
 
 /// All commands, in the order of the texts of help.
-const COMMANDS: [Entry<'static>; 11] = [
+const COMMANDS: [Entry<'static>; 13] = [
     Entry {
         name: "check",
         about: "Accepts or refuses driver sets",
@@ -161,6 +164,28 @@ const COMMANDS: [Entry<'static>; 11] = [
                 "As what it is drawn, svg or perfetto; svg where none is given",
             ),
         ],
+    },
+    Entry {
+        name: "test",
+        about: "Runs a driver set by scenarios, and says whether all is as each expects",
+        usage: None,
+        arguments: &[
+            SET,
+            Argument::Files("SCENARIO", PLAYED),
+            UNCHECKED,
+            Argument::Value(
+                "format",
+                "format",
+                ValueParser::String,
+                "How it is reported, text, tap or junit; text where none is given",
+            ),
+        ],
+    },
+    Entry {
+        name: "schedule",
+        about: "Runs a driver set by a scenario, and writes what happens as a schedule",
+        usage: None,
+        arguments: &[SET, Argument::File("SCENARIO", PLAYED), UNCHECKED],
     },
     Entry {
         name: "hunt",

@@ -51,6 +51,14 @@ pub enum Job<'a> {
         paths: Vec<&'a str>,
         logging: Logging,
     },
+    /// `test FILE SCENARIO.. [--unchecked] [--format tap|junit]`: a set is tested by the scenarios
+    /// of other files
+    Test {
+        set: &'a str,
+        scenarios: Vec<&'a str>,
+        verification: Verification,
+        report: Report,
+    },
     /// `rewrite FILE OUT`
     Rewrite {
         set: &'a str,
@@ -138,6 +146,8 @@ pub enum Way {
     Tell(Verification, Manner),
     /// `draw FILE SCHEDULE [--unchecked] [--format svg|perfetto]`
     Draw(Verification, Figure),
+    /// `schedule FILE SCENARIO [--unchecked]`
+    Schedule(Verification),
 }
 
 /// How many workers serve the commands of a script, 1 to `MAX_THREADS`.

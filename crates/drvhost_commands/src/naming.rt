@@ -3,9 +3,9 @@
 ghost use Rattle.std.specs.Prelude.{◌≡◌, ◌≤◌, codes, false, map, option_map, IfNone, IfOk, IfSome, IsTrue, None, Option, Some, ℕ, List};
 ghost use Rattle.std.specs.Borrow.{Bor};
 ghost use Rattle.clap.specs.Words.{all_of, first_of, found_of, rows_of, subcommand_rows_of};
-ghost use Rattle.drvhost_commands.specs.CommandLine.{IsChosen, IsDetail, IsFigure, IsFormat, IsGiven, IsLogAsked, IsLogging, IsManner, IsReach, IsWanted, Names, NamesAccount, NamesBy, NamesFiles, NamesJudging, NamesLog, NamesPage, NamesPaths, NamesRun, NamesSet, NamesTask, NamesWay, any_number_asked, jobs_asked, number_asked};
+ghost use Rattle.drvhost_commands.specs.CommandLine.{IsChosen, IsDetail, IsFigure, IsFormat, IsGiven, IsLogAsked, IsLogging, IsManner, IsReach, IsReport, IsWanted, Names, NamesAccount, NamesBy, NamesFiles, NamesJudging, NamesLog, NamesPage, NamesPaths, NamesRun, NamesSet, NamesTask, NamesTests, NamesWay, any_number_asked, input_of, jobs_asked, number_asked};
 
-use crate::job::{Job, Judging, Page, Task, Way, Workers};
+use crate::job::{Job, Judging, Page, Report, Task, Way, Workers};
 use clap::ArgMatches;
 use drvhost_devices::verification::Verification;
 use drvhost_options::extent::Extent;
@@ -58,6 +58,9 @@ fn job_named<'a>(
         return Ok(Some(job));
     }
     if let Some(job) = log_named(alloc, command, matches)? {
+        return Ok(Some(job));
+    }
+    if let Some(job) = tests_named(alloc, command, matches)? {
         return Ok(Some(job));
     }
     if let Some(job) = set_named(command, matches) {
@@ -270,6 +273,53 @@ pub(crate) fn is_log_asked(matches: &ArgMatches<'_>) -> bool
     }
 }
 
+/// The tests that they name, of the set of a file.
+fn tests_named<'a>(
+    alloc: Global,
+    command: &str,
+    matches: &ArgMatches<'a>,
+) -> Result<Option<Job<'a>>, AllocError>
+    ensures some { IfOk result (λ named.
+        IfSome named (NamesBy (command.now, rows_of (found_of matches.now)))) }
+    ensures none { IfOk result (λ named. IfNone named ((set : List ℕ)
+        (scenarios : List (Bor (List ℕ))) (verification : Verification) (report : Report)
+        → NamesTests (command.now, rows_of (found_of matches.now)) set scenarios verification
+        report → ⊥)) }
+{
+    match command {
+        "test" => set_to_test(alloc, matches),
+        _ => Ok(None),
+    }
+}
+
+/// The set to test, and the scenarios.
+fn set_to_test<'a>(alloc: Global, matches: &ArgMatches<'a>) -> Result<Option<Job<'a>>, AllocError>
+    ensures some { IfOk result (λ named.
+        IfSome named (NamesBy (codes "test", rows_of (found_of matches.now)))) }
+    ensures none { IfOk result (λ named. IfNone named ((set : List ℕ)
+        (scenarios : List (Bor (List ℕ))) (verification : Verification) (report : Report)
+        → NamesTests (codes "test", rows_of (found_of matches.now)) set scenarios verification
+        report → ⊥)) }
+{
+    let Some(set) = argument(matches, "FILE") else {
+        return Ok(None);
+    };
+    let Some(given) = arguments(matches, "SCENARIO") else {
+        return Ok(None);
+    };
+    let Some(report) = report_asked(matches) else {
+        return Ok(None);
+    };
+    let mut scenarios = Vec::new(alloc);
+    scenarios.extend_from_slice(given)?;
+    Ok(Some(Job::Test {
+        set,
+        scenarios,
+        verification: verification_asked(matches),
+        report,
+    }))
+}
+
 /// The task that they name with the set of a file.
 fn set_named<'a>(command: &str, matches: &ArgMatches<'a>) -> Option<Job<'a>>
     ensures some { IfSome result (NamesBy (command.now, rows_of (found_of matches.now))) }
@@ -324,8 +374,18 @@ fn run_named<'a>(command: &str, matches: &ArgMatches<'a>) -> Option<Job<'a>>
 {
     let way = way_named(command, matches)?;
     let set = argument(matches, "FILE")?;
-    let input = argument(matches, "SCHEDULE")?;
+    let input = input_of(matches)?;
     Some(Job::OnRun { set, input, way })
+}
+
+/// The file of its input, a schedule's or a scenario's.
+fn input_of<'a>(matches: &ArgMatches<'a>) -> Option<&'a str>
+    ensures { option_map (λ value. value.now) result ≡ input_of (rows_of (found_of matches.now)) }
+{
+    match argument(matches, "SCHEDULE") {
+        Some(schedule) => Some(schedule),
+        None => argument(matches, "SCENARIO"),
+    }
 }
 
 /// How it is to be run.
@@ -338,6 +398,7 @@ fn way_named(command: &str, matches: &ArgMatches<'_>) -> Option<Way>
         "trace" => run_to_trace(matches),
         "tell" => run_to_tell(matches),
         "draw" => run_to_draw(matches),
+        "schedule" => Some(Way::Schedule(verification_asked(matches))),
         _ => None,
     }
 }
@@ -549,6 +610,22 @@ fn figure_asked(matches: &ArgMatches<'_>) -> Option<Figure>
         None => Some(Figure::Picture),
         Some("svg") => Some(Figure::Picture),
         Some("perfetto") => Some(Figure::Tracks),
+        Some(_) => None,
+    }
+}
+
+/// How tests are to be reported, if there is such a format.
+fn report_asked(matches: &ArgMatches<'_>) -> Option<Report>
+    ensures some { IfSome result
+        (IsReport (first_of (codes "format") (rows_of (found_of matches.now)))) }
+    ensures none { IfNone result ((report : Report)
+        → IsReport (first_of (codes "format") (rows_of (found_of matches.now))) report → ⊥) }
+{
+    match argument(matches, "format") {
+        None => Some(Report::Lines),
+        Some("text") => Some(Report::Lines),
+        Some("tap") => Some(Report::Tap),
+        Some("junit") => Some(Report::JUnit),
         Some(_) => None,
     }
 }

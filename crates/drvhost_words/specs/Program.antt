@@ -17,12 +17,13 @@ use Rattle.drvhost_hunts.specs.Hunt.{IsHuntOf}
 use Rattle.drvhost_mends.specs.declared.apply.Asked.{Asked as Applying}
 use Rattle.drvhost_mends.specs.Apply.{IsApplyOf, IsApplyWith}
 use Rattle.drvhost_mends.specs.Mend.{IsMendOf}
+use Rattle.drvhost_scenarios.specs.Scenarios.{IsScheduleOf}
 use Rattle.drvhost_sets.specs.Explained.{IsLockOrderExplained}
 use Rattle.drvhost_runs.specs.Readiness.{AreWarningsOf}
 use Rattle.drvhost_runs.specs.Served.{IsHostOf}
 use Rattle.drvhost_views.specs.Told.{IsDrawOf, IsTellOf}
 use Rattle.drvhost_commands.specs.declared.job.Job.{Job}
-use Rattle.drvhost_commands.specs.declared.job.Job.TheVariants.{Page as OfPage, OnPaths, Log, Rewrite, Apply, OnSet, OnRun, Host}
+use Rattle.drvhost_commands.specs.declared.job.Job.TheVariants.{Page as OfPage, OnPaths, Log, Test, Rewrite, Apply, OnSet, OnRun, Host}
 use Rattle.drvhost_commands.specs.declared.job.Page.{Page}
 use Rattle.drvhost_commands.specs.declared.job.Page.TheVariants.{Rule, LockOrder, Version}
 use Rattle.drvhost_commands.specs.declared.job.Task.{Task}
@@ -30,7 +31,7 @@ use Rattle.drvhost_commands.specs.declared.job.Task.TheVariants.{Mend, List as L
 use Rattle.drvhost_commands.specs.declared.job.Judging.{Judging}
 use Rattle.drvhost_commands.specs.declared.job.Judging.TheVariants.{Check, CheckJson, Explain, ExplainJson}
 use Rattle.drvhost_commands.specs.declared.job.Way.{Way}
-use Rattle.drvhost_commands.specs.declared.job.Way.TheVariants.{Trace, TraceJson, Tell, Draw}
+use Rattle.drvhost_commands.specs.declared.job.Way.TheVariants.{Trace, TraceJson, Tell, Draw, Schedule}
 use Rattle.drvhost_commands.specs.CommandLine.{Names, NamesJob, program, usage}
 use Rattle.drvhost_files.specs.Files.{Has, IsWritten}
 use Rattle.drvhost_found.specs.declared.find.Found.{Found}
@@ -38,6 +39,7 @@ use Rattle.drvhost_many.specs.All.{AreFound, EachEnds, IsAlone, IsUnfound, width
 use Rattle.drvhost_many.specs.One.{IsJudged, is_in_json as judged_in_json}
 use Rattle.drvhost_options.specs.declared.jobs.TheConstants.{MAX_JOBS}
 use Rattle.drvhost_sarif.specs.Log.{PathsEnd as LogEnds}
+use Rattle.drvhost_tests.specs.Tests.{TestsEnd}
 use Rattle.drvhost_words.specs.declared.work.Work.{Work}
 use Rattle.drvhost_words.specs.declared.work.Work.TheVariants.{Do, Judge}
 use Rattle.drvhost_words.specs.Unread.{IsNamedUnread, IsOneOf}
@@ -49,6 +51,7 @@ IsRunBy (TraceJson verification) name other =
     IsTraceJsonOf (record { set = name; schedule = other; verification = verification })
 IsRunBy (Tell verification manner) name other = IsTellOf verification manner
 IsRunBy (Draw verification figure) name other = IsDrawOf verification figure
+IsRunBy (Schedule verification) name other = IsScheduleOf verification
 
 -- whether the set has to be accepted
 abbrev pub verification_of : Way → Verification
@@ -56,6 +59,7 @@ verification_of (Trace verification) = verification
 verification_of (TraceJson verification) = verification
 verification_of (Tell verification manner) = verification
 verification_of (Draw verification figure) = verification
+verification_of (Schedule verification) = verification
 
 -- what a task with a set answers, where this is what its file has
 abbrev pub IsTaskOf : Task → Supply → Answer → Type 0
@@ -198,6 +202,10 @@ JobEnds stands supply (OnPaths paths judging jobs) opened reads writes before af
 JobEnds stands supply (Log paths logging) opened reads writes before after status told =
     LogEnds logging (λ path. stands path.now) supply paths.items opened reads writes before after
     status told
+JobEnds stands supply (Test set scenarios verification report) opened reads writes before after status told =
+    TestsEnd
+    (record { set = set.now; names = scenarios.items; verification = verification; report = report })
+    supply opened reads writes before after status told
 JobEnds stands supply (Rewrite set output) opened reads writes before after status told =
     (opened ≡ 1)
     × Ends (IsQuietly (IsRewriteOf (supply set.now))) reads writes before after status told

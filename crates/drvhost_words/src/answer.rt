@@ -32,11 +32,13 @@ use drvhost_options::surroundings::Surroundings;
 use drvhost_runs::host::{Hosting, host};
 use drvhost_runs::trace::trace;
 use drvhost_sarif::logging::log_paths;
+use drvhost_scenarios::schedule::schedule;
 use drvhost_sets::check::check;
 use drvhost_sets::list::list;
 use drvhost_sets::rewriting::rewrite;
 use drvhost_sets::rule::{explain_lock_order, explain_rule};
 use drvhost_sets::version::version;
+use drvhost_tests::test::{Tests, test};
 use drvhost_views::draw::{Drawing, draw};
 use drvhost_views::tell::{Telling, tell};
 use std::alloc::{AllocError, Global};
@@ -187,6 +189,20 @@ fn perform<F: Files, O: Sink, E: Sink, R: Threads + Wait + Sync>(
         }
         Job::Log { paths, logging } => {
             log_paths(alloc, *logging, paths.as_slice(), files, out, err)
+        }
+        Job::Test {
+            set,
+            scenarios,
+            verification,
+            report,
+        } => {
+            let tests = Tests {
+                set,
+                scenarios: scenarios.as_slice(),
+                verification: *verification,
+                report: *report,
+            };
+            test(alloc, tests, files, out, err)
         }
         Job::Rewrite { set, output } => rewrite_file(alloc, set, output, files, err),
         Job::Apply { set, tries, wanted } => {
@@ -661,6 +677,7 @@ fn run<S: Source, P: Source, O: Sink, E: Sink>(
             };
             draw(alloc, drawing, set, input, out, err)
         }
+        Way::Schedule(verification) => schedule(alloc, verification, set, input, out, err),
     }
 }
 

@@ -102,6 +102,20 @@ fn runs_that_are_shown(rt: HostRuntime) -> Result<(), Fail> {
     };
     assert!(rt; is_to_tell(&job, Verification::Required, manner));
     assert!(rt; Job::of(alloc, &["tell", "a", "b", "--quiet", "--every"]).is_err());
+    for word in ["test", "schedule"] {
+        assert!(rt; Job::of(alloc, &[word, "a", "b"]).is_ok(), "{word}");
+        assert!(rt; is_refused(alloc, &[word, "a"]), "{word}");
+    }
+    let job = Job::of(alloc, &["test", "a", "b", "c", "--unchecked"])?;
+    assert!(rt; is_to_test(&job, "a", &["b", "c"], Verification::Skipped));
+    for format in ["text", "tap", "junit"] {
+        assert!(rt;
+            Job::of(alloc, &["test", "a", "b", "--format", format]).is_ok(),
+            "{format}"
+        );
+    }
+    assert!(rt; is_refused(alloc, &["test", "a", "b", "--format", "json"]));
+    assert!(rt; is_refused(alloc, &["schedule", "a", "b", "c"]));
     let job = Job::of(alloc, &["draw", "--unchecked", "a", "b"])?;
     assert!(rt; is_to_draw(&job, Verification::Skipped, Figure::Picture));
     let job = Job::of(alloc, &["draw", "a", "b", "--format", "perfetto"])?;
@@ -205,6 +219,19 @@ fn is_to_tell(job: &Job<'_>, run: Verification, told: Manner) -> bool {
             input,
             way: Way::Tell(verification, manner),
         } => set == "a" && input == "b" && verification == run && manner == told,
+        _ => false,
+    }
+}
+
+/// Whether a job is to test a set by these scenarios so.
+fn is_to_test(job: &Job<'_>, wanted: &str, by: &[&str], run: Verification) -> bool {
+    match job {
+        Job::Test {
+            set,
+            scenarios,
+            verification,
+            report: _,
+        } => *set == wanted && are(scenarios.as_slice(), by) && *verification == run,
         _ => false,
     }
 }

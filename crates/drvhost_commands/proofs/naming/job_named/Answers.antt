@@ -9,5 +9,6 @@ returns-clause-none c =
     named_none found (is_none _ c.in_default.is c.page_named.ensures.none)
     (is_none _ c.in_default-2.is c.in_ok-job.ensures.none)
     (is_none _ c.in_default-3.is c.in_ok-job-2.ensures.none)
+    (is_none _ c.in_default-4.is c.in_ok-job-3.ensures.none)
     (is_none _ c.in_default-set_named.is c.set_named.ensures.none)
     (is_none _ c.in_default-run_named.is c.run_named.ensures.none) _ c.file_named.ensures.none

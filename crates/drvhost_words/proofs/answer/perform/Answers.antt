@@ -36,6 +36,17 @@ returns-in-Log-clause-stores g c =
     rw c.in-Log.is
     (record { supply = c.log_paths.ensures.supply; none = c.log_paths.ensures.created })
 
+pub returns-in-Test-clause-answers : goal.returns-in-Test-clause-answers
+returns-in-Test-clause-answers g c =
+    rw c.in-Test.is
+    (counted_beside _ _ _ _ _ _ _ _ _ _ _ _ _
+    (rw c.as_slice-in-Test.ensures.value at c.test.ensures.answers)
+    c.test.ensures.unwritten)
+
+pub returns-in-Test-clause-stores : goal.returns-in-Test-clause-stores
+returns-in-Test-clause-stores g c =
+    rw c.in-Test.is (record { supply = c.test.ensures.supply; none = c.test.ensures.created })
+
 pub returns-in-Rewrite-clause-answers : goal.returns-in-Rewrite-clause-answers
 returns-in-Rewrite-clause-answers g c =
     rw c.in-Rewrite.is

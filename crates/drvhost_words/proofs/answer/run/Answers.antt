@@ -11,3 +11,6 @@ returns-in-Tell g c = rw c.in-Tell.is c.tell.ensures
 
 pub returns-in-Draw : goal.returns-in-Draw
 returns-in-Draw g c = rw c.in-Draw.is c.draw.ensures
+
+pub returns-in-Schedule : goal.returns-in-Schedule
+returns-in-Schedule g c = rw c.in-Schedule.is c.schedule.ensures
