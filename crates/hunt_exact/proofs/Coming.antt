@@ -1,8 +1,8 @@
 -- What comes of an event that is tried where a machine stands.
 use Rattle.laws_runs.proofs.Prelude.{ap, arith, get_or, refl, slice_get-get_or, subst, sym, ◌∙◌, Bool, List, None, Option, Some, [], false, length, slice_get, suc, true, ℕ, ◌+◌, ◌++◌, ◌<◌, ◌∷◌, ◌≡◌, ◌≤◌, run, reply_to, Set, World, Event, Reply}
 use Rattle.hunt_exact.specs.Amiss.{amiss_at}
-use Rattle.hunt_exact.specs.Searched.{Came, Followed, GoesTo, HasCome, HasExpanded, HasFollowed, HasFollowedEach, IsAt, IsExpanded, IsFollowing, IsFound, IsKept, is_new, was_met, IsKeptFrom, IsMet, IsSearched, IsThere, Leads, LeadsThere}
-use Rattle.hunt_exact.specs.Within.{AreWithin, IsAllowed, Scope, is_open, run_of, world_of}
+use Rattle.hunt_exact.specs.Searched.{Came, Followed, GoesTo, HasCome, HasExpanded, HasFollowed, HasFollowedEach, IsAt, IsFollowing, IsFound, IsKept, is_new, was_met, IsKeptFrom, IsMet, IsSearched, IsThere, Leads, LeadsThere}
+use Rattle.hunt_exact.specs.Within.{IsAllowed, Scope, is_open, run_of, world_of}
 use Rattle.hunt_exact.proofs.Following.{followed_on, front_on, passed_over}
 use Rattle.hunt_exact.specs.declared.visiting.Outcome.{Outcome}
 use Rattle.hunt_exact.specs.declared.visiting.Outcome.TheVariants.{Goes, Stays}

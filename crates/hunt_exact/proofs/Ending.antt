@@ -1,12 +1,12 @@
 -- How a search ends.
-use Rattle.laws_runs.proofs.Prelude.{arith, ap, refl, subst, sym, zero, ◌∙◌, List, None, Option, Some, [], length, slice_get, suc, ℕ, Set, ◌+◌, ◌++◌, ◌<◌, ◌∷◌, ◌≡◌, ◌≤◌, Event}
+use Rattle.laws_runs.proofs.Prelude.{arith, ap, refl, subst, sym, zero, ◌∙◌, List, None, Option, Some, [], length, slice_get, suc, ℕ, Set, ◌+◌, ◌++◌, ◌∷◌, ◌≡◌, ◌≤◌, Event}
 use Rattle.hunt_ends.specs.declared.ending.Ending.{Ending}
 use Rattle.hunt_ends.specs.Ends.{EndsSo}
 use Rattle.hunt_exact.specs.declared.search.Exactly.{Exactly}
 use Rattle.hunt_exact.specs.declared.search.Searched.{Searched}
 use Rattle.hunt_exact.specs.Exact.{IsAmissBehind, IsEnded, IsExact, IsVisited, ended_by}
 use Rattle.hunt_exact.specs.Searched.{HasExpanded, IsExpanded, IsFound, IsSearched}
-use Rattle.hunt_exact.specs.Within.{AreWithin, FineUpTo, NeverAmiss, Scope, run_of}
+use Rattle.hunt_exact.specs.Within.{AreWithin, FineUpTo, NeverAmiss, Scope}
 use Rattle.hunt_exact.proofs.Following.{one_of_two, searched_begun, within_more}
 use Rattle.hunt_exact.proofs.Reaching.{fine_up_to, never_amiss}
 
