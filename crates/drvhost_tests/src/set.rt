@@ -1,6 +1,6 @@
 //! The tests of the set of a file.
 
-ghost use Rattle.std.specs.Prelude.{◌≡◌, ◌<◌, ◌^◌, IfOk, IfErr};
+ghost use Rattle.std.specs.Prelude.{◌≡◌, ◌<◌, ◌≤◌, ◌^◌, IfOk, IfErr};
 ghost use Rattle.drvhost_devices.specs.Device.{CanCount};
 ghost use Rattle.model.specs.Typable.{IsTypable};
 ghost use Rattle.drvhost_tests.specs.Tests.{AreJudgedBy, AreOfBytes, AreOfFile, ArePlayed, Gathers};
@@ -26,8 +26,8 @@ pub(crate) fn test_set<F: Files>(
     tests: Tests<'_>,
     files: &mut F,
 ) -> Result<Told, AllocError>
-    requires opened { F.opened files.old < 2 ^ 62 }
-    requires files { F.failures files.old < 2 ^ 62 }
+    requires opened { F.opened files.old < 2 ^ 63 }
+    requires files { F.failures files.old < 2 ^ 63 }
     ensures gathers { Gathers (AreOfFile (asked_of tests.entry) (F.supply files.old))
         (F.opened files.old) (F.opened files.new) (F.failures files.old) (F.failures files.new)
         result }
@@ -51,8 +51,8 @@ fn test_bytes<F: Files>(
     bytes: &[u8],
     files: &mut F,
 ) -> Result<Told, AllocError>
-    requires opened { F.opened files.old < 2 ^ 63 }
-    requires files { F.failures files.old < 2 ^ 63 }
+    requires opened { F.opened files.old ≤ 2 ^ 63 }
+    requires files { F.failures files.old ≤ 2 ^ 63 }
     ensures gathers { Gathers (AreOfBytes (asked_of tests.entry) (F.supply files.old)
         bytes.now) (F.opened files.old) (F.opened files.new) (F.failures files.old)
         (F.failures files.new) result }
@@ -76,8 +76,8 @@ fn test_judged<F: Files>(
     set: DriverSet,
     files: &mut F,
 ) -> Result<Told, AllocError>
-    requires opened { F.opened files.old < 2 ^ 63 }
-    requires files { F.failures files.old < 2 ^ 63 }
+    requires opened { F.opened files.old ≤ 2 ^ 63 }
+    requires files { F.failures files.old ≤ 2 ^ 63 }
     ensures gathers { Gathers (AreJudgedBy tests.entry.verification (asked_of tests.entry)
         (F.supply files.old) bytes.now set) (F.opened files.old) (F.opened files.new)
         (F.failures files.old) (F.failures files.new) result }
@@ -99,8 +99,8 @@ fn test_verified<F: Files>(
     set: DriverSet,
     files: &mut F,
 ) -> Result<Told, AllocError>
-    requires opened { F.opened files.old < 2 ^ 63 }
-    requires files { F.failures files.old < 2 ^ 63 }
+    requires opened { F.opened files.old ≤ 2 ^ 63 }
+    requires files { F.failures files.old ≤ 2 ^ 63 }
     ensures gathers { Gathers (AreJudgedBy Verification.Required (asked_of tests.entry)
         (F.supply files.old) bytes.now set) (F.opened files.old) (F.opened files.new)
         (F.failures files.old) (F.failures files.new) result }
@@ -122,8 +122,8 @@ fn test_all<F: Files>(
     set: &DriverSet,
     files: &mut F,
 ) -> Result<Told, AllocError>
-    requires opened { F.opened files.old < 2 ^ 63 }
-    requires files { F.failures files.old < 2 ^ 63 }
+    requires opened { F.opened files.old ≤ 2 ^ 63 }
+    requires files { F.failures files.old ≤ 2 ^ 63 }
     ensures gathers { Gathers (ArePlayed (asked_of tests.entry) (F.supply files.old)
         bytes.now set.now) (F.opened files.old) (F.opened files.new) (F.failures files.old)
         (F.failures files.new) result }

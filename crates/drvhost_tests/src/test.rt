@@ -41,8 +41,8 @@ pub fn test<F: Files, O: Sink, E: Sink>(
     out: &mut O,
     err: &mut E,
 ) -> u8
-    requires opened { F.opened files.old < 2 ^ 62 }
-    requires files { F.failures files.old < 2 ^ 62 }
+    requires opened { F.opened files.old < 2 ^ 63 }
+    requires files { F.failures files.old < 2 ^ 63 }
     requires out { CanCount (O.failures out.old) }
     requires err { CanCount (E.failures err.old) }
     ensures answers { Counted (TestsEnd (asked_of tests.entry) (F.supply files.old))
