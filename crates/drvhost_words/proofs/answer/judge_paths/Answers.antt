@@ -30,7 +30,9 @@ returns-in-Ok-clause-answers g c =
       c.in-Ok.ensures,
       inr (
         rw c.as_slice.ensures.value at c.in-None.ensures.none,
-        (c.job_count.result, c.job_count.ensures, ends),
+        c.job_count.result,
+        c.job_count.ensures,
+        ends,
       ),
     ))
     (rw c.as_slice-in-None.ensures.value at c.answer_each.ensures.answers)
