@@ -40,7 +40,7 @@ def scenario_of(text, said):
         if word == 'threads':
             steps.append(line)
             continue
-        count = int(operands[1]) if word == 'step' else 1
+        count = int(operands[1]) if word == 'step' and operands[1:] else 1
         here, said = said[:count], said[count:]
         if not here:
             break
