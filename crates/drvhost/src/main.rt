@@ -9,7 +9,7 @@ use drvhost_words::answer::{Setting, answer};
 use std::env::{self, VarError};
 use std::io::{ErrorKind, IsTerminal};
 use std::process::ExitCode;
-use std::thread::available_parallelism;
+use std::thread::{Threads, available_parallelism};
 
 fn main(rt: HostRuntime) -> ExitCode {
     let mut files = Disk::new(&rt);
@@ -17,7 +17,7 @@ fn main(rt: HostRuntime) -> ExitCode {
     let mut err = Writer::new(rt.stderr());
     let setting = Setting {
         alloc: rt.alloc(),
-        surroundings: surroundings(&rt),
+        surroundings: surroundings(&rt, processors(&rt)),
     };
     let status = answer(&rt, setting, words(&rt), &mut files, &mut out, &mut err);
     ExitCode::from(status)
@@ -31,17 +31,21 @@ fn words(rt: &HostRuntime) -> Result<Vec<String>, ErrorKind> {
         .map_err(|_refused| ErrorKind::OutOfMemory)
 }
 
-/// What the program finds around it.
-fn surroundings(rt: &HostRuntime) -> Surroundings {
-    let processors = match available_parallelism(rt) {
-        Ok(count) => count.get(),
-        Err(_unknown) => 1,
-    };
+/// What the program finds around it, where there are so many processors.
+fn surroundings(rt: &HostRuntime, processors: usize) -> Surroundings {
     Surroundings {
         is_output_terminal: rt.stdout().is_terminal(),
         is_error_terminal: rt.stderr().is_terminal(),
         is_colorless: is_colorless(rt),
         processors,
+    }
+}
+
+/// How many processors there are, or one where that isn't known.
+fn processors(rt: &impl Threads) -> usize {
+    match available_parallelism(rt) {
+        Ok(count) => count.get(),
+        Err(_unknown) => 1,
     }
 }
 
