@@ -42,6 +42,8 @@ ret void
 endr
 endd
 device v d 1
+
+show it: drvhost hunt examples/race.drv
 ";
 
 /// Whether the page goes out, or so many bytes of it before a write fails.
