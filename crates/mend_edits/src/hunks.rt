@@ -59,8 +59,9 @@ pub fn diff(out: &mut String, text: &[u8], steps: &[Step]) -> Result<(), AllocEr
 /// Whether a step is shown: it changes something, or one near it does.
 fn is_shown(steps: &[Step], place: usize) -> bool {
     let first = place.saturating_sub(CONTEXT);
-    let mut window = steps.iter().skip(first).take(place - first + CONTEXT + 1);
-    window.any(|step| !matches!(step, Step::Keep))
+    let end = place.saturating_add(CONTEXT + 1).min(steps.len());
+    let window = steps.get(first..end).unwrap_or_default();
+    window.iter().any(|step| !matches!(step, Step::Keep))
 }
 
 /// Adds the head of a hunk, which begins at a step: how many lines of each text it has, and the
