@@ -8,6 +8,7 @@ ghost use Rattle.drvhost_files.specs.Files.{blank, contents_given, contents_of, 
 use crate::standard::{Opened, STANDARD_INPUT, open};
 use drvhost_devices::device::{Failed, Reader, Sink, Source, Writer};
 use drvhost_found::find::{Found, alone, find};
+use drvhost_found::sought::Sought;
 use std::alloc::AllocError;
 use std::fs::{self, File};
 use std::io::{Input, Write};
@@ -132,6 +133,7 @@ impl<'r, R: fs::Files + Input + AllocGlobal + Clone + Drop> Disk<'r, R> {
 }
 
 impl<R: fs::Files + Input + AllocGlobal + Clone + Drop> Files for Disk<'_, R> {
+    ghost use Rattle.drvhost_found.specs.declared.sought.Sought.TheVariants.{Sets};
     ghost use Rattle.drvhost_found.specs.Found.{IsFound};
 
     type File = Reader<Opened<R::File, R::Reader>>;
@@ -140,7 +142,7 @@ impl<R: fs::Files + Input + AllocGlobal + Clone + Drop> Files for Disk<'_, R> {
 
     ghost supply = { λ _ _. Unknown };
 
-    ghost stands = { λ _ path found. IsFound path found };
+    ghost stands = { λ _ path found. IsFound Sets path found };
 
     ghost opened = { λ disk. disk.opened };
 
@@ -154,7 +156,7 @@ impl<R: fs::Files + Input + AllocGlobal + Clone + Drop> Files for Disk<'_, R> {
         if path == STANDARD_INPUT {
             return alone(self.system.alloc(), path);
         }
-        find(self.system, path)
+        find(self.system, Sought::Sets, path)
     }
 
     fn open(&self, name: &str) -> Reader<Opened<R::File, R::Reader>> {

@@ -8,8 +8,9 @@ use Rattle.std.proofs.lemmas.List.Elements.{Contains-append_cases, Contains-appe
 use Rattle.std.proofs.lemmas.List.Sorted.{Contains-permutation, IsPermutation-sym}
 use Rattle.drvhost_found.specs.declared.folders.Listing.{Listing}
 use Rattle.drvhost_found.specs.declared.find.Found.{Found}
+use Rattle.drvhost_found.specs.declared.sought.Sought.{Sought}
 use Rattle.drvhost_found.specs.Found.{IsAlone}
-use Rattle.drvhost_found.specs.Below.{AreBelow, HasFolder, IsBelow, IsIn, IsWithin, Knows, Lists, folders_of, sets_of}
+use Rattle.drvhost_found.specs.Below.{AreBelow, HasFolder, IsBelow, IsIn, IsWithin, Knows, Lists, files_of, folders_of}
 
 some_same : {A : Type 0} (a b : A) → Some a ≡ Some b → a ≡ b
 some_same a b e = search rules
@@ -55,7 +56,7 @@ seen_either {B = B} seen last place there left right =
     seen_cases (inl a) = left a
     seen_cases (inr e) = right e
 
-module _ (has : List ℕ → Option Listing) (root : List ℕ) where
+module _ (sought : Sought) (has : List ℕ → Option Listing) (root : List ℕ) where
   -- a folder and one in it
   within : (folder path : List ℕ) → IsBelow has root folder → HasFolder has folder path
       → IsBelow has root path
@@ -63,7 +64,7 @@ module _ (has : List ℕ → Option Listing) (root : List ℕ) where
 
   -- a folder was looked into that is the first
   pub knows_first : (listing : Listing) → has root ≡ Some listing
-      → Knows has root (folders_of listing) (sets_of listing)
+      → Knows sought has root (folders_of listing) (files_of sought listing)
   knows_first listing e =
       record {
         seen = root ∷ [];
@@ -75,7 +76,7 @@ module _ (has : List ℕ → Option Listing) (root : List ℕ) where
             inr (subst (λ l. IsIn path (folders_of l)) (listed place there.0 same there.1) there.2));
         sets = λ place path at there.
             seen_either [] root place at (λ none. absurd (not_in none)) (λ same.
-            subst (λ l. IsIn path (sets_of l)) (listed place there.0 same there.1) there.2);
+            subst (λ l. IsIn path (files_of sought l)) (listed place there.0 same there.1) there.2);
       }
     where
       not_in : {place : List ℕ} → Contains [] place → ⊥
@@ -87,15 +88,15 @@ module _ (has : List ℕ → Option Listing) (root : List ℕ) where
           some_same other listing (sym is ∙ sym (ap has same) ∙ e)
 
   module _ (rest files : List (String Global)) (folder : String Global)
-      (k : Knows has root (rest ++ folder ∷ []) files) where
+      (k : Knows sought has root (rest ++ folder ∷ []) files) where
     -- one that waits was looked into
     pub knows_more : (listing : Listing) → has (string_bytes folder) ≡ Some listing
-        → Knows has root (rest ++ folders_of listing) (files ++ sets_of listing)
+        → Knows sought has root (rest ++ folders_of listing) (files ++ files_of sought listing)
     knows_more listing e =
         record {
           seen = k.seen ++ string_bytes folder ∷ [];
           root_seen = Contains-append_left k.seen (string_bytes folder ∷ []) root k.root_seen;
-          found = λ path there. in_either path files (sets_of listing) there (k.found path)
+          found = λ path there. in_either path files (files_of sought listing) there (k.found path)
               (λ here. (
                 string_bytes folder,
                 k.below (string_bytes folder) (in_last folder rest),
@@ -110,9 +111,9 @@ module _ (has : List ℕ → Option Listing) (root : List ℕ) where
               (λ same. inr (in_right path rest (folders_of listing)
               (subst (λ l. IsIn path (folders_of l)) (listed place there.0 same there.1) there.2)));
           sets = λ place path at there. seen_either k.seen (string_bytes folder) place at
-              (λ old. in_left path files (sets_of listing) (k.sets place path old there))
-              (λ same. in_right path files (sets_of listing)
-              (subst (λ l. IsIn path (sets_of l)) (listed place there.0 same there.1) there.2));
+              (λ old. in_left path files (files_of sought listing) (k.sets place path old there))
+              (λ same. in_right path files (files_of sought listing)
+              (subst (λ l. IsIn path (files_of sought l)) (listed place there.0 same there.1) there.2));
         }
       where
         listed : (place : List ℕ) (other : Listing) → string_bytes folder ≡ place
@@ -128,7 +129,7 @@ module _ (has : List ℕ → Option Listing) (root : List ℕ) where
             (Contains-push k.seen (string_bytes folder))))
 
     -- one that waits can't be opened
-    pub knows_closed : has (string_bytes folder) ≡ None → Knows has root rest files
+    pub knows_closed : has (string_bytes folder) ≡ None → Knows sought has root rest files
     knows_closed e =
         record {
           seen = k.seen ++ string_bytes folder ∷ [];
@@ -155,7 +156,7 @@ module _ (has : List ℕ → Option Listing) (root : List ℕ) where
             (Contains-push k.seen (string_bytes folder))))
 
   -- none waits
-  reached : (files : List (String Global)) (k : Knows has root [] files) (above : List (List ℕ))
+  reached : (files : List (String Global)) (k : Knows sought has root [] files) (above : List (List ℕ))
       (path : List ℕ) → IsWithin has root above path → Contains k.seen path
   reached files k [] path is = subst (Contains k.seen) (sym is) k.root_seen
   reached files k (folder ∷ above) path (there, is) =
@@ -165,8 +166,8 @@ module _ (has : List ℕ → Option Listing) (root : List ℕ) where
       either (inl seen) = seen
       either (inr none) = in_none path none
 
-  pub all_below : (files sorted : List (String Global)) → Knows has root [] files
-      → IsPermutation files sorted → AreBelow has root sorted
+  pub all_below : (files sorted : List (String Global)) → Knows sought has root [] files
+      → IsPermutation files sorted → AreBelow sought has root sorted
   all_below files sorted k p = inr (λ path. (
     λ there. k.found path (permuted sorted files path (IsPermutation-sym files sorted p) there),
     λ there. permuted files sorted path p
@@ -178,14 +179,14 @@ module _ (has : List ℕ → Option Listing) (root : List ℕ) where
       permuted xs ys path p (name, there, is) = (name, Contains-permutation xs ys name p there, is)
 
 -- a path that is no folder stands for itself
-pub alone_below : {E : Type 0} (path : List ℕ) (May : List ℕ → Option Listing → Type 0)
+pub alone_below : {E : Type 0} (sought : Sought) (path : List ℕ) (May : List ℕ → Option Listing → Type 0)
     (result : Result Found E)
     → ((has : List ℕ → Option Listing) → Lists May has → has path ≡ None)
     → IfOk result (λ found. IsAlone path found.files.items)
     → IfOk result (λ found. (has : List ℕ → Option Listing) → Lists May has
-    → AreBelow has path found.files.items)
-alone_below path May (Ok found) none alone = λ has lists. inl (none has lists, alone)
-alone_below path May (Err e) none alone = tt
+    → AreBelow sought has path found.files.items)
+alone_below sought path May (Ok found) none alone = λ has lists. inl (none has lists, alone)
+alone_below sought path May (Err e) none alone = tt
 
 -- one element more was gone through
 pub more_gathered : {X A : Type 0} (f : X → List A) (start old new : List A) (done : List X) (x : X)

@@ -2,11 +2,12 @@
 
 ghost use Rattle.std.specs.Prelude.{◌≡◌, ◌∷◌, ◌++◌, [], IfOk, List, OnOk, Option, ℕ};
 ghost use Rattle.drvhost_found.specs.declared.folders.Listing.{Listing};
-ghost use Rattle.drvhost_found.specs.Found.{AreSets, IsAlone, IsFound};
-ghost use Rattle.drvhost_found.specs.Below.{AreBelow, Knows, Lists, folder_of, folders_of, set_of, sets_of};
+ghost use Rattle.drvhost_found.specs.declared.sought.Sought.{Sought};
+ghost use Rattle.drvhost_found.specs.Found.{AreNamed, IsAlone, IsFound};
+ghost use Rattle.drvhost_found.specs.Below.{AreBelow, Knows, Lists, file_of, files_of, folder_of, folders_of};
 
 use crate::folders::{Entry, Folders, Kind, Listing, System};
-use crate::set_name::is_set_name;
+use crate::sought::{Sought, is_name_of};
 use std::alloc::{AllocError, Global};
 use std::rt::Files;
 
@@ -31,17 +32,21 @@ pub(crate) struct Gathered {
 }
 
 /// The files that a path stands for. A path that is no folder, or none that can be opened, stands
-/// for itself. A folder stands for the files in it, and below it, whose names end in `.drv` or
-/// `.image`. A link in a folder is passed over, so a ring of links is no matter; a path that is
-/// itself a link to a folder is followed.
+/// for itself. A folder stands for the files in it, and below it, that are sought by their names.
+/// A link in a folder is passed over, so a ring of links is no matter; a path that is itself a link
+/// to a folder is followed.
 ///
 /// # Errors
 ///
 /// When memory runs out.
-pub fn find<R: Files + AllocGlobal + Clone + Drop>(rt: &R, path: &str) -> Result<Found, AllocError>
-    ensures { IfOk result (IsFound path.now) }
+pub fn find<R: Files + AllocGlobal + Clone + Drop>(
+    rt: &R,
+    sought: Sought,
+    path: &str,
+) -> Result<Found, AllocError>
+    ensures { IfOk result (IsFound sought path.now) }
 {
-    find_in(rt.alloc(), &System::new(rt), path)
+    find_in(rt.alloc(), &System::new(rt), sought, path)
 }
 
 /// The files that a path stands for, by what folders have.
@@ -49,10 +54,15 @@ pub fn find<R: Files + AllocGlobal + Clone + Drop>(rt: &R, path: &str) -> Result
 /// # Errors
 ///
 /// When memory runs out.
-pub fn find_in<D: Folders>(alloc: Global, folders: &D, path: &str) -> Result<Found, AllocError>
-    ensures found { IfOk result (IsFound path.now) }
+pub fn find_in<D: Folders>(
+    alloc: Global,
+    folders: &D,
+    sought: Sought,
+    path: &str,
+) -> Result<Found, AllocError>
+    ensures found { IfOk result (IsFound sought path.now) }
     ensures below { IfOk result (λ found. (has : List ℕ → Option Listing)
-        → Lists (D.lists folders.now) has → AreBelow has path.now found.files.items) }
+        → Lists (D.lists folders.now) has → AreBelow sought has path.now found.files.items) }
 {
     let Some(listing) = folders.list(alloc, path)? else {
         return alone(alloc, path);
@@ -62,8 +72,8 @@ pub fn find_in<D: Folders>(alloc: Global, folders: &D, path: &str) -> Result<Fou
         files: Vec::new(alloc),
         unread: Vec::new(alloc),
     };
-    keep_all(alloc, listing, path, &mut gathered)?;
-    look_below(alloc, folders, &mut gathered)?;
+    keep_all(alloc, listing, sought, path, &mut gathered)?;
+    look_below(alloc, folders, sought, &mut gathered)?;
     gathered.files.sort()?;
     gathered.unread.sort()?;
     Ok(Found {
@@ -79,7 +89,7 @@ pub fn find_in<D: Folders>(alloc: Global, folders: &D, path: &str) -> Result<Fou
 ///
 /// When memory runs out.
 pub fn alone(alloc: Global, path: &str) -> Result<Found, AllocError>
-    ensures found { IfOk result (IsFound path.now) }
+    ensures found { (sought : Sought) → IfOk result (IsFound sought path.now) }
     ensures alone { IfOk result (λ found. IsAlone path.now found.files.items) }
 {
     let mut files = Vec::new(alloc);
@@ -95,20 +105,21 @@ pub fn alone(alloc: Global, path: &str) -> Result<Found, AllocError>
 fn look_below<D: Folders>(
     alloc: Global,
     folders: &D,
+    sought: Sought,
     gathered: &mut Gathered,
 ) -> Result<(), AllocError>
-    requires { AreSets gathered.old.files.items }
-    ensures sets { OnOk result (AreSets gathered.new.files.items) }
+    requires { AreNamed sought gathered.old.files.items }
+    ensures sets { OnOk result (AreNamed sought gathered.new.files.items) }
     ensures below { OnOk result ((has : List ℕ → Option Listing) → (root : List ℕ)
         → Lists (D.lists folders.now) has
-        → Knows has root gathered.old.waiting.items gathered.old.files.items
-        → Knows has root [] gathered.new.files.items) }
+        → Knows sought has root gathered.old.waiting.items gathered.old.files.items
+        → Knows sought has root [] gathered.new.files.items) }
 {
     for _ in 0..u64::MAX {
         let Some(folder) = gathered.waiting.pop() else {
             return Ok(());
         };
-        look_into(alloc, folders, folder, gathered)?;
+        look_into(alloc, folders, sought, folder, gathered)?;
     }
     // So many folders have no memory.
     Err(AllocError)
@@ -118,41 +129,43 @@ fn look_below<D: Folders>(
 fn look_into<D: Folders>(
     alloc: Global,
     folders: &D,
+    sought: Sought,
     folder: String,
     gathered: &mut Gathered,
 ) -> Result<(), AllocError>
-    requires { AreSets gathered.old.files.items }
-    ensures sets { OnOk result (AreSets gathered.new.files.items) }
+    requires { AreNamed sought gathered.old.files.items }
+    ensures sets { OnOk result (AreNamed sought gathered.new.files.items) }
     ensures below { OnOk result ((has : List ℕ → Option Listing) → (root : List ℕ)
         → Lists (D.lists folders.now) has
-        → Knows has root (gathered.old.waiting.items ++ folder ∷ []) gathered.old.files.items
-        → Knows has root gathered.new.waiting.items gathered.new.files.items) }
+        → Knows sought has root (gathered.old.waiting.items ++ folder ∷ []) gathered.old.files.items
+        → Knows sought has root gathered.new.waiting.items gathered.new.files.items) }
 {
     let Some(listing) = folders.list(alloc, folder.as_str())? else {
         gathered.unread.push(folder)?;
         return Ok(());
     };
-    keep_all(alloc, listing, folder.as_str(), gathered)?;
+    keep_all(alloc, listing, sought, folder.as_str(), gathered)?;
     Ok(())
 }
 
-/// Keeps what a folder has: its folders wait, and its files of driver sets are found.
+/// Keeps what a folder has: its folders wait, and its files that are sought are found.
 fn keep_all(
     alloc: Global,
     listing: Listing,
+    sought: Sought,
     folder: &str,
     gathered: &mut Gathered,
 ) -> Result<(), AllocError>
-    requires { AreSets gathered.old.files.items }
-    ensures sets { OnOk result (AreSets gathered.new.files.items) }
+    requires { AreNamed sought gathered.old.files.items }
+    ensures sets { OnOk result (AreNamed sought gathered.new.files.items) }
     ensures folders { OnOk result (gathered.new.waiting.items
         ≡ gathered.old.waiting.items ++ folders_of listing) }
     ensures files { OnOk result (gathered.new.files.items
-        ≡ gathered.old.files.items ++ sets_of listing) }
+        ≡ gathered.old.files.items ++ files_of sought listing) }
 {
     let is_whole = listing.is_whole;
     for entry in listing.entries {
-        keep(entry, gathered)?;
+        keep(entry, sought, gathered)?;
     }
     if !is_whole {
         gathered.unread.push(String::from_str(alloc, folder)?)?;
@@ -160,19 +173,19 @@ fn keep_all(
     Ok(())
 }
 
-/// Keeps an entry of a folder: a folder waits, and a file of a driver set is found.
-fn keep(entry: Entry, gathered: &mut Gathered) -> Result<(), AllocError>
-    requires { AreSets gathered.old.files.items }
-    ensures sets { OnOk result (AreSets gathered.new.files.items) }
+/// Keeps an entry of a folder: a folder waits, and a file that is sought is found.
+fn keep(entry: Entry, sought: Sought, gathered: &mut Gathered) -> Result<(), AllocError>
+    requires { AreNamed sought gathered.old.files.items }
+    ensures sets { OnOk result (AreNamed sought gathered.new.files.items) }
     ensures folders { OnOk result (gathered.new.waiting.items
         ≡ gathered.old.waiting.items ++ folder_of entry) }
     ensures files { OnOk result (gathered.new.files.items
-        ≡ gathered.old.files.items ++ set_of entry) }
+        ≡ gathered.old.files.items ++ file_of sought entry) }
 {
     match entry.kind {
         Kind::Folder => gathered.waiting.push(entry.path)?,
         Kind::File => {
-            if is_set_name(entry.path.as_str()) {
+            if is_name_of(sought, entry.path.as_str()) {
                 gathered.files.push(entry.path)?;
             }
         }

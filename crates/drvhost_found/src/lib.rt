@@ -1,7 +1,7 @@
-//! Which files a path on the command line stands for: itself, or those of driver sets in the folder
-//! that it is, and below it.
+//! Which files a path on the command line stands for: itself, or those of driver sets or scenarios
+//! in the folder that it is, and below it.
 #![tactic(auto)]
 
 pub mod find;
 pub mod folders;
-pub mod set_name;
+pub mod sought;

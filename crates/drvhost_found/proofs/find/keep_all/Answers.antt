@@ -1,6 +1,6 @@
 use Rattle.std.proofs.Common.{◌≡◌, ◌∷◌, [], ◌∙◌, ap, append_assoc, arith, length}
 use Rattle.std.specs.Vec.Iter.{into_iter_items}
-use Rattle.drvhost_found.specs.Below.{folder_of, set_of}
+use Rattle.drvhost_found.specs.Below.{file_of, folder_of}
 use Rattle.drvhost_found.proofs.Below.{more_gathered}
 use Rattle.drvhost_found.proofs.find.keep_all.Goals as goal
 
@@ -12,7 +12,7 @@ loop-entry-preserved c =
       append_assoc at.yielded (x ∷ []) _ ∙ rw (← steps) at.invariant.0,
       c.in_ok-keep.ensures.sets,
       more_gathered folder_of _ _ _ at.yielded x at.invariant.2 c.in_ok-keep.ensures.folders,
-      more_gathered set_of _ _ _ at.yielded x at.invariant.3 c.in_ok-keep.ensures.files,
+      more_gathered (file_of c.args.sought) _ _ _ at.yielded x at.invariant.3 c.in_ok-keep.ensures.files,
       let was = at.invariant.4 in
           let gone = c.in-Some.ensures.steps.1 in
           let short = ap length steps in

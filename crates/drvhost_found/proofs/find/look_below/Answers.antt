@@ -10,6 +10,6 @@ loop-preserved g c =
       c.in_ok-look_into.ensures.sets,
       λ has root lists knows.
           c.in_ok-look_into.ensures.below has root lists
-          (subst (λ w. Knows has root w c.loop.gathered.files.items) waits
+          (subst (λ w. Knows c.args.sought has root w c.loop.gathered.files.items) waits
           (c.loop.invariant.1 has root lists knows)),
     )
