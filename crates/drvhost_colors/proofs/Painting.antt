@@ -90,19 +90,13 @@ pub split_whole : (n : ℕ) (xs front back : List ℕ) → front ≡ take n xs �
 split_whole n xs front back first second = rw (first, second) (sym (take-append-drop n xs))
 
 -- a line was, with a part of it between sequences
-pub span_added : (color : Color) (line head behind part tail b1 b2 b3 b4 b5 b6 : List ℕ)
-    → HasNoEscape line → line ≡ head ++ behind → behind ≡ part ++ tail → b2 ≡ b1 ++ head
-    → b3 ≡ b2 ++ begins color → b4 ≡ b3 ++ part → b5 ≡ b4 ++ (27 ∷ codes "[0m")
-    → b6 ≡ b5 ++ tail → AddsPainted line b1 b6
-span_added color line head behind part tail b1 b2 b3 b4 b5 b6 none is its first begun inner ended
-    last =
-    let whole : head ++ (part ++ tail) ≡ line = ap (λ x. head ++ x) (sym its) ∙ sym is in
-    let split : HasNoEscape (head ++ (part ++ tail)) =
-    subst (λ x. HasNoEscape x) (sym whole) none in
-    let parts = none_parts head (part ++ tail) split in
-    let ends = none_parts part tail parts.1 in
-    subst (λ x. AddsPainted x b1 b6) whole
-    (adds_more head (part ++ tail) b1 b2 b6 (adds_plain head b1 b2 parts.0 first)
-    (adds_more [] (part ++ tail) b2 b3 b6 (adds_begin color b2 b3 begun)
-    (adds_more part tail b3 b4 b6 (adds_plain part b3 b4 ends.0 inner)
-    (adds_more [] tail b4 b5 b6 (adds_end b4 b5 ended) (adds_plain tail b5 b6 ends.1 last)))))
+pub span_added : (color : Color) (line part tail b1 b2 b3 b4 b5 : List ℕ)
+    → HasNoEscape line → line ≡ part ++ tail → b2 ≡ b1 ++ begins color → b3 ≡ b2 ++ part
+    → b4 ≡ b3 ++ (27 ∷ codes "[0m") → b5 ≡ b4 ++ tail → AddsPainted line b1 b5
+span_added color line part tail b1 b2 b3 b4 b5 none is begun inner ended last =
+    let split : HasNoEscape (part ++ tail) = subst (λ x. HasNoEscape x) is none in
+    let ends = none_parts part tail split in
+    subst (λ x. AddsPainted x b1 b5) (sym is)
+    (adds_more [] (part ++ tail) b1 b2 b5 (adds_begin color b1 b2 begun)
+    (adds_more part tail b2 b3 b5 (adds_plain part b2 b3 ends.0 inner)
+    (adds_more [] tail b3 b4 b5 (adds_end b3 b4 ended) (adds_plain tail b4 b5 ends.1 last))))

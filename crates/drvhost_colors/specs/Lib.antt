@@ -1,1 +1,2 @@
 pub mod Painted
+pub mod Forms

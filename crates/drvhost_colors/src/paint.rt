@@ -100,10 +100,8 @@ fn paint_line(line: &[u8], painted: &mut Vec<u8>) -> Result<(), AllocError>
         painted.extend_from_slice(line)?;
         return Ok(());
     };
-    let Span { start, end, color } = span;
-    let (head, behind) = line.split_at(start.min(line.len()));
-    let (part, tail) = behind.split_at(end.saturating_sub(start).min(behind.len()));
-    painted.extend_from_slice(head)?;
+    let Span { end, color } = span;
+    let (part, tail) = line.split_at(end.min(line.len()));
     painted.extend_from_slice(color.begins())?;
     painted.extend_from_slice(part)?;
     painted.extend_from_slice(END)?;

@@ -7,10 +7,8 @@ returns-in_default c =
 
 pub returns : goal.returns
 returns c =
-    span_added c.in-Some.span.color c.args.line.now _ _ _ _ _ _ _ _ _ _ c.requires
+    span_added c.in-Some.span.color c.args.line.now _ _ _ _ _ _ _ c.requires
     (split_whole _ _ _ _ c.split_at.ensures.front c.split_at.ensures.back)
-    (split_whole _ _ _ _ c.split_at-2.ensures.front c.split_at-2.ensures.back)
-    c.in_ok-extend_from_slice-2.ensures.items
-    (rw c.begins.ensures at c.in_ok-extend_from_slice-3.ensures.items)
-    c.in_ok-extend_from_slice-4.ensures.items c.in_ok-extend_from_slice-5.ensures.items
-    c.in_ok-extend_from_slice-6.ensures.items
+    (rw c.begins.ensures at c.in_ok-extend_from_slice-2.ensures.items)
+    c.in_ok-extend_from_slice-3.ensures.items c.in_ok-extend_from_slice-4.ensures.items
+    c.in_ok-extend_from_slice-5.ensures.items
