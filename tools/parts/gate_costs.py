@@ -140,4 +140,5 @@ def main():
         (used.ru_utime + used.ru_stime) / 60, (used.ru_utime + used.ru_stime - sum(sums)) / 60))
     sys.exit(status)
 
-main()
+if __name__ == '__main__':
+    main()
