@@ -1,6 +1,7 @@
 pub mod Judged
 pub mod Locks
 pub mod Held
+pub mod Keeping
 pub mod Shape
 pub mod Driven
 pub mod Batch

@@ -21,9 +21,10 @@ pub struct Handle {
 }
 
 impl Model for Handle {
+    ghost use Rattle.machine.specs.contracts.world.World.{the_row};
     ghost use Rattle.pafteis_world.specs.Held.{holds};
 
-    ghost also_owns = { λ h. holds h.live h.at h.world };
+    ghost also_owns = { λ h. holds the_row h.live h.at h.world };
 }
 
 impl Handle {

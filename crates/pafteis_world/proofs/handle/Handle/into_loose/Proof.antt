@@ -75,7 +75,7 @@ into_loose_spec 𝓤 𝓛 𝓜 𝓡 wired =
     let is : z.0.4.0 ≡ word d.live d.at ∷ [] = ev ∙ (λ i. vstruct (of_list (eb i ++ (ep i ++ []))) ∷ []) in
     elim (cases_Bool d.live) [
       | inl e ↦
-          rewrite ! 0 (λ (b : Bool). ‵ (holds b d.at d.world)) e refl $
+          rewrite ! 0 (λ (b : Bool). ‵ (holds R b d.at d.world)) e refl $
           in_a_block ! d.at (λ p. box_owns (ghosts.dealloc_token the_heap) R p d.world) (fst∗ 𝓤 (never 𝓤) (sem 𝓛 (ghosts.dealloc_token the_heap (bare (lone R.mir)) null_ptr))) (λ b o at.
           let w : Val = word true (block_ptr b o) in let made : Val = both (vptr b o) n in let typed = loose_good R Z LZ ghosts b o n hv.2 in
           let r : L.Denot = record { at = block_ptr b o; alloc = a; value = d.world } in let v : Val = live 1 (vcons made vnil) in
@@ -98,7 +98,7 @@ into_loose_spec 𝓤 𝓛 𝓜 𝓡 wired =
           returns_within ! Post refl (look_at ! 0 refl) $ free_all ! refl $ keep ! (0 ∷ 1 ∷ 3 ∷ 2 ∷ []) $
           by ! (leaves 𝓛 f.ended stayed c z v (Some r) (tt, (tt, tt)) (tt, (tt, tt)))) (λ wrong. absurd wrong)))
       | inr e ↦
-          rewrite ! 0 (λ (b : Bool). ‵ (holds b d.at d.world)) e refl $
+          rewrite ! 0 (λ (b : Bool). ‵ (holds R b d.at d.world)) e refl $
           let w : Val = word false d.at in let fine = Ptr-Good d.at in let v : Val = live 0 vnil in
           let ws : z.0.4.0 ≡ w ∷ [] = is ∙ ap (λ (x : Bool). word x d.at ∷ []) e in
           suffices ! (Run (w ∷ n ∷ [])) (subst (λ (us : List Val). ent 𝓤 (Run (w ∷ n ∷ [])) (Run us)) (sym (λ i. ws i ++ (hv.1 i ++ []))) (id⊢ 𝓤 (Run (w ∷ n ∷ [])))) $
