@@ -10,10 +10,11 @@ single line `...` there stands for some text, whatever it is. COMMAND is `check`
 the bytes of an image in hexadecimal, up to `;` in a line. Or COMMAND is `run`, and each line of the block `sh` between is a
 command that starts where a copy of examples/ lies; a block `drv` there has to be the text of the file that ends the first of
 them, a block `drv part` some of its lines. What is written to a file, behind `>`, has to be that file of the tree. A block behind a line
-`<!-- file: NAME -->` has to be the text of that file. The last line counts. With --write the blocks called `output` and these files become what the program writes."""
+`<!-- file: NAME -->` has to be the text of that file. The last line counts. It tells too where another version stands than in the file VERSION. With --write the blocks called `output` and these files become what the program writes."""
 import os, re, shlex, shutil, subprocess, sys, tempfile
 
-TOP = os.path.dirname(os.path.dirname(os.path.dirname(os.path.abspath(__file__))))
+from versions import TOP, stale
+
 DOCUMENTS = ['README.md', 'docs/COMMANDS.md', 'docs/TEXTS.md', 'docs/RULES.md', 'docs/GUIDE.md', 'docs/EMBEDDING.md']
 MARK = re.compile(r'<!-- example: (.+), status (\d+) -->$')
 KINDS = ('drv', 'drv part', 'image', 'sched', 'script', 'sh', 'output')
@@ -153,6 +154,9 @@ def main():
     program = os.path.abspath(words[0]) if words else os.path.join(TOP, 'crates/drvhost/out/drvhost')
     counts = [compared(program, document, '--write' in sys.argv) for document in DOCUMENTS]
     differ = sum(count for _, count in counts)
+    for told in stale():
+        differ += 1
+        print(told)
     print('%d examples, %d differ' % (sum(count for count, _ in counts), differ))
     return 1 if differ else 0
 
