@@ -39,7 +39,7 @@ impl ToJson for Event {
 }
 
 /// The word of a reply.
-fn reply_name(reply: Reply) -> &'static str
+pub fn reply_name(reply: Reply) -> &'static str
     ensures { result.now ≡ reply_name reply }
 {
     match reply {
@@ -56,7 +56,11 @@ fn reply_name(reply: Reply) -> &'static str
 }
 
 /// Writes what follows the word of a reply, to the end of the object.
-fn write_reply(out: &mut Writer, reply: Reply) -> Result<(), AllocError>
+///
+/// # Errors
+///
+/// When memory runs out.
+pub fn write_reply(out: &mut Writer, reply: Reply) -> Result<(), AllocError>
     ensures before { out.new.before ≡ out.old.before }
     ensures tokens { OnOk result
         (out.new.tokens ≡ out.old.tokens ++ members_tokens (reply_members reply)) }
@@ -123,7 +127,11 @@ fn write_wrong(out: &mut Writer, place: Place) -> Result<(), AllocError>
 }
 
 /// Writes what a bug check is about.
-fn write_subject(out: &mut Writer, subject: Subject) -> Result<(), AllocError>
+///
+/// # Errors
+///
+/// When memory runs out.
+pub fn write_subject(out: &mut Writer, subject: Subject) -> Result<(), AllocError>
     ensures before { out.new.before ≡ out.old.before }
     ensures tokens { OnOk result
         (out.new.tokens ≡ out.old.tokens ++ json_tokens (subject_json subject)) }

@@ -6,5 +6,7 @@ pub mod event;
 pub mod fault;
 pub mod json_lines;
 pub mod member;
+pub mod served;
 pub mod to_json;
+pub mod told;
 pub mod verdict;

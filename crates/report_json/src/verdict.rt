@@ -74,19 +74,23 @@ fn write_routine(out: &mut Writer, routine: &CertifiedRoutine) -> Result<(), All
     out.begin_object()?;
     put_number(out, "driver", routine.driver as u64)?;
     put_number(out, "routine", routine.routine as u64)?;
-    put_name(out, &routine.name)?;
+    put_name(out, "name", &routine.name)?;
     put_text(out, "sort", routine.sort.as_str())?;
     put_number(out, "certificate", routine.certificate as u64)?;
     out.end_object()
 }
 
-/// Adds the name of a routine.
-fn put_name(out: &mut Writer, name: &Option<String>) -> Result<(), AllocError>
+/// Adds a member that is a name which there may be.
+pub(crate) fn put_name(
+    out: &mut Writer,
+    member: &str,
+    name: &Option<String>,
+) -> Result<(), AllocError>
     ensures before { out.new.before ≡ out.old.before }
     ensures tokens { OnOk result (out.new.tokens
-        ≡ out.old.tokens ++ key (codes "name") ∷ json_tokens (name_json name.now)) }
+        ≡ out.old.tokens ++ key member.now ∷ json_tokens (name_json name.now)) }
 {
-    out.key("name")?;
+    out.key(member)?;
     match name {
         Some(name) => out.string(name.as_str()),
         None => out.null(),

@@ -1,0 +1,11 @@
+use Rattle.report_json.proofs.Steps.{last, more}
+use Rattle.report_json.proofs.served.ServedCommandToJson.write.Goals as goal
+
+pub returns-clause-tokens : goal.returns-clause-tokens
+returns-clause-tokens c =
+    let t = c.args.out.now.tokens in
+    let begun = more t _ _ _ _ c.in_ok-begin_object.ensures.ok c.in_ok-put_text.ensures.tokens in
+    let numbered = more t _ _ _ _ begun c.in_ok-put_number.ensures.tokens in
+    let said = more t _ _ _ _ numbered c.in_ok-put_text-2.ensures.tokens in
+    let done = last _ t _ _ _ _ said c.write_outcome.ensures.tokens in
+    rw c.outcome_name.ensures at done

@@ -1,0 +1,3 @@
+pub mod Audit
+pub mod Nesting
+pub mod Telling

@@ -1,0 +1,158 @@
+//! The events of a run, told as they happen.
+
+ghost use Rattle.std.specs.Prelude.{◌≡◌, ◌+◌, ◌++◌, ◌<◌, ◌^◌, ◌||◌, [], IfOk, OnOk, false};
+ghost use Rattle.model.specs.Machine.{AppliesWhole};
+ghost use Rattle.model.specs.Run.{begun};
+ghost use Rattle.model.specs.Set.{Set};
+ghost use Rattle.report_json.specs.declared.told.Circumstances.{Circumstances};
+ghost use Rattle.report_json.specs.Line.{json_line};
+ghost use Rattle.report_json.specs.Told.{told_json};
+ghost use Rattle.tell_json.specs.Telling.{LedgerGoesOn, is_refused};
+ghost use Rattle.tell_uses.specs.Ledger.{Tells as TellsRun};
+
+use checked::Checked;
+use model::event::{Event, Reply};
+use model::view::FrameView;
+use report_json::json_lines::JsonLines;
+use report_json::told::{Circumstances, ToldEvent};
+use std::alloc::{AllocError, Global};
+use tell_changes::{Moment, add_change};
+use tell_names::Book;
+use tell_uses::acts::use_step_of;
+use tell_uses::ledger::Ledger;
+use tell_uses::standing::thread_of;
+
+/// A run as it is told, by its events so far.
+#[derive(Drop)]
+pub struct Telling<'a> {
+    alloc: Global,
+    /// How the text calls things.
+    book: Book<'a>,
+    /// What is known of uses of stack locations.
+    pub ledger: Ledger,
+    /// The number of the event that comes next.
+    pub number: u64,
+    /// Whether one was refused.
+    pub refused: bool,
+    /// The lines of the events.
+    pub lines: JsonLines,
+}
+
+impl<'a> Telling<'a> {
+    /// That of a run over so many threads before the first event, with the names and the lines of
+    /// the text of its set.
+    ///
+    /// # Errors
+    ///
+    /// When memory runs out.
+    pub fn of(alloc: Global, text: &'a [u8], threads: u8) -> Result<Telling<'a>, AllocError>
+        ensures lines { IfOk result (λ telling. telling.lines ≡ []) }
+        ensures number { IfOk result (λ telling. telling.number ≡ 0) }
+        ensures refused { IfOk result (λ telling. telling.refused ≡ false) }
+        ensures ledger { IfOk result
+            (λ telling. (set : Set) → TellsRun (begun set threads) telling.ledger) }
+    {
+        Ok(Telling {
+            alloc,
+            book: Book::of(alloc, text)?,
+            ledger: Ledger::new(alloc, threads)?,
+            number: 0,
+            refused: false,
+            lines: JsonLines::new(alloc),
+        })
+    }
+
+    /// Runs an event, adds its line, and answers the reply to it.
+    ///
+    /// # Errors
+    ///
+    /// When memory runs out.
+    pub fn tell(&mut self, machine: &mut Checked, event: &Event) -> Result<Reply, AllocError>
+        requires { self.old.number + 1 < 2 ^ 64 }
+        ensures applied { IfOk result (AppliesWhole machine.old event.now machine.new) }
+        ensures noted { OnOk result
+            (LedgerGoesOn machine.old event.now self.old.ledger self.new.ledger) }
+        ensures number { OnOk result (self.new.number ≡ self.old.number + 1) }
+        ensures refused { IfOk result (λ reply.
+            self.new.refused ≡ self.old.refused || is_refused reply) }
+        ensures told { IfOk result (λ reply. (around : Circumstances) × (self.new.lines
+            ≡ self.old.lines ++ json_line (told_json self.old.number reply around))) }
+    {
+        let moment = Moment::before(machine, event);
+        let step = use_step_of(machine, event, &moment.acting);
+        let reply = machine.apply(event);
+        self.ledger.note(self.alloc, step, event, &reply, machine)?;
+        let mut changed = String::new(self.alloc);
+        add_change(&mut changed, &self.book, event, &moment, &reply, machine)?;
+        let around = circumstances(self.alloc, &self.book, event, &moment, changed)?;
+        self.lines.add(&ToldEvent {
+            number: self.number,
+            reply,
+            around: &around,
+        })?;
+        self.number += 1;
+        self.refused = any_refused(self.refused, &reply);
+        Ok(reply)
+    }
+}
+
+/// The circumstances of an event, by the moment before it.
+fn circumstances(
+    alloc: Global,
+    book: &Book<'_>,
+    event: &Event,
+    moment: &Moment,
+    changed: String,
+) -> Result<Circumstances, AllocError> {
+    let thread = match thread_of(event) {
+        Some(thread) => Some(thread as u64),
+        None => None,
+    };
+    let Some(acting) = &moment.acting else {
+        return Ok(Circumstances {
+            thread,
+            routine: None,
+            line: None,
+            changed,
+        });
+    };
+    let line = match book.line_at(acting.frame) {
+        Some(place) => Some(place.number),
+        None => None,
+    };
+    Ok(Circumstances {
+        thread,
+        routine: Some(routine_of(alloc, book, acting.frame)?),
+        line,
+        changed,
+    })
+}
+
+/// The name of the routine that acts, or what the I/O manager does.
+fn routine_of(alloc: Global, book: &Book<'_>, frame: FrameView) -> Result<String, AllocError> {
+    let mut name = String::new(alloc);
+    match frame {
+        FrameView::Routine {
+            driver,
+            routine,
+            position: _,
+            device: _,
+        } => book.add_routine(&mut name, driver, routine)?,
+        FrameView::Walk(_) | FrameView::Cancel(_) => book.add_spot(&mut name, frame)?,
+    }
+    Ok(name)
+}
+
+/// Whether an event was refused, this one with its reply or one before it.
+fn any_refused(before: bool, reply: &Reply) -> bool
+    ensures { result ≡ before || is_refused reply.now }
+{
+    before || is_refused(reply)
+}
+
+/// Whether an event with this reply was refused.
+fn is_refused(reply: &Reply) -> bool
+    ensures { result ≡ is_refused reply.now }
+{
+    matches!(reply, Reply::Refused)
+}
