@@ -1,2 +1,2 @@
+pub mod Choices
 pub mod CommandLine
-pub mod Table

@@ -1,16 +1,15 @@
 //! What the program can be asked for, and what of it a command line asks for.
 
 ghost use Rattle.std.specs.Prelude.{◌≡◌, ◌≤◌, map, IfErr, IfOk, true};
-ghost use Rattle.clap.specs.Words.{kind_of, subcommand_of, takes};
+ghost use Rattle.clap.specs.Words.{subcommand_of, takes};
 ghost use Rattle.drvhost_devices.specs.Device.{CanCount, Says};
 ghost use Rattle.interleave.specs.Line.{number_within};
 ghost use Rattle.model.specs.declared.limits.TheConstants.{MAX_THREADS};
 ghost use Rattle.drvhost_commands.specs.CommandLine.{job_fault_status, job_fault_told, program, usage, Names, NamesJob};
 
-use crate::commands::program;
 use crate::naming::named;
-use crate::usage::unnamed;
-use clap::error::ErrorKind;
+use crate::usage::{USAGE, unnamed};
+use drvhost_arguments::parsing::{Unmatched, matches_of};
 use drvhost_devices::device::Sink;
 use drvhost_devices::fault::say;
 use drvhost_devices::verification::Verification;
@@ -29,9 +28,6 @@ use std::convert::AsStr;
 use std::fmt;
 use std::marker::Model;
 use thiserror::Error;
-
-/// How the program is used, where there is nothing better to say.
-const USAGE: &str = "Usage: drvhost <COMMAND>";
 
 /// What the program is to do, with the names of its files.
 #[derive(Drop)]
@@ -245,14 +241,14 @@ impl<'a> Job<'a> {
             → (job : Job) → Names (subcommand_of program (map S.text words.entry.now)) job
             → fault ≡ JobFault.Memory) }
     {
-        let mut program = program(alloc)?;
-        match program.try_get_matches_from_mut(words) {
+        match matches_of(alloc, words) {
             Ok(matches) => match named(alloc, &matches)? {
                 Some(job) => Ok(job),
-                None => Err(JobFault::Usage(unnamed(alloc, &mut program, &matches)?)),
+                None => Err(JobFault::Usage(unnamed(alloc, &matches)?)),
             },
-            Err(error) if error.kind() == ErrorKind::DisplayVersion => Ok(Job::Page(Page::Version)),
-            Err(error) => Err(refused(alloc, &error)),
+            Err(Unmatched::Version) => Ok(Job::Page(Page::Version)),
+            Err(Unmatched::Usage(text)) => Err(JobFault::Usage(text)),
+            Err(Unmatched::Memory) => Err(JobFault::Memory),
         }
     }
 }
@@ -278,17 +274,4 @@ pub fn refuse_unknown_words<E: Sink>(err: &mut E) -> u8
 {
     say(err, USAGE.as_bytes());
     2
-}
-
-/// What a refused command line is answered with.
-fn refused(alloc: Global, error: &clap::Error) -> JobFault
-    ensures { kind_of error.now ≡ ErrorKind.OutOfMemory → result ≡ JobFault.Memory }
-{
-    if error.kind() == ErrorKind::OutOfMemory {
-        return JobFault::Memory;
-    }
-    match error.to_string(alloc) {
-        Ok(text) => JobFault::Usage(text),
-        Err(_) => JobFault::Memory,
-    }
 }

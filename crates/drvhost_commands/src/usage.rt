@@ -1,14 +1,15 @@
 //! What is told of words that the command line takes, and that name no job.
 
-use crate::naming::{argument, format_asked, is_log_asked};
-use clap::{ArgMatches, Command};
+use crate::choices::verdict_format;
+use clap::ArgMatches;
+use drvhost_arguments::matches::argument;
+use drvhost_arguments::program::EXPLAIN_USAGE;
 use report::rule::rule_named;
 use std::alloc::{AllocError, Global};
 use std::fmt;
 
-/// How `explain` is used.
-pub(crate) const EXPLAIN_USAGE: &str =
-    "drvhost explain [OPTIONS] <PATH>...\n       drvhost explain --rule <RULE>";
+/// How the program is used, where there is nothing better to say.
+pub(crate) const USAGE: &str = "Usage: drvhost <COMMAND>";
 
 /// How `tell` is used, and what is told where two of its levels are asked for.
 const TELL_USAGE: &str = "drvhost tell [OPTIONS] <FILE> <SCHEDULE>";
@@ -31,29 +32,21 @@ const FIGURES: &str = "svg or perfetto";
 const TWO_LEVELS: &str = "the argument '--quiet' cannot be used with '--every'";
 
 /// What is told of words that the command line takes, and that name no job.
-pub(crate) fn unnamed(
-    alloc: Global,
-    program: &mut Command<'_>,
-    matches: &ArgMatches<'_>,
-) -> Result<String, AllocError> {
+pub(crate) fn unnamed(alloc: Global, matches: &ArgMatches<'_>) -> Result<String, AllocError> {
     match matches.subcommand() {
-        Some(("explain", inner)) if format_asked(inner).is_some() || is_log_asked(inner) => {
-            unexplained(alloc, inner)
-        }
+        Some(("explain", inner)) if verdict_format(inner).is_some() => unexplained(alloc, inner),
         Some(("explain", inner)) => unwritten(alloc, inner, VERDICTS, EXPLAIN_USAGE),
         Some(("tell", _)) => untold(alloc),
         Some(("check", inner)) => unwritten(alloc, inner, VERDICTS, CHECK_USAGE),
         Some(("trace", inner)) => unwritten(alloc, inner, ANSWERS, TRACE_USAGE),
         Some(("draw", inner)) => unwritten(alloc, inner, FIGURES, DRAW_USAGE),
-        _ => unnumbered(program),
+        _ => unnumbered(alloc),
     }
 }
 
 /// What is told where a number has a sign, which the command line takes and no job does.
-fn unnumbered(program: &mut Command<'_>) -> Result<String, AllocError> {
-    let mut text = program.render_usage()?;
-    text.push_str("\n\nFor more information, try '--help'.\n")?;
-    Ok(text)
+fn unnumbered(alloc: Global) -> Result<String, AllocError> {
+    format!(in alloc; "{USAGE}\n\nFor more information, try '--help'.\n")
 }
 
 /// What is told where `explain` isn't told what to explain.

@@ -1,9 +1,9 @@
 use Rattle.std.proofs.Common.{◌∙◌, ap}
 use Rattle.clap.specs.Words.{App, app_of, with_subcommand}
-use Rattle.drvhost_commands.specs.CommandLine.{with_command}
-use Rattle.drvhost_commands.specs.Table.{command_for}
-use Rattle.drvhost_commands.proofs.Building.{one_on}
-use Rattle.drvhost_commands.proofs.commands.with_commands.Goals as goal
+use Rattle.drvhost_arguments.specs.Program.{with_command}
+use Rattle.drvhost_arguments.specs.Table.{command_for}
+use Rattle.drvhost_arguments.proofs.Building.{one_on}
+use Rattle.drvhost_arguments.proofs.program.with_commands.Goals as goal
 
 pub loop-entry-preserved : goal.loop-entry-preserved
 loop-entry-preserved c =

@@ -1,10 +1,10 @@
 -- What the table of commands says in the terms of `clap`.
 use Rattle.std.specs.Prelude.{map}
 use Rattle.clap.specs.Words.{App, Rule}
-use Rattle.drvhost_commands.specs.declared.arguments.Argument.{Argument}
-use Rattle.drvhost_commands.specs.declared.arguments.Argument.TheVariants.{File, Files, AnyFiles, Flag, Value, WantedValue}
-use Rattle.drvhost_commands.specs.declared.commands.Entry.{Entry}
-use Rattle.drvhost_commands.specs.CommandLine.{command, file_argument, flag, required, value_option, values_argument}
+use Rattle.drvhost_arguments.specs.declared.argument.Argument.{Argument}
+use Rattle.drvhost_arguments.specs.declared.argument.Argument.TheVariants.{File, Files, AnyFiles, Flag, Value, WantedValue}
+use Rattle.drvhost_arguments.specs.declared.program.Entry.{Entry}
+use Rattle.drvhost_arguments.specs.Program.{command, file_argument, flag, required, value_option, values_argument}
 
 -- an argument of it
 abbrev pub rule_for : Argument → Rule

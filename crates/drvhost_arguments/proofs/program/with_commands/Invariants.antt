@@ -1,8 +1,8 @@
 use Rattle.std.proofs.Common.{◌≡◌, drop, map}
 use Rattle.clap.specs.Words.{app_of}
-use Rattle.drvhost_commands.specs.CommandLine.{with_all, with_command}
-use Rattle.drvhost_commands.specs.Table.{command_for}
-use Rattle.drvhost_commands.proofs.commands.with_commands.Given as goal
+use Rattle.drvhost_arguments.specs.Program.{with_all, with_command}
+use Rattle.drvhost_arguments.specs.Table.{command_for}
+use Rattle.drvhost_arguments.proofs.program.with_commands.Given as goal
 
 -- what is made and what is left make the whole
 abbrev pub invariant-loop-entry : goal.invariant-loop-entry

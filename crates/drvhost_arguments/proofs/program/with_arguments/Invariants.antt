@@ -1,9 +1,9 @@
 use Rattle.std.proofs.Common.{◌≡◌, drop, false, map}
 use Rattle.clap.specs.Words.{app_of, with_rule}
 use Rattle.clap.specs.declared.builder.command.Command.TheViews.{out-Command as fields_of}
-use Rattle.drvhost_commands.specs.CommandLine.{with_all}
-use Rattle.drvhost_commands.specs.Table.{rule_for}
-use Rattle.drvhost_commands.proofs.commands.with_arguments.Given as goal
+use Rattle.drvhost_arguments.specs.Program.{with_all}
+use Rattle.drvhost_arguments.specs.Table.{rule_for}
+use Rattle.drvhost_arguments.proofs.program.with_arguments.Given as goal
 
 -- what is made and what is left make the whole
 abbrev pub invariant-loop-argument : goal.invariant-loop-argument

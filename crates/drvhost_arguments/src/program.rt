@@ -3,11 +3,10 @@
 ghost use Rattle.std.specs.Prelude.{◌≡◌, false, map, IfOk};
 ghost use Rattle.clap.specs.Words.{app_of, new_app, with_rule};
 ghost use Rattle.clap.specs.declared.builder.command.Command.TheViews.{out-Command as fields_of};
-ghost use Rattle.drvhost_commands.specs.CommandLine.{bare_program, program, with_all, with_command};
-ghost use Rattle.drvhost_commands.specs.Table.{command_for, rule_for};
+ghost use Rattle.drvhost_arguments.specs.Program.{bare_program, program, with_all, with_command};
+ghost use Rattle.drvhost_arguments.specs.Table.{command_for, rule_for};
 
-use crate::arguments::{Argument, arg_of};
-use crate::usage::EXPLAIN_USAGE;
+use crate::argument::{Argument, arg_of};
 use clap::Command;
 use clap::builder::ValueParser;
 use drvhost_options::jobs::MAX_JOBS;
@@ -22,6 +21,10 @@ const NAME: &str = "drvhost";
 
 /// The program's version, in the texts of usage and help.
 const VERSION: &str = "1.0.0";
+
+/// How `explain` is used.
+pub const EXPLAIN_USAGE: &str =
+    "drvhost explain [OPTIONS] <PATH>...\n       drvhost explain --rule <RULE>";
 
 /// What two commands do, in lines that are too long for the table.
 const HUNT: &str =
@@ -265,7 +268,7 @@ const COMMANDS: [Entry<'static>; 13] = [
 ];
 
 /// The program's command line.
-pub(crate) fn program<'a>(alloc: Global) -> Result<Command<'a>, AllocError>
+pub fn program<'a>(alloc: Global) -> Result<Command<'a>, AllocError>
     ensures { IfOk result (λ command. app_of command ≡ program) }
 {
     let bare = bare_program(alloc)?;

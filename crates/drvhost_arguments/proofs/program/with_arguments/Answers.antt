@@ -1,8 +1,8 @@
 use Rattle.std.proofs.Common.{◌∙◌, ap, rules}
 use Rattle.clap.specs.Words.{Rule, app_of, with_rule}
-use Rattle.drvhost_commands.specs.Table.{rule_for}
-use Rattle.drvhost_commands.proofs.Building.{one_on}
-use Rattle.drvhost_commands.proofs.commands.with_arguments.Goals as goal
+use Rattle.drvhost_arguments.specs.Table.{rule_for}
+use Rattle.drvhost_arguments.proofs.Building.{one_on}
+use Rattle.drvhost_arguments.proofs.program.with_arguments.Goals as goal
 
 pub loop-argument-preserved : goal.loop-argument-preserved
 loop-argument-preserved c =

@@ -2,7 +2,7 @@
 use Rattle.std.proofs.Common.{◌≡◌, ◌∙◌, ◌+◌, ◌<◌, ◌≤◌, ℕ, List, ap, drop, length, map, get_or}
 use Rattle.std.proofs.lemmas.List.{drop_all, drop_more}
 use Rattle.clap.specs.Words.{App}
-use Rattle.drvhost_commands.specs.CommandLine.{with_all}
+use Rattle.drvhost_arguments.specs.Program.{with_all}
 
 -- one is added, and the others are left
 pub one_on : {A B : Type 0} (step : App → B → App) (f : A → B) (xs : List A) (d : A) (i : ℕ)

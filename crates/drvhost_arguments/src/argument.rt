@@ -2,8 +2,8 @@
 
 ghost use Rattle.std.specs.Prelude.{◌≡◌, false};
 ghost use Rattle.clap.specs.Words.{rule_of};
-ghost use Rattle.drvhost_commands.specs.CommandLine.{flag, value_argument, values_argument};
-ghost use Rattle.drvhost_commands.specs.Table.{rule_for};
+ghost use Rattle.drvhost_arguments.specs.Program.{flag, value_argument, values_argument};
+ghost use Rattle.drvhost_arguments.specs.Table.{rule_for};
 
 use clap::builder::ValueParser;
 use clap::{Arg, ArgAction};

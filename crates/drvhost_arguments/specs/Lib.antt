@@ -1,0 +1,4 @@
+pub mod Given
+pub mod Matched
+pub mod Program
+pub mod Table
