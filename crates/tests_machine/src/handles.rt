@@ -1,4 +1,4 @@
-//! A world behind a handle, as the library for C has it.
+//! A world and the bytes of an answer behind handles, as the library for C has them.
 
 use crate::sets::COMPLETES;
 use model::event::{Event, Reply};
@@ -8,6 +8,8 @@ use pafteis_values::verdict::Verdict;
 use pafteis_world::admitting::judge;
 use pafteis_world::driving::{apply, close, due, open, packet, steps, thread};
 use pafteis_world::handle::Handle;
+use pafteis_world::keeping::{free, keep, read};
+use pafteis_world::kept::Kept;
 use std::alloc::Global;
 use std::fs;
 use std::test::Fail;
@@ -91,5 +93,50 @@ fn a_closed_world_gives_its_memory_back(rt: HostRuntime) {
     // A world has more than 300 pages of 4 KB, and a hundred that weren't freed more than 30,000.
     if let (Some(before), Some(after)) = (before, after) {
         assert!(rt; after < before.saturating_add(10_000));
+    }
+}
+
+#[test]
+fn kept_bytes_are_read_in_pieces(rt: HostRuntime) -> Result<(), Fail> {
+    let alloc = rt.alloc();
+    let mut kept = Kept::empty();
+    let mut piece = [0u8; 4];
+    assert!(rt; read(alloc, &mut kept, 0, &mut piece).is_none());
+    let bytes = Vec::from_array(alloc, [1u8, 2, 3, 4, 5, 6]).expect(&rt, "memory");
+    assert!(rt; keep(alloc, bytes, &mut kept));
+    assert_eq!(rt; read(alloc, &mut kept, 0, &mut piece), Some(4));
+    assert_eq!(rt; piece, [1, 2, 3, 4]);
+    assert_eq!(rt; read(alloc, &mut kept, 4, &mut piece), Some(2));
+    assert_eq!(rt; piece, [5, 6, 3, 4]);
+    assert_eq!(rt; read(alloc, &mut kept, 6, &mut piece), Some(0));
+    assert_eq!(rt; read(alloc, &mut kept, usize::MAX, &mut piece), Some(0));
+    assert!(rt; free(alloc, &mut kept));
+    assert!(rt; !free(alloc, &mut kept));
+    assert!(rt; read(alloc, &mut kept, 0, &mut piece).is_none());
+    Ok(())
+}
+
+/// Keeps so many answers in one handle, frees the last, and answers whether all could be.
+fn keep_and_free(alloc: Global, count: u32) -> bool {
+    let mut kept = Kept::empty();
+    for _ in 0..count {
+        let Ok(bytes) = Vec::from_elem(alloc, 1u8, 1 << 16) else {
+            return false;
+        };
+        if !keep(alloc, bytes, &mut kept) {
+            return false;
+        }
+    }
+    free(alloc, &mut kept)
+}
+
+#[test]
+fn freed_bytes_give_their_memory_back(rt: HostRuntime) {
+    let alloc = rt.alloc();
+    assert!(rt; keep_and_free(alloc, 10));
+    let before = pages(&rt);
+    assert!(rt; keep_and_free(alloc, 2_000));
+    if let (Some(before), Some(after)) = (before, pages(&rt)) {
+        assert!(rt; after < before.saturating_add(1_000));
     }
 }
