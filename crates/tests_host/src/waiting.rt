@@ -2,24 +2,20 @@
 //! is open still, is empty.
 
 ghost use Rattle.std.specs.Prelude.{◌≡◌, ◌≤◌, None, length, replicate};
-ghost use Rattle.intake.specs.Ends.{AreSubmittersOf, AreTakersOf};
+ghost use Rattle.intake.specs.Ends.{AreTakersOf};
 
-use crate::market::Market;
 use crate::pace::Watch;
-use crate::served::{Account, serve_all, serve_beside};
-use crate::serving::is_finished;
+use crate::served::{Account, last_submitter, put, queue_of, serve_all};
 use crate::sets::{COMPLETES, LOCKS, READ, core_of};
 use hostcore::Core;
 use intake::{Intake, Submitter};
-use model::history::Command;
-use model::status::Major;
 use std::alloc::Global;
 use std::process::Abort;
 use std::sync::Wait;
 use std::sync::atomic::{AtomicU64, Ordering};
 use std::thread::{Threads, join};
 use std::time::Clock;
-use workers::Gate;
+use workers::{Gate, serve};
 
 /// A gate for two workers that perform a request each. Worker 0 gets the lock, and has it until
 /// worker 1 has asked once more after a turn in which its thread waited for it.
@@ -57,96 +53,69 @@ impl<C: Clock> Gate for Rivals<C> {
     }
 }
 
-/// A worker goes on once its thread has got the lock for which it waited.
+/// A worker goes on once its thread has got the lock for which it waited: each performs its
+/// request, by six entries.
 #[test]
 fn a_worker_goes_on_after_its_thread_waited(rt: HostRuntime) {
-    let alloc = rt.alloc();
-    let core = core_of(&rt, alloc, LOCKS, 2, 100);
-    let clock = rt.clone().ok().expect(&rt, "a clock");
-    let rivals = Rivals::new(clock);
-    let account = serve_all(&rt, alloc, core, 2, [READ, READ].as_slice(), &rivals);
-    assert!(rt; rivals.watch.ended_with(account.counts.as_slice()));
-    check_rivals(&rt, &account);
-}
-
-/// Each worker performed its request, by six entries.
-fn check_rivals<R: Abort>(rt: &R, account: &Account) {
-    assert_eq!(rt; account.counts.as_slice(), [6, 6].as_slice());
-    assert!(rt; is_finished(account, 2));
+    let core = core_of(&rt, rt.alloc(), LOCKS, 2, 100);
+    let rivals = Rivals::new(rt.clone().ok().expect(&rt, "a clock"));
+    let account = serve_all(&rt, rt.alloc(), core, 2, [READ, READ].as_slice(), &rivals);
+    assert!(rt; rivals.watch.ended_with([6, 6].as_slice()));
+    assert!(rt; account.is_of(2, 2));
 }
 
 /// How many requests each of two submitters puts while workers serve.
-const PUT: u64 = 10;
+const PUT: usize = 10;
 
 /// Two workers perform what two submitters put while they serve, into a queue that has room for one
 /// command, and end once it is closed.
 #[test]
 fn workers_stay_at_an_open_queue(rt: HostRuntime) {
-    let alloc = rt.alloc();
-    let core = core_of(&rt, alloc, COMPLETES, 2, 100);
-    let market = Market::open(&rt, alloc, 1, 2, 2);
     let watch = Watch::new();
-    let account = serve_market(&rt, alloc, core, market, &watch);
-    check_stay(&rt, &account, &watch);
+    let account = stay(&rt, rt.alloc(), &watch);
+    assert!(rt; watch.ended_with(account.counts.as_slice()));
+    assert!(rt; account.is_of(2, 2 * PUT) && account.entries == 8 * PUT);
 }
 
-/// All requests were performed.
-fn check_stay<R: Abort>(rt: &R, account: &Account, watch: &Watch) {
-    assert!(rt; watch.ended_with(account.counts.as_slice()));
-    assert_eq!(rt; account.core.history().len() as u64, 8 * PUT);
-    assert!(rt; is_finished(account, 2));
+/// What came of two workers at an open queue.
+fn stay<R: Threads + Wait + Abort + Clock + Sync>(rt: &R, alloc: Global, watch: &Watch) -> Account {
+    let idle = core_of(rt, alloc, COMPLETES, 1, 1);
+    let core = core_of(rt, alloc, COMPLETES, 2, 100);
+    serve_while_put(rt, alloc, core, &idle, watch)
 }
 
 /// Two workers serve a queue with two submitters, each in a thread of its own.
-fn serve_market<R: Threads + Wait + Abort + Clock + Sync>(
+fn serve_while_put<R: Threads + Wait + Abort + Clock + Sync>(
     rt: &R,
     alloc: Global,
     core: Core,
-    market: Market,
+    idle: &Core,
     watch: &Watch,
 ) -> Account
     requires threads { core.threads ≡ 2 }
     requires free { core.seats ≡ replicate core.threads None }
 {
-    let Market {
-        core: idle,
-        intake,
-        mut submitters,
-        takers,
-    } = market;
-    assert!(rt; takers.len() == 2);
+    let (intake, mut submitters, takers) = queue_of(rt, alloc, 1, 2, 2);
     let first = last_submitter(rt, &intake, &mut submitters);
     let second = last_submitter(rt, &intake, &mut submitters);
-    let (_put, account) = join(
+    let (_put, served) = join(
         rt,
         ||
             requires { (first.queue ≡ intake) × (second.queue ≡ intake) }
-        { both_put(rt, &idle, &intake, first, second, watch) },
+        { both_put(rt, idle, &intake, first, second, watch) },
         ||
             requires { (length takers.items ≡ 2) × (core.threads ≡ 2)
                 × (core.seats ≡ replicate core.threads None) × AreTakersOf intake takers.items }
-        { serve_beside(rt, alloc, core, &intake, takers, watch) },
+        { serve(rt, alloc, core, &intake, takers, watch) },
     );
-    account
-}
-
-/// The last of the submitters.
-fn last_submitter<R: Abort>(rt: &R, intake: &Intake, submitters: &mut Vec<Submitter>) -> Submitter
-    requires all { AreSubmittersOf intake.now submitters.old.items }
-    ensures all { AreSubmittersOf intake.now submitters.new.items }
-    ensures queue { result.queue ≡ intake.now }
-{
-    match submitters.pop() {
-        Some(last) => last,
-        None => panic!(rt; "a submitter"),
-    }
+    Account::of(served)
 }
 
 /// Two submitters put requests at once, and the queue is closed when workers have found nothing to
 /// do after the last.
 fn both_put<R: Threads + Wait + Abort + Clock + Sync>(
     rt: &R,
-    core: &Core,
+    idle: &Core,
     intake: &Intake,
     first: Submitter,
     second: Submitter,
@@ -157,8 +126,8 @@ fn both_put<R: Threads + Wait + Abort + Clock + Sync>(
 {
     join(
         rt,
-        || put_slowly(rt, core, intake, first, watch),
-        || put_slowly(rt, core, intake, second, watch),
+        || put_slowly(rt, idle, intake, first, watch),
+        || put_slowly(rt, idle, intake, second, watch),
     );
     intake.close();
 }
@@ -167,45 +136,18 @@ fn both_put<R: Threads + Wait + Abort + Clock + Sync>(
 /// found nothing to do after the last.
 fn put_slowly<R: Wait + Abort + Clock>(
     rt: &R,
-    core: &Core,
+    idle: &Core,
     intake: &Intake,
     mut submitter: Submitter,
     watch: &Watch,
 )
     requires queue { submitter.queue ≡ intake.now }
 {
-    for argument in 0..PUT {
+    for _ in 0..PUT {
         await_idle(rt, watch);
-        put_one(rt, core, intake, &mut submitter, argument);
+        put(rt, idle, intake, &mut submitter, READ);
     }
     await_idle(rt, watch);
-}
-
-/// A submitter puts a command, once there is room for it.
-fn put_one<R: Wait + Abort>(
-    rt: &R,
-    core: &Core,
-    intake: &Intake,
-    submitter: &mut Submitter,
-    argument: u64,
-)
-    requires queue { submitter.old.queue ≡ intake.now }
-    ensures queue { submitter.new.queue ≡ intake.now }
-{
-    let command = Command::Request {
-        device: 0,
-        major: Major::Read,
-        argument,
-    };
-    for _turn in rt.forever() {
-        if let Ok(ticket) = submitter.submit(rt, intake, command) {
-            assert_eq!(rt; ticket.name().count, argument);
-            core.abandon(ticket);
-            return;
-        }
-        assert!(rt; !intake.closed());
-    }
-    unreachable!()
 }
 
 /// Waits until each of two workers has twice found nothing to do.
