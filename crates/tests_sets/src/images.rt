@@ -3,8 +3,9 @@
 
 use crate::vectors::{EMPTY, OLD_ONE_READ, ONE_READ, QUEUED};
 use asm::assemble;
-use image::{ImageFault, decode, encode};
+use image::{DriverSet, ImageFault, decode, encode};
 use md5::{Digest, Md5};
+use model::memory::OutOfMemory;
 use std::alloc::{AllocError, Global};
 use std::test::Fail;
 
@@ -20,13 +21,6 @@ const WAITING: &[u8] =
       endr\nroutine s startio\nbegin r0\nret void\nendr\nroutine g dpc\ntake r0 none\nacqc\nnext\n\
       relc\ncomplete r0 SUCCESS\nret void\nnone: ret void\nendr\nroutine gone cancel\ndequeue r0\n\
       relc\ncomplete r0 CANCELLED\nret void\nendr\nendd\ndevice v d 1\n";
-
-/// What its image says of the driver: four routines, no queue, which of them serve what, and last the
-/// cancel routine of the device queue.
-const WAITING_DRIVER: [u8; 8] = [0x04, 0x00, 0x00, 0xff, 0xff, 0x01, 0x02, 0x03];
-
-/// `dequeue r0` there, the first word of the last routine.
-const DEQUEUE: [u8; 8] = [0x25, 0x00, 0x00, 0x00, 0x00, 0x00, 0x00, 0x00];
 
 /// The digest of the whole image, whose bytes were put together by hand.
 const WAITING_IMAGE: [u8; 16] = [
@@ -49,161 +43,24 @@ const QUEUED_FAULTS: [u8; 16] = [
     0xeb, 0x47, 0xa0, 0xf4, 0x10, 0x6e, 0xd7, 0xec, 0xf5, 0x30, 0x8d, 0xf0, 0x01, 0xdb, 0xba, 0x38,
 ];
 
-/// A byte of `ONE_READ` changed, and the fault.
-struct Change {
-    place: usize,
-    value: u8,
-    fault: ImageFault,
+/// Whether bytes have this digest.
+fn have_digest(bytes: &[u8], digest: &[u8; 16]) -> bool {
+    Md5::digest(bytes).as_slice() == digest.as_slice()
 }
 
-static CHANGES: [Change; 21] = [
-    Change {
-        place: 0,
-        value: 0x45,
-        fault: ImageFault::Magic,
-    },
-    Change {
-        place: 3,
-        value: 0x31,
-        fault: ImageFault::BadOpcode,
-    },
-    Change {
-        place: 3,
-        value: 0x30,
-        fault: ImageFault::Magic,
-    },
-    Change {
-        place: 3,
-        value: 0x33,
-        fault: ImageFault::Magic,
-    },
-    Change {
-        place: 4,
-        value: 9,
-        fault: ImageFault::OverLimit,
-    },
-    Change {
-        place: 5,
-        value: 17,
-        fault: ImageFault::OverLimit,
-    },
-    Change {
-        place: 6,
-        value: 1,
-        fault: ImageFault::BadOpcode,
-    },
-    Change {
-        place: 7,
-        value: 1,
-        fault: ImageFault::BadOpcode,
-    },
-    Change {
-        place: 9,
-        value: 5,
-        fault: ImageFault::OverLimit,
-    },
-    Change {
-        place: 10,
-        value: 1,
-        fault: ImageFault::OverLimit,
-    },
-    Change {
-        place: 15,
-        value: 0,
-        fault: ImageFault::OverLimit,
-    },
-    Change {
-        place: 15,
-        value: 1,
-        fault: ImageFault::OverLimit,
-    },
-    Change {
-        place: 16,
-        value: 6,
-        fault: ImageFault::BadOpcode,
-    },
-    Change {
-        place: 16,
-        value: 1,
-        fault: ImageFault::OverLimit,
-    },
-    Change {
-        place: 19,
-        value: 0x04,
-        fault: ImageFault::OverLimit,
-    },
-    Change {
-        place: 20,
-        value: 38,
-        fault: ImageFault::BadOpcode,
-    },
-    Change {
-        place: 21,
-        value: 0x10,
-        fault: ImageFault::OverLimit,
-    },
-    Change {
-        place: 23,
-        value: 1,
-        fault: ImageFault::BadOpcode,
-    },
-    Change {
-        place: 36,
-        value: 1,
-        fault: ImageFault::OverLimit,
-    },
-    Change {
-        place: 38,
-        value: 0,
-        fault: ImageFault::OverLimit,
-    },
-    Change {
-        place: 39,
-        value: 1,
-        fault: ImageFault::BadOpcode,
-    },
-];
+/// Whether bytes are the image of a set.
+fn are_image_of(alloc: Global, bytes: &[u8], set: &DriverSet) -> bool {
+    match encode(alloc, set) {
+        Ok(image) => image.as_slice() == bytes,
+        Err(OutOfMemory) => false,
+    }
+}
 
-/// A byte of `OLD_ONE_READ` changed, and the fault.
-static OLD_CHANGES: [Change; 5] = [
-    Change {
-        place: 3,
-        value: 0x30,
-        fault: ImageFault::Magic,
-    },
-    Change {
-        place: 3,
-        value: 0x32,
-        fault: ImageFault::OverLimit,
-    },
-    Change {
-        place: 15,
-        value: 1,
-        fault: ImageFault::BadOpcode,
-    },
-    Change {
-        place: 15,
-        value: 0xff,
-        fault: ImageFault::BadOpcode,
-    },
-    Change {
-        place: 20,
-        value: 37,
-        fault: ImageFault::BadOpcode,
-    },
-];
-
-/// Whether the bytes spell a set that they are the image of, and so is its copy's.
-fn is_image(alloc: Global, bytes: &[u8]) -> bool {
-    let Ok(set) = decode(alloc, bytes) else {
-        return false;
-    };
-    let Ok(copy) = set.copy(alloc) else {
-        return false;
-    };
-    match (encode(alloc, &set), encode(alloc, &copy)) {
-        (Ok(first), Ok(second)) => first.as_slice() == bytes && second.as_slice() == bytes,
-        _ => false,
+/// Whether bytes spell a set, and are its image.
+fn are_image(alloc: Global, bytes: &[u8]) -> bool {
+    match decode(alloc, bytes) {
+        Ok(set) => are_image_of(alloc, bytes, &set),
+        Err(_) => false,
     }
 }
 
@@ -211,7 +68,7 @@ fn is_image(alloc: Global, bytes: &[u8]) -> bool {
 /// not the image of its set.
 fn fault_number(alloc: Global, bytes: &[u8]) -> u8 {
     match decode(alloc, bytes) {
-        Ok(_) if bytes.starts_with(b"DVB1") || is_image(alloc, bytes) => 0,
+        Ok(set) if bytes.starts_with(b"DVB1") || are_image_of(alloc, bytes, &set) => 0,
         Ok(_) => 255,
         Err(fault) => fault as u8,
     }
@@ -226,135 +83,79 @@ fn fault_of_change(alloc: Global, image: &[u8], place: usize, value: u8) -> Resu
     Ok(fault_number(alloc, bytes.as_slice()))
 }
 
-/// Whether the numbers of the faults of all changes of one byte of an image have this digest.
-fn have_faults(alloc: Global, image: &[u8], digest: &[u8; 16]) -> Result<bool, AllocError> {
+/// The numbers of the faults of all changes of one byte of an image.
+fn faults_of_changes(alloc: Global, image: &[u8]) -> Result<Vec<u8>, AllocError> {
     let mut faults = Vec::new(alloc);
     for place in 0..image.len() {
         for value in 0..=255 {
             faults.push(fault_of_change(alloc, image, place, value)?)?;
         }
     }
-    Ok(Md5::digest(faults.as_slice()).as_slice() == digest.as_slice())
+    Ok(faults)
 }
 
-#[test]
-fn known_images(rt: HostRuntime) -> Result<(), Fail> {
-    let alloc = rt.alloc();
-    assert!(rt; is_image(alloc, ONE_READ.as_slice()));
-    assert!(rt; is_image(alloc, EMPTY.as_slice()));
-    let mut longer = Vec::from_slice(alloc, ONE_READ.as_slice())?;
-    longer.push(0)?;
-    assert!(rt; matches!(decode(alloc, longer.as_slice()), Err(ImageFault::Trailing)));
-    Ok(())
-}
-
-#[test]
-fn beginnings(rt: HostRuntime) {
-    let alloc = rt.alloc();
-    for length in 0..40 {
-        let beginning = &ONE_READ[..length];
-        assert!(rt;
-            matches!(decode(alloc, beginning), Err(ImageFault::Truncated)),
-            "{length}"
-        );
-    }
-}
-
-#[test]
-fn changed_bytes(rt: HostRuntime) {
-    let alloc = rt.alloc();
-    for change in CHANGES.iter() {
-        let mut bytes = ONE_READ;
-        if let Some(byte) = bytes.get_mut(change.place) {
-            *byte = change.value;
+/// Whether all changes of one byte of an image have the faults of this digest, and each of its
+/// beginnings is cut off.
+fn is_guarded(alloc: Global, image: &[u8], digest: &[u8; 16]) -> bool {
+    for length in 0..image.len() {
+        if !matches!(decode(alloc, &image[..length]), Err(ImageFault::Truncated)) {
+            return false;
         }
-        assert_eq!(rt; decode(alloc, bytes.as_slice()).err(), Some(change.fault));
     }
-}
-
-/// An image of the first edition is read, and written as one of the second.
-#[test]
-fn old_images(rt: HostRuntime) -> Result<(), Fail> {
-    let alloc = rt.alloc();
-    let set = decode(alloc, OLD_ONE_READ.as_slice())
-        .ok()
-        .ok_or("the image is a set's")?;
-    assert_eq!(rt; set.edition(), 1);
-    let image = encode(alloc, &set).ok().ok_or("out of memory")?;
-    assert!(rt; image.as_slice() == ONE_READ.as_slice());
-    for change in OLD_CHANGES.iter() {
-        let mut bytes = OLD_ONE_READ;
-        if let Some(byte) = bytes.get_mut(change.place) {
-            *byte = change.value;
-        }
-        assert_eq!(rt; decode(alloc, bytes.as_slice()).err(), Some(change.fault));
+    match faults_of_changes(alloc, image) {
+        Ok(faults) => have_digest(faults.as_slice(), digest),
+        Err(AllocError) => false,
     }
-    Ok(())
-}
-
-/// A role of another sort is told only where nothing else is wrong.
-#[test]
-fn roles_come_last(rt: HostRuntime) -> Result<(), Fail> {
-    let alloc = rt.alloc();
-    let mut bytes = Vec::from_slice(alloc, ONE_READ.as_slice())?;
-    if let Some(sort) = bytes.get_mut(16) {
-        *sort = 1;
-    }
-    assert!(rt; matches!(decode(alloc, bytes.as_slice()), Err(ImageFault::OverLimit)));
-    bytes.push(0)?;
-    assert!(rt; matches!(decode(alloc, bytes.as_slice()), Err(ImageFault::Trailing)));
-    Ok(())
-}
-
-#[test]
-fn every_change_of_one_byte(rt: HostRuntime) -> Result<(), Fail> {
-    let alloc = rt.alloc();
-    assert!(rt; have_faults(alloc, ONE_READ.as_slice(), &ONE_READ_FAULTS)?);
-    assert!(rt; have_faults(alloc, OLD_ONE_READ.as_slice(), &OLD_ONE_READ_FAULTS)?);
-    Ok(())
 }
 
 /// The image of the set of a text.
-fn image_of(alloc: Global, text: &[u8]) -> Result<Vec<u8>, Fail> {
-    let set = assemble(alloc, text).ok().ok_or("the text is a set")?;
-    let image = encode(alloc, &set).ok().ok_or("out of memory")?;
-    Ok(image)
+fn image_of(alloc: Global, text: &[u8]) -> Option<Vec<u8>> {
+    let set = assemble(alloc, text).ok()?;
+    encode(alloc, &set).ok()
+}
+
+/// Whether a text's image has this digest, and is the image of the set that it spells.
+fn is_known(alloc: Global, text: &[u8], digest: &[u8; 16]) -> bool {
+    match image_of(alloc, text) {
+        Some(image) => {
+            have_digest(image.as_slice(), digest) && are_image(alloc, image.as_slice())
+        }
+        None => false,
+    }
 }
 
 #[test]
-fn an_image_of_a_text(rt: HostRuntime) -> Result<(), Fail> {
-    let alloc = rt.alloc();
-    let image = image_of(alloc, QUEUED)?;
-    assert_eq!(rt; image.len(), 258);
-    assert!(rt; Md5::digest(image.as_slice()).as_slice() == QUEUED_IMAGE.as_slice());
-    assert!(rt; is_image(alloc, image.as_slice()));
-    for length in 0..258 {
-        let beginning = image.get(..length).ok_or("the image is longer")?;
+fn known_images(rt: HostRuntime) {
+    assert!(rt; are_image(rt.alloc(), EMPTY.as_slice()));
+    assert!(rt; are_image(rt.alloc(), ONE_READ.as_slice()));
+    assert!(rt; is_known(rt.alloc(), QUEUED, &QUEUED_IMAGE));
+    assert!(rt; is_known(rt.alloc(), WAITING, &WAITING_IMAGE));
+}
+
+#[test]
+fn every_beginning_and_change(rt: HostRuntime) -> Result<(), Fail> {
+    assert!(rt; is_guarded(rt.alloc(), ONE_READ.as_slice(), &ONE_READ_FAULTS));
+    assert!(rt; is_guarded(rt.alloc(), OLD_ONE_READ.as_slice(), &OLD_ONE_READ_FAULTS));
+    let image = image_of(rt.alloc(), QUEUED).ok_or("the text is a set")?;
+    assert!(rt; is_guarded(rt.alloc(), image.as_slice(), &QUEUED_FAULTS));
+    Ok(())
+}
+
+/// Bytes behind the last device are told before a role of another sort.
+#[test]
+fn roles_come_last(rt: HostRuntime) -> Result<(), Fail> {
+    let mut bytes = Vec::from_slice(rt.alloc(), ONE_READ.as_slice())?;
+    bytes.push(0)?;
+    for sort in 0..2 {
+        if let Some(byte) = bytes.get_mut(16) {
+            *byte = sort;
+        }
         assert!(rt;
-            matches!(decode(alloc, beginning), Err(ImageFault::Truncated)),
-            "{length}"
+            matches!(
+                decode(rt.alloc(), bytes.as_slice()),
+                Err(ImageFault::Trailing)
+            )
         );
     }
-    Ok(())
-}
-
-#[test]
-fn an_image_with_a_cancelable_device_queue(rt: HostRuntime) -> Result<(), Fail> {
-    let alloc = rt.alloc();
-    let image = image_of(alloc, WAITING)?;
-    assert_eq!(rt; image.len(), 212);
-    let driver = image.get(8..16).ok_or("the image is longer")?;
-    assert!(rt; driver == WAITING_DRIVER.as_slice());
-    let dequeue = image.get(176..184).ok_or("the image is longer")?;
-    assert!(rt; dequeue == DEQUEUE.as_slice());
-    assert!(rt; Md5::digest(image.as_slice()).as_slice() == WAITING_IMAGE.as_slice());
-    assert!(rt; is_image(alloc, image.as_slice()));
-    Ok(())
-}
-
-#[test]
-fn every_change_of_a_larger_image(rt: HostRuntime) -> Result<(), Fail> {
-    let image = image_of(rt.alloc(), QUEUED)?;
-    assert!(rt; have_faults(rt.alloc(), image.as_slice(), &QUEUED_FAULTS)?);
     Ok(())
 }
