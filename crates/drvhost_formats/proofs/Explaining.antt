@@ -15,6 +15,7 @@ use Rattle.drvhost_evidence.specs.declared.shown.Shown.{Shown}
 use Rattle.drvhost_evidence.specs.Regions.{refusal_region}
 use Rattle.drvhost_evidence.specs.Shown.{IsShownBy}
 use Rattle.drvhost_evidence.proofs.EachFault.{past_told, told_at, within_told}
+use Rattle.drvhost_mends.specs.Fix.{IsFix}
 use Rattle.drvhost_options.specs.declared.extent.Extent.{Extent}
 use Rattle.drvhost_options.specs.declared.extent.Extent.TheVariants.{First, Each}
 use Rattle.drvhost_formats.specs.declared.outcome.Outcome.TheVariants.{Stopped}
@@ -28,8 +29,9 @@ pub line_added : {A E : Type 0} (r : Result A E) (name bytes : List ℕ) (set : 
     (lesson : Lesson) (old l : List ℕ) → IsEvidence set refusal evidence
     → IsShownBy bytes refusal evidence shown → region ≡ refusal_region bytes refusal
     → OnOk r (l ≡ old ++ json_line (refusal_explained_json name refusal region shown lesson))
+    → IsFix refusal bytes lesson.edits
     → OnOk r ((line : List ℕ) × IsRefusalLine name bytes set refusal line × (l ≡ old ++ line))
-line_added (Ok a) name bytes set refusal evidence region shown lesson old l shows by_it placed added = (
+line_added (Ok a) name bytes set refusal evidence region shown lesson old l shows by_it placed added fixed = (
   json_line (refusal_explained_json name refusal region shown lesson),
   record {
     evidence = evidence;
@@ -37,11 +39,12 @@ line_added (Ok a) name bytes set refusal evidence region shown lesson old l show
     shown = shown;
     by_it = by_it;
     lesson = lesson;
+    fixed = fixed;
     is = ap (λ place. json_line (refusal_explained_json name refusal place shown lesson)) placed;
   },
   added,
 )
-line_added (Err e) name bytes set refusal evidence region shown lesson old l shows by_it placed added =
+line_added (Err e) name bytes set refusal evidence region shown lesson old l shows by_it placed added fixed =
     added
 
 -- those of a refused set were, by how many are asked for

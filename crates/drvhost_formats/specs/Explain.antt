@@ -16,6 +16,7 @@ use Rattle.drvhost_devices.specs.Device.{Supply}
 use Rattle.drvhost_evidence.specs.declared.shown.Shown.{Shown}
 use Rattle.drvhost_evidence.specs.Regions.{refusal_region}
 use Rattle.drvhost_evidence.specs.Shown.{IsShownBy}
+use Rattle.drvhost_mends.specs.Fix.{IsFix}
 use Rattle.drvhost_options.specs.declared.extent.Extent.{Extent}
 use Rattle.drvhost_options.specs.declared.extent.Extent.TheVariants.{First, Each}
 use Rattle.drvhost_formats.specs.declared.outcome.Outcome.TheVariants.{Complete, Stopped}
@@ -35,7 +36,8 @@ pub record IsAcceptanceExplained (name bytes : List ℕ) (set : Set) (answer : A
   pub is : answer ≡ told_line Complete
       (acceptance_explained_json name (with_names (certified_routines set) names) words)
 
--- the line of a refusal: the rule and its place, and what shows it, by its evidence
+-- the line of a refusal: the rule and its place, what shows it, by its evidence, and edits that mend
+-- it, or none
 pub record IsRefusalLine (name bytes : List ℕ) (set : Set) (refusal : Refusal) (line : List ℕ)
     : Type 0 where
   pub evidence : Option Evidence
@@ -43,6 +45,7 @@ pub record IsRefusalLine (name bytes : List ℕ) (set : Set) (refusal : Refusal)
   pub shown : Shown
   pub by_it : IsShownBy bytes refusal evidence shown
   pub lesson : Lesson
+  pub fixed : IsFix refusal bytes lesson.edits
   pub is : line ≡ json_line
       (refusal_explained_json name refusal (refusal_region bytes refusal) shown lesson)
 

@@ -1,6 +1,7 @@
 -- The objects of verdicts that are explained.
 use Rattle.std.specs.Prelude.{ℕ, List, [], ◌∷◌, codes, decimal, Option, None, Some, string_bytes}
 use Rattle.json.specs.Json.{Json, null, number, string, array, object, Items, no_items, item, no_members, member}
+use Rattle.mend_fixes.specs.declared.lines.LineEdit.{LineEdit}
 use Rattle.model.specs.declared.abs.Refusal.{Refusal}
 use Rattle.model.specs.Words.{rule_word}
 use Rattle.report.specs.Rule.{rule_name}
@@ -38,10 +39,26 @@ abbrev pub steps_json : List Step → Items
 steps_json [] = no_items
 steps_json (step ∷ steps) = item (step_json step) (steps_json steps)
 
--- the words on a refusal: why the rule is broken, and how to mend it
+-- an edit of whole lines: from the number of the first up to that of the one behind the last, and
+-- what stands there instead
+abbrev pub edit_json : LineEdit → Json
+edit_json edit =
+    object
+    (member (codes "start") (number (decimal edit.start))
+    (member (codes "end") (number (decimal edit.end))
+    (member (codes "text") (string (string_bytes edit.text))
+    no_members)))
+
+abbrev pub edits_json : List LineEdit → Items
+edits_json [] = no_items
+edits_json (edit ∷ edits) = item (edit_json edit) (edits_json edits)
+
+-- what is told on a refusal: why the rule is broken, and how to mend it, in words and by edits of
+-- the text
 pub record Lesson : Type 0 where
   pub why : List ℕ
   pub fix : List ℕ
+  pub edits : List LineEdit
 
 -- a refusal, with what shows it
 abbrev pub refusal_explained_json : List ℕ → Refusal → Option Region → Shown → Lesson → Json
@@ -60,7 +77,8 @@ refusal_explained_json file refusal region shown lesson =
     (member (codes "other_path") (array (steps_json shown.other.items))
     (member (codes "why") (string lesson.why)
     (member (codes "fix") (string lesson.fix)
-    no_members)))))))))))))
+    (member (codes "edits") (array (edits_json lesson.edits))
+    no_members))))))))))))))
 
 -- an accepted set, with words on its routines and on the order in which its drivers take locks
 abbrev pub acceptance_explained_json : List ℕ → List CertifiedRoutine → List ℕ → Json

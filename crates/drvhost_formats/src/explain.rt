@@ -1,7 +1,7 @@
 //! The verdict on a driver set explained, in lines of JSON.
 
 ghost use Rattle.std.specs.Prelude.{◌≡◌, ◌++◌, ◌⊎◌, List, [], ℕ, IfOk, OnOk};
-ghost use Rattle.mend_search.specs.Offers.{AreOffersOf};
+ghost use Rattle.mend_offers.specs.Offers.{AreOffersOf};
 ghost use Rattle.model.specs.declared.abs.Refusal.{Refusal as RefusalValue};
 ghost use Rattle.model.specs.Typable.{IsFirstFault, IsTypable, at_start};
 ghost use Rattle.verifier_words.specs.Faults.{AreFaults};
@@ -21,6 +21,7 @@ use drvhost_devices::fault::Fault;
 use drvhost_evidence::faults::evidence_of_fault;
 use drvhost_evidence::region::refusal_region;
 use drvhost_evidence::shown::show;
+use drvhost_mends::fixing::fix_by;
 use drvhost_options::extent::Extent;
 use drvhost_sets::advising::{Advisor, why_and_mend};
 use drvhost_sets::explaining::origin_of;
@@ -36,7 +37,8 @@ use verifier_words::explanations;
 /// an accepted set, with words on its routines and on the order in which its drivers take their
 /// locks; or for the first fault of a refused one, and, if asked for, for that of each other
 /// routine, with its place, the paths that lead there and what is known at each of their steps, why
-/// the rule is broken, and how to mend it; or for the fault of its text or its image. The answer is
+/// the rule is broken, and how to mend it, for the first fault with the edits of lines that do it, if they
+/// were judged; or for the fault of its text or its image. The answer is
 /// the exit status, as that of [`check_json`](crate::check::check_json).
 pub fn explain_json<S: Source, O: Sink, E: Sink>(
     alloc: Global,
@@ -223,8 +225,9 @@ fn add_refusal(
     let evidence = evidence_of_fault(alloc, set, refusal)?;
     let shown = show(alloc, origin, file.bytes, set, refusal, &evidence)?;
     let region = refusal_region(alloc, file.bytes, refusal)?;
-    let words = advisor.advised(alloc, set, refusal, shown.why.as_str())?;
-    let (why, fix) = why_and_mend(words.as_str());
+    let advised = advisor.advised_with(alloc, set, refusal, shown.why.as_str())?;
+    let (why, fix) = why_and_mend(advised.words.as_str());
+    let edits = fix_by(alloc, file.bytes, refusal, advised.changes.as_slice())?;
     lines.add(&ExplainedRefusal {
         file: file.name,
         refusal: *refusal,
@@ -232,5 +235,6 @@ fn add_refusal(
         shown: &shown,
         why,
         fix,
+        edits: edits.as_slice(),
     })
 }

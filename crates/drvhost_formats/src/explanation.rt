@@ -6,10 +6,11 @@ ghost use Rattle.json.specs.Token.{key, number, string};
 ghost use Rattle.json.specs.Tree.{items_tokens, json_tokens};
 ghost use Rattle.model.specs.Words.{rule_word};
 ghost use Rattle.report.specs.Rule.{rule_name};
-ghost use Rattle.drvhost_formats.specs.Explanation.{region_json, step_json, steps_json};
+ghost use Rattle.drvhost_formats.specs.Explanation.{edit_json, edits_json, region_json, step_json, steps_json};
 
 use drvhost_evidence::shown::Shown;
 use json::Writer;
+use mend_fixes::LineEdit;
 use model::abs::Refusal;
 use report_json::member::{begin, put_number, put_text};
 use report_json::to_json::ToJson;
@@ -57,6 +58,8 @@ pub(crate) struct ExplainedRefusal<'a> {
     pub(crate) shown: &'a Shown,
     pub(crate) why: &'a str,
     pub(crate) fix: &'a str,
+    /// What the mend does to the lines of the file, if that was judged.
+    pub(crate) edits: &'a [LineEdit],
 }
 
 impl ToJson for ExplainedRefusal<'_> {
@@ -64,7 +67,8 @@ impl ToJson for ExplainedRefusal<'_> {
     ghost use Rattle.drvhost_formats.specs.Nesting.{explained_nests};
 
     ghost json = { λ told. refusal_explained_json told.file.now told.refusal told.region
-        told.shown.now (record { why = told.why.now; fix = told.fix.now }) };
+        told.shown.now
+        (record { why = told.why.now; fix = told.fix.now; edits = told.edits.now }) };
 
     fn write(&self, out: &mut Writer) -> Result<(), AllocError> {
         begin(out, FORMAT, self.file)?;
@@ -75,11 +79,12 @@ impl ToJson for ExplainedRefusal<'_> {
         put_steps(out, "other_path", self.shown.other.as_slice())?;
         put_text(out, "why", self.why)?;
         put_text(out, "fix", self.fix)?;
+        put_edits(out, self.edits)?;
         out.end_object()
     }
 
     ghost nests = { λ told. explained_nests told.file.now told.refusal told.region told.shown.now
-        (record { why = told.why.now; fix = told.fix.now }) };
+        (record { why = told.why.now; fix = told.fix.now; edits = told.edits.now }) };
 }
 
 /// Adds a rule, and the place where it is broken, by numbers.
@@ -157,5 +162,41 @@ fn write_step(out: &mut Writer, step: &Step) -> Result<(), AllocError>
     put_number(out, "position", step.position as u64)?;
     put_region(out, step.region)?;
     put_text(out, "known", step.known.as_str())?;
+    out.end_object()
+}
+
+/// Adds edits of lines.
+fn put_edits(out: &mut Writer, edits: &[LineEdit]) -> Result<(), AllocError>
+    ensures before { out.new.before ≡ out.old.before }
+    ensures tokens { OnOk result (out.new.tokens
+        ≡ out.old.tokens ++ key (codes "edits") ∷ json_tokens (array (edits_json edits.now))) }
+{
+    out.key("edits")?;
+    out.begin_array()?;
+    write_edits(out, edits)
+}
+
+/// Writes edits of lines, to the end of the array.
+fn write_edits(out: &mut Writer, edits: &[LineEdit]) -> Result<(), AllocError>
+    ensures before { out.new.before ≡ out.old.before }
+    ensures tokens { OnOk result
+        (out.new.tokens ≡ out.old.tokens ++ items_tokens (edits_json edits.now)) }
+{
+    for edit in edits {
+        write_edit(out, edit)?;
+    }
+    out.end_array()
+}
+
+/// Writes an edit of lines.
+fn write_edit(out: &mut Writer, edit: &LineEdit) -> Result<(), AllocError>
+    ensures before { out.new.before ≡ out.old.before }
+    ensures tokens { OnOk result
+        (out.new.tokens ≡ out.old.tokens ++ json_tokens (edit_json edit.now)) }
+{
+    out.begin_object()?;
+    put_number(out, "start", edit.start)?;
+    put_number(out, "end", edit.end)?;
+    put_text(out, "text", edit.text.as_str())?;
     out.end_object()
 }

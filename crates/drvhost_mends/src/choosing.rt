@@ -1,7 +1,7 @@
 //! Which offers are made: the first of each faulty routine, and then those with another one of one
 //! routine, by what that costs more.
 
-use mend_search::offers::{Mending, Offers};
+use mend_offers::offers::{Mending, Offers};
 use std::alloc::{AllocError, Global};
 
 /// How many are tried at most.

@@ -1,9 +1,9 @@
 //! Fixes: edits of whole lines of a text, which were judged by what they make of it.
 
-ghost use Rattle.std.specs.Prelude.{IfOk, IfSome};
+ghost use Rattle.std.specs.Prelude.{IfOk};
 ghost use Rattle.drvhost_mends.specs.Fix.{IsFix};
 
-use crate::judging::{Extent, extent_of};
+use crate::judging::extent_of;
 use drvhost_devices::reading::begins_image;
 use mend_edits::Change;
 use mend_fixes::{LineEdit, edited, edits_of};
@@ -11,15 +11,8 @@ use model::abs::Refusal;
 use model::items::Items;
 use std::alloc::{AllocError, Global};
 
-/// Edits of a text, in order, and how much they mend.
-#[derive(Drop)]
-pub struct Fix {
-    pub extent: Extent,
-    pub edits: Items<LineEdit>,
-}
-
-/// The fix that changes of a text are which names a refused set, if they mend anything, and what
-/// they put in is UTF-8. An image has no lines.
+/// The edits that changes of a text are which names a refused set, if they mend anything, and what
+/// they put in is UTF-8; or none. An image has no lines.
 ///
 /// # Errors
 ///
@@ -29,30 +22,31 @@ pub fn fix_by(
     text: &[u8],
     refusal: &Refusal,
     changes: &[Change],
-) -> Result<Option<Fix>, AllocError>
-    ensures { IfOk result (λ found. IfSome found (IsFix refusal.now text.now)) }
+) -> Result<Items<LineEdit>, AllocError>
+    ensures { IfOk result (IsFix refusal.now text.now) }
 {
-    if begins_image(text) {
-        return Ok(None);
+    let none = Items::of(Vec::new(alloc));
+    if changes.is_empty() || begins_image(text) {
+        return Ok(none);
     }
     match edits_of(alloc, changes)? {
         Some(edits) => judged(alloc, text, refusal, edits),
-        None => Ok(None),
+        None => Ok(none),
     }
 }
 
-/// The fix that edits of a text are, if they mend anything.
+/// Edits of a text, if they mend anything, or none.
 fn judged(
     alloc: Global,
     text: &[u8],
     refusal: &Refusal,
     edits: Items<LineEdit>,
-) -> Result<Option<Fix>, AllocError>
-    ensures { IfOk result (λ found. IfSome found (IsFix refusal.now text.now)) }
+) -> Result<Items<LineEdit>, AllocError>
+    ensures { IfOk result (IsFix refusal.now text.now) }
 {
     let made = edited(alloc, text, edits.as_slice())?;
     match extent_of(alloc, made.as_slice(), refusal)? {
-        Some(extent) => Ok(Some(Fix { extent, edits })),
-        None => Ok(None),
+        Some(_extent) => Ok(edits),
+        None => Ok(Items::of(Vec::new(alloc))),
     }
 }

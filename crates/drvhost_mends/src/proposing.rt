@@ -3,7 +3,7 @@
 use crate::choosing::Choice;
 use driver_set::DriverSet;
 use mend_edits::{diff, steps_of};
-use mend_search::offers::{Mending, Offer, Offers, Standing};
+use mend_offers::offers::{Mending, Offer, Offers, Standing};
 use mend_texts::{Mend, Mended, mend_text};
 use std::alloc::{AllocError, Global};
 

@@ -3,15 +3,15 @@
 
 ghost use Rattle.std.specs.Prelude.{IfOk};
 ghost use Rattle.model.specs.Typable.{IsFirstFault};
-ghost use Rattle.mend_search.specs.Offers.{AreOffersOf};
+ghost use Rattle.mend_offers.specs.Offers.{AreOffersOf};
 
 use asm_listing::listing;
 use drvhost_options::extent::Extent;
 use image::DriverSet;
 use mend_advice::advise;
 use mend_edits::Change;
-use mend_search::advice::{find_likely, find_sure};
-use mend_search::offers::Mending;
+use mend_offers::advice::{find_likely, find_sure};
+use mend_offers::offers::Mending;
 use model::abs::Refusal;
 use model::items::Items;
 use std::alloc::{AllocError, Global};
@@ -71,7 +71,8 @@ impl<'a> Advisor<'a> {
         Ok(self.advised_with(alloc, set, refusal, told)?.words)
     }
 
-    /// The same words, with the changes of the text that they offer.
+    /// The same words, with the changes of the text that they offer for the first fault of the set:
+    /// those for another one go with the offers before it.
     ///
     /// # Errors
     ///
@@ -97,8 +98,27 @@ impl<'a> Advisor<'a> {
         words.push_str(MEND)?;
         words.push_str(advice.words.as_str())?;
         words.push_str("\n")?;
-        let changes = advice.changes;
+        let changes = if self.is_first(refusal) {
+            advice.changes
+        } else {
+            Vec::new(alloc)
+        };
         Ok(Advised { words, changes })
+    }
+
+    /// Whether a refusal is that of the first routine for which anything is offered.
+    fn is_first(&self, refusal: &Refusal) -> bool {
+        match self.offers.as_slice().first() {
+            Some(first) => {
+                let Refusal {
+                    driver,
+                    routine,
+                    ..
+                } = first.refusal;
+                driver == refusal.driver && routine == refusal.routine
+            }
+            None => false,
+        }
     }
 }
 

@@ -5,7 +5,7 @@ ghost use Rattle.model.specs.Typable.{IsFirstFault, at_start};
 ghost use Rattle.drvhost_devices.specs.Device.{Bytes, CanCount, Says};
 ghost use Rattle.drvhost_devices.specs.Ends.{Answers};
 ghost use Rattle.drvhost_devices.specs.Fault.{Goes, TellsLine, reads_failed, writes_failed};
-ghost use Rattle.mend_search.specs.Offers.{AreOffersOf};
+ghost use Rattle.mend_offers.specs.Offers.{AreOffersOf};
 ghost use Rattle.verifier_words.specs.Faults.{refusals};
 ghost use Rattle.report.specs.Fault.{image_fault_line, text_fault_line};
 ghost use Rattle.report.specs.Verdict.{refusal_line};

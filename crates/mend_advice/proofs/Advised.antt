@@ -4,10 +4,10 @@ use Rattle.std.specs.Prelude.{All, slice_get}
 use Rattle.model.specs.declared.abs.Refusal.{Refusal}
 use Rattle.model.specs.Set.{Set}
 use Rattle.model.specs.Typable.{IsFirstFault}
-use Rattle.mend_search.specs.declared.offers.Mending.{Mending}
-use Rattle.mend_search.specs.declared.offers.Offer.{Offer}
-use Rattle.mend_search.specs.declared.offers.Standing.TheVariants.{Sure}
-use Rattle.mend_search.specs.Offers.{AreOffersOf, IsOffer, after_first}
+use Rattle.mend_offers.specs.declared.offers.Mending.{Mending}
+use Rattle.mend_offers.specs.declared.offers.Offer.{Offer}
+use Rattle.mend_offers.specs.declared.offers.Standing.TheVariants.{Sure}
+use Rattle.mend_offers.specs.Offers.{AreOffersOf, IsOffer, after_first}
 use Rattle.mend_advice.specs.Advice.{IsAdvised}
 
 -- what holds of all offers holds of the first

@@ -1,12 +1,12 @@
 //! The first offer for a fault, in words.
 
 ghost use Rattle.std.specs.Prelude.{◌≡◌, IfOk, IfSome, IsTrue};
-ghost use Rattle.mend_search.specs.Offers.{AreOffersOf};
+ghost use Rattle.mend_offers.specs.Offers.{AreOffersOf};
 ghost use Rattle.mend_advice.specs.Advice.{IsAdvised};
 
 use driver_set::DriverSet;
 use mend_edits::Change;
-use mend_search::offers::{Mending, Offer, Standing};
+use mend_offers::offers::{Mending, Offer, Standing};
 use mend_sentences::reason;
 use mend_texts::{Mend, mend_text};
 use model::abs::{Refusal, Rule};

@@ -3,7 +3,7 @@
 use absstate::Abs;
 use driver_set::Instr;
 use mend_changes::{Change, with_label};
-use mend_reading::{Fault, Placed, Reading, Subject};
+use mend_reading::{Placed, Reading, Subject};
 use std::alloc::{AllocError, Global};
 
 /// How many positions before a fault are edited at least, if they are there: an edit of one farther
@@ -25,9 +25,10 @@ impl Cut {
     pub(crate) fn of(alloc: Global, subject: &Subject, code: &[Instr]) -> Result<Cut, AllocError> {
         let mut reading = Reading::new(alloc);
         reading.read(subject, code)?;
-        let at = reading
-            .fault
-            .map_or(0, |fault: Fault| usize::from(fault.at));
+        let at = match &reading.fault {
+            Some(fault) => usize::from(fault.at),
+            None => 0,
+        };
         let place = first_alone(&reading, code, at.saturating_sub(REACH));
         let (first, state) = match (u16::try_from(place), reading.state(place)) {
             (Ok(first), Some(state)) if first > 0 => (first, Some(state)),

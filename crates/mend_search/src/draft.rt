@@ -1,7 +1,7 @@
 //! A routine's code while it is edited.
 
 use driver_set::Instr;
-use mend_changes::{Change, edit_code};
+use mend_changes::{Change, Edit, edit_code};
 use mend_reading::Placed;
 use std::alloc::{AllocError, Global};
 
@@ -90,11 +90,31 @@ impl Draft {
 }
 
 /// Whether a change is of a line that is no instruction.
-pub(crate) fn is_line(change: &Change) -> bool {
+fn is_line(change: &Change) -> bool {
     !matches!(
         *change,
         Change::Insert(..) | Change::Delete | Change::Replace(_) | Change::Move(..)
     )
+}
+
+/// Whether one of the changes is of a position.
+pub(crate) fn changes_at(changes: &[Placed], at: u16) -> bool {
+    for placed in changes {
+        if placed.at == at {
+            return true;
+        }
+    }
+    false
+}
+
+/// Whether one of them is of a line that is no instruction.
+pub fn has_line(edits: &[Edit]) -> bool {
+    for edit in edits {
+        if is_line(&edit.change) {
+            return true;
+        }
+    }
+    false
 }
 
 /// The first position whose instruction changes, labels apart, or before which one is put.

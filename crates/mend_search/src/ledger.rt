@@ -1,6 +1,8 @@
 //! What a search has tried: edits that lead on, by cost, and those after which a routine has no
 //! fault.
 
+ghost use Rattle.std.specs.Prelude.{◌≤◌, length};
+
 use crate::aim::Aim;
 use crate::pairs::Made;
 use driver_set::DriverSet;
@@ -10,6 +12,9 @@ use std::collections::{BTreeSet, BinaryHeap};
 
 /// Edits of a routine, at most.
 pub(crate) const MAX_EDITS: u8 = 4;
+
+/// What an edit costs at least.
+pub(crate) const LEAST: u32 = 15;
 
 /// Edits that were tried, and lead on from others.
 #[derive(Clone, Copy)]
@@ -41,6 +46,8 @@ pub(crate) struct Ledger {
     nodes: Vec<Node>,
     changes: Vec<Placed>,
     solutions: Vec<Solution>,
+    /// What one costs that will be found.
+    bound: u32,
     seen: BTreeSet<u64>,
     /// The nodes that wait: of each the cost and the number, turned round, so that the least comes
     /// first.
@@ -61,6 +68,7 @@ impl Ledger {
             nodes: Vec::new(alloc),
             changes: Vec::new(alloc),
             solutions: Vec::new(alloc),
+            bound: u32::MAX,
             seen: BTreeSet::new(alloc),
             queue: BinaryHeap::new(alloc),
             made: Vec::new(alloc),
@@ -98,7 +106,21 @@ impl Ledger {
 
     /// Whether what costs so much counts.
     pub(crate) fn counts(&self, cost: u32) -> bool {
-        cost < self.aim.dearest
+        let first = match self.solutions.first() {
+            Some(first) => first.cost.min(self.bound),
+            None => self.bound,
+        };
+        cost < self.aim.dearest.min(first.saturating_add(self.aim.rivals))
+    }
+
+    /// Whether few count behind a solution.
+    pub(crate) fn is_narrow(&self) -> bool {
+        self.aim.rivals < u32::MAX
+    }
+
+    /// Notes that there is a solution which costs so much.
+    pub(crate) fn bind(&mut self, cost: u32) {
+        self.bound = self.bound.min(cost);
     }
 
     /// The next node to be looked at, with its number: none where the offers are settled.
@@ -106,7 +128,8 @@ impl Ledger {
         let key = !self.queue.pop()?;
         let number = (key & 0xffff_ffff) as usize;
         let node = self.nodes.get(number).copied()?;
-        if self.is_settled(node.cost) || !self.is_left() {
+        let leads_on = self.counts(node.cost.saturating_add(LEAST));
+        if !leads_on || self.is_settled(node.cost) || !self.is_left() {
             None
         } else {
             Some((number, node))
@@ -115,11 +138,14 @@ impl Ledger {
 
     /// Whether no offer is looked for that costs so much.
     fn is_settled(&self, cost: u32) -> bool {
-        let all = self.solutions.get(self.aim.offers.saturating_sub(1));
-        let window = self.aim.window;
-        let first = self.solutions.first();
-        let far = first.is_some_and(|first| first.cost.saturating_add(window) < cost);
-        far || all.is_some_and(|last| last.cost <= cost)
+        let far = match self.solutions.first() {
+            Some(first) => first.cost.saturating_add(self.aim.window) < cost,
+            None => false,
+        };
+        match self.solutions.get(self.aim.offers.saturating_sub(1)) {
+            Some(last) => far || last.cost <= cost,
+            None => far,
+        }
     }
 
     /// The node of a number.
@@ -148,8 +174,7 @@ impl Ledger {
         set: usize,
         changes: &[Placed],
     ) -> Result<usize, AllocError> {
-        let before = parent.and_then(|number| self.nodes.get(number));
-        let edits = before.map_or(0, |node| node.edits.saturating_add(1));
+        let edits = self.edits_behind(parent);
         let number = self.nodes.len();
         let first = self.changes.len();
         self.changes.extend_from_slice(changes)?;
@@ -163,6 +188,17 @@ impl Ledger {
             count: changes.len(),
         })?;
         Ok(number)
+    }
+
+    /// How many edits there are behind a node.
+    fn edits_behind(&self, parent: Option<usize>) -> u8 {
+        let Some(number) = parent else {
+            return 0;
+        };
+        match self.nodes.get(number) {
+            Some(node) => node.edits.saturating_add(1),
+            None => 0,
+        }
     }
 
     /// Lets a node wait.
@@ -179,20 +215,18 @@ impl Ledger {
 
     /// Whether code is known as a solution of a greater cost, which it is no more.
     pub(crate) fn drops_dearer(&mut self, key: u64, cost: u32) -> bool {
-        let same = |solution: &Solution| solution.key == key && solution.cost > cost;
-        match self.solutions.iter().position(same) {
-            Some(place) => {
+        for (place, solution) in self.solutions.iter().enumerate() {
+            if solution.key == key && solution.cost > cost {
                 let _dearer = self.solutions.remove(place);
-                true
+                return true;
             }
-            None => false,
         }
+        false
     }
 
     /// Adds a solution behind those that cost no more.
     pub(crate) fn solve(&mut self, node: usize, cost: u32, key: u64) -> Result<(), AllocError> {
-        let dearer = self.solutions.iter().position(|other| other.cost > cost);
-        let place = dearer.unwrap_or(self.solutions.len());
+        let place = place_behind(self.solutions.as_slice(), cost);
         self.solutions.insert(place, Solution { node, cost, key })?;
         Ok(())
     }
@@ -207,7 +241,10 @@ impl Ledger {
         let mut path = Vec::new(self.alloc);
         let mut next = Some(number);
         for _ in 0..=MAX_EDITS {
-            let Some(node) = next.and_then(|number| self.nodes.get(number)) else {
+            let Some(number) = next else {
+                break;
+            };
+            let Some(node) = self.nodes.get(number) else {
                 break;
             };
             path.push(*node)?;
@@ -222,4 +259,16 @@ impl Ledger {
         let end = node.first.saturating_add(node.count);
         self.changes.get(node.first..end).unwrap_or_default()
     }
+}
+
+/// The place behind the solutions that cost no more.
+fn place_behind(solutions: &[Solution], cost: u32) -> usize
+    ensures { result ≤ length solutions.now }
+{
+    for (place, solution) in solutions.iter().enumerate() {
+        if solution.cost > cost {
+            return place;
+        }
+    }
+    solutions.len()
 }

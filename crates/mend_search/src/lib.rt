@@ -1,14 +1,13 @@
-//! The search for mends of refused driver sets.
+//! The search for mends of one routine of a refused driver set, best first by cost.
 #![tactic(auto)]
 
-pub mod advice;
-mod aim;
+pub mod aim;
 mod cut;
 mod draft;
 mod ledger;
-pub mod offers;
 mod pairs;
-mod search;
-mod spread;
+pub mod search;
 
-pub use offers::{Ending, Mending, Offer, Offers, Standing, find_offers};
+pub use aim::Aim;
+pub use draft::has_line;
+pub use search::{Found, find_mends};

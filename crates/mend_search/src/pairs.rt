@@ -12,9 +12,6 @@ pub(crate) struct Made {
     pub(crate) old: Option<Instr>,
 }
 
-/// What an edit costs less behind another one, at most, in hundredths.
-pub(crate) const MOST_REBATE: u32 = 90;
-
 /// What an edit costs less behind another one, in hundredths.
 pub(crate) fn rebate(before: &Made, next: &Candidate) -> u32 {
     let less = rebate_of_new(before, next);

@@ -1,12 +1,12 @@
 //! The search: best first by cost, ties by the order in which candidates were made.
 
-use crate::aim::Aim;
+use crate::aim::{Aim, size_of};
 use crate::cut::Cut;
-use crate::draft::{Draft, first_changed, followed};
-use crate::ledger::{Ledger, MAX_EDITS, Node};
-use crate::pairs::{MOST_REBATE, Made, rebate};
+use crate::draft::{Draft, changes_at, first_changed, followed};
+use crate::ledger::{LEAST, Ledger, MAX_EDITS, Node};
+use crate::pairs::{Made, rebate};
 use absstate::Rule;
-use driver_set::{Driver, DriverSet, Instr, Items};
+use driver_set::{DriverSet, Instr, Items};
 use mend_candidates::Scene;
 use mend_changes::{Edit, edited};
 use mend_groups::add_all;
@@ -19,19 +19,20 @@ use verifier::check_routine;
 /// Solutions that are told, at most.
 const MAX_FOUND: usize = 6;
 
-/// What an edit costs at least.
-const LEAST: u32 = 15;
+/// How many of the cheapest edits are tried, at most, for what bounds the others.
+const PROBES: usize = 32;
 
-/// What it costs less, at most, for what becomes usual, and with what it completes as well.
+/// What an edit costs less, at most, for what becomes usual.
 const MOST_LESS: u32 = 30;
 
-const MOST_OFF: u32 = MOST_LESS + MOST_REBATE;
+/// What it costs more behind others, none of which it completes.
+const ALONE: u32 = 30;
 
 /// Edits that may be offered, and what they cost.
 #[derive(Drop)]
-pub(crate) struct Found {
-    pub(crate) edits: Items<Edit>,
-    pub(crate) cost: u32,
+pub struct Found {
+    pub edits: Items<Edit>,
+    pub cost: u32,
 }
 
 /// The routine that is mended, by number, the part of it that is searched, what is usual in its set,
@@ -108,11 +109,25 @@ struct Bench {
     list: Candidates,
 }
 
+impl Bench {
+    /// A candidate, with the code that was made of it last.
+    fn tried(&self, candidate: Candidate) -> Tried<'_> {
+        let changes = self.list.changes_of(&candidate);
+        Tried {
+            candidate,
+            changes,
+            code: self.child.code.as_slice(),
+        }
+    }
+}
+
 /// What stands at a node that is looked at, before its candidates are tried.
 #[derive(Clone, Copy)]
-struct Here {
+struct Here<'a> {
     number: usize,
     node: Node,
+    /// The nodes on the way to it.
+    path: &'a [Node],
     fault: Fault,
     strangeness: u32,
     mismatches: u32,
@@ -129,7 +144,11 @@ struct Tried<'a> {
 
 /// Mends of a routine of a set, by number, the best first, as far as they are looked for. Routines
 /// before it may have faults behind edits of lines.
-pub(crate) fn search(
+///
+/// # Errors
+///
+/// When memory runs out.
+pub fn find_mends(
     alloc: Global,
     set: &DriverSet,
     driver: u8,
@@ -167,10 +186,10 @@ pub(crate) fn search(
 impl<'a> Sets<'a> {
     /// The set of a number.
     fn get(&self, number: usize) -> &DriverSet {
-        match number
-            .checked_sub(1)
-            .and_then(|place| self.edited.get(place))
-        {
+        if number == 0 {
+            return self.base;
+        }
+        match self.edited.get(number - 1) {
             Some(set) => set,
             None => self.base,
         }
@@ -220,9 +239,11 @@ fn expand(
     let Some(fault) = bench.reading.fault else {
         return Ok(());
     };
+    let path = ledger.path(number)?;
     let here = Here {
         number,
         node,
+        path: path.as_slice(),
         fault,
         strangeness: task.usual.strangeness(subject.sort, code),
         mismatches: mismatches(code),
@@ -245,6 +266,9 @@ fn try_all(
     bench: &mut Bench,
 ) -> Result<(), AllocError> {
     let (count, length) = (bench.list.as_slice().len(), bench.draft.code.len());
+    if ledger.is_narrow() && here.node.edits == 0 {
+        ledger.bind(probe(task, subject, here, bench)?);
+    }
     let by_cost = ledger.lacks_tries(count, length);
     for place in order_of(task.alloc, &bench.list, by_cost)? {
         let Some(candidate) = bench.list.as_slice().get(place).copied() else {
@@ -265,6 +289,28 @@ fn try_all(
     Ok(())
 }
 
+/// What a solution costs which is one of the cheapest candidates, if one of them is.
+fn probe(
+    task: &Task,
+    subject: &Subject,
+    here: &Here,
+    bench: &mut Bench,
+) -> Result<u32, AllocError> {
+    let places = order_of(task.alloc, &bench.list, true)?;
+    for place in places.iter().take(PROBES) {
+        let Some(candidate) = bench.list.as_slice().get(*place).copied() else {
+            break;
+        };
+        if candidate.manner == Manner::Line || !make(subject, here, bench, &candidate)? {
+            continue;
+        }
+        if bench.next.fault.is_none() {
+            return Ok(cost_of(task, subject, here, &bench.tried(candidate)));
+        }
+    }
+    Ok(u32::MAX)
+}
+
 /// The places of candidates, in their order or by what they cost.
 fn order_of(alloc: Global, list: &Candidates, by_cost: bool) -> Result<Vec<usize>, AllocError> {
     let mut places = Vec::new(alloc);
@@ -279,13 +325,27 @@ fn order_of(alloc: Global, list: &Candidates, by_cost: bool) -> Result<Vec<usize
 
 /// What the candidate at a place costs.
 fn cost_at(list: &Candidates, place: usize) -> u32 {
-    list.as_slice().get(place).map_or(0, |one| one.cost)
+    match list.as_slice().get(place) {
+        Some(candidate) => candidate.cost,
+        None => 0,
+    }
 }
 
 /// What a node costs at least that a candidate leads to.
 fn least_cost(here: &Here, candidate: &Candidate) -> u32 {
-    let cost = candidate.cost.saturating_sub(MOST_OFF).max(LEAST);
-    here.node.cost.saturating_add(cost)
+    let rebate = rebate_on(here, candidate);
+    let cost = candidate.cost.saturating_add(alone(here, rebate));
+    let cost = cost.saturating_sub(MOST_LESS).saturating_sub(rebate);
+    here.node.cost.saturating_add(cost.max(LEAST))
+}
+
+/// What a candidate costs more, where it completes nothing that was done before.
+fn alone(here: &Here, rebate: u32) -> u32 {
+    if here.node.edits > 0 && rebate == 0 {
+        ALONE
+    } else {
+        0
+    }
 }
 
 /// Tries a candidate.
@@ -297,42 +357,48 @@ fn try_candidate(
     bench: &mut Bench,
     candidate: Candidate,
 ) -> Result<(), AllocError> {
-    let changes = bench.list.changes_of(&candidate);
-    let old = bench.draft.code.as_slice();
     if candidate.manner == Manner::Line {
-        return try_line(
-            task,
-            subject,
-            here,
-            ledger,
-            &Tried {
-                candidate,
-                changes,
-                code: old,
-            },
-        );
+        let changes = bench.list.changes_of(&candidate);
+        let code = bench.draft.code.as_slice();
+        let tried = Tried {
+            candidate,
+            changes,
+            code,
+        };
+        return try_line(task, subject, here, ledger, &tried);
     }
-    bench.child.take_code(old)?;
-    if !bench.child.apply(changes)? {
+    if !make(subject, here, bench, &candidate)? {
         return Ok(());
     }
-    let code = bench.child.code.as_slice();
-    let known = known_before(here, &candidate, changes);
-    bench
-        .next
-        .read_behind(subject, code, &bench.reading, known)?;
-    let tried = Tried {
-        candidate,
-        changes,
-        code,
-    };
-    match bench.next.fault {
+    let fault = bench.next.fault;
+    let tried = bench.tried(candidate);
+    match fault {
         Some(fault) => keep_on(task, subject, here, ledger, &tried, fault),
         None => {
-            let cost = cost_of(task, subject, here, ledger, &tried)?;
+            let cost = cost_of(task, subject, here, &tried);
             keep_solution(here, ledger, &tried, cost)
         }
     }
+}
+
+/// Makes the code of a candidate, and reads it; or answers that it can't be made.
+fn make(
+    subject: &Subject,
+    here: &Here,
+    bench: &mut Bench,
+    candidate: &Candidate,
+) -> Result<bool, AllocError> {
+    let changes = bench.list.changes_of(candidate);
+    bench.child.take_code(bench.draft.code.as_slice())?;
+    if !bench.child.apply(changes)? {
+        return Ok(false);
+    }
+    let known = known_before(here, candidate, changes);
+    let code = bench.child.code.as_slice();
+    bench
+        .next
+        .read_behind(subject, code, &bench.reading, known)?;
+    Ok(true)
 }
 
 /// Keeps a candidate that leads on to another fault, if it does and its code is new.
@@ -347,7 +413,7 @@ fn keep_on(
     let Some(more) = cost_on(here, tried, fault) else {
         return Ok(());
     };
-    let cost = cost_of(task, subject, here, ledger, tried)?.saturating_add(more);
+    let cost = cost_of(task, subject, here, tried).saturating_add(more);
     if ledger.counts(cost) && ledger.note(key_of(tried.code, here.node.set))? {
         let made = made_by(&tried.candidate);
         let number = ledger.add(Some(here.number), made, cost, here.node.set, tried.changes)?;
@@ -408,21 +474,16 @@ fn cost_on(here: &Here, tried: &Tried, fault: Fault) -> Option<u32> {
     if fault.at > place || fault.at == place && greater {
         return Some(0);
     }
-    let apart = changes.iter().all(|placed| placed.at != old.at);
     match tried.candidate.manner {
-        Manner::Delete | Manner::Replace if fault.at == place && apart => Some(30),
+        Manner::Delete | Manner::Replace if fault.at == place && !changes_at(changes, old.at) => {
+            Some(30)
+        }
         _ => None,
     }
 }
 
 /// What a node costs that a candidate leads to, with all before it.
-fn cost_of(
-    task: &Task,
-    subject: &Subject,
-    here: &Here,
-    ledger: &Ledger,
-    tried: &Tried,
-) -> Result<u32, AllocError> {
+fn cost_of(task: &Task, subject: &Subject, here: &Here, tried: &Tried) -> u32 {
     let (candidate, code) = (tried.candidate, tried.code);
     let strange = task.usual.strangeness(subject.sort, code);
     let part = match candidate.manner {
@@ -444,33 +505,27 @@ fn cost_of(
     let empty = empties(code)
         .saturating_sub(here.empties)
         .saturating_mul(50);
-    let rebate = rebate_on(here, ledger, &candidate)?;
-    let alone = if here.node.edits > 0 && rebate == 0 {
-        30
-    } else {
-        0
-    };
+    let rebate = rebate_on(here, &candidate);
     let cost = candidate.cost.saturating_add(more).saturating_add(wrong);
-    let cost = cost.saturating_add(empty).saturating_add(alone);
+    let cost = cost
+        .saturating_add(empty)
+        .saturating_add(alone(here, rebate));
     let cost = cost
         .saturating_sub(less.min(MOST_LESS))
         .saturating_sub(rebate)
         .max(LEAST);
-    Ok(here.node.cost.saturating_add(cost))
+    here.node.cost.saturating_add(cost)
 }
 
 /// What a candidate costs less behind the edits of a node.
-fn rebate_on(here: &Here, ledger: &Ledger, candidate: &Candidate) -> Result<u32, AllocError> {
-    if here.node.edits == 0 {
-        return Ok(0);
-    }
-    for node in ledger.path(here.number)?.as_slice() {
+fn rebate_on(here: &Here, candidate: &Candidate) -> u32 {
+    for node in here.path {
         let less = rebate(&node.made, candidate);
         if node.edits > 0 && less > 0 {
-            return Ok(less);
+            return less;
         }
     }
-    Ok(0)
+    0
 }
 
 /// A number for code of a set, which few others have.
@@ -498,7 +553,7 @@ fn try_line(
     };
     let mut reading = Reading::new(task.alloc);
     reading.read(&edited, tried.code)?;
-    let cost = cost_of(task, subject, here, ledger, tried)?;
+    let cost = cost_of(task, subject, here, tried);
     let made = made_by(&tried.candidate);
     let number = ledger.next_set();
     let Some(fault) = reading.fault else {
@@ -583,12 +638,7 @@ fn is_fine(task: &Task, set: &DriverSet, place: (u8, u8)) -> Result<bool, AllocE
 fn found_edits(task: &Task, ledger: &Ledger) -> Result<Vec<Found>, AllocError> {
     let mut found = Vec::new(task.alloc);
     for solution in ledger.solutions().iter().take(MAX_FOUND) {
-        let mut edits = Vec::new(task.alloc);
-        for node in ledger.path(solution.node)?.as_slice() {
-            for placed in ledger.changes_of(node) {
-                edits.push(edit_of(task, placed))?;
-            }
-        }
+        let edits = edits_of(task, ledger, solution.node)?;
         found.push(Found {
             edits: Items::of(edits),
             cost: solution.cost,
@@ -597,20 +647,19 @@ fn found_edits(task: &Task, ledger: &Ledger) -> Result<Vec<Found>, AllocError> {
     Ok(found)
 }
 
-/// How many instructions a set has.
-pub(crate) fn size_of(set: &DriverSet) -> usize {
-    let mut size = 0_usize;
-    for driver in set.drivers() {
-        size = size.saturating_add(size_of_driver(driver));
+/// The edits on the way to a node.
+fn edits_of(task: &Task, ledger: &Ledger, number: usize) -> Result<Vec<Edit>, AllocError> {
+    let mut edits = Vec::new(task.alloc);
+    for node in ledger.path(number)?.as_slice() {
+        add_edits(task, ledger.changes_of(node), &mut edits)?;
     }
-    size
+    Ok(edits)
 }
 
-/// How many a driver has.
-fn size_of_driver(driver: &Driver) -> usize {
-    let mut size = 0_usize;
-    for routine in driver.routines.as_slice() {
-        size = size.saturating_add(routine.code.as_slice().len());
+/// Adds the edits that changes of the routine are.
+fn add_edits(task: &Task, changes: &[Placed], edits: &mut Vec<Edit>) -> Result<(), AllocError> {
+    for placed in changes {
+        edits.push(edit_of(task, placed))?;
     }
-    size
+    Ok(())
 }

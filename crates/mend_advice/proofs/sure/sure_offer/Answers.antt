@@ -1,7 +1,7 @@
 use Rattle.std.proofs.Common.{rules, ◌≡◌, Some, slice_get, refl, subst}
 use Rattle.std.proofs.lemmas.Option.{slice_get_read}
 use Rattle.model.specs.declared.abs.Refusal.{Refusal}
-use Rattle.mend_search.specs.declared.offers.Standing.TheVariants.{Sure}
+use Rattle.mend_offers.specs.declared.offers.Standing.TheVariants.{Sure}
 use Rattle.mend_advice.specs.Advice.{IsAdvised}
 use Rattle.mend_advice.proofs.Advised.{advised}
 use Rattle.mend_advice.proofs.sure.sure_offer.Goals as goal

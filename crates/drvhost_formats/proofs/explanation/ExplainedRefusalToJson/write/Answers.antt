@@ -9,7 +9,8 @@ returns-clause-tokens c =
     let u = c.put_steps-2.new.out.tokens in
     let words = more u _ _ _ _ c.in_ok-put_text-2.ensures.tokens c.in_ok-put_text-3.ensures.tokens
     in
-    let end = last _ u _ _ _ _ words c.end_object.ensures.ok in
+    let lesson = more u _ _ _ _ words c.in_ok-put_edits.ensures.tokens in
+    let end = last _ u _ _ _ _ lesson c.end_object.ensures.ok in
     let other = last _ c.put_steps.new.out.tokens _ _ _ _ c.in_ok-put_steps-2.ensures.tokens end in
     let path = last _ c.put_region.new.out.tokens _ _ _ _ c.in_ok-put_steps.ensures.tokens other in
     let region = last _ c.put_place.new.out.tokens _ _ _ _ c.in_ok-put_region.ensures.tokens path in

@@ -1,10 +1,8 @@
 //! Mends that reach into other routines: an edit of a line may bring a fault to one before.
 
-use crate::aim::Aim;
-use crate::draft::is_line;
-use crate::search::{Found, search};
 use driver_set::DriverSet;
 use mend_changes::{Edit, edited_by};
+use mend_search::{Aim, Found, find_mends, has_line};
 use std::alloc::{AllocError, Global};
 use verifier::{Refusal, Rule, verify};
 
@@ -21,7 +19,7 @@ pub(crate) fn completed(
     aim: Aim,
 ) -> Result<Vec<Edit>, AllocError> {
     let mut edits = Vec::from_slice(alloc, found.edits.as_slice())?;
-    if !edits.iter().any(|edit| is_line(&edit.change)) {
+    if !has_line(edits.as_slice()) {
         return Ok(edits);
     }
     for _ in 0..MAX_OTHERS {
@@ -56,7 +54,7 @@ fn next_edits(
     if left.driver > refusal.driver || same {
         return Ok(none);
     }
-    match search(alloc, &made, left.driver, left.routine, aim.of_others())?.first() {
+    match find_mends(alloc, &made, left.driver, left.routine, aim.of_others())?.first() {
         Some(found) => Vec::from_slice(alloc, found.edits.as_slice()),
         None => Ok(none),
     }

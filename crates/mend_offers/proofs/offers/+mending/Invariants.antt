@@ -1,5 +1,5 @@
 use Rattle.std.proofs.Common.{◌+◌, ◌*◌}
-use Rattle.mend_search.proofs.offers.+mending.Given as goal
+use Rattle.mend_offers.proofs.offers.+mending.Given as goal
 
 abbrev pub decreases-offers_at : goal.decreases-offers_at
 decreases-offers_at l = 2 * l.turns + 1

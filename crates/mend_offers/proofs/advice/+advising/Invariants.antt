@@ -1,5 +1,5 @@
 use Rattle.std.proofs.Common.{◌+◌, ◌*◌}
-use Rattle.mend_search.proofs.advice.+advising.Given as goal
+use Rattle.mend_offers.proofs.advice.+advising.Given as goal
 
 abbrev pub decreases-likely_at : goal.decreases-likely_at
 decreases-likely_at l = 2 * l.turns + 1

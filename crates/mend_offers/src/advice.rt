@@ -3,12 +3,12 @@
 
 ghost use Rattle.std.specs.Prelude.{◌≡◌, [], ◌∷◌, IfOk, IfSome};
 ghost use Rattle.model.specs.Typable.{IsFirstFault};
-ghost use Rattle.mend_search.specs.Offers.{AreOffersOf, IsOffer};
+ghost use Rattle.mend_offers.specs.Offers.{AreOffersOf, IsOffer};
 
-use crate::aim::{ADVICE_TRIES, ADVICE_WORK, Aim};
 use crate::offers::{MAX_MENDINGS, Mending, Offer, Standing, judged_mend, made_by, standing_of};
-use crate::search::{search, size_of};
-use driver_set::{Driver, DriverSet, Items};
+use driver_set::{DriverSet, Items};
+use mend_search::aim::read_for_advice;
+use mend_search::{Aim, find_mends};
 use std::alloc::{AllocError, Global};
 use verifier::{Refusal, Rule, verify};
 
@@ -72,7 +72,7 @@ fn sure_offer(
     ensures { IfOk result (λ offer. IfSome offer (IsOffer set.now refusal.now)) }
 {
     let aim = Aim::sure();
-    let found = search(alloc, set, refusal.driver, refusal.routine, aim)?;
+    let found = find_mends(alloc, set, refusal.driver, refusal.routine, aim)?;
     let standing = standing_of(found.as_slice(), 0);
     match found.first() {
         Some(first) if standing == Standing::Sure => {
@@ -112,7 +112,7 @@ fn likely_for(
             if refusal.rule == Rule::Memory {
                 return Err(AllocError);
             }
-            let left = left.saturating_sub(read_for(&back, &refusal));
+            let left = left.saturating_sub(read_for_advice(&back, refusal.driver, refusal.routine));
             if left == 0 || turns == 0 {
                 return Ok(Vec::new(alloc));
             }
@@ -151,7 +151,7 @@ fn likely_offer(
     ensures { IfOk result (λ offer. IfSome offer (IsOffer set.now refusal.now)) }
 {
     let aim = Aim::first();
-    let found = search(alloc, set, refusal.driver, refusal.routine, aim)?;
+    let found = find_mends(alloc, set, refusal.driver, refusal.routine, aim)?;
     for (place, one) in found.iter().enumerate() {
         let standing = standing_of(found.as_slice(), place);
         if let Some(offer) = judged_mend(alloc, set, refusal, one, standing, aim)? {
@@ -159,24 +159,4 @@ fn likely_offer(
         }
     }
     Ok(None)
-}
-
-/// How many instructions are read, at most, for the mend of a routine: those of its tries, and the
-/// set, which is copied and judged.
-fn read_for(set: &DriverSet, refusal: &Refusal) -> u64 {
-    let size = size_of(set) as u64;
-    let tried = match set.drivers().get(refusal.driver as usize) {
-        Some(driver) => length_of(driver, refusal.routine).saturating_mul(ADVICE_TRIES),
-        None => 0,
-    };
-    size.saturating_mul(2)
-        .saturating_add(tried.min(ADVICE_WORK))
-}
-
-/// How many instructions a routine of a driver has.
-fn length_of(driver: &Driver, routine: u8) -> u64 {
-    match driver.routines.as_slice().get(routine as usize) {
-        Some(routine) => routine.code.as_slice().len() as u64,
-        None => 0,
-    }
 }

@@ -1,5 +1,5 @@
-use Rattle.mend_search.specs.Offers.{IsUnmendedBelow}
-use Rattle.mend_search.proofs.offers.offer_to_take_out.Given as goal
+use Rattle.mend_offers.specs.Offers.{IsUnmendedBelow}
+use Rattle.mend_offers.proofs.offers.offer_to_take_out.Given as goal
 
 -- none of those before the position mends anything
 abbrev pub invariant-loop-at : goal.invariant-loop-at

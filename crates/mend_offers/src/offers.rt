@@ -3,15 +3,15 @@
 ghost use Rattle.std.specs.Prelude.{◌≡◌, ◌↔◌, [], All, IsTrue, IfNone, IfOk, IfSome, Some};
 ghost use Rattle.mend_changes.specs.Edited.{edited_by};
 ghost use Rattle.model.specs.Typable.{IsFirstFault};
-ghost use Rattle.mend_search.specs.Offers.{AreOffers, AreAllOffersOf, IsKept, IsLater, IsLeft, IsOffer};
-ghost use Rattle.mend_search.specs.Offers.{IsUnmended, IsUnmendedBelow, IsWhole, NoneTakenOut};
-ghost use Rattle.mend_search.specs.Offers.{after_first, taken_out};
+ghost use Rattle.mend_offers.specs.Offers.{AreOffers, AreAllOffersOf, IsKept, IsLater, IsLeft, IsOffer};
+ghost use Rattle.mend_offers.specs.Offers.{IsUnmended, IsUnmendedBelow, IsWhole, NoneTakenOut};
+ghost use Rattle.mend_offers.specs.Offers.{after_first, taken_out};
 
-use crate::aim::{Aim, LEAD, MAX_OFFERS, SURE};
-use crate::search::{Found, search};
 use crate::spread::completed;
 use driver_set::{DriverSet, Items};
 use mend_changes::{Change, Edit, edited_by};
+use mend_search::aim::{LEAD, MAX_OFFERS, SURE};
+use mend_search::{Aim, Found, find_mends};
 use std::alloc::{AllocError, Global};
 use verifier::{Accepted, Refusal, Rule, verify};
 
@@ -255,7 +255,7 @@ fn offers_found(
     ensures { IfOk result (λ offers. AreOffers set.now refusal.now offers.items) }
 {
     let aim = Aim::offers(tries);
-    let found = search(alloc, set, refusal.driver, refusal.routine, aim)?;
+    let found = find_mends(alloc, set, refusal.driver, refusal.routine, aim)?;
     let mut offers = Vec::new(alloc);
     for (place, one) in found.iter().enumerate() {
         if offers.len() >= MAX_OFFERS {

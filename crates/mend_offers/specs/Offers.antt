@@ -7,11 +7,11 @@ use Rattle.model.specs.Typable.{IsFirstFault, IsTypable}
 use Rattle.mend_changes.specs.declared.edit.Change.TheVariants.{Delete}
 use Rattle.mend_changes.specs.declared.edit.Edit.{Edit}
 use Rattle.mend_changes.specs.Edited.{EachMakes, IsStopped, edited_by}
-use Rattle.mend_search.specs.declared.offers.Ending.{Ending}
-use Rattle.mend_search.specs.declared.offers.Ending.TheVariants.{Accepted, Refused}
-use Rattle.mend_search.specs.declared.offers.Mending.{Mending}
-use Rattle.mend_search.specs.declared.offers.Offer.{Offer}
-use Rattle.mend_search.specs.declared.offers.Offers.{Offers}
+use Rattle.mend_offers.specs.declared.offers.Ending.{Ending}
+use Rattle.mend_offers.specs.declared.offers.Ending.TheVariants.{Accepted, Refused}
+use Rattle.mend_offers.specs.declared.offers.Mending.{Mending}
+use Rattle.mend_offers.specs.declared.offers.Offer.{Offer}
+use Rattle.mend_offers.specs.declared.offers.Offers.{Offers}
 
 -- a refusal speaks of a later routine than another one
 abbrev pub IsLater : Refusal → Refusal → Type 0
