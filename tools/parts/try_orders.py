@@ -170,4 +170,5 @@ def main():
         options.sets, accepted, cyclic, runs, ringed, wrong))
     sys.exit(wrong > 0)
 
-main()
+if __name__ == '__main__':
+    main()

@@ -1,12 +1,16 @@
--- What `hunt` answers: a schedule whose run ends as its first line tells, or that none was found.
+-- What `hunt` answers: a schedule whose run ends as its first line tells, or that none was found; and,
+-- where it is exact, that no run that is shorter ends amiss, or none at all.
 use Rattle.std.specs.Prelude.{ℕ, ◌≡◌, List}
 use Rattle.drvhost_devices.specs.Answer.{Answer, ended}
 use Rattle.drvhost_devices.specs.declared.fault.End.{End}
 use Rattle.drvhost_devices.specs.declared.fault.End.TheVariants.{Complete, Stopped}
 use Rattle.drvhost_devices.specs.Device.{Supply}
 use Rattle.drvhost_devices.specs.Ends.{IsOfSupply}
+use Rattle.drvhost_hunts.specs.declared.hunt.Way.{Way}
+use Rattle.drvhost_hunts.specs.declared.hunt.Way.TheVariants.{Quick, Exact}
 use Rattle.hunt_schedule.specs.declared.telling.Told.{Told}
 use Rattle.hunt_schedule.specs.declared.telling.Told.TheVariants.{Found, Unlisted, All, More}
+use Rattle.hunt_schedule.specs.Exact.{IsToldExactly}
 use Rattle.hunt_schedule.specs.Telling.{IsToldOf}
 use Rattle.hunt_bounds.specs.declared.bounds.Bounds.{Bounds}
 use Rattle.model.specs.Set.{Set}
@@ -25,11 +29,20 @@ end_told (Unlisted line) = Stopped
 end_told (All line worlds) = Complete
 end_told (More line worlds events) = Complete
 
--- what is right for a set: what may be told of a hunt within these bounds
-abbrev pub IsHunt : Bounds → Set → Answer → Type 0
-IsHunt bounds set answer =
-    (told : Told) × IsToldOf set bounds told × (answer ≡ ended (end_told told) (text_told told))
+-- what may be told of a hunt in the runs of a set, within bounds
+abbrev pub IsToldBy : Way → Set → Bounds → Told → Type 0
+IsToldBy Quick set bounds told = IsToldOf set bounds told
+IsToldBy Exact set bounds told = IsToldExactly set bounds told
 
--- what `hunt` answers for what its source has
+-- what is right for a set
+abbrev pub IsHuntBy : Way → Bounds → Set → Answer → Type 0
+IsHuntBy way bounds set answer =
+    (told : Told) × IsToldBy way set bounds told
+    × (answer ≡ ended (end_told told) (text_told told))
+
+-- what `hunt` answers for what its source has, and what it answers where it is exact
 abbrev pub IsHuntOf : Bounds → Supply → Answer → Type 0
-IsHuntOf bounds supply answer = IsOfSupply (IsHunt bounds) supply answer
+IsHuntOf bounds supply answer = IsOfSupply (IsHuntBy Quick bounds) supply answer
+
+abbrev pub IsExactHuntOf : Bounds → Supply → Answer → Type 0
+IsExactHuntOf bounds supply answer = IsOfSupply (IsHuntBy Exact bounds) supply answer

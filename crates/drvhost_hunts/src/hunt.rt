@@ -4,8 +4,7 @@ ghost use Rattle.std.specs.Prelude.{◌≡◌, ◌+◌, [], IfErr, IfOk};
 ghost use Rattle.drvhost_devices.specs.Device.{CanCount, Says};
 ghost use Rattle.drvhost_devices.specs.Ends.{Answers};
 ghost use Rattle.drvhost_devices.specs.Fault.{Goes, reads_failed, writes_failed};
-ghost use Rattle.drvhost_hunts.specs.Hunt.{IsHunt, IsHuntOf, end_told, text_told};
-ghost use Rattle.hunt_schedule.specs.Telling.{IsToldOf};
+ghost use Rattle.drvhost_hunts.specs.Hunt.{IsHuntBy, IsHuntOf, IsToldBy, end_told, text_told};
 
 use drvhost_devices::device::{Sink, Source};
 use drvhost_devices::fault::{End, Fault};
@@ -13,8 +12,10 @@ use drvhost_devices::reading::source_of;
 use drvhost_devices::transfer::write_bytes;
 use drvhost_sets::job::{Job, Notes, answer};
 use hunt_bounds::reach::Reach;
+use hunt_schedule::exact::tell_exactly;
 use hunt_schedule::telling::{Told, tell_hunt};
 use image::DriverSet;
+use report_progress::progress::{Progress, Silent};
 use std::alloc::Global;
 
 /// Writes a shortest run of a driver set, accepted or refused, that ends amiss, as a schedule whose
@@ -37,19 +38,57 @@ pub fn hunt<S: Source, O: Sink, E: Sink>(
         (Says (E.failures err.old) (E.failures err.new) (E.contents err.old) (E.contents err.new))
         result }
 {
-    answer(&mut Hunting { reach }, alloc, set, out, err)
+    hunt_telling(alloc, reach, &Silent, set, out, err)
+}
+
+/// Hunts as `hunt` does, and tells meanwhile how far the search has come.
+pub fn hunt_telling<S: Source, O: Sink, E: Sink, P: Progress>(
+    alloc: Global,
+    reach: Reach,
+    progress: &P,
+    set: &mut S,
+    out: &mut O,
+    err: &mut E,
+) -> u8
+    requires set { CanCount (S.failures set.old) }
+    requires out { CanCount (O.failures out.old) }
+    requires err { CanCount (E.failures err.old) }
+    ensures { Answers (IsHuntOf reach (S.supply set.old))
+        (S.failures set.old) (S.failures set.new) (O.failures out.old) (O.failures out.new)
+        (O.contents out.old) (O.contents out.new)
+        (Says (E.failures err.old) (E.failures err.new) (E.contents err.old) (E.contents err.new))
+        result }
+{
+    let mut job = Hunting {
+        reach,
+        way: Way::Quick,
+        progress,
+    };
+    answer(&mut job, alloc, set, out, err)
+}
+
+/// How runs are searched.
+#[derive(Clone, Copy)]
+pub(crate) enum Way {
+    /// Worlds that differ only in what can't matter are taken for one; packets are bounded that live
+    /// at once.
+    Quick,
+    /// No world is taken for another one; packets are bounded in all.
+    Exact,
 }
 
 /// The job of hunting through the runs of a set.
 #[derive(Drop)]
-struct Hunting {
-    reach: Reach,
+pub(crate) struct Hunting<'p, P> {
+    pub(crate) reach: Reach,
+    pub(crate) way: Way,
+    pub(crate) progress: &'p P,
 }
 
-impl Job for Hunting {
-    ghost use Rattle.drvhost_hunts.specs.Hunt.{IsHunt};
+impl<P: Progress> Job for Hunting<'_, P> {
+    ghost use Rattle.drvhost_hunts.specs.Hunt.{IsHuntBy};
 
-    ghost right = { λ job. IsHunt job.reach };
+    ghost right = { λ job. IsHuntBy job.way job.reach };
 
     fn perform<O: Sink>(
         &mut self,
@@ -59,38 +98,47 @@ impl Job for Hunting {
         _notes: &mut Notes,
         out: &mut O,
     ) -> Result<End, Fault> {
-        write_hunt(alloc, self.reach, &set, bytes, out)
+        write_hunt(alloc, self, &set, bytes, out)
     }
 
     ghost stays_kept = { λ _. (tt, tt) };
 }
 
 /// Hunts through the runs of a set that these bytes name, and writes what comes of it.
-fn write_hunt<O: Sink>(
+fn write_hunt<O: Sink, P: Progress>(
     alloc: Global,
-    reach: Reach,
+    job: &Hunting<'_, P>,
     set: &DriverSet,
     bytes: &[u8],
     out: &mut O,
 ) -> Result<End, Fault>
     requires { CanCount (O.failures out.old) }
-    ensures goes { Goes (IsHunt reach set.now) (O.contents out.old) (O.contents out.new) [] []
-        result }
+    ensures goes { Goes (IsHuntBy job.now.way job.now.reach set.now)
+        (O.contents out.old) (O.contents out.new) [] [] result }
     ensures reads { reads_failed result ≡ 0 }
     ensures writes { O.failures out.new ≡ O.failures out.old + writes_failed result }
 {
-    let told = told_of(alloc, reach, set, bytes)?;
+    let told = told_of(alloc, job, set, bytes)?;
     write_bytes(text_told(&told), out)?;
     Ok(end_told(&told))
 }
 
 /// What is told of a hunt, with the names and the lines of the text, or of an image's listing.
-fn told_of(alloc: Global, reach: Reach, set: &DriverSet, bytes: &[u8]) -> Result<Told, Fault>
-    ensures told { IfOk result (IsToldOf set.now reach) }
+fn told_of<P: Progress>(
+    alloc: Global,
+    job: &Hunting<'_, P>,
+    set: &DriverSet,
+    bytes: &[u8],
+) -> Result<Told, Fault>
+    ensures told { IfOk result (IsToldBy job.now.way set.now job.now.reach) }
     ensures memory { IfErr result (λ fault. fault ≡ Fault.Memory) }
 {
     let source = source_of(alloc, bytes, set)?;
-    let told = tell_hunt(alloc, set, reach.bounds(), source.as_slice())?;
+    let bounds = job.reach.bounds();
+    let told = match job.way {
+        Way::Quick => tell_hunt(alloc, set, bounds, source.as_slice(), job.progress)?,
+        Way::Exact => tell_exactly(alloc, set, bounds, source.as_slice())?,
+    };
     Ok(told)
 }
 

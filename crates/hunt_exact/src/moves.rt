@@ -3,17 +3,9 @@
 ghost use Rattle.std.specs.Prelude.{◌≡◌, ◌++◌, IfOk, OnOk};
 ghost use Rattle.hunt_exact.specs.Moves.{begins_below, begins_on, cancels_of, cancels_on, interrupts, requests_on, routines_on, steps, tried_events};
 
+use hunt_keys::requests::Request;
 use model::event::Event;
-use model::status::Major;
 use std::alloc::{AllocError, Global};
-
-/// A request that is tried.
-#[derive(Clone, Copy)]
-pub struct Request {
-    pub device: u8,
-    pub major: Major,
-    pub argument: u64,
-}
 
 /// What is tried: these requests, and IoCancelIrp at PASSIVE_LEVEL, and at DISPATCH_LEVEL where that
 /// is asked for.

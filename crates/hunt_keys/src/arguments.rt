@@ -1,31 +1,48 @@
 //! The arguments that requests are tried with: more than one only where a routine that the packet
 //! may come to reads its argument into a register that can reach a jump.
 
-use crate::facts::MAJORS;
+ghost use Rattle.std.specs.Prelude.{◌≡◌, [], ◌∷◌, IfOk, OnOk};
+ghost use Rattle.std.specs.List.{list_any};
+ghost use Rattle.hunt_keys.specs.Requests.{arguments_of, asks, of_request, with_argument, with_code, with_constant, with_drivers, with_further, with_instr, with_routines};
+
 use crate::reaching::Reaching;
+use crate::requests::MAJORS;
 use driver_set::{DriverSet, Instr};
 use model::set::{Driver, Routine, Sort};
 use model::status::Major;
 use std::alloc::{AllocError, Global};
+use std::marker::Model;
 
 /// The arguments of requests that are tried, at most, beside one that is asked for.
-const MAX_ARGUMENTS: usize = 8;
+pub(crate) const MAX_ARGUMENTS: usize = 8;
 
 /// A request whose argument is read.
 #[derive(Clone, Copy)]
-struct Asking {
-    device: u8,
-    major: Major,
+pub struct Asking {
+    pub device: u8,
+    pub major: Major,
 }
 
 /// The arguments that requests are tried with.
 #[derive(Drop)]
-pub struct Arguments {
+pub(crate) struct Arguments {
     /// Where the argument is read.
     many: Vec<u64>,
     /// Where it isn't.
     few: Vec<u64>,
     asking: Vec<Asking>,
+}
+
+impl Model for Arguments {
+    ghost use Rattle.hunt_keys.specs.Requests.{Arguments};
+
+    ghost Value = { Arguments };
+
+    ghost view = { λ a. record {
+      many = a.many.items;
+      few = a.few.items;
+      asking = a.asking.items;
+    } };
 }
 
 impl Arguments {
@@ -35,7 +52,9 @@ impl Arguments {
         set: &DriverSet,
         reaching: &Reaching,
         further: Option<u64>,
-    ) -> Result<Arguments, AllocError> {
+    ) -> Result<Arguments, AllocError>
+        ensures { IfOk result (λ a. a ≡ arguments_of set.now further a.asking) }
+    {
         let mut many = read_arguments(alloc, set.drivers())?;
         add_further(&mut many, further)?;
         let mut few = Vec::new(alloc);
@@ -49,61 +68,104 @@ impl Arguments {
     }
 
     /// Those of a request to a device.
-    pub fn of_request(&self, device: u8, major: Major) -> &[u64] {
-        for asking in self.asking.as_slice() {
-            if asking.device == device && asking.major.code() == major.code() {
-                return self.many.as_slice();
-            }
+    pub(crate) fn of_request(&self, device: u8, major: Major) -> &[u64]
+        ensures { result.now ≡ of_request self.now device major }
+    {
+        if is_asked(self.asking.as_slice(), device, major) {
+            self.many.as_slice()
+        } else {
+            self.few.as_slice()
         }
-        self.few.as_slice()
     }
 }
 
+/// Whether a request to a device with a major function is among these.
+fn is_asked(asking: &[Asking], device: u8, major: Major) -> bool
+    ensures { result ≡ list_any (asks device major) asking.now }
+{
+    asking.iter().any(|asking| asks(device, major, asking))
+}
+
+/// Whether this is a request to a device with a major function.
+fn asks(device: u8, major: Major, asking: &Asking) -> bool
+    ensures { result ≡ asks device major asking.now }
+{
+    asking.device == device && asking.major.code() == major.code()
+}
+
 /// 0 and 1, and each constant of drivers and the number after it.
-fn read_arguments(alloc: Global, drivers: &[Driver]) -> Result<Vec<u64>, AllocError> {
+fn read_arguments(alloc: Global, drivers: &[Driver]) -> Result<Vec<u64>, AllocError>
+    ensures { IfOk result (λ arguments. arguments.items ≡ with_drivers (0 ∷ 1 ∷ []) drivers.now) }
+{
     let mut arguments = Vec::new(alloc);
     arguments.push(0)?;
     arguments.push(1)?;
     for driver in drivers {
-        add_driver(&mut arguments, driver)?;
+        add_routines(&mut arguments, driver.routines.as_slice())?;
     }
     Ok(arguments)
 }
 
-/// Adds the constants of a driver.
-fn add_driver(arguments: &mut Vec<u64>, driver: &Driver) -> Result<(), AllocError> {
-    for routine in driver.routines.as_slice() {
+/// Adds the constants of routines.
+fn add_routines(arguments: &mut Vec<u64>, routines: &[Routine]) -> Result<(), AllocError>
+    ensures { OnOk result
+        (arguments.new.items ≡ with_routines arguments.old.items routines.now) }
+{
+    for routine in routines {
         add_code(arguments, routine.code.as_slice())?;
     }
     Ok(())
 }
 
 /// Adds the constants of a routine.
-fn add_code(arguments: &mut Vec<u64>, code: &[Instr]) -> Result<(), AllocError> {
+fn add_code(arguments: &mut Vec<u64>, code: &[Instr]) -> Result<(), AllocError>
+    ensures { OnOk result (arguments.new.items ≡ with_code arguments.old.items code.now) }
+{
     for instr in code {
-        if let Instr::Const(_, number) = *instr {
-            add_constant(arguments, u64::from(number))?;
-            add_constant(arguments, u64::from(number).saturating_add(1))?;
-        }
+        add_instr(arguments, instr)?;
+    }
+    Ok(())
+}
+
+/// Adds the constant of an instruction, if it has one, and the number after it.
+fn add_instr(arguments: &mut Vec<u64>, instr: &Instr) -> Result<(), AllocError>
+    ensures { OnOk result (arguments.new.items ≡ with_instr arguments.old.items instr.now) }
+{
+    if let Instr::Const(_, number) = *instr {
+        add_constant(arguments, u64::from(number))?;
+        add_constant(arguments, u64::from(number) + 1)?;
     }
     Ok(())
 }
 
 /// Adds an argument that isn't there, unless there are enough.
-fn add_constant(arguments: &mut Vec<u64>, number: u64) -> Result<(), AllocError> {
+fn add_constant(arguments: &mut Vec<u64>, number: u64) -> Result<(), AllocError>
+    ensures { OnOk result (arguments.new.items ≡ with_constant arguments.old.items number) }
+{
     if arguments.len() < MAX_ARGUMENTS {
-        add_further(arguments, Some(number))?;
+        add_argument(arguments, number)?;
     }
     Ok(())
 }
 
 /// Adds an argument, if there is one and it isn't there.
-fn add_further(arguments: &mut Vec<u64>, further: Option<u64>) -> Result<(), AllocError> {
-    if let Some(number) = further {
-        if !arguments.as_slice().contains(&number) {
-            arguments.push(number)?;
-        }
+fn add_further(arguments: &mut Vec<u64>, further: Option<u64>) -> Result<(), AllocError>
+    ensures { OnOk result (arguments.new.items ≡ with_further arguments.old.items further) }
+{
+    match further {
+        Some(number) => add_argument(arguments, number),
+        None => Ok(()),
     }
+}
+
+/// Adds an argument, if it isn't there.
+fn add_argument(arguments: &mut Vec<u64>, number: u64) -> Result<(), AllocError>
+    ensures { OnOk result (arguments.new.items ≡ with_argument arguments.old.items number) }
+{
+    if arguments.as_slice().contains(&number) {
+        return Ok(());
+    }
+    arguments.push(number)?;
     Ok(())
 }
 
@@ -117,7 +179,7 @@ fn asking_of(
     let devices = set.devices().len().min(255) as u8;
     for device in 0..devices {
         for major in MAJORS {
-            if is_asked(set, reaching, device, major) {
+            if is_read(set, reaching, device, major) {
                 asking.push(Asking { device, major })?;
             }
         }
@@ -126,7 +188,7 @@ fn asking_of(
 }
 
 /// Whether the driver of a device, or of one under it, reads the argument of a request.
-fn is_asked(set: &DriverSet, reaching: &Reaching, device: u8, major: Major) -> bool {
+fn is_read(set: &DriverSet, reaching: &Reaching, device: u8, major: Major) -> bool {
     let mut at = Some(device);
     for _device in 0..set.devices().len() {
         let Some(number) = at else {

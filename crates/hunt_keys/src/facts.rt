@@ -1,22 +1,21 @@
 //! What of a driver set says which events may matter.
 
+ghost use Rattle.std.specs.Prelude.{◌≡◌, IfOk, List};
+ghost use Rattle.hunt_keys.specs.declared.arguments.Asking.{Asking};
+ghost use Rattle.hunt_keys.specs.Requests.{requests_of};
+
 use crate::arguments::Arguments;
 use crate::reaching::Reaching;
+use crate::requests::{Request, requests_of};
 use driver_set::{DriverSet, Instr};
 use model::set::{Driver, Sort};
-use model::status::Major;
 use std::alloc::{AllocError, Global};
-
-/// The major functions of requests.
-pub(crate) const MAJORS: [Major; 3] = [Major::Read, Major::Write, Major::Control];
 
 /// What of a driver set says which events may matter.
 #[derive(Drop)]
 pub struct Facts {
-    /// The major functions that a driver serves.
-    pub majors: Vec<Major>,
-    /// The arguments that they are tried with.
-    pub arguments: Arguments,
+    /// The requests that are tried.
+    pub requests: Vec<Request>,
     pub uses: Uses,
     /// The numbers that matter.
     pub(crate) reaching: Reaching,
@@ -38,36 +37,18 @@ impl Facts {
     /// # Errors
     ///
     /// When memory runs out.
-    pub fn of(alloc: Global, set: &DriverSet, further: Option<u64>) -> Result<Facts, AllocError> {
+    pub fn of(alloc: Global, set: &DriverSet, further: Option<u64>) -> Result<Facts, AllocError>
+        ensures { IfOk result (λ facts. (asking : List Asking)
+            × (facts.requests.items ≡ requests_of set.now further asking)) }
+    {
         let reaching = Reaching::of(alloc, set)?;
+        let arguments = Arguments::of(alloc, set, &reaching, further)?;
         Ok(Facts {
-            majors: served_majors(alloc, set.drivers())?,
-            arguments: Arguments::of(alloc, set, &reaching, further)?,
+            requests: requests_of(alloc, set, &arguments)?,
             uses: uses_of(set.drivers()),
             reaching,
         })
     }
-}
-
-/// The major functions that a driver serves.
-fn served_majors(alloc: Global, drivers: &[Driver]) -> Result<Vec<Major>, AllocError> {
-    let mut majors = Vec::new(alloc);
-    for major in MAJORS {
-        if is_served(drivers, major) {
-            majors.push(major)?;
-        }
-    }
-    Ok(majors)
-}
-
-/// Whether a driver serves a major function.
-fn is_served(drivers: &[Driver], major: Major) -> bool {
-    for driver in drivers {
-        if driver.handler(major).is_some() {
-            return true;
-        }
-    }
-    false
 }
 
 /// What the routines of drivers do.

@@ -8,5 +8,6 @@ pub mod facts;
 pub mod keys;
 mod reaching;
 mod registers;
+pub mod requests;
 mod sorting;
 pub mod writer;

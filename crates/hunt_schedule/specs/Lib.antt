@@ -1,2 +1,4 @@
+pub mod Exact
 pub mod Headline
+pub mod Lines
 pub mod Telling

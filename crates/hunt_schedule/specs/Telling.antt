@@ -1,13 +1,14 @@
 -- What is told of a hunt: a text that lists a schedule, and tells first how its run ends; that there
 -- is such a run, and its schedule isn't told; or that there is none. Of a run that is stuck it is told
 -- what isn't at rest at its end; that nothing comes to rest from there is the search's word.
-use Rattle.std.specs.Prelude.{ℕ, ◌≡◌, ◌≤◌, ◌++◌, ◌∷◌, List, [], Option, None, Some, length, ⊤, codes, decimal, nat_eq, true}
+use Rattle.std.specs.Prelude.{ℕ, ◌≡◌, ◌≤◌, ◌++◌, ◌∷◌, List, [], Option, None, Some, length, ⊤, nat_eq, true}
 use Rattle.std.specs.List.{starts_with}
 use Rattle.hunt_ends.specs.declared.ending.Ending.{Ending}
 use Rattle.hunt_ends.specs.Ends.{EndsSo}
 use Rattle.hunt_schedule.specs.declared.telling.Told.{Told}
 use Rattle.hunt_schedule.specs.declared.telling.Told.TheVariants.{Found, Unlisted, All, More}
 use Rattle.hunt_schedule.specs.Headline.{headline}
+use Rattle.hunt_schedule.specs.Lines.{all_line, more_line, unlisted_line}
 use Rattle.hunt_bounds.specs.declared.bounds.Bounds.{Bounds}
 use Rattle.hunt_search.specs.declared.search.Find.{Find}
 use Rattle.hunt_search.specs.Hunts.{IsFind, IsWanted}
@@ -40,22 +41,6 @@ pub record TellsItsEnd (set : Set) (bounds : Bounds) (text : List ℕ) : Type 0 
   pub events : schedule.events ≡ before ++ last ∷ []
   pub within : IsWithin bounds.events (length schedule.events)
   pub tells : TellsEnd set bounds before last text
-
--- that all worlds within bounds were seen, which are so many
-abbrev pub all_line : Bounds → ℕ → List ℕ
-all_line bounds worlds =
-    codes "none: all " ++ (decimal worlds ++ (codes " worlds of " ++ (decimal bounds.threads
-    ++ (codes " threads and " ++ (decimal bounds.packets ++ codes " packets seen\n")))))
-
--- that so many were seen, in runs of up to so many events, and more are left
-abbrev pub more_line : ℕ → ℕ → List ℕ
-more_line worlds events =
-    codes "none in runs of up to " ++ (decimal events ++ (codes " events: " ++ (decimal worlds
-    ++ codes " worlds seen, more left\n")))
-
--- that a run ends so, and isn't told
-abbrev pub unlisted_line : Ending → List ℕ
-unlisted_line ending = headline ending ++ codes "; its schedule, read back, doesn't end so\n"
 
 -- what is told of a hunt
 abbrev pub IsToldOf : Set → Bounds → Told → Type 0

@@ -2,7 +2,9 @@
 #![tactic(auto)]
 
 mod comments;
+pub mod exact;
 mod headline;
+mod lines;
 pub mod reading;
 pub mod telling;
 mod tidying;

@@ -1,17 +1,16 @@
 //! What comes of a hunt, as it is told.
 
-ghost use Rattle.std.specs.Prelude.{◌≡◌, ◌≤◌, IfOk};
-ghost use Rattle.hunt_schedule.specs.Telling.{IsToldOf, all_line, more_line, unlisted_line};
+ghost use Rattle.std.specs.Prelude.{◌≤◌, IfOk};
+ghost use Rattle.hunt_schedule.specs.Telling.{IsToldOf};
 ghost use Rattle.hunt_search.specs.Hunts.{IsFind};
 ghost use Rattle.model.specs.declared.limits.TheConstants.{MAX_THREADS};
 
-use crate::headline::headline;
+use crate::lines::{all_line, more_line, unlisted_line};
 use crate::writing::schedule_text;
 use driver_set::DriverSet;
 use hunt_bounds::bounds::Bounds;
-use hunt_ends::ending::Ending;
 use hunt_search::search::{Find, Hunted, hunt};
-use interleave_lines::appending::{add, add_number};
+use report_progress::progress::{Progress, Silent};
 use std::alloc::{AllocError, Global};
 
 /// What is told of a hunt.
@@ -52,7 +51,26 @@ pub fn tell_hunt(
     requires few { bounds.threads ≤ MAX_THREADS }
     ensures { IfOk result (IsToldOf set.now bounds) }
 {
-    match hunt(alloc, set, bounds)? {
+    tell_hunting(alloc, set, bounds, source, &Silent)
+}
+
+/// Hunts so, and tells meanwhile how far the search has come.
+///
+/// # Errors
+///
+/// When memory runs out.
+pub fn tell_hunting<P: Progress>(
+    alloc: Global,
+    set: &DriverSet,
+    bounds: Bounds,
+    source: &[u8],
+    progress: &P,
+) -> Result<Told, AllocError>
+    requires some { 1 ≤ bounds.threads }
+    requires few { bounds.threads ≤ MAX_THREADS }
+    ensures { IfOk result (IsToldOf set.now bounds) }
+{
+    match hunt(alloc, set, bounds, progress)? {
         Hunted::Found(find) => tell_find(alloc, set, bounds, find, source),
         Hunted::All { worlds } => {
             let line = all_line(alloc, bounds, worlds as u64)?;
@@ -89,41 +107,4 @@ fn tell_find(
         Some(text) => Ok(Told::Found(text)),
         None => Ok(Told::Unlisted(unlisted_line(alloc, &ending)?)),
     }
-}
-
-/// That a run ends so, and isn't told.
-fn unlisted_line(alloc: Global, ending: &Ending) -> Result<Vec<u8>, AllocError>
-    ensures { IfOk result (λ line. line.items ≡ unlisted_line ending.now) }
-{
-    let mut line = headline(alloc, ending)?;
-    add(&mut line, b"; its schedule, read back, doesn't end so\n")?;
-    Ok(line)
-}
-
-/// That all worlds were seen.
-fn all_line(alloc: Global, bounds: Bounds, worlds: u64) -> Result<Vec<u8>, AllocError>
-    ensures { IfOk result (λ line. line.items ≡ all_line bounds worlds) }
-{
-    let mut line = Vec::new(alloc);
-    add(&mut line, b"none: all ")?;
-    add_number(&mut line, worlds)?;
-    add(&mut line, b" worlds of ")?;
-    add_number(&mut line, u64::from(bounds.threads))?;
-    add(&mut line, b" threads and ")?;
-    add_number(&mut line, bounds.packets as u64)?;
-    add(&mut line, b" packets seen\n")?;
-    Ok(line)
-}
-
-/// That more worlds are left.
-fn more_line(alloc: Global, worlds: u64, events: u64) -> Result<Vec<u8>, AllocError>
-    ensures { IfOk result (λ line. line.items ≡ more_line worlds events) }
-{
-    let mut line = Vec::new(alloc);
-    add(&mut line, b"none in runs of up to ")?;
-    add_number(&mut line, events)?;
-    add(&mut line, b" events: ")?;
-    add_number(&mut line, worlds)?;
-    add(&mut line, b" worlds seen, more left\n")?;
-    Ok(line)
 }

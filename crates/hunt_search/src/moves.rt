@@ -27,7 +27,7 @@ pub(crate) fn moves_of(
     };
     add_due(&mut moves, machine, thread)?;
     if live_packets(machine) < bounds.packets {
-        add_issues(&mut moves, machine, facts, thread)?;
+        add_issues(&mut moves, facts, thread)?;
     }
     add_cancels(&mut moves, machine, facts, thread)?;
     Ok(moves)
@@ -100,35 +100,15 @@ fn add_due(moves: &mut Vec<Event>, machine: &Checked, thread: u8) -> Result<(), 
     Ok(())
 }
 
-/// A request to each device.
-fn add_issues(
-    moves: &mut Vec<Event>,
-    machine: &Checked,
-    facts: &Facts,
-    thread: u8,
-) -> Result<(), AllocError> {
-    for device in 0..devices_of(machine) {
-        add_issues_to(moves, facts, thread, device)?;
-    }
-    Ok(())
-}
-
-/// A request to a device, for each major function and argument.
-fn add_issues_to(
-    moves: &mut Vec<Event>,
-    facts: &Facts,
-    thread: u8,
-    device: u8,
-) -> Result<(), AllocError> {
-    for major in facts.majors.as_slice() {
-        for argument in facts.arguments.of_request(device, *major) {
-            moves.push(Event::Issue {
-                thread,
-                device,
-                major: *major,
-                argument: *argument,
-            })?;
-        }
+/// Each request that is tried.
+fn add_issues(moves: &mut Vec<Event>, facts: &Facts, thread: u8) -> Result<(), AllocError> {
+    for request in facts.requests.as_slice() {
+        moves.push(Event::Issue {
+            thread,
+            device: request.device,
+            major: request.major,
+            argument: request.argument,
+        })?;
     }
     Ok(())
 }

@@ -13,7 +13,11 @@ use driver_set::DriverSet;
 use hunt_bounds::bounds::{Bounds, Goal};
 use hunt_ends::ending::{Ending, ending_of};
 use model::event::Event;
+use report_progress::progress::{Progress, Reached};
 use std::alloc::{AllocError, Global};
+
+/// It is told how far a search has come each time that it has gone on from so many worlds.
+const PACE: usize = 256;
 
 /// A run that was looked for.
 #[derive(Drop)]
@@ -59,18 +63,25 @@ pub fn is_wanted(goal: Goal, ending: &Ending) -> bool
 
 /// Searches the worlds of a set within bounds, breadth first and in a fixed order, for a run that
 /// ends amiss. Where there is none, and all worlds were seen, a run that is stuck may be looked for.
+/// How far the search has come is told meanwhile.
 ///
 /// # Errors
 ///
 /// When memory runs out.
-pub fn hunt(alloc: Global, set: &DriverSet, bounds: Bounds) -> Result<Hunted, AllocError>
+pub fn hunt<P: Progress>(
+    alloc: Global,
+    set: &DriverSet,
+    bounds: Bounds,
+    progress: &P,
+) -> Result<Hunted, AllocError>
     requires some { 1 ≤ bounds.threads }
     requires few { bounds.threads ≤ MAX_THREADS }
     ensures { IfOk result (IsHunted set.now bounds) }
 {
     let plan = Plan::of(alloc, set, bounds)?;
     let mut worlds = Worlds::new(alloc, bounds.goal);
-    let searched = search(alloc, set, &plan, &mut worlds)?;
+    let searched = search(alloc, set, &plan, &mut worlds, progress)?;
+    progress.clear();
     match found(alloc, set, &plan, &worlds, searched)? {
         Some(find) => Ok(Hunted::Found(find)),
         None => Ok(none_found(&worlds, searched)),
@@ -78,11 +89,12 @@ pub fn hunt(alloc: Global, set: &DriverSet, bounds: Bounds) -> Result<Hunted, Al
 }
 
 /// Goes on from each world that was seen, in that order, until none is left or enough are.
-fn search(
+fn search<P: Progress>(
     alloc: Global,
     set: &DriverSet,
     plan: &Plan,
     worlds: &mut Worlds,
+    progress: &P,
 ) -> Result<Searched, AllocError> {
     let bounds = plan.bounds();
     let first = machine_at(alloc, set, plan, [].as_slice())?;
@@ -95,6 +107,7 @@ fn search(
         if worlds.len() > bounds.worlds || is_far(bounds, events) {
             return Ok(Searched::More { events });
         }
+        tell(progress, worlds, number);
         if let Some(event) = expand(alloc, set, plan, worlds, number)? {
             return Ok(Searched::Amiss { number, event });
         }
@@ -102,6 +115,16 @@ fn search(
     Ok(Searched::More {
         events: worlds.depth(bounds.worlds),
     })
+}
+
+/// Tells how far a search has come that goes on from the world of a number, if that is told of it.
+fn tell<P: Progress>(progress: &P, worlds: &Worlds, number: usize) {
+    if number % PACE == 0 {
+        progress.tell(Reached::Worlds {
+            worlds: worlds.len(),
+            events: worlds.depth(number),
+        });
+    }
 }
 
 /// Whether a run of so many events is as long as one may be.

@@ -4,8 +4,9 @@ ghost use Rattle.std.specs.Prelude.{◌≤◌};
 ghost use Rattle.model.specs.declared.limits.TheConstants.{MAX_THREADS};
 
 use asm::assemble;
-use hunt_exact::moves::{Request, Trying};
+use hunt_exact::moves::Trying;
 use hunt_exact::search::{Exactly, Limits, hunt_exactly};
+use hunt_keys::requests::Request;
 use model::status::Major;
 use std::alloc::{AllocError, Global};
 use std::process::Abort;

@@ -1,6 +1,6 @@
 use Rattle.drvhost_hunts.specs.Hunt.{IsHuntOf}
 use Rattle.drvhost_sets.proofs.Answering.{alone}
-use Rattle.drvhost_hunts.proofs.hunt.hunt.Goals as goal
+use Rattle.drvhost_hunts.proofs.hunt.hunt_telling.Goals as goal
 
 pub returns : goal.returns
 returns g c =

@@ -1,6 +1,6 @@
 use Rattle.std.proofs.Common.{◌≡◌, codes, decimal}
 use Rattle.hunt_schedule.proofs.Pieces.{seven}
-use Rattle.hunt_schedule.proofs.telling.all_line.Goals as goal
+use Rattle.hunt_schedule.proofs.lines.worlds_line.Goals as goal
 
 pub returns : goal.returns
 returns c =
@@ -17,4 +17,4 @@ returns c =
     )
     (seven (codes "none: all ") (decimal c.args.worlds) (codes " worlds of ")
     (decimal c.args.bounds.threads) (codes " threads and ") (decimal c.args.bounds.packets)
-    (codes " packets seen\n"))
+    c.args.words.now)

@@ -1,0 +1,10 @@
+use Rattle.std.proofs.Common.{subst}
+use Rattle.hunt_exact.specs.declared.search.Exactly.{Exactly}
+use Rattle.hunt_exact.specs.Exact.{IsExact}
+use Rattle.hunt_schedule.proofs.Shortest.{tells_shortest}
+use Rattle.hunt_schedule.proofs.exact.tell.Goals as goal
+
+pub returns-in-Found : goal.returns-in-Found
+returns-in-Found c = λ scope same exact.
+    tells_shortest scope c.args.set.now c.args.bounds c.in-Found.find c.in_ok-told.told same
+    (subst (λ (found : Exactly). IsExact scope found) c.in-Found.is exact) c.in_ok-told.ensures

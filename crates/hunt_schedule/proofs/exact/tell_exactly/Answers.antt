@@ -1,0 +1,20 @@
+use Rattle.std.proofs.Common.{List, refl, subst}
+use Rattle.hunt_exact.specs.Exact.{IsExact, scope_of}
+use Rattle.hunt_keys.specs.declared.requests.Request.{Request}
+use Rattle.hunt_schedule.specs.Exact.{scope_within}
+use Rattle.hunt_schedule.proofs.exact.tell_exactly.Goals as goal
+
+pub returns : goal.returns
+returns c =
+    record {
+      asking = c.in_ok-trying.ensures.0;
+      raised = c.in_ok-trying.trying.raised;
+      tells = c.in_ok-told.ensures
+          (scope_within c.args.set.now c.args.bounds c.in_ok-trying.ensures.0
+          c.in_ok-trying.trying.raised)
+          refl
+          (subst (λ (requests : List Request). IsExact (scope_of c.args.set.now
+          c.args.bounds.threads c.args.bounds.packets requests c.in_ok-trying.trying.raised)
+          c.in_ok-found.found)
+          c.in_ok-trying.ensures.1 c.in_ok-found.ensures);
+    }
