@@ -101,7 +101,8 @@ tell_command =
     schedule_command (codes "tell")
     (flag (codes "quiet") ∷ flag (codes "every") ∷ flag (codes "strict") ∷ [])
 
--- `hunt FILE [--threads N] [--packets N] [--states N] [--events N] [--argument N] [--stuck]`
+-- `hunt FILE [--threads N] [--packets N] [--states N] [--events N] [--argument N] [--stuck]
+-- [--exact]`: the last two don't go together
 abbrev pub hunt_command : App
 hunt_command =
     set_command (codes "hunt")
@@ -110,7 +111,7 @@ hunt_command =
     ∷ number_option (codes "states") MAX_WORLDS
     ∷ any_number_option (codes "events")
     ∷ any_number_option (codes "argument")
-    ∷ flag (codes "stuck") ∷ [])
+    ∷ flag (codes "stuck") ∷ flag (codes "exact") ∷ [])
 
 -- `host FILE SCRIPT --workers N`
 abbrev pub host_command : App

@@ -230,6 +230,10 @@ const COMMANDS: [Entry<'static>; 13] = [
                 "stuck",
                 "Looks besides for a run from whose end nothing comes to rest",
             ),
+            Argument::Flag(
+                "exact",
+                "Takes no world for another one, and bounds the packets that a run issues in all",
+            ),
         ],
     },
     Entry {

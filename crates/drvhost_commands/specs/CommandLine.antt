@@ -1,8 +1,9 @@
 -- Which job the matches of a command line name.
 use Rattle.std.specs.Borrow.{Bor}
-use Rattle.std.specs.Prelude.{◌≡◌, ◌⊎◌, ℕ, List, [], ◌∷◌, ⊤, Option, None, Some, codes, map, option_and_then, string_bytes}
+use Rattle.std.specs.Prelude.{◌≡◌, ◌⊎◌, ℕ, List, [], ◌∷◌, ⊤, Option, None, Some, codes, false, map, option_and_then, string_bytes, true}
 use Rattle.clap.specs.Words.{Row, Text, all_of, fault_of, first_of, subcommand_of}
 pub use Rattle.drvhost_arguments.specs.Program.{program}
+use Rattle.drvhost_arguments.specs.Given.{is_given}
 use Rattle.drvhost_arguments.specs.Matched.{AsksVersion}
 use Rattle.interleave.specs.Line.{number_within}
 use Rattle.model.specs.declared.limits.TheConstants.{MAX_THREADS}
@@ -19,7 +20,7 @@ use Rattle.drvhost_commands.specs.declared.job.Judging.{Judging}
 use Rattle.drvhost_commands.specs.declared.job.Judging.TheVariants.{Check, CheckJson, Explain, ExplainJson}
 use Rattle.drvhost_commands.specs.declared.job.Page.{Page}
 use Rattle.drvhost_commands.specs.declared.job.Page.TheVariants.{Rule as PageOfRule, LockOrder, Version}
-use Rattle.drvhost_commands.specs.declared.job.Task.TheVariants.{Mend, List as Listing, Hunt}
+use Rattle.drvhost_commands.specs.declared.job.Task.TheVariants.{Mend, List as Listing, Hunt, HuntExactly}
 use Rattle.drvhost_commands.specs.declared.job.Way.{Way}
 use Rattle.drvhost_commands.specs.declared.job.Way.TheVariants.{Trace, TraceJson, Tell, Draw, Schedule}
 use Rattle.drvhost_commands.specs.declared.job.JobFault.{JobFault}
@@ -115,7 +116,11 @@ NamesOf ToTest rows (Test set scenarios verification report) =
 NamesOf ToSchedule rows (OnRun set input (Schedule verification)) =
     Has (codes "FILE") rows set.now × Has (codes "SCENARIO") rows input.now
     × (verification ≡ verification_of rows)
-NamesOf ToHunt rows (OnSet set (Hunt reach)) = Has (codes "FILE") rows set.now × IsReach rows reach
+NamesOf ToHunt rows (OnSet set (Hunt reach)) =
+    Has (codes "FILE") rows set.now × IsReach rows reach × (is_given (codes "exact") rows ≡ false)
+NamesOf ToHunt rows (OnSet set (HuntExactly reach)) =
+    Has (codes "FILE") rows set.now × IsReach rows reach × (is_given (codes "exact") rows ≡ true)
+    × (is_given (codes "stuck") rows ≡ false)
 NamesOf ToHost rows (Host set script workers) =
     Has (codes "FILE") rows set.now × Has (codes "SCRIPT") rows script.now
     × (option_and_then (number_within 1 MAX_THREADS) (first_of (codes "workers") rows)

@@ -129,6 +129,8 @@ pub enum Task {
     List,
     /// `hunt FILE [--threads N] [--packets N] [--states N] [--events N] [--argument N] [--stuck]`
     Hunt(Reach),
+    /// The same with `--exact`, which doesn't go with `--stuck`.
+    HuntExactly(Reach),
 }
 
 /// How a driver set is run by an input.

@@ -13,7 +13,7 @@ use crate::choices::{
 use crate::job::{Job, Judging, Page, Task, Way, Workers};
 use crate::subcommand::Subcommand;
 use clap::ArgMatches;
-use drvhost_arguments::matches::{argument, arguments};
+use drvhost_arguments::matches::{argument, arguments, is_given};
 use drvhost_options::extent::Extent;
 use drvhost_options::logging::{Account, Logging};
 use report::rule::rule_named;
@@ -287,10 +287,12 @@ fn hunt_named<'a>(matches: &ArgMatches<'a>) -> Option<Job<'a>>
 {
     let set = argument(matches, "FILE")?;
     let reach = reach(matches)?;
-    Some(Job::OnSet {
-        set,
-        task: Task::Hunt(reach),
-    })
+    let task = match (is_given(matches, "exact"), is_given(matches, "stuck")) {
+        (true, true) => return None,
+        (true, false) => Task::HuntExactly(reach),
+        (false, _) => Task::Hunt(reach),
+    };
+    Some(Job::OnSet { set, task })
 }
 
 fn host_named<'a>(matches: &ArgMatches<'a>) -> Option<Job<'a>>

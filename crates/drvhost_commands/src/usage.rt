@@ -2,7 +2,7 @@
 
 use crate::choices::verdict_format;
 use clap::ArgMatches;
-use drvhost_arguments::matches::argument;
+use drvhost_arguments::matches::{argument, is_given};
 use drvhost_arguments::program::EXPLAIN_USAGE;
 use report::rule::rule_named;
 use std::alloc::{AllocError, Global};
@@ -11,8 +11,10 @@ use std::fmt;
 /// How the program is used, where there is nothing better to say.
 pub(crate) const USAGE: &str = "Usage: drvhost <COMMAND>";
 
-/// How `tell` is used, and what is told where two of its levels are asked for.
+/// How `tell` is used, and how `hunt` is.
 const TELL_USAGE: &str = "drvhost tell [OPTIONS] <FILE> <SCHEDULE>";
+
+const HUNT_USAGE: &str = "drvhost hunt [OPTIONS] <FILE>";
 
 /// How `check` is used, and how `trace` is.
 const CHECK_USAGE: &str = "drvhost check [OPTIONS] <PATH>...";
@@ -29,14 +31,15 @@ const ANSWERS: &str = "text or json";
 
 const FIGURES: &str = "svg or perfetto";
 
-const TWO_LEVELS: &str = "the argument '--quiet' cannot be used with '--every'";
-
 /// What is told of words that the command line takes, and that name no job.
 pub(crate) fn unnamed(alloc: Global, matches: &ArgMatches<'_>) -> Result<String, AllocError> {
     match matches.subcommand() {
         Some(("explain", inner)) if verdict_format(inner).is_some() => unexplained(alloc, inner),
         Some(("explain", inner)) => unwritten(alloc, inner, VERDICTS, EXPLAIN_USAGE),
-        Some(("tell", _)) => untold(alloc),
+        Some(("tell", _)) => conflicting(alloc, "--quiet", "--every", TELL_USAGE),
+        Some(("hunt", inner)) if is_given(inner, "exact") && is_given(inner, "stuck") => {
+            conflicting(alloc, "--exact", "--stuck", HUNT_USAGE)
+        }
         Some(("check", inner)) => unwritten(alloc, inner, VERDICTS, CHECK_USAGE),
         Some(("trace", inner)) => unwritten(alloc, inner, ANSWERS, TRACE_USAGE),
         Some(("draw", inner)) => unwritten(alloc, inner, FIGURES, DRAW_USAGE),
@@ -75,11 +78,10 @@ fn add_rules(alloc: Global, text: &mut String) -> Result<(), AllocError> {
     Ok(())
 }
 
-/// What is told where `tell` is asked for two levels.
-fn untold(alloc: Global) -> Result<String, AllocError> {
-    let mut text = String::from_str(alloc, "error: ")?;
-    text.push_str(TWO_LEVELS)?;
-    add_usage(&mut text, TELL_USAGE)?;
+/// What is told where two options are given that don't go together.
+fn conflicting(alloc: Global, one: &str, other: &str, usage: &str) -> Result<String, AllocError> {
+    let mut text = format!(in alloc; "error: the argument '{one}' cannot be used with '{other}'")?;
+    add_usage(&mut text, usage)?;
     Ok(text)
 }
 

@@ -11,7 +11,7 @@ use Rattle.drvhost_runs.specs.Served.{IsHostOf}
 use Rattle.drvhost_devices.specs.declared.verification.Verification.{Verification}
 use Rattle.drvhost_commands.specs.declared.job.Job.{Job}
 use Rattle.drvhost_commands.specs.declared.job.Task.{Task}
-use Rattle.drvhost_commands.specs.declared.job.Task.TheVariants.{Mend, List as Listing, Hunt}
+use Rattle.drvhost_commands.specs.declared.job.Task.TheVariants.{Mend, List as Listing, Hunt, HuntExactly}
 use Rattle.drvhost_commands.specs.declared.job.Way.{Way}
 use Rattle.drvhost_commands.specs.declared.job.Way.TheVariants.{Trace, TraceJson, Tell, Draw, Schedule}
 use Rattle.drvhost_commands.specs.declared.job.JobFault.{JobFault}
@@ -156,6 +156,8 @@ task_known (Mend tries) known supply h answer (bytes, holds, right) =
 task_known Listing known supply h answer (bytes, holds, right) =
     (bytes, holds_known known supply bytes h holds, right)
 task_known (Hunt reach) known supply h answer (bytes, holds, right) =
+    (bytes, holds_known known supply bytes h holds, right)
+task_known (HuntExactly reach) known supply h answer (bytes, holds, right) =
     (bytes, holds_known known supply bytes h holds, right)
 
 pub work_known : (work : Work) (name : List ℕ) (known supply : Supply) → IsSuppliedAs known supply

@@ -13,7 +13,7 @@ use Rattle.drvhost_devices.specs.declared.verification.Verification.TheVariants.
 use Rattle.drvhost_devices.specs.Ends.{Ends, HoldsRun, IsCheckOf, IsListOf, IsRewriteOf, IsTraceOf}
 use Rattle.drvhost_formats.specs.Told.{IsUnopenedJson}
 use Rattle.drvhost_formats.specs.Trace.{IsTraceJsonOf}
-use Rattle.drvhost_hunts.specs.Hunt.{IsHuntOf}
+use Rattle.drvhost_hunts.specs.Hunt.{IsExactHuntOf, IsHuntOf}
 use Rattle.drvhost_mends.specs.declared.apply.Asked.{Asked as Applying}
 use Rattle.drvhost_mends.specs.Apply.{IsApplyOf, IsApplyWith}
 use Rattle.drvhost_mends.specs.Mend.{IsMendOf}
@@ -27,7 +27,7 @@ use Rattle.drvhost_commands.specs.declared.job.Job.TheVariants.{Page as OfPage, 
 use Rattle.drvhost_commands.specs.declared.job.Page.{Page}
 use Rattle.drvhost_commands.specs.declared.job.Page.TheVariants.{Rule, LockOrder, Version}
 use Rattle.drvhost_commands.specs.declared.job.Task.{Task}
-use Rattle.drvhost_commands.specs.declared.job.Task.TheVariants.{Mend, List as Listing, Hunt}
+use Rattle.drvhost_commands.specs.declared.job.Task.TheVariants.{Mend, List as Listing, Hunt, HuntExactly}
 use Rattle.drvhost_commands.specs.declared.job.Judging.{Judging}
 use Rattle.drvhost_commands.specs.declared.job.Judging.TheVariants.{Check, CheckJson, Explain, ExplainJson}
 use Rattle.drvhost_commands.specs.declared.job.Way.{Way}
@@ -66,6 +66,7 @@ abbrev pub IsTaskOf : Task → Supply → Answer → Type 0
 IsTaskOf (Mend tries) = IsMendOf (record { tries = tries })
 IsTaskOf Listing = IsListOf
 IsTaskOf (Hunt reach) = IsHuntOf reach
+IsTaskOf (HuntExactly reach) = IsExactHuntOf reach
 
 -- what any work with it does, by the name of its file and what this has
 abbrev pub IsDoneOf : Work → List ℕ → Supply → Answer → Type 0

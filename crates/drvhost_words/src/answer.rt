@@ -21,6 +21,7 @@ use drvhost_devices::verification::Verification;
 use drvhost_files::files::{Files, Later, Pending};
 use drvhost_formats::trace::{Asked, trace_json};
 use drvhost_formats::unopened::unopened_json;
+use drvhost_hunts::exact::hunt_exactly;
 use drvhost_hunts::hunt::hunt;
 use drvhost_many::file::{self, judge};
 use drvhost_many::many::{Sets, answer_each};
@@ -485,6 +486,7 @@ fn fulfil<S: Source, O: Sink, E: Sink>(
         Task::Mend(tries) => mend(alloc, mend::Asked { tries }, set, out, err),
         Task::List => list(alloc, set, out, err),
         Task::Hunt(reach) => hunt(alloc, reach, set, out, err),
+        Task::HuntExactly(reach) => hunt_exactly(alloc, reach, set, out, err),
     }
 }
 

@@ -8,3 +8,6 @@ returns-in-List g c = rw c.in-List.is c.list.ensures
 
 pub returns-in-Hunt : goal.returns-in-Hunt
 returns-in-Hunt g c = rw c.in-Hunt.is c.hunt.ensures
+
+pub returns-in-HuntExactly : goal.returns-in-HuntExactly
+returns-in-HuntExactly g c = rw c.in-HuntExactly.is c.hunt_exactly.ensures
