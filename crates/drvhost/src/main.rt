@@ -6,6 +6,7 @@ use drvhost_devices::device::Writer;
 use drvhost_files::files::Disk;
 use drvhost_options::surroundings::Surroundings;
 use drvhost_words::answer::{Setting, answer};
+use report_progress::meter::Meter;
 use std::env::{self, VarError};
 use std::io::{ErrorKind, IsTerminal};
 use std::process::ExitCode;
@@ -19,7 +20,14 @@ fn main(rt: HostRuntime) -> ExitCode {
         alloc: rt.alloc(),
         surroundings: surroundings(&rt, processors(&rt)),
     };
-    let status = answer(&rt, setting, words(&rt), &mut files, &mut out, &mut err);
+    let meter = Meter::new(
+        &rt,
+        rt.alloc(),
+        rt.stderr(),
+        setting.surroundings.is_error_terminal,
+    );
+    let beside = (&rt, meter);
+    let status = answer(&beside, setting, words(&rt), &mut files, &mut out, &mut err);
     ExitCode::from(status)
 }
 

@@ -18,6 +18,7 @@ use drvhost_devices::unopened::say_behind;
 use drvhost_files::files::Files;
 use rayon::prelude::*;
 use report::fault::WRITE_FAILED;
+use report_progress::progress::{Progress, Reached};
 use std::alloc::{AllocError, Global};
 use std::thread::Threads;
 
@@ -53,8 +54,8 @@ impl<'n> Sets<'n> {
 /// above an explanation. With one job what is answered for a file goes out before the next is
 /// opened. For several 16 files each are read, one after another, and then judged. The answer is the
 /// greatest exit status. A file that can't be read, or is faulty, doesn't keep from the others; a
-/// write that fails does, and want of memory.
-pub fn answer_each<R: Threads + Sync, F: Files, O: Sink, E: Sink>(
+/// write that fails does, and want of memory. How many of the files are done is told meanwhile.
+pub fn answer_each<R: Threads + Sync + Progress, F: Files, O: Sink, E: Sink>(
     rt: &R,
     sets: Sets<'_>,
     files: &mut F,
@@ -82,7 +83,7 @@ pub fn answer_each<R: Threads + Sync, F: Files, O: Sink, E: Sink>(
 }
 
 /// Judges the set of each of these files, some at a time.
-fn answer_all<R: Threads + Sync, F: Files, O: Sink, E: Sink>(
+fn answer_all<R: Threads + Sync + Progress, F: Files, O: Sink, E: Sink>(
     rt: &R,
     sets: Sets<'_>,
     files: &mut F,
@@ -120,8 +121,18 @@ fn answer_all<R: Threads + Sync, F: Files, O: Sink, E: Sink>(
             Err(halt) => return Err(halt),
         }
         rest = behind;
+        tell_behind(rt, behind.len(), sets.names.len());
     }
+    rt.clear();
     Ok(status)
+}
+
+/// Tells how many of all files are done, where so many are left.
+fn tell_behind<P: Progress>(progress: &P, left: usize, all: usize) {
+    progress.tell(Reached::Of {
+        done: all.saturating_sub(left),
+        all,
+    });
 }
 
 /// Some of these files, which are judged at once. What an error writer is told of them stands behind
@@ -134,7 +145,7 @@ struct Window<'n> {
 }
 
 /// Judges the set of each of some files, at once.
-fn answer_window<R: Threads + Sync, F: Files, O: Sink, E: Sink>(
+fn answer_window<R: Threads + Sync + Progress, F: Files, O: Sink, E: Sink>(
     rt: &R,
     window: &Window<'_>,
     files: &mut F,
@@ -161,6 +172,7 @@ fn answer_window<R: Threads + Sync, F: Files, O: Sink, E: Sink>(
     let judging = window.sets.judging;
     let ahead = read_each(window.sets.alloc, judging, window.names, files);
     let told = judge_each(rt, window.sets.alloc, judging, ahead.held.as_slice());
+    rt.clear();
     let Ok(told) = told else {
         let one = One::of(judging, window.names[0].as_str());
         tell_no_memory(one, window.failures, err);

@@ -42,6 +42,7 @@ use drvhost_sets::version::version;
 use drvhost_tests::test::{Tests, test};
 use drvhost_views::draw::{Drawing, draw};
 use drvhost_views::tell::{Telling, tell};
+use report_progress::progress::Progress;
 use std::alloc::{AllocError, Global};
 use std::io::ErrorKind;
 use std::sync::Wait;
@@ -59,8 +60,9 @@ pub struct Setting {
 /// Does what the words of a command line ask for, the program's own name first, or says why they
 /// can't be had. Each file that they name is opened, read and handed back when its turn comes. The
 /// answer is the exit status: that of the job that they name; 2 where they name none, and the
-/// writer for errors is then told how the program is used; 3 where memory ran out.
-pub fn answer<F: Files, O: Sink, E: Sink, R: Threads + Wait + Sync>(
+/// writer for errors is then told how the program is used; 3 where memory ran out. How far a job has
+/// come is told beside the runtime.
+pub fn answer<F: Files, O: Sink, E: Sink, R: Threads + Wait + Sync + Progress>(
     rt: &R,
     setting: Setting,
     words: Result<Vec<String>, ErrorKind>,
@@ -117,7 +119,7 @@ fn refuse_lost_words<E: Sink>(kind: ErrorKind, err: &mut E) -> u8
 }
 
 /// Does what the words ask for, without the program's name.
-fn answer_words<F: Files, O: Sink, E: Sink, R: Threads + Wait + Sync>(
+fn answer_words<F: Files, O: Sink, E: Sink, R: Threads + Wait + Sync + Progress>(
     rt: &R,
     setting: Setting,
     words: &[String],
@@ -149,7 +151,7 @@ fn answer_words<F: Files, O: Sink, E: Sink, R: Threads + Wait + Sync>(
 
 /// Does a job with the files that it names. Only what does `host`, or judges several files, is given
 /// the runtime: nothing else starts a thread, or waits.
-fn perform<F: Files, O: Sink, E: Sink, R: Threads + Wait + Sync>(
+fn perform<F: Files, O: Sink, E: Sink, R: Threads + Wait + Sync + Progress>(
     rt: &R,
     setting: Setting,
     job: &Job<'_>,
@@ -262,7 +264,7 @@ struct Paths<'p> {
 
 /// Judges the sets that paths stand for: that of one file alone as it is, and others each told with
 /// its name.
-fn judge_paths<R: Threads + Sync, F: Files, O: Sink, E: Sink>(
+fn judge_paths<R: Threads + Sync + Progress, F: Files, O: Sink, E: Sink>(
     rt: &R,
     asked: Paths<'_>,
     files: &mut F,

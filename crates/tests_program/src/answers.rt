@@ -3,6 +3,7 @@
 use crate::shelf::{Shelf, given, plain};
 use drvhost_devices::device::Writer;
 use drvhost_words::answer::answer;
+use report_progress::progress::Silent;
 use std::alloc::Global;
 use std::io::ErrorKind;
 use std::sync::Wait;
@@ -18,7 +19,14 @@ fn told_of<R: Threads + Wait + Sync>(
     let mut files = Shelf::new(alloc);
     let mut out = Writer::new(Vec::<u8>::new(alloc));
     let mut err = Writer::new(Vec::<u8>::new(alloc));
-    let answered = answer(rt, plain(alloc), words, &mut files, &mut out, &mut err);
+    let answered = answer(
+        &(rt, Silent),
+        plain(alloc),
+        words,
+        &mut files,
+        &mut out,
+        &mut err,
+    );
     let opened = files.opened > 0 || files.created > 0;
     if answered == status && !opened && out.into_inner().is_empty() {
         err.into_inner()

@@ -3,6 +3,7 @@
 use crate::shelf::{Shelf, given, plain};
 use drvhost_devices::device::Writer;
 use drvhost_words::answer::answer;
+use report_progress::progress::Silent;
 use std::alloc::Global;
 use std::sync::Wait;
 use std::thread::Threads;
@@ -92,7 +93,14 @@ fn is_rewritten<R: Threads + Wait + Sync>(rt: &R, alloc: Global, case: &Rewritte
     let mut files = Shelf::new(alloc);
     let mut out = Writer::new(Vec::<u8>::new(alloc));
     let mut err = Writer::new(Vec::<u8>::new(alloc));
-    let status = answer(rt, plain(alloc), Ok(words), &mut files, &mut out, &mut err);
+    let status = answer(
+        &(rt, Silent),
+        plain(alloc),
+        Ok(words),
+        &mut files,
+        &mut out,
+        &mut err,
+    );
     let written = files.written.as_ref().map(|bytes| bytes.as_slice());
     status == case.status
         && files.opened == 1

@@ -10,6 +10,7 @@ use drvhost_devices::device::Writer;
 use drvhost_files::files::Disk;
 use drvhost_options::surroundings::PLAIN;
 use drvhost_words::answer::{Setting, answer};
+use report_progress::progress::Silent;
 use std::alloc::{AllocError, Global};
 use std::fs::{self, Files};
 use std::io::{self, Input, Write};
@@ -54,7 +55,14 @@ where
         alloc,
         surroundings: PLAIN,
     };
-    let status = answer(rt, setting, Ok(words), &mut files, &mut lines, &mut told);
+    let status = answer(
+        &(rt, Silent),
+        setting,
+        Ok(words),
+        &mut files,
+        &mut lines,
+        &mut told,
+    );
     out.write_all(lines.into_inner().as_slice())?;
     write_told(told.into_inner().as_slice(), out)?;
     let opened = files.opened();
