@@ -4,7 +4,8 @@
 It runs `rt check --progress` from nothing in each crate named, with --tests also its tests, and looks at the processor time of
 all that rt started each time the check has ended with a function. So a function's figure has what was read for it first, as the
 lemmas that its proof cites, and the first function's all that the crate stands on: that is told apart. What earlier runs kept
-of the crate is set aside; libraries that aren't built yet are built before."""
+of the crate is taken away; libraries that aren't built yet are built before. Where rt begins with what another checkout on this
+machine kept, that is said, and the figures lack it."""
 import collections, os, re, shutil, subprocess, sys
 
 from gate_costs import TOP, processes
@@ -32,6 +33,8 @@ def check(crate, words):
                           stderr=subprocess.STDOUT, text=True, errors='replace')
     costs, before, first = [], None, 0
     for line in rt.stdout:
+        if 'begins with what a check kept' in line:
+            print(line.strip())
         ended = re.match(r'checked (\S+), \d+ of \d+$', line)
         if ended:
             now = below(rt.pid)
