@@ -1,5 +1,5 @@
 -- What is told of a shortest run is what may be told of an exact hunt.
-use Rattle.std.proofs.Common.{◌≡◌, subst, sym, length}
+use Rattle.std.proofs.Common.{◌≡◌, ◌+◌, subst, sym, length}
 use Rattle.hunt_bounds.specs.declared.bounds.Bounds.{Bounds}
 use Rattle.hunt_exact.specs.declared.search.Shortest.{Shortest}
 use Rattle.hunt_exact.specs.Exact.{IsShortest}
@@ -17,10 +17,10 @@ tells_shortest scope set bounds find (Found text) same shortest tells =
     record {
       find = find;
       shortest = shortest;
-      tells = subst (λ (s : Set). TellsItsEnd s (as_short bounds (length find.before.items))
+      tells = subst (λ (s : Set). TellsItsEnd s (as_short bounds (length find.before.items + 1))
           text.items) (sym same) tells;
     }
 tells_shortest scope set bounds find (Unlisted line) same shortest tells =
-    record { find = find; shortest = shortest; line = tells }
+    record { find = find; shortest = shortest; says = tells }
 tells_shortest scope set bounds find (All line worlds) same shortest tells = absurd tells
 tells_shortest scope set bounds find (More line worlds events) same shortest tells = absurd tells

@@ -24,14 +24,14 @@ abbrev pub scope_within : Set → Bounds → List Asking → Bool → Scope
 scope_within set bounds asking raised =
     scope_of set bounds.threads bounds.packets (requests_of set bounds.argument asking) raised
 
--- the bounds of a run that ends amiss, of so many events and a last one
+-- the bounds of a run that ends amiss, of at most so many events
 abbrev pub as_short : Bounds → ℕ → Bounds
 as_short bounds events =
     record {
       threads = bounds.threads;
       packets = bounds.packets;
       worlds = bounds.worlds;
-      events = Some (events + 1);
+      events = Some events;
       argument = bounds.argument;
       goal = Amiss;
     }
@@ -41,13 +41,13 @@ as_short bounds events =
 pub record IsShortestTold (scope : Scope) (bounds : Bounds) (text : List ℕ) : Type 0 where
   pub find : Shortest
   pub shortest : IsShortest scope find
-  pub tells : TellsItsEnd scope.set (as_short bounds (length find.before.items)) text
+  pub tells : TellsItsEnd scope.set (as_short bounds (length find.before.items + 1)) text
 
 -- a shortest run ends amiss, and its schedule isn't told
 pub record IsShortestUnlisted (scope : Scope) (line : List ℕ) : Type 0 where
   pub find : Shortest
   pub shortest : IsShortest scope find
-  pub line : line ≡ unlisted_line find.ending
+  pub says : line ≡ unlisted_line find.ending
 
 abbrev pub TellsExactly : Scope → Bounds → Told → Type 0
 TellsExactly scope bounds (TellsFind text) = IsShortestTold scope bounds text.items
@@ -60,7 +60,7 @@ TellsExactly scope bounds (MoreLeft line worlds events) =
 -- what is told of a shortest run
 abbrev pub TellsShortest : Set → Bounds → Shortest → Told → Type 0
 TellsShortest set bounds find (TellsFind text) =
-    TellsItsEnd set (as_short bounds (length find.before.items)) text.items
+    TellsItsEnd set (as_short bounds (length find.before.items + 1)) text.items
 TellsShortest set bounds find (Unlisted line) = line.items ≡ unlisted_line find.ending
 TellsShortest set bounds find (All line worlds) = ⊥
 TellsShortest set bounds find (MoreLeft line worlds events) = ⊥

@@ -4,7 +4,6 @@ ghost use Rattle.std.specs.Prelude.{◌≡◌, ◌≤◌, IfOk, List};
 ghost use Rattle.hunt_keys.specs.declared.arguments.Asking.{Asking};
 ghost use Rattle.hunt_keys.specs.Requests.{requests_of};
 ghost use Rattle.hunt_schedule.specs.Exact.{AreTold, IsToldExactly, TellsShortest, as_short};
-ghost use Rattle.hunt_schedule.specs.Lines.{fine_line, never_line};
 ghost use Rattle.model.specs.declared.limits.TheConstants.{MAX_THREADS};
 
 use crate::lines::{fine_line, never_line, unlisted_line};
@@ -103,15 +102,15 @@ fn tell_shortest(
 {
     let ending = find.ending;
     let mut events = find.before;
-    let short = as_short(bounds, events.len());
     events.push(find.last)?;
+    let short = as_short(bounds, events.len());
     match schedule_text(alloc, set, short, events.as_slice(), &ending, source)? {
         Some(text) => Ok(Told::Found(text)),
         None => Ok(Told::Unlisted(unlisted_line(alloc, &ending)?)),
     }
 }
 
-/// The bounds of a run that ends amiss, of so many events and a last one.
+/// The bounds of a run that ends amiss, of at most so many events.
 fn as_short(bounds: Bounds, events: usize) -> Bounds
     ensures { result ≡ as_short bounds events }
 {
@@ -119,7 +118,7 @@ fn as_short(bounds: Bounds, events: usize) -> Bounds
         threads: bounds.threads,
         packets: bounds.packets,
         worlds: bounds.worlds,
-        events: Some((events as u64).saturating_add(1)),
+        events: Some(events as u64),
         argument: bounds.argument,
         goal: Goal::Amiss,
     }
