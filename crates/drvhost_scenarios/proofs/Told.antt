@@ -113,6 +113,13 @@ pub source_run : (verification : Verification) (held : Supply) (bytes : List ℕ
 source_run verification held bytes holds (other, same, (set, says, run)) =
     (bytes, holds, (set, subst (λ (b : List ℕ). FileSays b (Ok set)) same says, run))
 
+-- so a source stays unread, or such a run is held by what the bytes were read of
+pub unread_held : {S : Type 0} {new old : S} (verification : Verification) (held : Supply)
+    (bytes : List ℕ) → Holds held bytes → (new ≡ old) ⊎ HoldsRun verification (Bytes bytes)
+    → (new ≡ old) ⊎ HoldsRun verification held
+unread_held verification held bytes holds (inl same) = inl same
+unread_held verification held bytes holds (inr run) = inr (source_run verification held bytes holds run)
+
 -- a set is accepted, or refused
 pub tells_accepted : (Right : Set → Answer → Type 0) (set accepted : Set)
     (result : Result Told Fault) → accepted ≡ set → IsTypable set → Tells (Right accepted) result

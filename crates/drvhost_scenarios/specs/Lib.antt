@@ -1,2 +1,3 @@
+pub mod Finding
 pub mod Scenarios
 pub mod Telling

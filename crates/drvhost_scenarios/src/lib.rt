@@ -2,9 +2,11 @@
 //! the plain schedule of what it makes happen.
 #![tactic(auto)]
 
+pub mod finding;
 mod listing;
 mod outcome;
 mod play;
 pub mod schedule;
 pub mod telling;
 mod words;
+mod writing;

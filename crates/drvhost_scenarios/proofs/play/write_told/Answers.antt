@@ -1,10 +1,10 @@
-use Rattle.std.proofs.Common.{Err, List, Ok, inl, inr, subst, sym, ℕ}
+use Rattle.std.proofs.Common.{Err, List, Ok, subst, sym, ℕ}
 use Rattle.std.specs.Io.KnownBytes.{Appends}
 use Rattle.std.proofs.lemmas.Result.{err_from_is_err_and}
 use Rattle.drvhost_devices.specs.Answer.{IsOfFile, IsTraced}
 use Rattle.drvhost_devices.specs.Device.{Holds, TakesBeginning}
 use Rattle.drvhost_scenarios.specs.Scenarios.{IsOfSources, IsPlayedOf, right_of}
-use Rattle.drvhost_scenarios.proofs.Told.{source_run, tells_rightly, told_broken, told_written, unread, untold}
+use Rattle.drvhost_scenarios.proofs.Told.{tells_rightly, told_broken, told_written, unread, unread_held, untold}
 use Rattle.drvhost_scenarios.proofs.play.write_told.Goals as goal
 
 pub returns-in_err-bytes-clause-goes : goal.returns-in_err-bytes-clause-goes
@@ -21,10 +21,7 @@ returns-in_err-told-clause-unread g c =
     let bytes = c.as_slice.result.now in
     let holds = subst (λ (bytes : List ℕ). Holds held bytes) (sym c.as_slice.ensures.value)
     c.in_ok-bytes.ensures.bytes in
-    elim c.in_err-told.ensures.unread [
-      | inl same ↦ inl same
-      | inr run ↦ inr (source_run c.args.plan.verification held bytes holds run)
-    ]
+    unread_held c.args.plan.verification held bytes holds c.in_err-told.ensures.unread
 
 pub returns-in_err-told-clause-goes : goal.returns-in_err-told-clause-goes
 returns-in_err-told-clause-goes g c =
@@ -49,10 +46,7 @@ returns-in_err-write_bytes-clause-unread g c =
     let bytes = c.as_slice.result.now in
     let holds = subst (λ (bytes : List ℕ). Holds held bytes) (sym c.as_slice.ensures.value)
     c.in_ok-bytes.ensures.bytes in
-    elim c.in_ok-told.ensures.unread [
-      | inl same ↦ inl same
-      | inr run ↦ inr (source_run c.args.plan.verification held bytes holds run)
-    ]
+    unread_held c.args.plan.verification held bytes holds c.in_ok-told.ensures.unread
 
 pub returns-in_err-write_bytes-clause-goes : goal.returns-in_err-write_bytes-clause-goes
 returns-in_err-write_bytes-clause-goes g c =
@@ -81,10 +75,7 @@ returns-clause-unread g c =
     let bytes = c.as_slice.result.now in
     let holds = subst (λ (bytes : List ℕ). Holds held bytes) (sym c.as_slice.ensures.value)
     c.in_ok-bytes.ensures.bytes in
-    elim c.in_ok-told.ensures.unread [
-      | inl same ↦ inl same
-      | inr run ↦ inr (source_run c.args.plan.verification held bytes holds run)
-    ]
+    unread_held c.args.plan.verification held bytes holds c.in_ok-told.ensures.unread
 
 pub returns-clause-goes : goal.returns-clause-goes
 returns-clause-goes g c =

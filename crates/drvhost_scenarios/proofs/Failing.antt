@@ -1,0 +1,96 @@
+-- A scenario whose last step fails.
+use Rattle.std.proofs.Common.{◌≡◌, ◌∙◌, ℕ, Bool, true, false, List, [], ◌∷◌, ◌++◌, Option, None, Some, Result, Ok, Err, IfOk, IsTrue, ap, if◌then◌else◌, refl, subst, sym}
+use Rattle.std.specs.Prelude.{IfSome, is_some}
+use Rattle.std.specs.Global.{Global, Vec}
+use Rattle.interleave.specs.declared.schedule.Schedule.{Schedule}
+use Rattle.interleave.specs.Listing.{Lists}
+use Rattle.model.specs.declared.event.Event.{Event}
+use Rattle.model.specs.Set.{Set}
+use Rattle.scenario_run.specs.Acting.{Played, acted, expected, passes, played}
+use Rattle.scenario_run.specs.Holding.{holds}
+use Rattle.scenario_run.specs.Playing.{Playing, begun}
+use Rattle.scenario_text.specs.declared.scenario.Action.TheVariants.{Expect}
+use Rattle.scenario_text.specs.declared.scenario.Expectation.TheVariants.{Clean}
+use Rattle.scenario_text.specs.declared.scenario.Step.{Step}
+use Rattle.scenario_text.specs.Listing.{Listed}
+use Rattle.scenario_text.specs.Names.{Named}
+use Rattle.drvhost_scenarios.specs.Finding.{FailsAtLast, FailsFor, FailsFound, IsAmiss}
+use Rattle.drvhost_scenarios.specs.Scenarios.{play_of}
+
+some_none : {A : Type 0} {B : Type 0} (a : A) → Some a ≡ None → B
+some_none a e = let no : ⊥ = cc in absurd no
+
+-- how a step plays with those behind it, where it passes or fails
+abbrev Chosen : Playing → Step → List Step → Bool → Played
+Chosen q x rest b = if b then played q rest else record { now = q; failed = Some x }
+
+chosen_on : (q end : Playing) (x : Step) (before rest : List Step) (b : Bool)
+    → (played q before ≡ record { now = end; failed = None }
+    → played q (before ++ rest) ≡ played end rest)
+    → Chosen q x before b ≡ record { now = end; failed = None }
+    → Chosen q x (before ++ rest) b ≡ played end rest
+chosen_on q end x before rest true later e = later e
+chosen_on q end x before rest false later e = some_none x (ap (λ (r : Played). r.failed) e)
+
+-- steps behind some of which none fails
+played_behind : (p q : Playing) (before rest : List Step)
+    → played p before ≡ record { now = q; failed = None }
+    → played p (before ++ rest) ≡ played q rest
+played_behind p q [] rest e = ap (λ (r : Played). played r.now rest) e
+played_behind p q (x ∷ before) rest e =
+    let w = acted p x.action in
+    chosen_on w.now q x before rest (passes x.may w.outcome) (played_behind w.now q before rest) e
+
+-- a step that expects that nothing is amiss, where something is
+amiss_fails : (p : Playing) (step : Step) → IsAmiss p step
+    → played p (step ∷ []) ≡ record { now = p; failed = Some step }
+amiss_fails p step h = rw (h.expects, h.must, h.fails) refl
+
+fails_last : (set : Set) (threads : ℕ) (events : List Event) (scenario : Listed)
+    (before : List Step) (last : Step) (start p : Playing) → scenario.threads ≡ threads
+    → scenario.steps ≡ before ++ last ∷ [] → start ≡ begun set threads
+    → record { now = p; failed = None } ≡ played start before → p.events ≡ events
+    → IsAmiss p last → FailsAtLast set threads events scenario
+fails_last set threads events scenario before last start p many steps begins plays happens amiss =
+    let whole : play_of set scenario ≡ record { now = p; failed = Some last } =
+    ap (λ (k : ℕ). played (begun set k) scenario.steps) many
+    ∙ ap (λ (all : List Step). played (begun set threads) all) steps
+    ∙ ap (λ (q : Playing). played q (before ++ last ∷ [])) (sym begins)
+    ∙ played_behind start p before (last ∷ []) (sym plays)
+    ∙ amiss_fails p last amiss in
+    record {
+      before = before;
+      last = last;
+      threads_are = many;
+      steps = steps;
+      expects = amiss.expects;
+      fails = ap (λ (r : Played). r.failed) whole;
+      happens = ap (λ (r : Played). r.now.events) whole ∙ happens;
+    }
+
+-- and where it is looked for
+pub fails_if : {E : Type 0} (set : Set) (threads : ℕ) (events : List Event) (scenario : Listed)
+    (before : List Step) (last : Step) (start p : Playing) (result : Result Bool E)
+    → scenario.threads ≡ threads → scenario.steps ≡ before ++ last ∷ [] → start ≡ begun set threads
+    → record { now = p; failed = None } ≡ played start before → p.events ≡ events
+    → IfOk result (λ amiss. IsTrue amiss → IsAmiss p last)
+    → IfOk result (λ fails. IsTrue fails → FailsAtLast set threads events scenario)
+fails_if set threads events scenario before last start p (Ok amiss) many steps begins plays happens h = λ yes.
+    fails_last set threads events scenario before last start p many steps begins plays happens (h yes)
+fails_if set threads events scenario before last start p (Err e) many steps begins plays happens h = h
+
+-- where another text lists the run
+pub found_so : {E : Type 0} (names : Named) (set : Set) (found : List ℕ) (schedule : Schedule)
+    (result : Result (Option (Vec ℕ)) E) → Lists found schedule
+    → IfOk result (λ text. IfSome text (λ t. FailsFor names set schedule.threads schedule.events t.items))
+    → IfOk result (λ text. IfSome text (λ t. FailsFound names set found t.items))
+found_so names set found schedule (Ok (Some text)) lists h = (schedule, lists, h)
+found_so names set found schedule (Ok None) lists h = h
+found_so names set found schedule (Err e) lists h = h
+
+-- none of some steps has failed
+pub none_failed : (q : Playing) (failed : Option Step) (played_so : Played)
+    → record { now = q; failed = failed } ≡ played_so → is_some failed ≡ false
+    → record { now = q; failed = None } ≡ played_so
+none_failed q None played_so e fine = e
+none_failed q (Some step) played_so e fine = let never : true ≡ false = fine in cc
