@@ -13,7 +13,7 @@ use drvhost_devices::transfer::write_bytes;
 use drvhost_sets::job::{Job, Notes, answer};
 use hunt_bounds::reach::Reach;
 use hunt_schedule::exact::tell_exactly;
-use hunt_schedule::telling::{Told, tell_hunt};
+use hunt_schedule::telling::{Told, tell_hunting};
 use image::DriverSet;
 use report_progress::progress::{Progress, Silent};
 use std::alloc::Global;
@@ -136,7 +136,7 @@ fn told_of<P: Progress>(
     let source = source_of(alloc, bytes, set)?;
     let bounds = job.reach.bounds();
     let told = match job.way {
-        Way::Quick => tell_hunt(alloc, set, bounds, source.as_slice(), job.progress)?,
+        Way::Quick => tell_hunting(alloc, set, bounds, source.as_slice(), job.progress)?,
         Way::Exact => tell_exactly(alloc, set, bounds, source.as_slice())?,
     };
     Ok(told)
