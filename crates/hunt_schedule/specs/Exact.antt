@@ -5,7 +5,6 @@ use Rattle.std.specs.Prelude.{ℕ, ◌≡◌, ◌+◌, Bool, List, Some, length}
 use Rattle.hunt_bounds.specs.declared.bounds.Bounds.{Bounds}
 use Rattle.hunt_bounds.specs.declared.bounds.Goal.TheVariants.{Amiss}
 use Rattle.hunt_exact.specs.declared.search.Exactly.{Exactly}
-use Rattle.hunt_exact.specs.declared.search.Exactly.TheVariants.{Found, Never, More}
 use Rattle.hunt_exact.specs.declared.search.Shortest.{Shortest}
 use Rattle.hunt_exact.specs.Exact.{IsExact, IsShortest, scope_of}
 use Rattle.hunt_exact.specs.Within.{FineUpTo, NeverAmiss, Scope}

@@ -1,4 +1,4 @@
-use Rattle.std.proofs.Common.{◌≡◌, codes, decimal}
+use Rattle.std.proofs.Common.{codes, decimal}
 use Rattle.hunt_schedule.proofs.Pieces.{seven}
 use Rattle.hunt_schedule.proofs.lines.worlds_line.Goals as goal
 
