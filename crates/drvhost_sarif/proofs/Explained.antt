@@ -3,7 +3,6 @@ use Rattle.std.proofs.Common.{◌≡◌, ◌∙◌, ◌+◌, ◌<◌, ◌≤◌,
 use Rattle.std.proofs.lemmas.List.{take_all, take_more}
 use Rattle.std.specs.Global.{Vec}
 use Rattle.std.specs.List.{AllZip}
-use Rattle.mend_fixes.specs.declared.lines.LineEdit.{LineEdit}
 use Rattle.model.specs.declared.abs.Refusal.{Refusal}
 use Rattle.model.specs.Set.{Set}
 use Rattle.report_sarif.specs.declared.log.Finding.{Finding}
@@ -14,7 +13,6 @@ use Rattle.verifier_words.specs.Faults.{AreFaults, refusals}
 use Rattle.drvhost_evidence.specs.declared.shown.Shown.{Shown}
 use Rattle.drvhost_evidence.specs.Shown.{IsShownBy}
 use Rattle.drvhost_evidence.proofs.EachFault.{past_told, told_at, within_told}
-use Rattle.drvhost_mends.specs.Fix.{IsFix}
 use Rattle.drvhost_options.specs.declared.extent.Extent.{Extent}
 use Rattle.drvhost_options.specs.declared.extent.Extent.TheVariants.{First, Each}
 use Rattle.drvhost_sarif.specs.Found.{AreExplained, IsExplained, IsRefusal, refusal_words}
@@ -66,15 +64,13 @@ each_explained (Err e) extent name bytes set refusal is shown = tt
 -- one of them, by what shows it
 pub shown_explained : {E : Type 0} (r : Result Finding E) (name bytes : List ℕ) (set : Set)
     (refusal : Refusal) (evidence : Option Evidence) (shown : Shown) (words : List ℕ)
-    (fix : List LineEdit) → IsEvidence set refusal evidence
-    → IsShownBy bytes refusal evidence shown → IsFix refusal bytes fix
+    → IsEvidence set refusal evidence → IsShownBy bytes refusal evidence shown
     → IfOk r (IsRefusal name bytes refusal)
     → IfOk r (λ finding. string_bytes finding.message ≡ refusal_words refusal ++ 10 ∷ words)
     → IfOk r (λ finding. finding.path.items ≡ shown.path.items)
     → IfOk r (λ finding. finding.other.items ≡ shown.other.items)
-    → IfOk r (λ finding. finding.fix ≡ fix)
     → IfOk r (IsExplained name bytes set refusal)
-shown_explained (Ok finding) name bytes set refusal evidence shown words fix shows it so is told path other whole =
+shown_explained (Ok finding) name bytes set refusal evidence shown words shows it is told path other =
     record {
       result = is;
       words = words;
@@ -83,7 +79,6 @@ shown_explained (Ok finding) name bytes set refusal evidence shown words fix sho
       shows = shows;
       path = rw path it.path;
       other = rw other it.other;
-      fixed = rw whole so;
     }
-shown_explained (Err e) name bytes set refusal evidence shown words fix shows it so is told path other whole =
+shown_explained (Err e) name bytes set refusal evidence shown words shows it is told path other =
     tt
