@@ -12,10 +12,10 @@
  *   0 it may be NULL; no other pointer may. What is written to overlaps with nothing else that is
  *   passed.
  * - Bytes are bytes: nothing ends them but their length. A length is a number of bytes.
- * - Calls that say "takes memory" take it from malloc and, but for a world, give all of it back
- *   before they return. Where memory is refused they answer PAFTEIS_NO_MEMORY.
- * - Calls may be made in several threads at once, as long as no two of them have the same world, or
- *   a buffer that one of them writes to. No call may be made from a signal handler, or in the child
+ * - Calls that say "takes memory" take it from malloc and, but for a world or a kept answer, give
+ *   all of it back before they return. Where memory is refused they answer PAFTEIS_NO_MEMORY.
+ * - Calls may be made in several threads at once, as long as no two of them have the same world or
+ *   answer, or a buffer that one of them writes to. No call may be made from a signal handler, or in the child
  *   of a process that had several threads when it forked.
  *
  * Linux on x86-64 with the instructions of x86-64-v2; C99 and later, C++17 for pafteis.hpp. Nothing
@@ -40,6 +40,7 @@ enum {
     PAFTEIS_NO_MEMORY = 3,      /* memory was refused; buffers and worlds are as they were */
     PAFTEIS_WRONG_ARGUMENT = 4, /* a number that names nothing; buffers and worlds likewise */
     PAFTEIS_NO_WORLD = 5,       /* no world was made, or it was freed; nothing is written */
+    PAFTEIS_NO_ANSWER = 5,      /* likewise of an answer that the library keeps */
     PAFTEIS_HAS_WORLD = 6       /* a world stands where a new one was to be made; it stays */
 };
 
@@ -179,7 +180,7 @@ uint32_t pafteis_routine(const uint8_t *set, size_t set_length, uint8_t driver, 
  * and the status, which is the program's exit status, tells which. `needed` becomes the number of
  * these bytes, 0 with _NO_MEMORY and _WRONG_ARGUMENT. Where they are no more than `capacity`, they
  * are written to the front of the buffer; else nothing is, and a second call with a larger buffer
- * answers the same. All take memory. */
+ * answers the same. Calls below keep a large answer, and make it once. All take memory. */
 
 /* `check`: the verdict, with a line for each routine of an accepted set. */
 uint32_t pafteis_report(const uint8_t *set, size_t set_length,
@@ -252,6 +253,50 @@ uint32_t pafteis_list(const uint8_t *set, size_t set_length,
 /* `rewrite`: the set's image, of edition 2. */
 uint32_t pafteis_rewrite(const uint8_t *set, size_t set_length,
                          uint8_t *buffer, size_t capacity, size_t *needed);
+
+/* Large answers once -------------------------------------------------------------------------
+ *
+ * A call above makes its answer a second time where the first buffer was too small. These make it
+ * once: the library keeps the bytes until they are freed. Set the struct to PAFTEIS_EMPTY_ANSWER
+ * before it is passed for the first time, and let nothing but these calls change it; it may be
+ * moved, and not copied. `live` says whether an answer is kept, and that one is to be freed. */
+
+typedef struct {
+    bool live;
+    void *inside;
+} pafteis_answer;
+
+#define PAFTEIS_EMPTY_ANSWER { false, NULL }
+
+/* The status, `needed` and the bytes are those of the call above of the same name; the bytes are
+ * kept, and what was kept in the struct before is freed. With _NO_MEMORY and _WRONG_ARGUMENT
+ * `answer` is as it was. All take memory. */
+uint32_t pafteis_answer_explain(const uint8_t *set, size_t set_length, uint32_t extent,
+                                pafteis_answer *answer, size_t *needed);
+uint32_t pafteis_answer_trace(const uint8_t *set, size_t set_length,
+                              const uint8_t *schedule, size_t schedule_length, uint32_t flags,
+                              pafteis_answer *answer, size_t *needed);
+uint32_t pafteis_answer_tell(const uint8_t *set, size_t set_length,
+                             const uint8_t *schedule, size_t schedule_length, uint32_t flags,
+                             pafteis_answer *answer, size_t *needed);
+uint32_t pafteis_answer_draw(const uint8_t *set, size_t set_length,
+                             const uint8_t *schedule, size_t schedule_length, uint32_t flags,
+                             pafteis_answer *answer, size_t *needed);
+uint32_t pafteis_answer_hunt(const uint8_t *set, size_t set_length, const pafteis_hunting *asked,
+                             pafteis_answer *answer, size_t *needed);
+uint32_t pafteis_answer_mend(const uint8_t *set, size_t set_length, uint64_t tries,
+                             pafteis_answer *answer, size_t *needed);
+uint32_t pafteis_answer_list(const uint8_t *set, size_t set_length,
+                             pafteis_answer *answer, size_t *needed);
+
+/* Puts the bytes of an answer from byte `from` on into a buffer, as many as there are or as have
+ * room: `count` becomes how many, 0 behind the last. _NO_ANSWER where none is kept, and `count` is
+ * as it was. */
+uint32_t pafteis_answer_read(const pafteis_answer *answer, size_t from,
+                             uint8_t *buffer, size_t capacity, size_t *count);
+
+/* Frees an answer; _NO_ANSWER where none is kept, as where it was freed before. */
+uint32_t pafteis_answer_free(pafteis_answer *answer);
 
 /* Names --------------------------------------------------------------------------------------
  *

@@ -17,7 +17,8 @@ namespace pafteis {
 // tells the fault in the program's words where it is one of a text, an image or a schedule.
 class error : public std::runtime_error {
 public:
-    error(std::uint32_t status, const std::string &told) : std::runtime_error(told), status(status) {}
+    error(std::uint32_t status, const std::string &told)
+        : std::runtime_error(told), status(status) {}
     std::uint32_t status;
 };
 
@@ -34,28 +35,56 @@ inline void expect(std::uint32_t status) {
         throw error(status, "pafteis: status " + std::to_string(status));
 }
 
-inline const std::uint8_t *bytes(std::string_view text) {
-    static const std::uint8_t none = 0;
-    return text.empty() ? &none : reinterpret_cast<const std::uint8_t *>(text.data());
+inline void expect_set(std::uint32_t status, const pafteis_verdict &verdict) {
+    if (status == PAFTEIS_REFUSED || status == PAFTEIS_FAULTY)
+        throw no_set(status, verdict);
+    expect(status);
 }
 
-// The words of a call that puts its answer into a buffer; `accepted` becomes whether it is done.
-template <typename Call> std::string told(Call call, bool *accepted = nullptr) {
-    std::string text(256, '\0');
+inline const std::uint8_t *bytes(std::string_view text) {
+    return reinterpret_cast<const std::uint8_t *>(text.data());
+}
+
+// The words of an answer, of this status; `done` becomes whether that is PAFTEIS_DONE.
+inline std::string judged(bool *done, std::uint32_t status, std::string text) {
+    if (status == PAFTEIS_FAULTY)
+        throw error(status, text);
+    if (status > PAFTEIS_FAULTY)
+        expect(status);
+    if (done != nullptr)
+        *done = status == PAFTEIS_DONE;
+    return text;
+}
+
+// An answer that the library keeps until this ends.
+struct answer {
+    pafteis_answer kept = PAFTEIS_EMPTY_ANSWER;
+    std::size_t length = 0;
+    answer() = default;
+    answer(const answer &) = delete;
+    ~answer() { pafteis_answer_free(&kept); }
+};
+
+// The words of a call whose answer the library keeps, and of one that puts it into a buffer.
+template <typename Call, typename... Words>
+std::string kept(bool *done, Call call, Words... words) {
+    answer made;
+    std::uint32_t status = call(words..., &made.kept, &made.length);
+    std::string text(made.length, '\0');
+    auto *buffer = reinterpret_cast<std::uint8_t *>(text.data());
+    pafteis_answer_read(&made.kept, 0, buffer, text.size(), &made.length);
+    return judged(done, status, std::move(text));
+}
+
+template <typename Call, typename... Words> std::string put(Call call, Words... words) {
+    std::string text(4096, '\0');
     for (;;) {
-        std::size_t needed = 0;
-        auto *buffer = reinterpret_cast<std::uint8_t *>(&text[0]);
-        std::uint32_t status = call(buffer, text.size(), &needed);
-        if (status > PAFTEIS_FAULTY)
-            expect(status);
-        bool fits = needed <= text.size();
+        std::size_t needed = 0, room = text.size();
+        auto *buffer = reinterpret_cast<std::uint8_t *>(text.data());
+        std::uint32_t status = call(words..., buffer, room, &needed);
         text.resize(needed);
-        if (fits && status == PAFTEIS_FAULTY)
-            throw error(status, text);
-        if (fits && accepted != nullptr)
-            *accepted = status == PAFTEIS_DONE;
-        if (fits)
-            return text;
+        if (needed <= room)
+            return judged(nullptr, status, std::move(text));
     }
 }
 
@@ -68,70 +97,50 @@ inline bool check(std::string_view set, pafteis_verdict &verdict) {
 }
 
 inline std::string explain(std::string_view set, std::uint32_t extent = PAFTEIS_FIRST) {
-    return told([=](std::uint8_t *buffer, std::size_t capacity, std::size_t *needed) {
-        return pafteis_explain(bytes(set), set.size(), extent, buffer, capacity, needed);
-    });
+    return kept(nullptr, pafteis_answer_explain, bytes(set), set.size(), extent);
 }
 
 // A run of a schedule: as `trace` writes it, as `tell` does, as a picture. `complete` becomes whether
 // the program's exit status is 0.
-using run_call = std::uint32_t (*)(const std::uint8_t *, std::size_t, const std::uint8_t *,
-                                   std::size_t, std::uint32_t, std::uint8_t *, std::size_t,
-                                   std::size_t *);
-
-inline std::string run(run_call call, std::string_view set, std::string_view schedule,
-                       bool *complete, std::uint32_t flags) {
-    return told([=](std::uint8_t *buffer, std::size_t capacity, std::size_t *needed) {
-        return call(bytes(set), set.size(), bytes(schedule), schedule.size(), flags, buffer,
-                    capacity, needed);
-    }, complete);
-}
-
 inline std::string trace(std::string_view set, std::string_view schedule, bool *complete = nullptr,
                          std::uint32_t flags = PAFTEIS_CHECKED) {
-    return run(pafteis_trace, set, schedule, complete, flags);
+    return kept(complete, pafteis_answer_trace, bytes(set), set.size(), bytes(schedule),
+                schedule.size(), flags);
 }
 
 inline std::string tell(std::string_view set, std::string_view schedule, bool *complete = nullptr,
                         std::uint32_t flags = PAFTEIS_CHECKED) {
-    return run(pafteis_tell, set, schedule, complete, flags);
+    return kept(complete, pafteis_answer_tell, bytes(set), set.size(), bytes(schedule),
+                schedule.size(), flags);
 }
 
 inline std::string draw(std::string_view set, std::string_view schedule, bool *complete = nullptr,
                         std::uint32_t flags = PAFTEIS_CHECKED) {
-    return run(pafteis_draw, set, schedule, complete, flags);
+    return kept(complete, pafteis_answer_draw, bytes(set), set.size(), bytes(schedule),
+                schedule.size(), flags);
 }
 
 // A shortest run that ends amiss, as a schedule, or the line that none is within reach; `none`
 // becomes whether there is none.
 inline std::string hunt(std::string_view set, bool *none = nullptr,
                         const pafteis_hunting &asked = PAFTEIS_USUAL_HUNT) {
-    return told([=, &asked](std::uint8_t *buffer, std::size_t capacity, std::size_t *needed) {
-        return pafteis_hunt(bytes(set), set.size(), &asked, buffer, capacity, needed);
-    }, none);
+    return kept(none, pafteis_answer_hunt, bytes(set), set.size(), &asked);
 }
 
 // Mends of a text, as diffs; `whole` becomes whether the whole is mended, or nothing is to mend.
 inline std::string mend(std::string_view set, bool *whole = nullptr,
                         std::uint64_t tries = PAFTEIS_USUAL_TRIES) {
-    return told([=](std::uint8_t *buffer, std::size_t capacity, std::size_t *needed) {
-        return pafteis_mend(bytes(set), set.size(), tries, buffer, capacity, needed);
-    }, whole);
+    return kept(whole, pafteis_answer_mend, bytes(set), set.size(), tries);
 }
 
 // The name that a text gives to something, and the name of a rule, a status or a bug check.
 inline std::string name_in(std::string_view text, std::uint32_t kind, std::uint8_t number,
                            std::uint8_t driver = 0) {
-    return told([=](std::uint8_t *buffer, std::size_t capacity, std::size_t *needed) {
-        return pafteis_name_in(bytes(text), text.size(), kind, driver, number, buffer, capacity,
-                               needed);
-    });
+    return put(pafteis_name_in, bytes(text), text.size(), kind, driver, number);
 }
 
 inline std::string name_of(std::uint32_t kind, std::uint32_t number) {
-    return told([=](std::uint8_t *buffer, std::size_t capacity, std::size_t *needed) {
-        return pafteis_name_of(kind, number, buffer, capacity, needed);
-    });
+    return put(pafteis_name_of, kind, number);
 }
 
 // Whether a text is a schedule: `size` tells how large it is, or `fault` what is wrong with it.
@@ -147,11 +156,7 @@ inline bool schedule(std::string_view text, pafteis_schedule_size &size,
 inline pafteis_lock_order order_of_locks(std::string_view set, std::uint8_t driver) {
     pafteis_lock_order order;
     pafteis_verdict verdict;
-    std::uint32_t status =
-        pafteis_order_of_locks(bytes(set), set.size(), driver, &order, &verdict);
-    if (status == PAFTEIS_REFUSED || status == PAFTEIS_FAULTY)
-        throw no_set(status, verdict);
-    expect(status);
+    expect_set(pafteis_order_of_locks(bytes(set), set.size(), driver, &order, &verdict), verdict);
     return order;
 }
 
@@ -160,11 +165,7 @@ class world {
 public:
     world(std::string_view set, std::uint8_t threads) {
         pafteis_verdict verdict;
-        std::uint32_t status =
-            pafteis_world_new(bytes(set), set.size(), threads, &handle, &verdict);
-        if (status == PAFTEIS_REFUSED || status == PAFTEIS_FAULTY)
-            throw no_set(status, verdict);
-        expect(status);
+        expect_set(pafteis_world_new(bytes(set), set.size(), threads, &handle, &verdict), verdict);
     }
     world(world &&other) noexcept : handle(std::exchange(other.handle, pafteis_world{})) {}
     world &operator=(world &&other) noexcept {
@@ -192,34 +193,22 @@ public:
     }
     pafteis_reply step(std::uint8_t thread) { return apply({0, 0, PAFTEIS_STEP, thread, 0, 0, 0}); }
     pafteis_thread thread(std::uint8_t number) const {
-        pafteis_thread found;
-        expect(pafteis_world_thread(&handle, number, &found));
-        return found;
+        return look<pafteis_thread>(pafteis_world_thread, number);
     }
     pafteis_packet packet(std::uint64_t number) const {
-        pafteis_packet found;
-        expect(pafteis_world_packet(&handle, number, &found));
-        return found;
+        return look<pafteis_packet>(pafteis_world_packet, number);
     }
     pafteis_due due(std::uint8_t device) const {
-        pafteis_due found;
-        expect(pafteis_world_due(&handle, device, &found));
-        return found;
+        return look<pafteis_due>(pafteis_world_due, device);
     }
     pafteis_cells cells(std::uint8_t device) const {
-        pafteis_cells found;
-        expect(pafteis_world_cells(&handle, device, &found));
-        return found;
+        return look<pafteis_cells>(pafteis_world_cells, device);
     }
     pafteis_owner lock(std::uint8_t device, std::uint8_t number) const {
-        pafteis_owner found;
-        expect(pafteis_world_lock(&handle, device, number, &found));
-        return found;
+        return look<pafteis_owner>(pafteis_world_lock, device, number);
     }
     pafteis_request request(std::uint64_t packet) const {
-        pafteis_request found;
-        expect(pafteis_world_request(&handle, packet, &found));
-        return found;
+        return look<pafteis_request>(pafteis_world_request, packet);
     }
 
     // Begins anew: before the first event, with so many threads.
@@ -234,6 +223,12 @@ public:
 
 private:
     world() = default;
+    template <typename Found, typename Call, typename... Words>
+    Found look(Call call, Words... words) const {
+        Found found;
+        expect(call(&handle, words..., &found));
+        return found;
+    }
     // Calls that only look have the struct as it was when they return, and to themselves meanwhile.
     mutable pafteis_world handle = PAFTEIS_EMPTY_WORLD;
 };

@@ -46,8 +46,8 @@ static const struct {
     const char *word;
     int more;
 } WORDS[] = {{"check", 1}, {"explain", 1}, {"explain-each", 1}, {"list", 1}, {"rewrite", 1},
-             {"hunt", 1}, {"mend", 1}, {"trace", 2}, {"trace-unchecked", 2}, {"tell", 2}, {"tell-every", 2}, {"draw", 2},
-             {"rule", 1}, {"version", 0}};
+             {"hunt", 1}, {"mend", 1}, {"trace", 2}, {"trace-unchecked", 2}, {"tell", 2},
+             {"tell-every", 2}, {"draw", 2}, {"rule", 1}, {"version", 0}};
 
 static bool is_known(int count, char **words) {
     for (size_t at = 0; at < sizeof WORDS / sizeof WORDS[0]; at++)
@@ -56,81 +56,99 @@ static bool is_known(int count, char **words) {
     return false;
 }
 
-/* What is answered of one file. */
-static uint32_t of_file(const char *word, text set, text buffer, size_t *needed) {
+/* Small answers go into a buffer: false where it isn't one of those. */
+static bool is_put(const char *word, const char *rule, text set, text buffer, size_t *needed,
+                   uint32_t *status) {
     uint8_t *into = buffer.bytes;
-    if (strcmp(word, "check") == 0)
-        return pafteis_report(set.bytes, set.length, into, buffer.length, needed);
-    if (strcmp(word, "explain") == 0)
-        return pafteis_explain(set.bytes, set.length, PAFTEIS_FIRST, into, buffer.length, needed);
-    if (strcmp(word, "explain-each") == 0)
-        return pafteis_explain(set.bytes, set.length, PAFTEIS_EACH, into, buffer.length, needed);
-    if (strcmp(word, "list") == 0)
-        return pafteis_list(set.bytes, set.length, into, buffer.length, needed);
-    if (strcmp(word, "rewrite") == 0)
-        return pafteis_rewrite(set.bytes, set.length, into, buffer.length, needed);
-    pafteis_hunting usual = PAFTEIS_USUAL_HUNT;
-    if (strcmp(word, "hunt") == 0)
-        return pafteis_hunt(set.bytes, set.length, &usual, into, buffer.length, needed);
-    return pafteis_mend(set.bytes, set.length, PAFTEIS_USUAL_TRIES, into, buffer.length, needed);
+    if (strcmp(word, "version") == 0)
+        *status = pafteis_version(into, buffer.length, needed);
+    else if (strcmp(word, "rule") == 0)
+        *status = pafteis_explain_rule((uint32_t)strtoul(rule, NULL, 10), into, buffer.length,
+                                       needed);
+    else if (strcmp(word, "check") == 0)
+        *status = pafteis_report(set.bytes, set.length, into, buffer.length, needed);
+    else if (strcmp(word, "rewrite") == 0)
+        *status = pafteis_rewrite(set.bytes, set.length, into, buffer.length, needed);
+    else
+        return false;
+    return true;
 }
 
-/* What is answered of a run. */
-static uint32_t of_run(const char *word, text set, text events, text buffer, size_t *needed) {
-    uint8_t *into = buffer.bytes;
+/* Large answers are made once, and kept. */
+static uint32_t keep(const char *word, text set, text events, pafteis_answer *answer,
+                     size_t *needed) {
+    pafteis_hunting usual = PAFTEIS_USUAL_HUNT;
     uint32_t flags = strcmp(word, "trace-unchecked") == 0 ? PAFTEIS_UNCHECKED : PAFTEIS_CHECKED;
+    if (strcmp(word, "explain") == 0)
+        return pafteis_answer_explain(set.bytes, set.length, PAFTEIS_FIRST, answer, needed);
+    if (strcmp(word, "explain-each") == 0)
+        return pafteis_answer_explain(set.bytes, set.length, PAFTEIS_EACH, answer, needed);
+    if (strcmp(word, "list") == 0)
+        return pafteis_answer_list(set.bytes, set.length, answer, needed);
+    if (strcmp(word, "hunt") == 0)
+        return pafteis_answer_hunt(set.bytes, set.length, &usual, answer, needed);
+    if (strcmp(word, "mend") == 0)
+        return pafteis_answer_mend(set.bytes, set.length, PAFTEIS_USUAL_TRIES, answer, needed);
     if (strcmp(word, "draw") == 0)
-        return pafteis_draw(set.bytes, set.length, events.bytes, events.length, flags, into,
-                            buffer.length, needed);
+        return pafteis_answer_draw(set.bytes, set.length, events.bytes, events.length, flags,
+                                   answer, needed);
     if (strcmp(word, "tell-every") == 0)
         flags |= PAFTEIS_EVERY;
     if (strncmp(word, "tell", 4) == 0)
-        return pafteis_tell(set.bytes, set.length, events.bytes, events.length, flags, into,
-                            buffer.length, needed);
-    return pafteis_trace(set.bytes, set.length, events.bytes, events.length, flags, into,
-                         buffer.length, needed);
+        return pafteis_answer_tell(set.bytes, set.length, events.bytes, events.length, flags,
+                                   answer, needed);
+    return pafteis_answer_trace(set.bytes, set.length, events.bytes, events.length, flags, answer,
+                                needed);
 }
 
-static uint32_t answer(int count, char **words, text buffer, size_t *needed) {
-    if (strcmp(words[1], "version") == 0)
-        return pafteis_version(buffer.bytes, buffer.length, needed);
-    if (strcmp(words[1], "rule") == 0) {
-        uint32_t rule = (uint32_t)strtoul(words[2], NULL, 10);
-        return pafteis_explain_rule(rule, buffer.bytes, buffer.length, needed);
+static FILE *stream_of(uint32_t status) { return status >= PAFTEIS_FAULTY ? stderr : stdout; }
+
+/* Writes an answer in pieces. */
+static void write_pieces(const pafteis_answer *answer, FILE *stream) {
+    uint8_t piece[4096];
+    size_t from = 0, count = 0;
+    while (pafteis_answer_read(answer, from, piece, sizeof piece, &count) == PAFTEIS_DONE &&
+           count > 0) {
+        fwrite(piece, 1, count, stream);
+        from += count;
     }
-    text set = read_file(words[2]);
+}
+
+static uint32_t answer(char **words, text set, text events) {
+    pafteis_answer kept = PAFTEIS_EMPTY_ANSWER;
+    text buffer = {NULL, 0};
+    size_t needed = 0;
     uint32_t status;
-    if (count > 3) {
-        text events = read_file(words[3]);
-        status = of_run(words[1], set, events, buffer, needed);
-        free(events.bytes);
-    } else {
-        status = of_file(words[1], set, buffer, needed);
+    if (!is_put(words[1], words[2], set, buffer, &needed, &status)) {
+        status = keep(words[1], set, events, &kept, &needed);
+        write_pieces(&kept, stream_of(status));
+        pafteis_answer_free(&kept);
+        return status;
     }
-    free(set.bytes);
+    buffer.length = needed;
+    buffer.bytes = malloc(needed + 1);
+    if (buffer.bytes == NULL)
+        return PAFTEIS_NO_MEMORY;
+    is_put(words[1], words[2], set, buffer, &needed, &status);
+    fwrite(buffer.bytes, 1, needed, stream_of(status));
+    free(buffer.bytes);
     return status;
 }
 
 int main(int count, char **words) {
-    uint8_t small[64];
-    text buffer = {small, sizeof small};
-    size_t needed = 0;
-    if (!is_known(count, words)) {
+    if (count < 2 || !is_known(count, words)) {
         fputs("answer: see the head of answer.c for its words\n", stderr);
         return 2;
     }
-    uint32_t status = answer(count, words, buffer, &needed);
-    if (needed > buffer.length) {
-        buffer.bytes = malloc(needed);
-        buffer.length = needed;
-        if (buffer.bytes == NULL)
-            return PAFTEIS_NO_MEMORY;
-        status = answer(count, words, buffer, &needed);
-    }
+    text set = {NULL, 0}, events = {NULL, 0};
+    if (count > 2 && strcmp(words[1], "rule") != 0)
+        set = read_file(words[2]);
+    if (count > 3)
+        events = read_file(words[3]);
+    uint32_t status = answer(words, set, events);
     if (status == PAFTEIS_NO_MEMORY)
         fputs("out of memory\n", stderr);
-    fwrite(buffer.bytes, 1, needed, status >= PAFTEIS_FAULTY ? stderr : stdout);
-    if (buffer.bytes != small)
-        free(buffer.bytes);
+    free(set.bytes);
+    free(events.bytes);
     return (int)status;
 }

@@ -183,6 +183,12 @@ class CHunting(ctypes.Structure):
     ]
 
 
+class CAnswer(ctypes.Structure):
+    """`pafteis_answer`"""
+
+    _fields_ = [("live", c_bool), ("inside", c_void_p)]
+
+
 class CScheduleSize(ctypes.Structure):
     """`pafteis_schedule_size`"""
 
@@ -198,6 +204,8 @@ class CScheduleFault(ctypes.Structure):
 SET = [c_char_p, c_size_t]
 BUFFER = [c_char_p, c_size_t, POINTER(c_size_t)]
 WORLD = [POINTER(CWorld)]
+ANSWER = [POINTER(CAnswer)]
+KEPT = [*ANSWER, POINTER(c_size_t)]
 
 # Calls that let other threads go on, and calls that don't, by the types of their arguments.
 WHOLE: dict[str, list[Any]] = {
@@ -219,6 +227,15 @@ WHOLE: dict[str, list[Any]] = {
     "schedule": [*SET, POINTER(CScheduleSize), POINTER(CScheduleFault)],
     "list": [*SET, *BUFFER],
     "rewrite": [*SET, *BUFFER],
+    "answer_explain": [*SET, c_uint32, *KEPT],
+    "answer_trace": [*SET, *SET, c_uint32, *KEPT],
+    "answer_tell": [*SET, *SET, c_uint32, *KEPT],
+    "answer_draw": [*SET, *SET, c_uint32, *KEPT],
+    "answer_hunt": [*SET, POINTER(CHunting), *KEPT],
+    "answer_mend": [*SET, c_uint64, *KEPT],
+    "answer_list": [*SET, *KEPT],
+    "answer_read": [*ANSWER, c_size_t, *BUFFER],
+    "answer_free": ANSWER,
     "version_number": [],
     "version": BUFFER,
     "world_new": [*SET, c_uint8, *WORLD, POINTER(CVerdict)],
@@ -278,7 +295,13 @@ def raise_for(status: int) -> None:
 
 
 def told(name: str, *arguments: object) -> tuple[int, bytes]:
-    """The status and the bytes of a call that puts its answer into a buffer."""
+    """The status and the bytes of a call that answers in bytes. Large answers are made once."""
+    answered = _kept if "answer_" + name in CALLS else _put
+    return answered(name, *arguments)
+
+
+def _put(name: str, *arguments: object) -> tuple[int, bytes]:
+    """The same of a call that puts its answer into a buffer."""
     # A buffer that is too small has the call made twice.
     call, capacity = CALLS[name], 65_536
     while True:
@@ -288,3 +311,17 @@ def told(name: str, *arguments: object) -> tuple[int, bytes]:
         if needed.value <= capacity:
             return status, buffer.raw[: needed.value]
         capacity = needed.value
+
+
+def _kept(name: str, *arguments: object) -> tuple[int, bytes]:
+    """The same of a call whose answer the library keeps: it is read, and freed."""
+    answer, needed = CAnswer(), c_size_t()
+    at = ctypes.byref(answer)
+    try:
+        status = CALLS["answer_" + name](*arguments, at, ctypes.byref(needed))
+        raise_for(status)
+        buffer = ctypes.create_string_buffer(needed.value)
+        CALLS["answer_read"](at, 0, buffer, needed.value, ctypes.byref(needed))
+        return status, buffer.raw
+    finally:
+        CALLS["answer_free"](at)

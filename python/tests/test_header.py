@@ -33,6 +33,7 @@ STRUCTS = {
     "owner": _library.COwner,
     "request": _library.CRequest,
     "hunting": _library.CHunting,
+    "answer": _library.CAnswer,
     "schedule_size": _library.CScheduleSize,
     "schedule_fault": _library.CScheduleFault,
 }
@@ -56,6 +57,7 @@ OF_SOURCE = {
     "owner": "OwnerValue",
     "request": "RequestValue",
     "hunting": "HuntValue",
+    "answer": "Kept",
     "schedule_size": "ScheduleValue",
     "schedule_fault": "ScheduleFaultValue",
 }

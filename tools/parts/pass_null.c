@@ -63,6 +63,27 @@ static void ask_bytes(int call, const uint8_t *set, const uint8_t *events, uint8
     }
 }
 
+/* Calls that keep an answer, and a piece of it. */
+static void ask_kept(int call, const uint8_t *set, const uint8_t *events, uint8_t *buffer,
+                     answer *told) {
+    pafteis_hunting usual = PAFTEIS_USUAL_HUNT;
+    pafteis_answer kept = PAFTEIS_EMPTY_ANSWER;
+    size_t *needed = &told->number;
+    switch (call) {
+    case 0: told->status = pafteis_answer_explain(set, 0, PAFTEIS_EACH, &kept, needed); break;
+    case 1: told->status = pafteis_answer_list(set, 0, &kept, needed); break;
+    case 2: told->status = pafteis_answer_mend(set, 0, 1, &kept, needed); break;
+    case 3: told->status = pafteis_answer_hunt(set, 0, &usual, &kept, needed); break;
+    case 4: told->status = pafteis_answer_trace(set, 0, events, 0, 1, &kept, needed); break;
+    case 5: told->status = pafteis_answer_tell(set, 0, events, 0, 1, &kept, needed); break;
+    default: told->status = pafteis_answer_draw(set, 0, events, 0, 1, &kept, needed); break;
+    }
+    size_t count = 9;
+    told->status += 100 * pafteis_answer_read(&kept, 0, buffer, 0, &count);
+    told->number += 1000000 * count;
+    pafteis_answer_free(&kept);
+}
+
 static void ask_schedule(const uint8_t *text, answer *told) {
     pafteis_schedule_size size = {0, 0};
     pafteis_schedule_fault fault;
@@ -101,6 +122,12 @@ int main(void) {
         ask_bytes(call % 13, SOME, SOME, room ? other.bytes : ROOM, room, &other);
         wrong += differ("bytes", call, &one, &other);
     }
+    for (call = 0; call < 7; call++) {
+        answer one = {0}, other = {0};
+        ask_kept(call, NULL, NULL, NULL, &one);
+        ask_kept(call, SOME, SOME, ROOM, &other);
+        wrong += differ("kept", call, &one, &other);
+    }
     answer one = {0}, other = {0};
     ask_schedule(NULL, &one);
     ask_schedule(SOME, &other);
@@ -110,6 +137,6 @@ int main(void) {
     ask_events(NULL, NULL, &one);
     ask_events(&event, &reply, &other);
     wrong += differ("events", 0, &one, &other);
-    printf("34 calls, %d wrong\n", wrong);
+    printf("41 calls, %d wrong\n", wrong);
     return wrong != 0;
 }

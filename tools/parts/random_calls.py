@@ -8,6 +8,8 @@ from pafteis import Event, EventKind, Irql, Major, NoWorld, PafteisError, World
 from versions import TOP
 
 USUAL = (PafteisError, TypeError, ValueError, OverflowError)
+SCHEDULES = (b"threads 1\nissue 0 0 READ 1\nstep 0 40\n", b"threads 2\nissue 1 0 WRITE 9\nstep 1 9\n",
+             b"threads 9\n", b"threads", b"", None)
 ODD = (-1, 0, 1, 2, 3, 7, 8, 63, 64, 65, 255, 256, 2**32, 2**64 - 1, 2**64, 10**30, None, "1", 1.5, b"", [])
 
 
@@ -42,9 +44,19 @@ class Caller:
         return Event(pick([*EventKind, 0, 9]), number(3), number(3), pick([*Major, 5]), number(20),
                      number(20), pick([*Irql, 3]))
 
+    def answer(self):
+        """One call whose answer may be large."""
+        pick, schedule = self.random.choice, self.random.choice(SCHEDULES)
+        return pick([lambda it: pafteis.explain(it, pick([False, True])), pafteis.listing,
+                     lambda it: pafteis.trace(it, schedule, pick([False, True])),
+                     lambda it: pafteis.tell(it, schedule), lambda it: pafteis.draw(it, schedule),
+                     lambda it: pafteis.mend(it, self.number(50))])(pick(self.texts))
+
     def one(self):
         """One call of the package."""
         roll, number = self.random.random(), self.number
+        if roll < 0.001:
+            return self.answer()
         if roll < 0.02:
             text = self.random.choice(self.texts)
             return self.random.choice([pafteis.check, lambda it: pafteis.order_of_locks(it, number(3)),

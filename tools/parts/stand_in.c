@@ -400,3 +400,78 @@ uint32_t pafteis_world_free(pafteis_world *world) {
     *world = (pafteis_world)PAFTEIS_EMPTY_WORLD;
     return PAFTEIS_DONE;
 }
+
+typedef struct {
+    size_t length;
+    uint8_t bytes[];
+} kept;
+
+uint32_t pafteis_answer_free(pafteis_answer *answer) {
+    if (!answer->live)
+        return PAFTEIS_NO_ANSWER;
+    free(answer->inside);
+    *answer = (pafteis_answer)PAFTEIS_EMPTY_ANSWER;
+    return PAFTEIS_DONE;
+}
+
+uint32_t pafteis_answer_read(const pafteis_answer *answer, size_t from, uint8_t *buffer,
+                             size_t capacity, size_t *count) {
+    if (!answer->live)
+        return PAFTEIS_NO_ANSWER;
+    kept *made = answer->inside;
+    size_t rest = from < made->length ? made->length - from : 0;
+    *count = rest < capacity ? rest : capacity;
+    if (*count > 0)
+        memcpy(buffer, made->bytes + from, *count);
+    return PAFTEIS_DONE;
+}
+
+/* Keeps what a call with a buffer answers: it is made twice here. */
+#define KEEP(call, ...)                                                                            \
+    uint32_t status = call(__VA_ARGS__, NULL, 0, needed);                                          \
+    if (status > PAFTEIS_FAULTY)                                                                   \
+        return status;                                                                             \
+    kept *made = malloc(sizeof *made + *needed);                                                   \
+    made->length = *needed;                                                                        \
+    call(__VA_ARGS__, made->bytes, made->length, needed);                                          \
+    pafteis_answer_free(answer);                                                                   \
+    *answer = (pafteis_answer){true, made};                                                        \
+    return status
+
+uint32_t pafteis_answer_explain(const uint8_t *set, size_t length, uint32_t extent,
+                                pafteis_answer *answer, size_t *needed) {
+    KEEP(pafteis_explain, set, length, extent);
+}
+
+uint32_t pafteis_answer_trace(const uint8_t *set, size_t length, const uint8_t *schedule,
+                              size_t size, uint32_t flags, pafteis_answer *answer,
+                              size_t *needed) {
+    KEEP(pafteis_trace, set, length, schedule, size, flags);
+}
+
+uint32_t pafteis_answer_tell(const uint8_t *set, size_t length, const uint8_t *schedule,
+                             size_t size, uint32_t flags, pafteis_answer *answer,
+                             size_t *needed) {
+    KEEP(pafteis_tell, set, length, schedule, size, flags);
+}
+
+uint32_t pafteis_answer_draw(const uint8_t *set, size_t length, const uint8_t *schedule,
+                             size_t size, uint32_t flags, pafteis_answer *answer,
+                             size_t *needed) {
+    KEEP(pafteis_draw, set, length, schedule, size, flags);
+}
+
+uint32_t pafteis_answer_hunt(const uint8_t *set, size_t length, const pafteis_hunting *asked,
+                             pafteis_answer *answer, size_t *needed) {
+    KEEP(pafteis_hunt, set, length, asked);
+}
+
+uint32_t pafteis_answer_mend(const uint8_t *set, size_t length, uint64_t tries,
+                             pafteis_answer *answer, size_t *needed) {
+    KEEP(pafteis_mend, set, length, tries);
+}
+
+uint32_t pafteis_answer_list(const uint8_t *set, size_t length, pafteis_answer *answer,
+                             size_t *needed) {
+    KEEP(pafteis_list, set, length);
+}

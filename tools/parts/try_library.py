@@ -49,8 +49,9 @@ def built(folder):
     for name in ("answer", "step", "first", "locks", "inside"):
         subprocess.run(["cc", *here, EXAMPLES / f"{name}.c", LIBRARY / "libpafteis.a", "-o",
                         f"{folder}/{name}"], check=True)
-    subprocess.run(["cc", *here, TOP / "tools/parts/pass_null.c", LIBRARY / "libpafteis.a", "-o",
-                    f"{folder}/pass_null"], check=True)
+    for name in ("pass_null", "keep_answers"):
+        subprocess.run(["cc", *here, TOP / f"tools/parts/{name}.c", LIBRARY / "libpafteis.a", "-o",
+                        f"{folder}/{name}"], check=True)
     found["C"] = [f"{folder}/answer"]
     subprocess.run(["c++", "-std=c++17", *here[1:], EXAMPLES / "step.cpp",
                     LIBRARY / "libpafteis.a", "-o", f"{folder}/step_cpp"], check=True)
@@ -90,6 +91,9 @@ def cases():
         yield ["explain", "--rule", f"V{rule}"], ["rule", str(rule)]
 
 
+# Sets with schedules: an accepted one, a refused one, and one whose run a bug check stops.
+KEPT = ("csq", "race", "cancelring")
+
 LOCKS = (b"driver 0\nl1, l0, l2, l3, l4, l5, l6, l7, cancel\n"
          b"driver 1\nroutine 0 at 1: l0 under cancel\n"
          b"routine 1 at 1: cancel under l0\n")
@@ -115,6 +119,20 @@ freed 0 0, reset 5
 """
 
 
+def wrong_keeping(command):
+    """What is told where answers that are kept aren't those that are put into a buffer."""
+    checked = shutil.which("valgrind")
+    words = [checked, "-q", "--error-exitcode=9", "--leak-check=full"] if checked else []
+    for name in KEPT:
+        files = [f"examples/{name}.drv", f"examples/{name}.sched"]
+        told = answered([*words, command, *files])
+        if told[:2] != (0, b"8 answers, 0 wrong\n"):
+            yield f"answers on {name} are kept otherwise: {told}"
+    told = answered([command, "examples/csq.sched", "examples/csq.drv"])
+    if told[:2] != (0, b"8 answers, 0 wrong\n"):
+        yield f"answers on what is faulty are kept otherwise: {told}"
+
+
 def wrong_worlds(folder, commands):
     """What is told of the programs that drive a world or ask for orders of locks, each of which is
     tried once."""
@@ -131,8 +149,9 @@ def wrong_worlds(folder, commands):
     if told[:2] != (0, INSIDE):
         yield f"what a world has is told otherwise from C: {told}"
     told = answered([f"{folder}/pass_null"])
-    if told[:2] != (0, b"34 calls, 0 wrong\n"):
+    if told[:2] != (0, b"41 calls, 0 wrong\n"):
         yield f"NULL with the length 0 is answered otherwise: {told}"
+    yield from wrong_keeping(f"{folder}/keep_answers")
     for command in commands:
         if answered([*command, "version"]) != (0, f"pafteis {VERSION}\n".encode(), b""):
             yield f"{command[-1]} tells another version"
@@ -147,7 +166,7 @@ def wrong_worlds(folder, commands):
 def main():
     program = sys.argv[1] if len(sys.argv) > 1 else str(TOP / "crates/drvhost/out/drvhost")
     only = sys.argv[2:]
-    wrong, tried = 0, 8
+    wrong, tried = 0, 9 + len(KEPT)
     with tempfile.TemporaryDirectory() as folder:
         commands = built(folder)
         for words, own in cases():

@@ -5,3 +5,4 @@ pub mod Shown
 pub mod Scheduled
 pub mod Names
 pub mod Seeking
+pub mod Keeping

@@ -3,14 +3,11 @@
 ghost use Rattle.std.specs.Prelude.{◌≡◌};
 ghost use Rattle.pafteis.specs.Driving.{BeginsAnew, Resets, done_status};
 
-use crate::texts::WRONG_ARGUMENT;
+use crate::texts::{NO_MEMORY, WRONG_ARGUMENT};
 use crate::worlds::{DONE, HAS_WORLD, NO_WORLD, may_have};
 use pafteis_world::handle::Handle;
 use pafteis_world::{again, driving};
 use std::alloc::Global;
-
-/// The status where memory was refused.
-const NO_MEMORY: u32 = 3;
 
 /// Begins a world anew: it is that of the same set before its first event, with so many threads. 3
 /// where memory is refused, and the world stays; 4 no such number of threads, 5 there is no world.

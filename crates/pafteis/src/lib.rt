@@ -3,6 +3,7 @@
 #![tactic(auto)]
 
 pub mod again;
+pub mod keeping;
 pub mod locks;
 pub mod names;
 pub mod reading;

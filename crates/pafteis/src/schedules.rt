@@ -3,6 +3,7 @@
 ghost use Rattle.std.specs.Prelude.{◌≡◌};
 ghost use Rattle.pafteis.specs.Scheduled.{TellsSchedule, fault_value, schedule_value};
 
+use crate::texts::NO_MEMORY;
 use crate::worlds::DONE;
 use interleave::parse::parse_schedule;
 use interleave::schedule::{Schedule, ScheduleFault, ScheduleKind};
@@ -56,10 +57,8 @@ fn fault_value(fault: ScheduleFault) -> ScheduleFaultValue
     }
 }
 
-/// The status of a text that is no schedule, and where memory was refused.
+/// The status of a text that is no schedule.
 const FAULTY: u32 = 2;
-
-const NO_MEMORY: u32 = 3;
 
 /// How large the schedule is that a text lists: 0 it is told, 2 the text is faulty, and its first
 /// fault is told, 3 no memory.

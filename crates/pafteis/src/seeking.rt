@@ -68,7 +68,7 @@ pub extern "C" fn pafteis_mend(
 }
 
 /// How far a hunt goes, where its numbers are within their ranges.
-fn reach_of(asked: &HuntValue) -> Option<Reach>
+pub(crate) fn reach_of(asked: &HuntValue) -> Option<Reach>
     ensures { result ≡ reach_named asked.now }
 {
     let HuntValue {
@@ -116,7 +116,7 @@ fn if_flag(flag: u32, number: u64) -> Option<u64>
 }
 
 /// What is asked of a mend, where the number of tries is within its range.
-fn asked_of(tries: u64) -> Option<Asked>
+pub(crate) fn asked_of(tries: u64) -> Option<Asked>
     ensures { result ≡ asked_named tries }
 {
     if is_within(MAX_TRIES, tries) {

@@ -54,7 +54,7 @@ pub extern "C" fn pafteis_draw(
 }
 
 /// How a run is told, by its flags.
-fn telling_of(flags: u32) -> Option<Telling>
+pub(crate) fn telling_of(flags: u32) -> Option<Telling>
     ensures { result ≡ telling_named flags }
 {
     let detail = match flags / 2 % 4 {

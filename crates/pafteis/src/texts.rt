@@ -3,7 +3,7 @@
 ghost use Rattle.std.specs.Prelude.{◌≡◌, Some};
 ghost use Rattle.drvhost_devices.specs.Device.{Bytes};
 ghost use Rattle.drvhost_devices.specs.Ends.{IsCheckOf, IsListOf, IsRewriteOf};
-ghost use Rattle.pafteis.specs.Called.{Answers, ExplainsRule, ExplainsSet, IsCheckedAs, Puts, PutsBytes, Traces, verification_named};
+ghost use Rattle.pafteis.specs.Called.{Answers, ExplainsRule, ExplainsSet, IsCheckedAs, Puts, PutsBytes, Traces, extent_named, verification_named};
 
 use crate::worlds::DONE;
 use drvhost_devices::verification::Verification;
@@ -17,6 +17,8 @@ use pafteis_values::verdict::VerdictValue;
 use pafteis_world::admitting::judge;
 use std::alloc::Global;
 
+/// The status where memory was refused.
+pub const NO_MEMORY: u32 = 3;
 /// The status where an argument is a number that names nothing.
 pub const WRONG_ARGUMENT: u32 = 4;
 
@@ -56,12 +58,21 @@ pub extern "C" fn pafteis_explain(
 ) -> u32
     ensures { ExplainsSet extent set.now buffer.old buffer.new needed.new result }
 {
-    let extent = match extent {
-        0 => Extent::First,
-        1 => Extent::Each,
-        _ => return wrong(needed),
-    };
-    put(answers::explain(alloc, extent, set), buffer, needed)
+    match extent_of(extent) {
+        Some(extent) => put(answers::explain(alloc, extent, set), buffer, needed),
+        None => wrong(needed),
+    }
+}
+
+/// How much is explained, by its number.
+pub(crate) fn extent_of(extent: u32) -> Option<Extent>
+    ensures { result ≡ extent_named extent }
+{
+    match extent {
+        0 => Some(Extent::First),
+        1 => Some(Extent::Each),
+        _ => None,
+    }
 }
 
 /// A rule in words, by its number, 1 to 20.

@@ -1,6 +1,7 @@
 //! An answer of the program, in memory.
 
 ghost use Rattle.std.specs.Prelude.{◌≡◌, IfOk};
+ghost use Rattle.pafteis_parts.specs.Delivery.{bytes_of};
 ghost use Rattle.pafteis_parts.specs.Told.{Collects};
 
 use drvhost_devices::device::{Sink, Writer};
@@ -44,6 +45,25 @@ impl Told {
         ensures { result.now ≡ self.now.told }
     {
         self.errors.as_slice()
+    }
+
+    /// All its bytes, those of the output and behind them those of the error output.
+    pub fn into_bytes(self) -> Result<Vec<u8>, OutOfMemory>
+        ensures { IfOk result (λ bytes. bytes.items ≡ bytes_of self) }
+    {
+        let Told {
+            exit: _,
+            written,
+            errors,
+        } = self;
+        if written.is_empty() {
+            return Ok(errors);
+        }
+        let mut bytes = written;
+        match bytes.extend_from_slice(errors.as_slice()) {
+            Ok(()) => Ok(bytes),
+            Err(_refused) => Err(OutOfMemory),
+        }
     }
 }
 

@@ -9,6 +9,7 @@ pub const PAFTEIS_FAULTY: u32 = 2;
 pub const PAFTEIS_NO_MEMORY: u32 = 3;
 pub const PAFTEIS_WRONG_ARGUMENT: u32 = 4;
 pub const PAFTEIS_NO_WORLD: u32 = 5;
+pub const PAFTEIS_NO_ANSWER: u32 = 5;
 pub const PAFTEIS_HAS_WORLD: u32 = 6;
 pub const PAFTEIS_VERSION_NUMBER: u32 = 1_000_000;
 
@@ -50,6 +51,13 @@ pub struct pafteis_lock_order {
 #[repr(C)]
 #[derive(Debug)]
 pub struct pafteis_world {
+    pub live: bool,
+    pub inside: *mut c_void,
+}
+
+#[repr(C)]
+#[derive(Debug)]
+pub struct pafteis_answer {
     pub live: bool,
     pub inside: *mut c_void,
 }
@@ -243,6 +251,15 @@ unsafe extern "C" {
     pub fn pafteis_schedule(schedule: *const u8, length: usize, size: *mut pafteis_schedule_size, fault: *mut pafteis_schedule_fault) -> u32;
     pub fn pafteis_list(set: *const u8, length: usize, buffer: *mut u8, capacity: usize, needed: *mut usize) -> u32;
     pub fn pafteis_rewrite(set: *const u8, length: usize, buffer: *mut u8, capacity: usize, needed: *mut usize) -> u32;
+    pub fn pafteis_answer_explain(set: *const u8, length: usize, extent: u32, answer: *mut pafteis_answer, needed: *mut usize) -> u32;
+    pub fn pafteis_answer_trace(set: *const u8, length: usize, schedule: *const u8, schedule_length: usize, flags: u32, answer: *mut pafteis_answer, needed: *mut usize) -> u32;
+    pub fn pafteis_answer_tell(set: *const u8, length: usize, schedule: *const u8, schedule_length: usize, flags: u32, answer: *mut pafteis_answer, needed: *mut usize) -> u32;
+    pub fn pafteis_answer_draw(set: *const u8, length: usize, schedule: *const u8, schedule_length: usize, flags: u32, answer: *mut pafteis_answer, needed: *mut usize) -> u32;
+    pub fn pafteis_answer_hunt(set: *const u8, length: usize, asked: *const pafteis_hunting, answer: *mut pafteis_answer, needed: *mut usize) -> u32;
+    pub fn pafteis_answer_mend(set: *const u8, length: usize, tries: u64, answer: *mut pafteis_answer, needed: *mut usize) -> u32;
+    pub fn pafteis_answer_list(set: *const u8, length: usize, answer: *mut pafteis_answer, needed: *mut usize) -> u32;
+    pub fn pafteis_answer_read(answer: *const pafteis_answer, from: usize, buffer: *mut u8, capacity: usize, count: *mut usize) -> u32;
+    pub fn pafteis_answer_free(answer: *mut pafteis_answer) -> u32;
     pub fn pafteis_version_number() -> u32;
     pub fn pafteis_version(buffer: *mut u8, capacity: usize, needed: *mut usize) -> u32;
     pub fn pafteis_world_new(set: *const u8, length: usize, threads: u8, world: *mut pafteis_world, verdict: *mut pafteis_verdict) -> u32;

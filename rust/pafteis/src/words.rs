@@ -26,18 +26,45 @@ pub(crate) fn told(
     loop {
         let mut needed = 0;
         let status = call(buffer.as_mut_ptr(), buffer.len(), &mut needed);
-        if status > sys::PAFTEIS_FAULTY {
-            done(status)?;
-        }
         if needed > buffer.len() {
             buffer.resize(needed, 0);
             continue;
         }
         buffer.truncate(needed);
-        if status == sys::PAFTEIS_FAULTY {
-            return Err(Error::Faulty(text(buffer)));
-        }
-        return Ok((buffer, status == sys::PAFTEIS_DONE));
+        return judged(status, buffer);
+    }
+}
+
+/// An answer that the library keeps until it is dropped.
+struct Kept(sys::pafteis_answer);
+
+impl Drop for Kept {
+    fn drop(&mut self) {
+        unsafe { sys::pafteis_answer_free(&mut self.0) };
+    }
+}
+
+/// The bytes of a large answer, which is made once, and whether all went well.
+fn kept(
+    call: impl Fn(*mut sys::pafteis_answer, *mut usize) -> u32,
+) -> Result<(Vec<u8>, bool), Error> {
+    let mut answer = Kept(sys::pafteis_answer {
+        live: false,
+        inside: std::ptr::null_mut(),
+    });
+    let mut needed = 0;
+    let status = call(&mut answer.0, &mut needed);
+    let mut bytes = vec![0; needed];
+    unsafe { sys::pafteis_answer_read(&answer.0, 0, bytes.as_mut_ptr(), needed, &mut needed) };
+    judged(status, bytes)
+}
+
+/// The bytes of an answer, and whether all went well.
+fn judged(status: u32, bytes: Vec<u8>) -> Result<(Vec<u8>, bool), Error> {
+    match status {
+        sys::PAFTEIS_DONE | sys::PAFTEIS_REFUSED => Ok((bytes, status == sys::PAFTEIS_DONE)),
+        sys::PAFTEIS_FAULTY => Err(Error::Faulty(text(bytes))),
+        _ => done(status).map(|()| (bytes, false)),
     }
 }
 
@@ -58,7 +85,7 @@ pub fn report(set: &[u8]) -> Result<String, Error> {
 /// What `drvhost explain` prints.
 pub fn explain(set: &[u8], extent: Extent) -> Result<String, Error> {
     let (at, length, extent) = (set.as_ptr(), set.len(), u32::from(extent == Extent::Each));
-    told(|b, c, n| unsafe { sys::pafteis_explain(at, length, extent, b, c, n) })
+    kept(|a, n| unsafe { sys::pafteis_answer_explain(at, length, extent, a, n) })
         .map(|(it, _)| text(it))
 }
 
@@ -70,7 +97,7 @@ pub fn explain_rule(rule: u32) -> Result<String, Error> {
 /// A text that names the same set.
 pub fn list(set: &[u8]) -> Result<String, Error> {
     let (at, length) = (set.as_ptr(), set.len());
-    told(|b, c, n| unsafe { sys::pafteis_list(at, length, b, c, n) }).map(|(it, _)| text(it))
+    kept(|a, n| unsafe { sys::pafteis_answer_list(at, length, a, n) }).map(|(it, _)| text(it))
 }
 
 /// The image of the set, of edition 2.
@@ -86,15 +113,14 @@ type Call = unsafe extern "C" fn(
     *const u8,
     usize,
     u32,
-    *mut u8,
-    usize,
+    *mut sys::pafteis_answer,
     *mut usize,
 ) -> u32;
 
 /// What a call answers of a run, by its flags.
 fn run(call: Call, set: &[u8], schedule: &[u8], flags: u32) -> Result<Trace, Error> {
     let (at, length, events, count) = (set.as_ptr(), set.len(), schedule.as_ptr(), schedule.len());
-    let answer = told(|b, c, n| unsafe { call(at, length, events, count, flags, b, c, n) });
+    let answer = kept(|a, n| unsafe { call(at, length, events, count, flags, a, n) });
     let (bytes, complete) = answer.map_err(|error| numbered(error, schedule))?;
     if !complete && flags % 2 == 0 {
         if let Some(refusal) = check(set)? {
@@ -116,7 +142,12 @@ fn numbered(error: Error, schedule: &[u8]) -> Error {
 
 /// A run of a schedule of events; of a refused set only where it is `unchecked`, else `Refused`.
 pub fn trace(set: &[u8], schedule: &[u8], unchecked: bool) -> Result<Trace, Error> {
-    run(sys::pafteis_trace, set, schedule, u32::from(unchecked))
+    run(
+        sys::pafteis_answer_trace,
+        set,
+        schedule,
+        u32::from(unchecked),
+    )
 }
 
 /// Of which events `tell` tells a line.
@@ -139,7 +170,7 @@ pub fn tell(set: &[u8], schedule: &[u8], unchecked: bool, detail: Detail) -> Res
         Detail::Every => 4,
     };
     run(
-        sys::pafteis_tell,
+        sys::pafteis_answer_tell,
         set,
         schedule,
         u32::from(unchecked) + detail,
@@ -148,7 +179,12 @@ pub fn tell(set: &[u8], schedule: &[u8], unchecked: bool, detail: Detail) -> Res
 
 /// A run of a schedule as a picture in SVG.
 pub fn draw(set: &[u8], schedule: &[u8], unchecked: bool) -> Result<Trace, Error> {
-    run(sys::pafteis_draw, set, schedule, u32::from(unchecked))
+    run(
+        sys::pafteis_answer_draw,
+        set,
+        schedule,
+        u32::from(unchecked),
+    )
 }
 
 /// How far a hunt goes, and what it looks for.
@@ -158,14 +194,14 @@ pub use pafteis_sys::pafteis_hunting as Hunting;
 /// the text says so then.
 pub fn hunt(set: &[u8], asked: &Hunting) -> Result<Trace, Error> {
     let (at, length) = (set.as_ptr(), set.len());
-    told(|b, c, n| unsafe { sys::pafteis_hunt(at, length, asked, b, c, n) }).map(traced)
+    kept(|a, n| unsafe { sys::pafteis_answer_hunt(at, length, asked, a, n) }).map(traced)
 }
 
 /// Mends of a text, as diffs, tried so often for each faulty routine: it is complete where the
 /// whole is mended, or there is nothing to mend.
 pub fn mend(set: &[u8], tries: u64) -> Result<Trace, Error> {
     let (at, length) = (set.as_ptr(), set.len());
-    told(|b, c, n| unsafe { sys::pafteis_mend(at, length, tries, b, c, n) }).map(traced)
+    kept(|a, n| unsafe { sys::pafteis_answer_mend(at, length, tries, a, n) }).map(traced)
 }
 
 fn traced((bytes, complete): (Vec<u8>, bool)) -> Trace {
