@@ -30,8 +30,11 @@ static text read_file(const char *name) {
     return found;
 }
 
+/* How far is hunted: a few worlds, since each call hunts more than once. */
+#define NEAR_HUNT { 2, 500, 0, 0, 2, 0 }
+
 static uint32_t put(int call, uint8_t *to, size_t room, size_t *needed) {
-    pafteis_hunting usual = PAFTEIS_USUAL_HUNT;
+    pafteis_hunting near = NEAR_HUNT;
     const uint8_t *s = set.bytes, *e = events.bytes;
     switch (call) {
     case 0: return pafteis_explain(s, set.length, PAFTEIS_FIRST, to, room, needed);
@@ -39,23 +42,23 @@ static uint32_t put(int call, uint8_t *to, size_t room, size_t *needed) {
     case 2: return pafteis_trace(s, set.length, e, events.length, 0, to, room, needed);
     case 3: return pafteis_tell(s, set.length, e, events.length, 0, to, room, needed);
     case 4: return pafteis_draw(s, set.length, e, events.length, 0, to, room, needed);
-    case 5: return pafteis_hunt(s, set.length, &usual, to, room, needed);
+    case 5: return pafteis_hunt(s, set.length, &near, to, room, needed);
     case 6: return pafteis_mend(s, set.length, 100, to, room, needed);
     default: return pafteis_list(s, set.length, to, room, needed);
     }
 }
 
 static uint32_t keep(int call, uint32_t wrong, pafteis_answer *to, size_t *needed) {
-    pafteis_hunting usual = PAFTEIS_USUAL_HUNT;
+    pafteis_hunting near = NEAR_HUNT;
     const uint8_t *s = set.bytes, *e = events.bytes;
-    usual.flags = wrong;
+    near.flags = wrong;
     switch (call) {
     case 0: return pafteis_answer_explain(s, set.length, wrong, to, needed);
     case 1: return pafteis_answer_explain(s, set.length, wrong + PAFTEIS_EACH, to, needed);
     case 2: return pafteis_answer_trace(s, set.length, e, events.length, wrong, to, needed);
     case 3: return pafteis_answer_tell(s, set.length, e, events.length, wrong, to, needed);
     case 4: return pafteis_answer_draw(s, set.length, e, events.length, wrong, to, needed);
-    case 5: return pafteis_answer_hunt(s, set.length, &usual, to, needed);
+    case 5: return pafteis_answer_hunt(s, set.length, &near, to, needed);
     case 6: return pafteis_answer_mend(s, set.length, wrong ? 0 : 100, to, needed);
     default: return pafteis_answer_list(s, set.length, to, needed);
     }

@@ -11,7 +11,7 @@ MAJOR = VERSION.split(".")[0]
 # Where the version stands besides: what is proved reads no file, and each package wants its own.
 NUMBER = "%d%03d%03d" % tuple(map(int, VERSION.split(".")))
 COPIES = (
-    ("crates/drvhost_commands/src/commands.rt", f'const VERSION: &str = "{VERSION}";'),
+    ("crates/drvhost_arguments/src/program.rt", f'const VERSION: &str = "{VERSION}";'),
     ("crates/drvhost_sets/src/version.rt", f'b"drvhost {VERSION}\\n"'),
     ("crates/report_sarif/src/log.rt", f'"version": "{VERSION}"'),
     ("crates/pafteis/src/version.rt", f'b"pafteis {VERSION}\\n"'),
