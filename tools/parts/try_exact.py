@@ -61,8 +61,11 @@ def ends(program, path, hunt):
         file.flush()
         told, status = answer(program, 'tell', '--unchecked', '--every', path, file.name)
     head = re.match(r'; (bug .*|wrong .*|packet \d+|lock \S+|thread \d+)', hunt.text)
-    words = head.group(1).replace('lock cancel', 'system cancel spin lock') if head else None
-    return status == 1 and words is not None and words in told
+    if status != 1 or not head:
+        return False
+    # The audit calls the lock by its name.
+    names = head.group(1), head.group(1).replace('lock cancel', 'system cancel spin lock')
+    return any(name in told for name in names)
 
 def random_set(rng):
     """A random set, mostly with a line left out."""
