@@ -1,5 +1,5 @@
 -- Nodes that leave a ring or join it: the two directions stay inverse.
-use Rattle.std.proofs.Common.{◌≡◌, ◌≢◌, ◌<◌, ◌≤◌, ℕ, List, length, get_or, refl, sym, ap, ◌∙◌, arith, nat_eq, zero, suc, [], ◌∷◌, ◌++◌, ◌⊎◌, inl, inr}
+use Rattle.std.proofs.Common.{◌≡◌, ◌≢◌, ◌<◌, ◌≤◌, ◌+◌, ℕ, List, length, get_or, refl, sym, ap, ◌∙◌, arith, nat_eq, true, false, zero, suc, [], ◌∷◌, ◌++◌, ◌⊎◌, inl, inr}
 use Rattle.std.proofs.Math.ListN.{set}
 use Rattle.std.specs.Prelude.{if◌then◌else◌}
 use Rattle.std.proofs.lemmas.Bool.{cases_lt}
@@ -18,26 +18,6 @@ pub read_after : (nodes : List ℕ) (i x : ℕ) → i < length nodes → x ≡ g
 read_after nodes i x h e =
     e ∙ get_or_default_zero nodes i x h ∙ sym (get_or_default_zero nodes i i h)
 
--- a node that is alone is added
-at_end : (nodes : List ℕ) (x d : ℕ) → get_or (nodes ++ x ∷ []) (length nodes) d ≡ x
-at_end [] x d = refl
-at_end (m ∷ nodes) x d = at_end nodes x d
-
-elsewhere : (nodes : List ℕ) (x n d : ℕ) → n ≢ length nodes
-    → get_or (nodes ++ x ∷ []) n d ≡ get_or nodes n d
-elsewhere [] x zero d h = absurd (h refl)
-elsewhere [] x (suc n) d h = refl
-elsewhere (m ∷ nodes) x zero d h = refl
-elsewhere (m ∷ nodes) x (suc n) d h = elsewhere nodes x n d (λ e. h (ap (λ (k : ℕ). suc k) e))
-
-pub one_more : (nodes : List ℕ) (x : ℕ) → length nodes ≡ x → ((n : ℕ) → after nodes n ≡ n)
-    → (n : ℕ) → after (nodes ++ x ∷ []) n ≡ n
-one_more nodes x e h n =
-    elim (eqb_tells n (length nodes)) [
-      | inl p ↦ rw p.1 (at_end nodes x (length nodes) ∙ sym e)
-      | inr p ↦ elsewhere nodes x n n p.1 ∙ h n
-    ]
-
 -- a list that is written at one place
 one_written : (nodes : List ℕ) (i x n : ℕ) → i < length nodes
     → after (set nodes i x) n ≡ (if nat_eq n i then x else after nodes n)
@@ -46,6 +26,25 @@ one_written nodes i x n h =
       | inl p ↦ rw (p.0, p.1) (get_or-set_same nodes i x i h)
       | inr p ↦ rw p.0 (get_or-set_other nodes i n x n p.1)
     ]
+
+-- where each node before one is alone, and that one is written, so are those up to it
+pub one_more : (nodes : List ℕ) (i : ℕ) → i < length nodes → ((n : ℕ) → n < i → after nodes n ≡ n)
+    → (n : ℕ) → n < i + 1 → after (set nodes i i) n ≡ n
+one_more nodes i h before n less = one_written nodes i i n h ∙ by (eqb_tells n i)
+  where
+    by : ((nat_eq n i ≡ true) × (n ≡ i)) ⊎ ((nat_eq n i ≡ false) × (n ≢ i))
+        → (if nat_eq n i then i else after nodes n) ≡ n
+    by (inl p) = rw p.0 (sym p.1)
+    by (inr p) = rw p.0 (before n (omega (arith, less, p.1)))
+
+-- where all that there are are alone, every node is
+pub all_alone : (nodes : List ℕ) → ((n : ℕ) → n < length nodes → after nodes n ≡ n)
+    → (n : ℕ) → after nodes n ≡ n
+all_alone nodes inside n = by (cases_lt n (length nodes))
+  where
+    by : (n < length nodes) ⊎ (length nodes ≤ n) → after nodes n ≡ n
+    by (inl p) = inside n p
+    by (inr p) = get_or_past nodes n n p
 
 pub two_written : (nodes : List ℕ) (i x j y n : ℕ) → i < length nodes → j < length nodes
     → after (set (set nodes i x) j y) n ≡ changed (after nodes) i x j y n

@@ -34,15 +34,23 @@ fn narrow(node: usize) -> u32
     node as u32
 }
 
+/// Gives each node its own number.
+fn number(nodes: &mut [u32])
+    requires { length nodes.old < 2 ^ 32 }
+    ensures { AreAlone (length nodes.old) nodes.new }
+{
+    for node in 0..nodes.len() {
+        nodes[node] = narrow(node);
+    }
+}
+
 /// The numbers below a count, each at its place.
 fn alone(alloc: Global, count: usize) -> Result<Vec<u32>, AllocError>
     requires { count < 2 ^ 32 }
     ensures { IfOk result (λ nodes. AreAlone count nodes.items) }
 {
-    let mut nodes = Vec::with_capacity(alloc, count)?;
-    for node in 0..count {
-        nodes.push(narrow(node))?;
-    }
+    let mut nodes = vec![in alloc; 0; count]?;
+    number(nodes.as_mut_slice());
     Ok(nodes)
 }
 
