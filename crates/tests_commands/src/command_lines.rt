@@ -366,6 +366,12 @@ fn wrong_words(rt: HostRuntime) {
     ] {
         assert!(rt; is_refused(alloc, words), "{}", words[1]);
     }
+    for workers in ["0", "65", "many"] {
+        assert!(rt;
+            is_refused(alloc, &["host", "a", "b", "--workers", workers]),
+            "{workers}"
+        );
+    }
     assert!(rt; is_refused(alloc, &["trace", "a"]));
     assert!(rt; is_refused(alloc, &["check", "a", "--unchecked"]));
     assert!(rt; is_refused(alloc, &["trace", "a", "b", "c"]));
