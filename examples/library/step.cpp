@@ -23,8 +23,8 @@ int main(int count, char **words) {
         for (int step = 0; step < 4; step++)
             show(world.step(0));
         return 0;
-    } catch (const pafteis::no_set &fault) {
-        std::cerr << pafteis::explain(set);
+    } catch (const pafteis::error &fault) {
+        std::cerr << pafteis::explain(set, PAFTEIS_FIRST).text;
         return static_cast<int>(fault.status);
     }
 }

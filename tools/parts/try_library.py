@@ -53,8 +53,10 @@ def built(folder):
         subprocess.run(["cc", *here, TOP / f"tools/parts/{name}.c", LIBRARY / "libpafteis.a", "-o",
                         f"{folder}/{name}"], check=True)
     found["C"] = [f"{folder}/answer"]
-    subprocess.run(["c++", "-std=c++17", *here[1:], EXAMPLES / "step.cpp",
-                    LIBRARY / "libpafteis.a", "-o", f"{folder}/step_cpp"], check=True)
+    for name, source in (("step_cpp", EXAMPLES / "step.cpp"),
+                         ("try_header", TOP / "tools/parts/try_header.cpp")):
+        subprocess.run(["c++", "-std=c++17", *here[1:], source, LIBRARY / "libpafteis.a", "-o",
+                        f"{folder}/{name}"], check=True)
     if shutil.which("rustc"):
         subprocess.run(["rustc", "-O", "--edition", "2024", EXAMPLES / "answer.rs", "-L", LIBRARY,
                         "-o", f"{folder}/answer_rs"], check=True)
@@ -142,6 +144,10 @@ def wrong_worlds(folder, commands):
     steps = b"started 0\nstepped\ntopped 0\nfinished\nidle\n"
     if answered([f"{folder}/step_cpp", "examples/echo.drv"])[:2] != (0, steps):
         yield "a world from C++ answers otherwise"
+    files = [f"examples/{name}" for name in ("csq.drv", "csq.sched", "race.drv")]
+    told = answered([f"{folder}/try_header", *files])
+    if told[:2] != (0, b"25 tried, 0 wrong\n"):
+        yield f"calls from C++ answer otherwise: {told}"
     told = answered([f"{folder}/locks"])
     if told[:2] != (0, LOCKS):
         yield f"orders of locks from C are others: {told}"
@@ -166,7 +172,7 @@ def wrong_worlds(folder, commands):
 def main():
     program = sys.argv[1] if len(sys.argv) > 1 else str(TOP / "crates/drvhost/out/drvhost")
     only = sys.argv[2:]
-    wrong, tried = 0, 9 + len(KEPT)
+    wrong, tried = 0, 10 + len(KEPT)
     with tempfile.TemporaryDirectory() as folder:
         commands = built(folder)
         for words, own in cases():
