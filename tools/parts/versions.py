@@ -1,32 +1,66 @@
-"""The version of the project, which the file VERSION at the top has."""
+"""tools/keep version [--write]: the version of the project, which the file VERSION has. Tells each
+place where another stands, in the sources, the header and the packages; with --write makes these
+the same. What is proved reads no file, and each package wants a version of its own."""
 import os
+import re
+import sys
 
 TOP = os.path.dirname(os.path.dirname(os.path.dirname(os.path.abspath(__file__))))
 
-with open(os.path.join(TOP, "VERSION"), encoding="ascii") as file:
-    VERSION = file.read().strip()
 
+def read(name):
+    with open(os.path.join(TOP, name), encoding="utf-8") as file:
+        return file.read()
+
+
+VERSION = read("VERSION").strip()
 MAJOR = VERSION.split(".")[0]
-
-# Where the version stands besides: what is proved reads no file, and each package wants its own.
 NUMBER = "%d%03d%03d" % tuple(map(int, VERSION.split(".")))
+
+# Where it stands besides: what comes before it, the version or its number, and what comes behind.
 COPIES = (
-    ("crates/drvhost_arguments/src/program.rt", f'const VERSION: &str = "{VERSION}";'),
-    ("crates/drvhost_sets/src/version.rt", f'b"drvhost {VERSION}\\n"'),
-    ("crates/report_sarif/src/log.rt", f'"version": "{VERSION}"'),
-    ("crates/pafteis/src/version.rt", f'b"pafteis {VERSION}\\n"'),
-    ("crates/pafteis/src/version.rt", f"result ≡ {NUMBER}"),
-    ("include/pafteis.h", f"#define PAFTEIS_VERSION_NUMBER {NUMBER}\n"),
-    ("python/pafteis/VERSION", VERSION + "\n"),
-    ("rust/Cargo.toml", f'version = "{VERSION}"'),
-    ("rust/pafteis/Cargo.toml", f'version = "{VERSION}"'),
-    ("CHANGELOG.md", f"## {VERSION}"),
+    ("crates/drvhost_arguments/src/program.rt", 'VERSION: &str = "', VERSION, '"'),
+    ("crates/drvhost_devices/specs/Answer.antt", 'codes "drvhost ', VERSION, '\\n"'),
+    ("crates/drvhost_sets/src/version.rt", 'b"drvhost ', VERSION, '\\n"'),
+    ("crates/drvhost_sets/proofs/version/version/Answers.antt", 'codes "drvhost ', VERSION, '\\n"'),
+    ("crates/pafteis/src/version.rt", "The version ", VERSION, ":"),
+    ("crates/pafteis/src/version.rt", "VERSION_NUMBER: u32 = ", f"{int(NUMBER):_}", ";"),
+    ("crates/pafteis/src/version.rt", "result ≡ ", NUMBER, " }"),
+    ("crates/pafteis/src/version.rt", 'codes "pafteis ', VERSION, '\\n"'),
+    ("crates/pafteis/src/version.rt", 'b"pafteis ', VERSION, '\\n"'),
+    ("crates/report_sarif/specs/Log.antt",
+     'rule_data rules)))\n    (member (codes "version") (string (codes "', VERSION, '"'),
+    ("crates/report_sarif/src/log.rt", '"rules": list, "version": "', VERSION, '"'),
+    ("crates/tests_runs/src/failures.rt", 'b"drvhost ', VERSION, '\\n"'),
+    ("docs/STABILITY.md", "`drvhost ", VERSION, "`"),
+    ("docs/STABILITY.md", "`pafteis ", VERSION, "`"),
+    ("include/pafteis.h", "VERSION_NUMBER ", NUMBER, "\n"),
+    ("include/pafteis.h", "`pafteis ", VERSION, "`"),
+    ("python/pafteis/VERSION", "", VERSION, "\n"),
+    ("rust/Cargo.toml", '\nversion = "', VERSION, '"'),
+    ("rust/pafteis/Cargo.toml", ', version = "', VERSION, '"'),
+    ("tools/parts/refuse_program.py", "'drvhost ", VERSION, "\\n'"),
+    ("tools/parts/try_program.py", "b'drvhost ", VERSION, "\\n'"),
 )
 
 
-def stale():
-    """The places where another version stands."""
-    for name, text in COPIES:
-        with open(os.path.join(TOP, name), encoding="utf-8") as file:
-            if text not in file.read():
-                yield f"{name} lacks {text.strip()!r}, the version of the file VERSION"
+def stale(write=False):
+    """The places where another version stands; with `write` they are made the same."""
+    for name, before, told, behind in COPIES:
+        text = read(name)
+        pattern = f"({re.escape(before)})[0-9][0-9._]*({re.escape(behind)})"
+        right = re.sub(pattern, lambda found: found[1] + told + found[2], text)
+        if before + told + behind in right and right == text:
+            continue
+        yield f"{name}: behind {before.strip()!r} isn't {told}, as the file VERSION has it"
+        if write:
+            with open(os.path.join(TOP, name), "w", encoding="utf-8") as file:
+                file.write(right)
+    if f"## {VERSION}" not in read("CHANGELOG.md"):
+        yield f"CHANGELOG.md has nothing on {VERSION}"
+
+
+if __name__ == "__main__":
+    faults = list(stale(sys.argv[1:] == ["--write"]))
+    print("\n".join(faults) or f"{VERSION}, the same in {len(COPIES)} places more")
+    sys.exit(bool(faults))
