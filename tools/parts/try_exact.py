@@ -5,11 +5,13 @@ three have lost a line and are mostly refused; at most N worlds each (3,000, if 
 
 Without `--exact` packets are bounded that live at once, with it those that are issued in all: so a find of the former is looked for
 by the latter only where its run issues no more than 2 packets, and then both runs have the same number of events, unless one
-search stopped before. A find of the latter is always one of the former, and that one is no longer. Where one search has found none
+search stopped before, or the find is a status that disagrees with its mark, for which `--exact` doesn't look. A find of the latter
+is always one of the former, and that one is no longer. Where one search has found none
 in runs of up to so many events, the other hasn't found a shorter one within its bounds. What is found by `--exact` ends as its first
 line tells, by `tell --unchecked`, with exit status 1. The last line counts."""
 import argparse, glob, os, random, re, subprocess, sys, tempfile
 
+import finds
 import gallery
 import try_orders
 
@@ -26,6 +28,7 @@ class Hunt:
     def __init__(self, program, path, states, *more):
         self.text, self.status = answer(program, 'hunt', '--states', str(states), *more, path)
         self.length, self.issued, self.fine = None, 0, None
+        self.finding = self.text.partition('\n')[0].removeprefix('; ')
         if self.status == 1:
             lines = [line.partition(';')[0].split() for line in self.text.splitlines()]
             events = [words for words in lines if words and words[0] != 'threads']
@@ -47,7 +50,7 @@ def wrong(quick, exact):
             return 'found by --exact alone' if quick.fine >= exact.length else None
         if quick.length > exact.length:
             return '%d events, and %d by --exact' % (quick.length, exact.length)
-    if quick.length is not None and quick.issued <= PACKETS:
+    if quick.length is not None and quick.issued <= PACKETS and not finds.is_disagreement(quick.finding):
         if exact.length is None:
             return 'not found by --exact' if exact.fine >= quick.length else None
         if exact.length > quick.length:
@@ -60,12 +63,7 @@ def ends(program, path, hunt):
         file.write(hunt.text)
         file.flush()
         told, status = answer(program, 'tell', '--unchecked', '--every', path, file.name)
-    head = re.match(r'; (bug .*|wrong .*|packet \d+|lock \S+|thread \d+)', hunt.text)
-    if status != 1 or not head:
-        return False
-    # The audit calls the lock by its name.
-    names = head.group(1), head.group(1).replace('lock cancel', 'system cancel spin lock')
-    return any(name in told for name in names)
+    return status == 1 and finds.is_shown(hunt.finding, told)
 
 def random_set(rng):
     """A random set, mostly with a line left out."""
@@ -93,7 +91,7 @@ def main():
         quick, exact = Hunt(program, path, options.states), Hunt(program, path, options.states, '--exact')
         told = wrong(quick, exact)
         if exact.status == 1 and not told and not ends(program, path, exact):
-            told = 'its run does not end as told: ' + exact.text.partition('\n')[0]
+            told = 'its run does not end as told: ' + exact.finding
         counts['sets'] += 1
         counts['found by both'] += quick.length is not None and quick.length == exact.length
         counts['all seen by both'] += quick.fine == exact.fine == float('inf')

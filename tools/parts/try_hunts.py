@@ -6,6 +6,7 @@ is found, and all worlds were seen, that run mustn't show it, and `--stuck` is a
 amiss, and names each packet that lives. The last lines count finds and events."""
 import argparse, glob, os, re, subprocess, sys, tempfile
 
+import finds
 import gallery
 
 FINDING = re.compile(r'^; (.*)$', re.M)
@@ -49,9 +50,8 @@ class Hunt:
             packets = re.findall(r'; packet (\d+) is live', finding)
             shows = self.told_status == 0 and all(re.search(r'packet %s\b' % it, audit) for it in packets)
             return [] if shows else ['its run does not end as told: ' + finding]
-        # A lost packet is told in the audit with its places, a lock and a ring with where threads stand.
-        head = re.match(r'(bug .*|wrong .*|packet \d+|lock \S+|thread \d+)', finding).group(1)
-        return [] if self.told_status == 1 and head in self.told else ['its run does not end as told: ' + finding]
+        shows = self.told_status == 1 and finds.is_shown(finding, self.told)
+        return [] if shows else ['its run does not end as told: ' + finding]
 
 def by_hand(program, folder):
     """How many events the run by hand has, if it shows that the driver is wrong."""
