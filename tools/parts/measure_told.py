@@ -1,6 +1,6 @@
 #!/usr/bin/env python3
 """tools/measure told [--runs N] [--only WORD] [PROGRAM]: what the program (crates/drvhost/out/drvhost, if none is named) takes
-for told and drawn runs, in times of what it takes to trace the same events, each writing to /dev/null, in turn: the least of
+for runs in JSON, told and drawn, in times of what it takes to trace the same events, each writing to /dev/null, in turn: the least of
 N (7 if left out). A table as docs/PERFORMANCE.md has it, of the rows of tools/measure program that trace events. With --only the
 rows whose names have this word."""
 import argparse, os, sys, tempfile
@@ -8,7 +8,7 @@ import argparse, os, sys, tempfile
 from measure import cases, spent, written
 
 TOP = os.path.dirname(os.path.dirname(os.path.dirname(os.path.abspath(__file__))))
-WAYS = ['trace'], ['tell', '--quiet'], ['tell'], ['tell', '--every'], ['draw']
+WAYS = ['trace'], ['trace', '--format', 'json'], ['tell', '--quiet'], ['tell'], ['tell', '--every'], ['draw']
 
 def least(program, files, runs):
     """The least times of the ways of running these files."""
@@ -22,7 +22,7 @@ def main():
     asked.add_argument('--only', default='')
     asked.add_argument('program', nargs='?', default=os.path.join(TOP, 'crates/drvhost/out/drvhost'))
     asked = asked.parse_args()
-    print('| Events | `trace` | `tell --quiet` | `tell` | `tell --every` | `draw` |\n|---|---|---|---|---|---|')
+    print('| Events | `trace` | in JSON | `tell --quiet` | `tell` | `tell --every` | `draw` |\n|---|---|---|---|---|---|---|')
     with tempfile.TemporaryDirectory() as folder:
         for name, command, text, schedule in cases():
             if command != 'trace' or asked.only not in name:
