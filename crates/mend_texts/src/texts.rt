@@ -1,12 +1,12 @@
 //! A mended text.
 
 use crate::labels::Labels;
-use crate::page::{Page, Thing, index_of};
+use crate::page::{Page, Thing};
 use crate::rendering::{Edited, render};
 use crate::rows::Rows;
 use crate::tables::render_lines;
 use crate::tracing::{Trace, code_of};
-use asm_places::routine_source;
+use asm_line::Body;
 use asm_usual::read_line;
 use driver_set::DriverSet;
 use mend_changes::edit::Edit;
@@ -141,17 +141,20 @@ fn render_routine(
     let (driver, routine) = (rows.driver, rows.routine);
     let olds = code_of(before, driver, routine);
     let news = code_of(behind, driver, routine);
-    let source = routine_source(alloc, page.text, driver, routine)?;
-    let mut places = Vec::new(alloc);
-    let mut labels = Vec::new(alloc);
-    for spot in source.lines.as_slice() {
-        let index = index_of(spot.number);
-        places.push(index)?;
-        labels.push(label_on(page.line(index)))?;
-    }
+    let Some(start) = page.line_of(Thing::Routine(driver, routine)) else {
+        return Ok(());
+    };
     let Some(end) = page.line_of(Thing::RoutineEnd(driver, routine)) else {
         return Ok(());
     };
+    let mut places = Vec::new(alloc);
+    let mut labels = Vec::new(alloc);
+    for index in start..end {
+        if let Some(label) = step_on(page.line(index)) {
+            places.push(index)?;
+            labels.push(label)?;
+        }
+    }
     let labels = Labels::of(alloc, labels, olds, news, rows.rows.as_slice())?;
     let edited = Edited {
         alloc,
@@ -168,13 +171,16 @@ fn render_routine(
     render(edited, mended)
 }
 
-/// The label on a line.
-fn label_on(raw: &[u8]) -> Option<&[u8]> {
-    match read_line(raw) {
-        Ok(line) => match line.label {
-            Some(label) => Some(label.bytes()),
-            None => None,
-        },
-        Err(_) => None,
+/// The label on a line, if there is one, where the line has an instruction.
+fn step_on(raw: &[u8]) -> Option<Option<&[u8]>> {
+    let Ok(line) = read_line(raw) else {
+        return None;
+    };
+    let Body::Step(..) = line.body else {
+        return None;
+    };
+    match line.label {
+        Some(label) => Some(Some(label.bytes())),
+        None => Some(None),
     }
 }
