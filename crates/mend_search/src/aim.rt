@@ -65,11 +65,13 @@ impl Aim {
         }
     }
 
-    /// The first offer of another routine, whatever it costs.
+    /// The best mend of another routine alone, whatever it costs: what costs more isn't looked for.
     pub fn of_others(self) -> Aim {
         Aim {
+            offers: 1,
+            window: 0,
             dearest: u32::MAX,
-            rivals: u32::MAX,
+            rivals: 1,
             ..self
         }
     }
