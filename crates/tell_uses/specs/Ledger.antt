@@ -62,6 +62,10 @@ served_on rows t =
     of_server (slice_index_or (of_row (slice_get rows t))
     (length (of_row (slice_get rows t)) - 1) Manager)
 
+-- the same of the frame at a place
+abbrev pub served_at : List (List Server) → ℕ → ℕ → Option Serving
+served_at rows t place = of_server (slice_index_or (of_row (slice_get rows t)) place Manager)
+
 -- what stands for a frame that is new at its place
 abbrev pub serving_as : ℕ → Option ℕ → Option Serving
 serving_as n None = None

@@ -99,6 +99,13 @@ impl Row {
         self.servers.last()?.served()
     }
 
+    /// The use that the frame at a place serves.
+    fn served_at(&self, place: usize) -> Option<LocationUse>
+        ensures { result ≡ of_server (slice_index_or self.now place Manager) }
+    {
+        self.servers.get(place)?.served()
+    }
+
     /// A frame stands at a place.
     fn settle_at(
         &mut self,
@@ -220,7 +227,7 @@ impl Ledger {
     ghost use Rattle.model.specs.Run.{begun};
     ghost use Rattle.model.specs.Set.{Set};
     ghost use Rattle.tell_uses.specs.Acts.{actions_of, leave_actions};
-    ghost use Rattle.tell_uses.specs.Ledger.{Disagreeing, NoneIfAccepted, Notes, Tells, TellsOn, row_settled, served_on};
+    ghost use Rattle.tell_uses.specs.Ledger.{Disagreeing, NoneIfAccepted, Notes, Tells, TellsOn, row_settled, served_at, served_on};
     ghost use Rattle.tell_uses.specs.Uses.{DoesAll};
 
     /// That of a run over so many threads, before the first event.
@@ -337,6 +344,20 @@ impl Ledger {
         }
         self.note_on(alloc, step, thread, machine)?;
         Ok(())
+    }
+
+    /// What is known of the uses, by their numbers.
+    pub fn notes(&self) -> &[Note]
+        ensures { result.now ≡ self.now.uses.notes }
+    {
+        self.known.notes()
+    }
+
+    /// The use that a frame of a thread serves, by its place above the lowest one.
+    pub fn served_at(&self, thread: u8, place: usize) -> Option<LocationUse>
+        ensures { result ≡ served_at self.now.rows thread place }
+    {
+        self.row_list.get(thread as usize)?.served_at(place)
     }
 
     /// What is known of a use.
