@@ -5,17 +5,17 @@ use asm::assemble;
 use machine::World;
 use model::event::Event;
 use model::status::Major;
-use std::alloc::Global;
-use std::io;
+use std::io::{Error, ErrorKind};
 use verifier::verify;
 
 const TEXT: &[u8] = b"driver echo\ndispatch READ on_read\nroutine on_read dispatch\n\
       complete r0 SUCCESS\nret SUCCESS\nendr\nendd\ndevice disk echo 1\n";
 
-fn main(rt: HostRuntime) -> Result<(), io::Error> {
-    let Some(mut world) = world_of(rt.alloc()) else {
-        return println!(rt; "no world");
-    };
+fn main(rt: HostRuntime) -> Result<(), Error> {
+    let set = assemble(rt.alloc(), TEXT).map_err(|_fault| Error::from(ErrorKind::InvalidData))?;
+    let accepted = verify(rt.alloc(), set).map_err(|_back| Error::from(ErrorKind::InvalidData))?;
+    let made = World::new(rt.alloc(), accepted, 2);
+    let mut world = made.map_err(|_back| Error::from(ErrorKind::OutOfMemory))?;
     let mut event = Event::Issue {
         thread: 0,
         device: 0,
@@ -23,16 +23,8 @@ fn main(rt: HostRuntime) -> Result<(), io::Error> {
         argument: 7,
     };
     for _ in 0..4 {
-        let reply = world.apply(&event);
-        println!(rt; "{reply}")?;
+        println!(rt; "{}", world.apply(&event))?;
         event = Event::Step { thread: 0 };
     }
     Ok(())
-}
-
-/// A world of two threads, where the text names a set that is accepted.
-fn world_of(alloc: Global) -> Option<World> {
-    let set = assemble(alloc, TEXT).ok()?;
-    let accepted = verify(alloc, set).ok()?;
-    World::new(alloc, accepted, 2).ok()
 }
