@@ -1,1 +1,2 @@
+pub mod Issuing
 pub mod Limits

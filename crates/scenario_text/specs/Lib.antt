@@ -1,4 +1,5 @@
 pub mod Expecting
+pub mod Issued
 pub mod Line
 pub mod Listing
 pub mod Names

@@ -3,13 +3,13 @@
 ghost use Rattle.std.specs.Prelude.{◌≡◌};
 ghost use Rattle.scenario_text.specs.Expecting.{bug_line, device_line, device_state, expect_line, expecting, is_device_word, packet_line, packet_state, thread_line, thread_state, topped_as, topped_information, topped_line};
 
+use crate::issued::Issued;
 use crate::names::Names;
 use crate::operands::{byte_of, device_of, number_of, packet_of, status_named};
 use crate::scenario::{DeviceState, Expectation, PacketState, ThreadState};
 use interleave::schedule::ScheduleKind;
 use model::status::Status;
 use text::class::is;
-use text::piece::Piece;
 use text::token::Tokens;
 
 /// What stands behind `expect`.
@@ -19,7 +19,7 @@ use text::token::Tokens;
 /// The kind of the first operand that can't stand there.
 pub(crate) fn expect_line(
     names: &Names<'_>,
-    packets: &[Piece<'_>],
+    packets: &Issued<'_>,
     mut operands: Tokens,
 ) -> Result<Expectation, ScheduleKind>
     ensures { result ≡ expect_line names.now packets.now operands.entry }
@@ -40,7 +40,7 @@ pub(crate) fn expect_line(
 /// What is expected of what has a name: of a thread, a device or a packet.
 fn expecting(
     names: &Names<'_>,
-    packets: &[Piece<'_>],
+    packets: &Issued<'_>,
     name: &[u8],
     word: &[u8],
     operands: Tokens,
@@ -147,7 +147,7 @@ fn device_state(word: &[u8], mut operands: Tokens) -> Result<DeviceState, Schedu
 
 /// `PACKET STATE`.
 fn packet_line(
-    packets: &[Piece<'_>],
+    packets: &Issued<'_>,
     name: &[u8],
     word: &[u8],
     operands: Tokens,

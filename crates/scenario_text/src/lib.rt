@@ -3,6 +3,7 @@
 #![tactic(auto)]
 
 mod expecting;
+pub mod issued;
 pub mod names;
 mod operands;
 pub mod parse;

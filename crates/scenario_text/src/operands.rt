@@ -1,8 +1,9 @@
 //! The operands of a line, each by what it may be.
 
 ghost use Rattle.std.specs.Prelude.{◌≡◌, ◌+◌, ◌<◌, ◌≤◌, IfOk, IfSome, bytes_eq, drop, length, nat_eq, position, take};
-ghost use Rattle.scenario_text.specs.Operands.{byte_of, device_named, device_of, known, last_named, major_from, number_of, packet_of, spot_labelled, spot_on_line, spot_parted, status_named};
+ghost use Rattle.scenario_text.specs.Operands.{byte_of, device_named, device_of, known, major_from, number_of, packet_of, spot_labelled, spot_on_line, spot_parted, status_named};
 
+use crate::issued::Issued;
 use crate::names::{Names, Spot};
 use asm_line::status_text;
 use interleave::read::number_within;
@@ -85,26 +86,13 @@ fn is_named(name: &[u8], other: &Piece<'_>) -> bool
 }
 
 /// The packet that was last issued under this name.
-pub(crate) fn packet_of(packets: &[Piece<'_>], name: &[u8]) -> Result<usize, ScheduleKind>
+pub(crate) fn packet_of(packets: &Issued<'_>, name: &[u8]) -> Result<usize, ScheduleKind>
     ensures { result ≡ packet_of packets.now name.now }
 {
-    match last_named(packets, name) {
+    match packets.last_named(name) {
         Some(packet) => Ok(packet),
         None => Err(ScheduleKind::UnknownWord),
     }
-}
-
-/// The place of the last of these that has this name.
-fn last_named(packets: &[Piece<'_>], name: &[u8]) -> Option<usize>
-    ensures { result ≡ last_named packets.now name.now }
-{
-    let mut found = None;
-    for (i, packet) in packets.iter().enumerate() {
-        if is_named(name, packet) {
-            found = Some(i);
-        }
-    }
-    found
 }
 
 /// The instruction in the line of a number.

@@ -5,6 +5,7 @@ ghost use Rattle.interleave.specs.Line.{opening_line};
 ghost use Rattle.model.specs.declared.limits.TheConstants.{MAX_THREADS};
 ghost use Rattle.scenario_text.specs.Listing.{IsFaultOf, given_after, listing, nothing, opening, scenario_in, with_said, with_threads};
 
+use crate::issued::Issued;
 use crate::names::Names;
 use crate::reading::{Said, step_line};
 use crate::scenario::{MAX_STEPS, Scenario, Step};
@@ -13,7 +14,6 @@ use interleave::schedule::{ScheduleFault, ScheduleKind};
 use std::alloc::{AllocError, Global};
 use std::marker::Model;
 use text::cut::Lines;
-use text::piece::Piece;
 
 /// The scenario that a text lists, where the set's devices have these names.
 ///
@@ -137,7 +137,7 @@ fn list(
 #[derive(Drop)]
 struct Given<'a> {
     /// The names of the packets that they issue.
-    packets: Vec<Piece<'a>>,
+    packets: Issued<'a>,
     steps: Vec<Step>,
 }
 
@@ -146,7 +146,7 @@ impl<'a> Model for Given<'a> {
 
     ghost Value = { Given };
 
-    ghost view = { λ g. record { packets = g.packets.items; steps = g.steps.items } };
+    ghost view = { λ g. record { packets = g.packets; steps = g.steps.items } };
 }
 
 impl<'a> Given<'a> {
@@ -155,7 +155,7 @@ impl<'a> Given<'a> {
         ensures { result ≡ nothing }
     {
         Given {
-            packets: Vec::new(alloc),
+            packets: Issued::new(alloc),
             steps: Vec::new(alloc),
         }
     }
@@ -171,7 +171,7 @@ impl<'a> Given<'a> {
             (λ _. given_after names.now self.old number line.now ≡ Ok self.new)
             (λ kind. given_after names.now self.old number line.now ≡ Err kind)) }
     {
-        match step_line(names, self.packets.as_slice(), line) {
+        match step_line(names, &self.packets, line) {
             Ok(Some(said)) => {
                 if self.steps.len() >= MAX_STEPS {
                     return Ok(Err(ScheduleKind::TooLong));
@@ -194,7 +194,7 @@ impl<'a> Given<'a> {
             action: said.action,
         })?;
         if let Some(name) = said.name {
-            self.packets.push(name)?;
+            self.packets.add(name)?;
         }
         Ok(())
     }

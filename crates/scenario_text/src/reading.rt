@@ -4,6 +4,7 @@ ghost use Rattle.std.specs.Prelude.{◌≡◌};
 ghost use Rattle.scenario_text.specs.Line.{action_line, begins, cancel_line, cancels, clean_tokens, dpc_line, interrupt_line, issue_line, issues, line_of, may_line, request_line, run_line, saying, startio_line, starts, step_line, steps_line, steps_of, to_label, to_number, until_line};
 
 use crate::expecting::expect_line;
+use crate::issued::Issued;
 use crate::names::Names;
 use crate::operands::{
     byte_of, device_of, major_from, number_of, packet_of, spot_labelled, spot_on_line,
@@ -33,7 +34,7 @@ pub struct Said<'a> {
 /// The kind of the first token that can't stand there.
 pub fn step_line<'a>(
     names: &Names<'_>,
-    packets: &[Piece<'_>],
+    packets: &Issued<'_>,
     line: &'a [u8],
 ) -> Result<Option<Said<'a>>, ScheduleKind>
     ensures { result ≡ step_line names.now packets.now line.now }
@@ -54,7 +55,7 @@ fn clean_tokens(line: &[u8]) -> Result<Tokens<'_>, ScheduleKind>
 
 fn line_of<'a>(
     names: &Names<'_>,
-    packets: &[Piece<'_>],
+    packets: &Issued<'_>,
     mut tokens: Tokens<'a>,
 ) -> Result<Option<Said<'a>>, ScheduleKind>
     ensures { result ≡ line_of names.now packets.now tokens.entry }
@@ -78,7 +79,7 @@ fn line_of<'a>(
 /// `may STEP`.
 fn may_line<'a>(
     names: &Names<'_>,
-    packets: &[Piece<'_>],
+    packets: &Issued<'_>,
     mut tokens: Tokens<'a>,
 ) -> Result<Option<Said<'a>>, ScheduleKind>
     ensures { result ≡ may_line names.now packets.now tokens.entry }
@@ -106,7 +107,7 @@ fn saying<'a>(may: bool, word: &'a [u8], action: Action) -> Said<'a>
 /// What a line does, of which the first word is given.
 fn action_line(
     names: &Names<'_>,
-    packets: &[Piece<'_>],
+    packets: &Issued<'_>,
     word: &[u8],
     operands: Tokens,
 ) -> Result<Action, ScheduleKind>
@@ -211,7 +212,7 @@ fn steps_of(thread: &[u8], count: &[u8]) -> Result<Action, ScheduleKind>
 }
 
 /// `cancel T PACKET LEVEL`, or `cancel T PACKET` at PASSIVE_LEVEL.
-fn cancel_line(packets: &[Piece<'_>], mut operands: Tokens) -> Result<Action, ScheduleKind>
+fn cancel_line(packets: &Issued<'_>, mut operands: Tokens) -> Result<Action, ScheduleKind>
     ensures { result ≡ cancel_line packets.now operands.entry }
 {
     let three = (operands.next(), operands.next(), operands.next());
@@ -226,7 +227,7 @@ fn cancel_line(packets: &[Piece<'_>], mut operands: Tokens) -> Result<Action, Sc
 
 /// The cancel of a packet on a thread, at a level.
 fn cancels(
-    packets: &[Piece<'_>],
+    packets: &Issued<'_>,
     thread: &[u8],
     packet: &[u8],
     level: &[u8],
