@@ -42,8 +42,9 @@ doubtful_parts =
 -- words with which a line begins that are painted alone
 abbrev pub heads : List (List ℕ)
 heads =
-    codes "why:" ∷ codes "see:" ∷ codes "fix:" ∷ codes "at fault:" ∷ codes "a path there:"
-    ∷ codes "what is known where it arrives:" ∷ codes "audit" ∷ []
+    codes "why:" ∷ codes "see:" ∷ codes "mend it:" ∷ codes "show it:" ∷ codes "at fault:"
+    ∷ codes "a path there:" ∷ codes "one path there:" ∷ codes "another path there:"
+    ∷ codes "what differs:" ∷ codes "what is known where it arrives:" ∷ codes "audit" ∷ []
 
 -- the colour of a line that is painted whole
 abbrev pub color_within : List ℕ → Option Color

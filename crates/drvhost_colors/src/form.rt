@@ -22,12 +22,16 @@ pub(crate) fn span_of(line: &[u8]) -> Option<Span>
             color,
         });
     }
-    let heads: [&[u8]; 7] = [
+    let heads: [&[u8]; 11] = [
         b"why:",
         b"see:",
-        b"fix:",
+        b"mend it:",
+        b"show it:",
         b"at fault:",
         b"a path there:",
+        b"one path there:",
+        b"another path there:",
+        b"what differs:",
         b"what is known where it arrives:",
         b"audit",
     ];

@@ -2,9 +2,10 @@
 
 ghost use Rattle.std.specs.Prelude.{◌≡◌, ◌++◌, ◌<◌, ◌==◌, IfOk, OnOk, length};
 ghost use Rattle.std.specs.List.{list_any};
-ghost use Rattle.drvhost_colors.specs.Painted.{AddsPainted, HasNoEscape, IsPainted, begins};
+ghost use Rattle.drvhost_colors.specs.Painted.{AddsLine, AddsText, HasNoEscape, IsFirstLine, IsPainted, begins};
 
 use crate::form::{Span, span_of};
+use memchr::memchr;
 use std::alloc::{AllocError, Global};
 
 /// The byte with which each sequence begins.
@@ -40,8 +41,8 @@ impl Color {
 /// The sequence that ends any.
 const END: &[u8] = b"\x1b[0m";
 
-/// Paints a text: with the sequences taken out it is the text, byte for byte. One that has an escape
-/// of its own stays as it is.
+/// Paints a text line by line, each by its form: with the sequences taken out it is the text, byte
+/// for byte. One that has an escape of its own stays as it is.
 ///
 /// # Errors
 ///
@@ -68,7 +69,7 @@ fn has_escape(text: &[u8]) -> bool
 /// Adds the lines of a text, painted.
 fn paint_lines(text: &[u8], painted: &mut Vec<u8>) -> Result<(), AllocError>
     requires { HasNoEscape text.now }
-    ensures { OnOk result (AddsPainted text.now painted.old.items painted.new.items) }
+    ensures { OnOk result (AddsText text.now painted.old.items painted.new.items) }
 {
     let mut rest = text;
     while !rest.is_empty() {
@@ -84,8 +85,9 @@ fn split_line(text: &[u8]) -> (&[u8], &[u8])
     requires { 0 < length text.now }
     ensures parts { text.now ≡ result.0.now ++ result.1.now }
     ensures some { 0 < length result.0.now }
+    ensures line { IsFirstLine result.0.now result.1.now }
 {
-    match text.iter().position(|byte| *byte == b'\n') {
+    match memchr(b'\n', text) {
         Some(end) => text.split_at(end + 1),
         None => text.split_at(text.len()),
     }
@@ -94,7 +96,7 @@ fn split_line(text: &[u8]) -> (&[u8], &[u8])
 /// Adds a line, painted by its form.
 fn paint_line(line: &[u8], painted: &mut Vec<u8>) -> Result<(), AllocError>
     requires { HasNoEscape line.now }
-    ensures { OnOk result (AddsPainted line.now painted.old.items painted.new.items) }
+    ensures { OnOk result (AddsLine line.now painted.old.items painted.new.items) }
 {
     let Some(span) = span_of(line) else {
         painted.extend_from_slice(line)?;

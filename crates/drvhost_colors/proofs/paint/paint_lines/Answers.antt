@@ -1,12 +1,17 @@
-use Rattle.std.proofs.Common.{◌∙◌, ◌++◌, ap, subst}
-use Rattle.drvhost_colors.specs.Painted.{HasNoEscape}
-use Rattle.drvhost_colors.proofs.Painting.{lines_more}
+use Rattle.std.proofs.Common.{◌∙◌, sym}
+use Rattle.drvhost_colors.proofs.Painting.{lines_begin, lines_end, lines_more, none_left}
 use Rattle.drvhost_colors.proofs.paint.paint_lines.Goals as goal
+
+pub loop-rest-init : goal.loop-rest-init
+loop-rest-init c = lines_begin c.args.text.now _ c.requires
 
 pub loop-rest-preserved : goal.loop-rest-preserved
 loop-rest-preserved c =
-    let (none, (taken, is, adds)) = c.loop-rest.invariant in
-    let parts = c.split_line.ensures.parts in
-    lines_more c.args.text.now c.split_line.result.0.now c.split_line.result.1.now taken _ _ _
-    (subst (λ x. HasNoEscape x) parts none) (is ∙ ap (λ x. taken ++ x) parts) adds
+    lines_more c.args.text.now _ c.split_line.result.0.now c.split_line.result.1.now _ _ _
+    c.loop-rest.invariant c.split_line.ensures.parts c.split_line.ensures.line
     c.in_ok-paint_line.ensures
+
+pub returns : goal.returns
+returns c =
+    lines_end c.args.text.now _ _ _ c.loop-rest.invariant
+    (none_left _ (sym c.is_empty.ensures ∙ c.loop-rest-test.false))
