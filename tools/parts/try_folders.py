@@ -2,8 +2,8 @@
 """tools/try folders [PROGRAM]: runs the built program (crates/drvhost/out/drvhost, if none is named) on folders and on several
 files, for what no contract says: which files of a real folder are found. There are links in a ring, names with spaces, quotes
 and line feeds, and one that isn't UTF-8, a file that grows while it is read, a pipe that is filled bit by bit, an output that is
-closed in the middle, and ten thousand files. It prints each case that is answered otherwise; the last line counts."""
-import os, subprocess, sys, tempfile, threading, time
+closed in the middle, and ten thousand files; and how far it has come is told at a terminal alone. It prints each case that is answered otherwise; the last line counts."""
+import os, pty, subprocess, sys, tempfile, threading, time
 
 TOP = os.path.dirname(os.path.dirname(os.path.dirname(os.path.abspath(__file__))))
 
@@ -131,6 +131,30 @@ def piped(program, folder):
     finally:
         filler.join()
 
+def told_at(program, folder, is_terminal):
+    """What goes to standard error, a terminal or a pipe, where the first of three files takes more than a second."""
+    path = os.path.join(folder, b'slow.drv')
+    os.path.exists(path) or os.mkfifo(path)
+    def fill():
+        with open(path, 'wb', buffering=0) as out:
+            time.sleep(1.5)
+            out.write(GOOD)
+    filler = threading.Thread(target=fill)
+    filler.start()
+    at, error = pty.openpty() if is_terminal else os.pipe()
+    child = subprocess.Popen([program, 'check', '--jobs', '1', 'slow.drv', 'one.drv', 'one.drv'], cwd=folder,
+                             stdin=subprocess.DEVNULL, stdout=subprocess.DEVNULL, stderr=error)
+    os.close(error)
+    told = b''
+    try:
+        while piece := os.read(at, 4096):
+            told += piece
+    except OSError:
+        pass
+    os.close(at)
+    filler.join()
+    return child.wait(), told
+
 def answers(program, folder):
     for paths in CASES:
         yield 'check ' + b' '.join(paths).decode(), wanted(folder, paths), run(program, [b'check', *paths], folder)
@@ -143,6 +167,9 @@ def answers(program, folder):
     yield 'explain three.drv one.drv', (2, b'one.drv:\n' + alone[1][1], b'three.drv:\n' + faulty[2]), (status, written, told)
     yield 'check of a file that grows', named([(b'grows.drv', ACCEPTED), (b'one.drv', ACCEPTED)]), growing(program, folder)
     yield 'check of a pipe', named([(b'one.drv', ACCEPTED), (b'pipe.drv', REFUSED)]), piped(program, folder)
+    status, told = told_at(program, folder, True)
+    yield 'check of a slow file at a terminal', (0, True, True), (status, b'1 of 3' in told, told.endswith(b'\r\x1b[K'))
+    yield 'check of a slow file, told to a pipe', (0, b''), told_at(program, folder, False)
     # a write that fails ends it
     with open('/dev/full', 'wb') as full:
         status, _, told = run(program, [b'check', b'three.drv', b'one.drv', b'three.drv'], folder, full)
