@@ -1,0 +1,59 @@
+#!/usr/bin/env python3
+"""tools/measure scenarios [--runs N] [PROGRAM]: how long `test` takes for a scenario, beside `trace` of
+the schedule that `schedule` writes of it (crates/drvhost/out/drvhost, if no program is named): of both
+the least of N times (9 if left out) in milliseconds, each writing to /dev/null, and their ratio."""
+import argparse, os, subprocess, sys, tempfile, time
+
+import measure
+from versions import TOP
+
+def through_a_queue(requests):
+    """Requests that a DPC routine completes, each with what is expected of it."""
+    text, _, _ = measure.through_a_queue()
+    lines = ['threads 2']
+    for number in range(requests):
+        name = 'p%d' % number
+        lines += [name + ' = issue 0 v READ 0', 'run 0', 'interrupt v', 'dpc 1 v', 'run 1',
+                  'expect %s topped SUCCESS' % name]
+    return text, lines
+
+def cases():
+    loops = measure.one_routine(['loop 255', 'loop 255', 'clear r1', 'end', 'end',
+                                 'complete r0 SUCCESS', 'ret SUCCESS'])
+    runs = ['threads 1', 'a = issue 0 v READ 0', 'run 0', 'expect a topped SUCCESS']
+    yield 'steps of loops', loops, runs
+    yield 'the same, and its audit', loops, [*runs, 'expect clean']
+    yield 'the same, and a hundred audits', loops, [*runs, *['expect clean'] * 100]
+    yield '1,000 requests through a queue', *through_a_queue(1_000)
+    yield '10,000 requests through a queue', *through_a_queue(10_000)
+
+def written(folder, name, lines):
+    path = os.path.join(folder, name)
+    with open(path, 'w') as file:
+        file.write('\n'.join(lines) + '\n')
+    return path
+
+def least(runs, *words):
+    times = []
+    for _ in range(runs):
+        start = time.perf_counter()
+        subprocess.run(words, stdout=subprocess.DEVNULL, check=True)
+        times.append(time.perf_counter() - start)
+    return min(times) * 1000
+
+def main():
+    parser = argparse.ArgumentParser(description=__doc__)
+    parser.add_argument('--runs', type=int, default=9)
+    parser.add_argument('program', nargs='?', default=os.path.join(TOP, 'crates/drvhost/out/drvhost'))
+    given = parser.parse_args()
+    with tempfile.TemporaryDirectory() as folder:
+        for name, text, lines in cases():
+            driver, scenario = written(folder, 'a.drv', text), written(folder, 'a.scenario', lines)
+            asked = [given.program, 'schedule', driver, scenario]
+            listed = subprocess.run(asked, stdout=subprocess.PIPE, check=True, text=True)
+            schedule = written(folder, 'a.sched', listed.stdout.splitlines())
+            test = least(given.runs, given.program, 'test', driver, scenario)
+            trace = least(given.runs, given.program, 'trace', driver, schedule)
+            print('%s: test %.1f ms, trace %.1f ms, %.2f' % (name, test, trace, test / trace))
+
+main()
