@@ -42,7 +42,7 @@ static void words(const std::string &set, const std::string &events, const std::
     want(draw(set, events, PAFTEIS_CHECKED).text.substr(0, 4) == "<svg", "draw");
     want(explain(set, PAFTEIS_FIRST).done && !explain(refused, PAFTEIS_EACH).done, "explain");
     want(list(set).text.substr(0, 7) == "driver ", "list");
-    const pafteis_hunting asked = PAFTEIS_USUAL_HUNT;
+    const pafteis_hunting asked = {1, 1000, 0, 0, 2, 0};
     want(hunt(set, &asked).done, "hunt");
     want(mend(set, PAFTEIS_USUAL_TRIES).done, "mend");
     want(put(pafteis_name_of, PAFTEIS_NAME_OF_RULE, 11) == "V11 Guard", "put");
