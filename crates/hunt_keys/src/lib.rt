@@ -10,4 +10,5 @@ mod reaching;
 mod registers;
 pub mod requests;
 mod sorting;
+pub mod uses;
 pub mod writer;

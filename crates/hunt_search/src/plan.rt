@@ -6,14 +6,18 @@ ghost use Rattle.model.specs.declared.limits.TheConstants.{MAX_THREADS};
 use driver_set::DriverSet;
 use hunt_bounds::bounds::Bounds;
 use hunt_keys::facts::Facts;
+use model::abs::Rule;
 use std::alloc::{AllocError, Global};
 use std::marker::Model;
+use verifier::verify;
 
 /// The plan of a search on 1 to `MAX_THREADS` threads.
 #[derive(Drop)]
 pub(crate) struct Plan {
     within: Bounds,
     known: Facts,
+    /// The set is refused.
+    refused: bool,
 }
 
 impl Model for Plan {
@@ -29,6 +33,18 @@ impl Model for Plan {
         (1 ≤ plan.within.threads) × (plan.within.threads ≤ MAX_THREADS) };
 }
 
+/// Whether a set is refused.
+fn is_refused(alloc: Global, set: &DriverSet) -> Result<bool, AllocError> {
+    let Ok(set) = set.copy(alloc) else {
+        return Err(AllocError);
+    };
+    match verify(alloc, set) {
+        Ok(_) => Ok(false),
+        Err((_, refusal)) if refusal.rule == Rule::Memory => Err(AllocError),
+        Err(_) => Ok(true),
+    }
+}
+
 impl Plan {
     /// That of a search through the worlds of a set.
     pub(crate) fn of(alloc: Global, set: &DriverSet, bounds: Bounds) -> Result<Plan, AllocError>
@@ -39,6 +55,7 @@ impl Plan {
         Ok(Plan {
             within: bounds,
             known: Facts::of(alloc, set, bounds.argument)?,
+            refused: is_refused(alloc, set)?,
         })
     }
 
@@ -54,5 +71,10 @@ impl Plan {
     /// What is known of the set.
     pub(crate) fn facts(&self) -> &Facts {
         &self.known
+    }
+
+    /// Whether a status may be returned that disagrees with its mark: in no run of an accepted set.
+    pub(crate) fn may_disagree(&self) -> bool {
+        self.refused
     }
 }

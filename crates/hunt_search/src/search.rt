@@ -6,7 +6,7 @@ ghost use Rattle.hunt_search.specs.Hunts.{IsFind, IsHunted, IsWanted};
 ghost use Rattle.model.specs.declared.limits.TheConstants.{MAX_THREADS};
 ghost use Rattle.model.specs.Set.{Set};
 
-use crate::expanding::{expand, machine_at};
+use crate::expanding::{expand, run_at};
 use crate::plan::Plan;
 use crate::worlds::Worlds;
 use driver_set::DriverSet;
@@ -97,8 +97,8 @@ fn search<P: Progress>(
     progress: &P,
 ) -> Result<Searched, AllocError> {
     let bounds = plan.bounds();
-    let first = machine_at(alloc, set, plan, [].as_slice())?;
-    worlds.begin(&first, plan.facts())?;
+    let first = run_at(alloc, set, plan, [].as_slice())?;
+    worlds.begin(&first, plan)?;
     for number in 0..bounds.worlds {
         if number >= worlds.len() {
             return Ok(Searched::All);

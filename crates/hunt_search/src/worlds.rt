@@ -1,10 +1,11 @@
 //! The worlds that were seen, each by its key, and how each was reached.
 
 use crate::graph::{Graph, Stand};
-use checked::Checked;
+use crate::plan::Plan;
 use hunt_bounds::bounds::Goal;
-use hunt_keys::facts::Facts;
+use hunt_ends::rehearsal::Rehearsal;
 use hunt_keys::keys::write_key;
+use hunt_keys::uses::add_uses;
 use hunt_keys::writer::Writer;
 use indexmap::IndexSet;
 use model::event::Event;
@@ -59,20 +60,19 @@ impl Worlds {
         }
     }
 
-    /// Adds the world of a machine, which was reached from another one by an event, unless it was
-    /// seen.
+    /// Adds the world to which a run has come, from another one by an event, unless it was seen.
     pub(crate) fn add(
         &mut self,
-        machine: &Checked,
-        facts: &Facts,
+        run: &Rehearsal,
+        plan: &Plan,
         from: usize,
         event: Event,
     ) -> Result<(), AllocError> {
-        let number = self.number_of(machine, facts)?;
+        let number = self.number_of(run, plan)?;
         if number >= self.ways.len() {
             let depth = self.depth(from).saturating_add(1);
             self.ways.push(Reached { from, event, depth })?;
-            self.note_world(Stand::of(machine))?;
+            self.note_world(Stand::of(run.machine()))?;
         }
         match &mut self.graph {
             Some(graph) => graph.add_way(from, number),
@@ -80,9 +80,12 @@ impl Worlds {
         }
     }
 
-    /// The number of the world of a machine, whose key is added unless it was seen.
-    fn number_of(&mut self, machine: &Checked, facts: &Facts) -> Result<usize, AllocError> {
-        write_key(&mut self.writer, machine, facts)?;
+    /// The number of the world to which a run has come, whose key is added unless it was seen.
+    fn number_of(&mut self, run: &Rehearsal, plan: &Plan) -> Result<usize, AllocError> {
+        write_key(&mut self.writer, run.machine(), plan.facts())?;
+        if plan.may_disagree() {
+            add_uses(&mut self.writer, run.machine(), run.ledger())?;
+        }
         let key = self.writer.bytes();
         if let Some(number) = self.keys.get_index_of(key) {
             return Ok(number);
@@ -99,15 +102,15 @@ impl Worlds {
         }
     }
 
-    /// Adds the first world, that of a machine before the first event.
-    pub(crate) fn begin(&mut self, machine: &Checked, facts: &Facts) -> Result<(), AllocError> {
-        let _first = self.number_of(machine, facts)?;
+    /// Adds the first world, that of a run before the first event.
+    pub(crate) fn begin(&mut self, run: &Rehearsal, plan: &Plan) -> Result<(), AllocError> {
+        let _first = self.number_of(run, plan)?;
         self.ways.push(Reached {
             from: 0,
             event: Event::Interrupt { device: 0 },
             depth: 0,
         })?;
-        self.note_world(Stand::of(machine))
+        self.note_world(Stand::of(run.machine()))
     }
 
     /// The first world from which none comes to rest.
