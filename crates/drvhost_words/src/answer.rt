@@ -22,7 +22,7 @@ use drvhost_files::files::{Files, Later, Pending};
 use drvhost_formats::trace::{Asked, trace_json};
 use drvhost_formats::unopened::unopened_json;
 use drvhost_hunts::exact::hunt_exactly;
-use drvhost_hunts::hunt::hunt;
+use drvhost_hunts::hunt::hunt_telling;
 use drvhost_many::file::{self, judge};
 use drvhost_many::many::{Sets, answer_each};
 use drvhost_many::paths::{alone, find_all};
@@ -42,7 +42,7 @@ use drvhost_sets::version::version;
 use drvhost_tests::test::{Tests, test};
 use drvhost_views::draw::{Drawing, draw};
 use drvhost_views::tell::{Telling, tell};
-use report_progress::progress::Progress;
+use report_progress::progress::{Progress, Silent};
 use std::alloc::{AllocError, Global};
 use std::io::ErrorKind;
 use std::sync::Wait;
@@ -150,7 +150,7 @@ fn answer_words<F: Files, O: Sink, E: Sink, R: Threads + Wait + Sync + Progress>
 }
 
 /// Does a job with the files that it names. Only what does `host`, or judges several files, is given
-/// the runtime: nothing else starts a thread, or waits.
+/// the runtime as such: nothing else starts a thread, or waits.
 fn perform<F: Files, O: Sink, E: Sink, R: Threads + Wait + Sync + Progress>(
     rt: &R,
     setting: Setting,
@@ -215,7 +215,13 @@ fn perform<F: Files, O: Sink, E: Sink, R: Threads + Wait + Sync + Progress>(
             };
             mend_file(alloc, Mending { set, asked }, files, out, err)
         }
-        Job::OnSet { set, task } => work_file(alloc, Work::Do(*task), set, files, out, err),
+        Job::OnSet { set, task } => {
+            let beside = Beside {
+                alloc,
+                progress: rt,
+            };
+            work_file(&beside, Work::Do(*task), set, files, out, err)
+        }
         Job::OnRun { set, input, way } => {
             let names = Names::of(set, input);
             run_files(alloc, Running { names, way: *way }, files, out, err)
@@ -341,7 +347,11 @@ fn judge_file<F: Files, O: Sink, E: Sink>(
     match judging {
         Judging::Check => check_file(alloc, set, files, out, err),
         Judging::CheckJson | Judging::Explain(_) | Judging::ExplainJson(_) => {
-            work_file(alloc, Work::Judge(judging), set, files, out, err)
+            let beside = Beside {
+                alloc,
+                progress: &Silent,
+            };
+            work_file(&beside, Work::Judge(judging), set, files, out, err)
         }
     }
 }
@@ -374,9 +384,16 @@ fn check_file<F: Files, O: Sink, E: Sink>(
     status
 }
 
-/// Does some work with the set of a file. One that can't be opened or read is named.
-fn work_file<F: Files, O: Sink, E: Sink>(
+/// What some work has beside the files: memory, and whom it tells how far it has come.
+#[derive(Drop)]
+struct Beside<'p, P> {
     alloc: Global,
+    progress: &'p P,
+}
+
+/// Does some work with the set of a file. One that can't be opened or read is named.
+fn work_file<F: Files, O: Sink, E: Sink, P: Progress>(
+    beside: &Beside<'_, P>,
     work: Work,
     set: &str,
     files: &mut F,
@@ -403,9 +420,9 @@ fn work_file<F: Files, O: Sink, E: Sink>(
     let mut file = files.open(set);
     if files.is_closed(&file) {
         files.close(file);
-        return refuse_unopened(alloc, work, set, out, err);
+        return refuse_unopened(beside.alloc, work, set, out, err);
     }
-    let status = perform_work(alloc, work, set, &mut file, out, err);
+    let status = perform_work(beside, work, set, &mut file, out, err);
     tell_if_unread(set, &file, failures, err);
     files.close(file);
     status
@@ -444,8 +461,8 @@ fn is_in_json(work: Work) -> bool
 }
 
 /// Does some work with the set of a source, whose file has this name.
-fn perform_work<S: Source, O: Sink, E: Sink>(
-    alloc: Global,
+fn perform_work<S: Source, O: Sink, E: Sink, P: Progress>(
+    beside: &Beside<'_, P>,
     work: Work,
     name: &str,
     set: &mut S,
@@ -462,14 +479,14 @@ fn perform_work<S: Source, O: Sink, E: Sink>(
         result }
 {
     match work {
-        Work::Judge(judging) => judge(alloc, judging, name, set, out, err),
-        Work::Do(task) => fulfil(alloc, task, set, out, err),
+        Work::Judge(judging) => judge(beside.alloc, judging, name, set, out, err),
+        Work::Do(task) => fulfil(beside, task, set, out, err),
     }
 }
 
 /// Does a task with the set of a source.
-fn fulfil<S: Source, O: Sink, E: Sink>(
-    alloc: Global,
+fn fulfil<S: Source, O: Sink, E: Sink, P: Progress>(
+    beside: &Beside<'_, P>,
     task: Task,
     set: &mut S,
     out: &mut O,
@@ -484,10 +501,11 @@ fn fulfil<S: Source, O: Sink, E: Sink>(
         (Says (E.failures err.old) (E.failures err.new) (E.contents err.old) (E.contents err.new))
         result }
 {
+    let alloc = beside.alloc;
     match task {
         Task::Mend(tries) => mend(alloc, mend::Asked { tries }, set, out, err),
         Task::List => list(alloc, set, out, err),
-        Task::Hunt(reach) => hunt(alloc, reach, set, out, err),
+        Task::Hunt(reach) => hunt_telling(alloc, reach, beside.progress, set, out, err),
         Task::HuntExactly(reach) => hunt_exactly(alloc, reach, set, out, err),
     }
 }

@@ -7,7 +7,7 @@ pub returns-in-List : goal.returns-in-List
 returns-in-List g c = rw c.in-List.is c.list.ensures
 
 pub returns-in-Hunt : goal.returns-in-Hunt
-returns-in-Hunt g c = rw c.in-Hunt.is c.hunt.ensures
+returns-in-Hunt g c = rw c.in-Hunt.is c.hunt_telling.ensures
 
 pub returns-in-HuntExactly : goal.returns-in-HuntExactly
 returns-in-HuntExactly g c = rw c.in-HuntExactly.is c.hunt_exactly.ensures
