@@ -4,9 +4,11 @@
     tools/try logs PROGRAM [PATH ..]     of these paths, or of the gallery and of files that can't be read
 
 Each is written by `check` and by `explain`, with accepted sets and without them. Beside the schema
-docs/schemas/log.json and the standard's classes it looks whether each region is in its file and holds
-a line of it, whether a result of `explain` is that of `check` with more behind its message, whether a
-path ends where its result is, and whether `--pass` adds results of accepted sets alone.
+docs/schemas/log.json and the standard's classes it looks whether each region is in its file and
+holds a line of it, whether a result of `explain` is that of `check` with more behind its message,
+whether a path ends where its result is, whether `--pass` adds results of accepted sets alone, and
+whether `check` accepts what each fix makes of its file, or finds its first fault in a later routine.
+The edits that `explain --format json` tells have to be the same.
 
 It needs, on Debian, `python3-jsonschema` and `python3-sarif-python-om`."""
 
@@ -15,6 +17,7 @@ import json
 import os
 import subprocess
 import sys
+import tempfile
 import urllib.parse
 
 from jsonschema import Draft202012Validator
@@ -89,13 +92,59 @@ def key_of(result):
     )
 
 
+def edits_of(result):
+    """The edits of lines that a result has, as objects of `explain --format json` have them."""
+    for fix in result["fixes"]:
+        for each in fix["artifactChanges"][0]["replacements"]:
+            region = each["deletedRegion"]
+            text = each["insertedContent"]["text"]
+            yield {"start": region["startLine"], "end": region["endLine"], "text": text}
+
+
+def edited(text, edits):
+    """What edits of lines make of a text."""
+    lines, made, next_line = text.split("\n"), [], 1
+    if lines[-1] == "":
+        lines.pop()
+    for edit in edits:
+        made += [line + "\n" for line in lines[next_line - 1 : edit["start"] - 1]] + [edit["text"]]
+        next_line = edit["end"]
+    return "".join(made + [line + "\n" for line in lines[next_line - 1 :]])
+
+
+def place_in(result):
+    """The driver and the routine of a result of a refusal."""
+    return [int(each) for each in result["partialFingerprints"]["pafteis/v1"].split("/")[1:3]]
+
+
+def fix_faults(program, result):
+    """What is wrong with the fix of a result: `check` refuses what it makes no later."""
+    edits = list(edits_of(result))
+    if not edits:
+        return
+    name = urllib.parse.unquote(place_of(result["locations"][0])[0])
+    with open(os.path.join(TOP, name), encoding="utf-8") as file:
+        text = edited(file.read(), edits)
+    with tempfile.NamedTemporaryFile("w", suffix=".drv", encoding="utf-8") as file:
+        file.write(text)
+        file.flush()
+        left = results_of(log_of(program, ["check", file.name, "--format", "sarif"]))
+    if left and (left[0]["ruleId"][0] != "V" or place_in(left[0]) <= place_in(result)):
+        yield f"the fix of {name} leaves {left[0]['message']['text']}"
+    told = subprocess.run(
+        [program, "explain", name, "--format", "json"], capture_output=True, cwd=TOP, check=False
+    )
+    if json.loads(told.stdout.splitlines()[0])["edits"] != edits:
+        yield f"JSON has other edits of {name}"
+
+
 def pair_faults(checked, explained):
     """What differs between the results of `check` and of `explain`."""
     if [key_of(each) for each in checked] != [key_of(each) for each in explained]:
         yield "explain has other results than check"
     for one, other in zip(checked, explained):
-        if one["codeFlows"]:
-            yield "check has a path"
+        if one["codeFlows"] or one["fixes"]:
+            yield "check has a path or a fix"
         if not other["message"]["text"].startswith(one["message"]["text"]):
             yield "explain has another message than check"
 
@@ -124,6 +173,9 @@ def main():
             wrong += 1
             print(f"{command} {' '.join(flags)}: {fault}")
     faults = list(pair_faults(*(results_of(logs[each, ()]) for each in ("check", "explain"))))
+    fixed = [each for each in results_of(logs["explain", ()]) if each["fixes"]]
+    for each in fixed:
+        faults += fix_faults(program, each)
     for command in "check", "explain":
         more = [each for each in results_of(logs[command, ("--pass",)]) if each["kind"] == "fail"]
         if more != results_of(logs[command, ()]):
@@ -131,8 +183,9 @@ def main():
     for fault in faults:
         print(fault)
     count = sum(len(results_of(log)) for log in logs.values())
-    print(f"{len(logs)} logs tried, {count} results, {wrong + len(faults)} faults")
-    sys.exit(wrong + len(faults) > 0 or count == 0)
+    wrong += len(faults)
+    print(f"{len(logs)} logs tried, {count} results, {len(fixed)} fixes, {wrong} faults")
+    sys.exit(wrong > 0 or count == 0)
 
 
 main()

@@ -3,6 +3,7 @@ use Rattle.std.proofs.Common.{◌≡◌, ◌∙◌, ◌+◌, ◌<◌, ◌≤◌,
 use Rattle.std.proofs.lemmas.List.{take_all, take_more}
 use Rattle.std.specs.Global.{Vec}
 use Rattle.std.specs.List.{AllZip}
+use Rattle.mend_fixes.specs.declared.lines.LineEdit.{LineEdit}
 use Rattle.model.specs.declared.abs.Refusal.{Refusal}
 use Rattle.model.specs.Set.{Set}
 use Rattle.report_sarif.specs.declared.log.Finding.{Finding}
@@ -13,6 +14,7 @@ use Rattle.verifier_words.specs.Faults.{AreFaults, refusals}
 use Rattle.drvhost_evidence.specs.declared.shown.Shown.{Shown}
 use Rattle.drvhost_evidence.specs.Shown.{IsShownBy}
 use Rattle.drvhost_evidence.proofs.EachFault.{past_told, told_at, within_told}
+use Rattle.drvhost_mends.specs.Fix.{IsFix}
 use Rattle.drvhost_options.specs.declared.extent.Extent.{Extent}
 use Rattle.drvhost_options.specs.declared.extent.Extent.TheVariants.{First, Each}
 use Rattle.drvhost_sarif.specs.Found.{AreExplained, IsExplained, IsRefusal, refusal_words}
@@ -64,13 +66,15 @@ each_explained (Err e) extent name bytes set refusal is shown = tt
 -- one of them, by what shows it
 pub shown_explained : {E : Type 0} (r : Result Finding E) (name bytes : List ℕ) (set : Set)
     (refusal : Refusal) (evidence : Option Evidence) (shown : Shown) (words : List ℕ)
-    → IsEvidence set refusal evidence → IsShownBy bytes refusal evidence shown
+    (fix : List LineEdit) → IsEvidence set refusal evidence
+    → IsShownBy bytes refusal evidence shown → IsFix refusal bytes fix
     → IfOk r (IsRefusal name bytes refusal)
     → IfOk r (λ finding. string_bytes finding.message ≡ refusal_words refusal ++ 10 ∷ words)
     → IfOk r (λ finding. finding.path.items ≡ shown.path.items)
     → IfOk r (λ finding. finding.other.items ≡ shown.other.items)
+    → IfOk r (λ finding. finding.fix ≡ fix)
     → IfOk r (IsExplained name bytes set refusal)
-shown_explained (Ok finding) name bytes set refusal evidence shown words shows it is told path other =
+shown_explained (Ok finding) name bytes set refusal evidence shown words fix shows it so is told path other whole =
     record {
       result = is;
       words = words;
@@ -79,6 +83,7 @@ shown_explained (Ok finding) name bytes set refusal evidence shown words shows i
       shows = shows;
       path = rw path it.path;
       other = rw other it.other;
+      fixed = rw whole so;
     }
-shown_explained (Err e) name bytes set refusal evidence shown words shows it is told path other =
+shown_explained (Err e) name bytes set refusal evidence shown words fix shows it so is told path other whole =
     tt

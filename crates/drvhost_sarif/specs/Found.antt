@@ -20,6 +20,7 @@ use Rattle.drvhost_devices.specs.Answer.{FileSays}
 use Rattle.drvhost_devices.specs.Device.{Holds, Supply}
 use Rattle.drvhost_evidence.specs.Regions.{refusal_region, region_at}
 use Rattle.drvhost_evidence.specs.Shown.{AreStepsOf, other_path, path_of, refused_lines}
+use Rattle.drvhost_mends.specs.Fix.{IsFix}
 use Rattle.drvhost_options.specs.declared.extent.Extent.{Extent}
 use Rattle.drvhost_options.specs.declared.extent.Extent.TheVariants.{First, Each}
 use Rattle.drvhost_options.specs.declared.logging.Account.{Account}
@@ -58,6 +59,7 @@ pub record IsPlain (kind : Kind) (name rule print message : List ℕ) (place : O
   pub message_is : string_bytes finding.message ≡ message
   pub path : finding.path.items ≡ []
   pub other : finding.other.items ≡ []
+  pub fix : finding.fix ≡ []
 
 -- that of an accepted set
 abbrev pub IsPass : List ℕ → Finding → Type 0
@@ -81,7 +83,8 @@ abbrev pub IsFault : List ℕ → List ℕ → Option Region → Finding → Typ
 IsFault name kind place =
     IsPlain Fail name kind kind (codes "the file is faulty: " ++ kind) place
 
--- that of a refusal, explained: the paths of its evidence, and behind its place some words
+-- that of a refusal, explained: the paths of its evidence, behind its place some words, and edits
+-- that mend it, or none
 pub record IsExplained (name bytes : List ℕ) (set : Set) (refusal : Refusal) (finding : Finding)
     : Type 0 where
   pub result : IsRefusal name bytes refusal finding
@@ -92,6 +95,7 @@ pub record IsExplained (name bytes : List ℕ) (set : Set) (refusal : Refusal) (
   pub path : AreStepsOf bytes (refused_lines bytes refusal) finding.path.items (path_of evidence)
   pub other : AreStepsOf bytes (refused_lines bytes refusal) finding.other.items
       (other_path evidence)
+  pub fixed : IsFix refusal bytes finding.fix
 
 -- the refusals that are explained of a refused set: its first fault, or that of each routine
 abbrev pub AreAsked : Extent → Set → Refusal → List Refusal → Type 0

@@ -13,11 +13,14 @@ use crate::finding::{ReadFile, of_refusal};
 use crate::found::only;
 use drvhost_evidence::faults::evidence_of_fault;
 use drvhost_evidence::shown::{Shown, show};
+use drvhost_mends::fixing::fix_by;
 use drvhost_options::extent::Extent;
 use drvhost_sets::advising::Advisor;
 use drvhost_sets::explaining::origin_of;
 use image::DriverSet;
+use mend_fixes::LineEdit;
 use model::abs::Refusal;
+use model::items::Items;
 use report_sarif::log::Finding;
 use std::alloc::{AllocError, Global};
 use verifier_words::explanations;
@@ -65,8 +68,8 @@ fn explain_each(
     Ok(findings)
 }
 
-/// A fault, explained: behind its place in words why the rule is broken and how to mend it, and the
-/// paths to it.
+/// A fault, explained: behind its place in words why the rule is broken and how to mend it, the paths
+/// to it, and of the first one the edits that mend it, if they were judged.
 fn explain(
     alloc: Global,
     file: ReadFile<'_>,
@@ -82,16 +85,26 @@ fn explain(
     let evidence = evidence_of_fault(alloc, set, refusal)?;
     let origin = origin_of(file.bytes);
     let shown = show(alloc, origin, file.bytes, set, refusal, &evidence)?;
-    let words = advisor.advised(alloc, set, refusal, shown.why.as_str())?;
-    of_shown(alloc, file, refusal, shown, words.as_str().trim_end())
+    let advised = advisor.advised_with(alloc, set, refusal, shown.why.as_str())?;
+    let fix = fix_by(alloc, file.bytes, refusal, advised.changes.as_slice())?;
+    of_shown(
+        alloc,
+        file,
+        refusal,
+        shown,
+        fix,
+        advised.words.as_str().trim_end(),
+    )
 }
 
-/// The result of a refusal, with the paths that show it, and words behind its place.
+/// The result of a refusal, with the paths that show it, edits that mend it, and words behind its
+/// place.
 fn of_shown(
     alloc: Global,
     file: ReadFile<'_>,
     refusal: &Refusal,
     shown: Shown,
+    fix: Items<LineEdit>,
     words: &str,
 ) -> Result<Finding, AllocError>
     ensures result { IfOk result
@@ -100,6 +113,7 @@ fn of_shown(
         string_bytes finding.message ≡ refusal_words refusal.now ++ 10 ∷ words.now) }
     ensures path { IfOk result (λ finding. finding.path.items ≡ shown.path.items) }
     ensures other { IfOk result (λ finding. finding.other.items ≡ shown.other.items) }
+    ensures fix { IfOk result (λ finding. finding.fix ≡ fix) }
 {
     let Shown { path, other, .. } = shown;
     let mut finding = of_refusal(alloc, file, refusal)?;
@@ -107,5 +121,6 @@ fn of_shown(
     finding.message.push_str(words)?;
     finding.path = path;
     finding.other = other;
+    finding.fix = fix;
     Ok(finding)
 }

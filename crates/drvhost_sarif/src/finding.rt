@@ -15,6 +15,7 @@ use drvhost_evidence::region::{refusal_region, region_at};
 use drvhost_options::logging::{Account, Logging, Passes};
 use image::DriverSet;
 use model::abs::{Refusal, Rule};
+use model::items::Items;
 use report::fault::{image_fault_name, text_kind_name};
 use report_sarif::log::{Finding, Kind, Region};
 use std::alloc::{AllocError, Global};
@@ -89,6 +90,7 @@ fn of_pass(alloc: Global, name: &str) -> Result<Finding, AllocError>
         region: None,
         path: Vec::new(alloc),
         other: Vec::new(alloc),
+        fix: Items::of(Vec::new(alloc)),
         fingerprint: String::from_str(alloc, ACCEPTED)?,
     })
 }
@@ -160,6 +162,7 @@ pub(crate) fn of_refusal(
         region: refusal_region(alloc, file.bytes, refusal)?,
         path: Vec::new(alloc),
         other: Vec::new(alloc),
+        fix: Items::of(Vec::new(alloc)),
         fingerprint: format!(in alloc; "{word}/{driver}/{routine}/{at}")?,
     })
 }
@@ -205,6 +208,7 @@ fn of_fault(
         region,
         path: Vec::new(alloc),
         other: Vec::new(alloc),
+        fix: Items::of(Vec::new(alloc)),
         fingerprint: String::from_str(alloc, kind)?,
     })
 }

@@ -5,11 +5,12 @@ use Rattle.serde_json.specs.Data.{Data, depth, items_depth}
 use Rattle.serde_json.specs.Read.{max_depth, read}
 use Rattle.serde_json.specs.View.{items_of}
 use Rattle.serde_json.specs.Written.{compact_text, has_float, items_have_float}
+use Rattle.mend_fixes.specs.declared.lines.LineEdit.{LineEdit}
 use Rattle.report_sarif.specs.declared.log.Finding.{Finding}
 use Rattle.report_sarif.specs.declared.log.Region.{Region}
 use Rattle.report_sarif.specs.declared.log.RuleText.{RuleText}
 use Rattle.report_sarif.specs.declared.log.Step.{Step}
-use Rattle.report_sarif.specs.Log.{flows_data, log_data, physical_data, result_data, rule_data, step_data, steps_flows}
+use Rattle.report_sarif.specs.Log.{fixes_data, fixes_of, flows_data, log_data, physical_data, replacement_data, result_data, rule_data, step_data, steps_flows}
 
 rules_shallow : (rules : List RuleText) → items_depth (items_of (map rule_data rules)) ≤ 2
 rules_shallow [] = omega arith
@@ -44,6 +45,19 @@ flows_shallow finding =
     behind_shallow file finding.path.items (steps_flows file finding.other.items)
     (alone_shallow file finding.other.items)
 
+replacements_shallow : (all : List LineEdit)
+    → items_depth (items_of (map replacement_data all)) ≤ 2
+replacements_shallow [] = omega arith
+replacements_shallow (one ∷ all) = omega (arith, replacements_shallow all)
+
+fix_shallow : (file : List ℕ) (all : List LineEdit)
+    → items_depth (items_of (fixes_of file all)) ≤ 10
+fix_shallow file [] = omega arith
+fix_shallow file (one ∷ all) = omega (arith, replacements_shallow (one ∷ all))
+
+fixes_shallow : (finding : Finding) → items_depth (items_of (fixes_data finding)) ≤ 10
+fixes_shallow finding = fix_shallow (string_bytes finding.file) finding.fix
+
 results_shallow : (findings : List Finding)
     → items_depth (items_of (map result_data findings)) ≤ 20
 results_shallow [] = omega arith
@@ -51,6 +65,7 @@ results_shallow (finding ∷ findings) =
     omega (
       arith,
       flows_shallow finding,
+      fixes_shallow finding,
       physical_shallow (string_bytes finding.file) finding.region,
       results_shallow findings,
     )
@@ -91,12 +106,26 @@ flows_plain finding =
     behind_plain file finding.path.items (steps_flows file finding.other.items)
     (alone_plain file finding.other.items)
 
+replacements_plain : (all : List LineEdit)
+    → items_have_float (items_of (map replacement_data all)) ≡ false
+replacements_plain [] = refl
+replacements_plain (one ∷ all) = replacements_plain all
+
+fix_plain : (file : List ℕ) (all : List LineEdit)
+    → items_have_float (items_of (fixes_of file all)) ≡ false
+fix_plain file [] = refl
+fix_plain file (one ∷ all) = rw (replacements_plain (one ∷ all)) refl
+
+fixes_plain : (finding : Finding) → items_have_float (items_of (fixes_data finding)) ≡ false
+fixes_plain finding = fix_plain (string_bytes finding.file) finding.fix
+
 results_plain : (findings : List Finding)
     → items_have_float (items_of (map result_data findings)) ≡ false
 results_plain [] = refl
 results_plain (finding ∷ findings) =
     rw (
       flows_plain finding,
+      fixes_plain finding,
       physical_plain (string_bytes finding.file) finding.region,
       results_plain findings,
     )

@@ -4,6 +4,7 @@
 use Rattle.std.specs.Prelude.{ℕ, ◌++◌, List, [], ◌∷◌, map, codes, decimal, Option, None, Some, string_bytes}
 use Rattle.serde_json.specs.Data.{Data, number, unsigned, string, array, object, no_items, item, member, no_members}
 use Rattle.serde_json.specs.View.{items_of}
+use Rattle.mend_fixes.specs.declared.lines.LineEdit.{LineEdit}
 use Rattle.report_sarif.specs.declared.log.Finding.{Finding}
 use Rattle.report_sarif.specs.declared.log.Kind.{Kind}
 use Rattle.report_sarif.specs.declared.log.Kind.TheVariants.{Fail, Pass}
@@ -67,6 +68,10 @@ abbrev pub location_data : List ℕ → Option Region → Data
 location_data file region =
     object (member (codes "physicalLocation") (physical_data file region) no_members)
 
+abbrev pub locations_data : Finding → Data
+locations_data finding =
+    array (item (location_data (string_bytes finding.file) finding.region) no_items)
+
 -- a step of a path (3.38), with its position and what is known there
 abbrev pub message_at : Step → List ℕ
 message_at step =
@@ -102,6 +107,45 @@ flows_data finding =
     let file = string_bytes finding.file in
     steps_flows file finding.path.items ++ steps_flows file finding.other.items
 
+-- lines that are replaced, up to the start of the one behind them (3.57)
+abbrev pub lines_data : LineEdit → Data
+lines_data edit =
+    object
+    (member (codes "endColumn") (number (unsigned 1))
+    (member (codes "endLine") (number (unsigned edit.end))
+    (member (codes "startColumn") (number (unsigned 1))
+    (member (codes "startLine") (number (unsigned edit.start))
+    no_members))))
+
+abbrev pub replacement_data : LineEdit → Data
+replacement_data edit =
+    object
+    (member (codes "deletedRegion") (lines_data edit)
+    (member (codes "insertedContent") (text_data (string_bytes edit.text))
+    no_members))
+
+-- how a file is mended (3.55, 3.56): not, where there are no edits
+abbrev pub change_data : List ℕ → List LineEdit → Data
+change_data file edits =
+    object
+    (member (codes "artifactLocation") (artifact_data file)
+    (member (codes "replacements") (array (items_of (map replacement_data edits)))
+    no_members))
+
+abbrev pub fix_data : List ℕ → List LineEdit → Data
+fix_data file edits =
+    object
+    (member (codes "artifactChanges")
+    (array (item (change_data file edits) no_items))
+    no_members)
+
+abbrev pub fixes_of : List ℕ → List LineEdit → List Data
+fixes_of file [] = []
+fixes_of file (edit ∷ edits) = fix_data file (edit ∷ edits) ∷ []
+
+abbrev pub fixes_data : Finding → List Data
+fixes_data finding = fixes_of (string_bytes finding.file) finding.fix
+
 -- what is equal in two results that are the same, wherever their lines were moved (3.27.17)
 abbrev pub fingerprints_data : List ℕ → Data
 fingerprints_data fingerprint =
@@ -112,14 +156,14 @@ abbrev pub result_data : Finding → Data
 result_data finding =
     object
     (member (codes "codeFlows") (array (items_of (flows_data finding)))
+    (member (codes "fixes") (array (items_of (fixes_data finding)))
     (member (codes "kind") (string (kind_word finding.kind))
     (member (codes "level") (string (level_word finding.kind))
-    (member (codes "locations")
-    (array (item (location_data (string_bytes finding.file) finding.region) no_items))
+    (member (codes "locations") (locations_data finding)
     (member (codes "message") (text_data (string_bytes finding.message))
     (member (codes "partialFingerprints") (fingerprints_data (string_bytes finding.fingerprint))
     (member (codes "ruleId") (string (string_bytes finding.rule))
-    no_members)))))))
+    no_members))))))))
 
 -- the tool (3.18, 3.19)
 abbrev pub driver_data : List RuleText → Data

@@ -5,9 +5,11 @@ ghost use Rattle.serde_json.specs.Data.{array};
 ghost use Rattle.serde_json.specs.Read.{read};
 ghost use Rattle.serde_json.specs.View.{items_of, view};
 ghost use Rattle.serde_json.specs.Written.{compact_text};
-ghost use Rattle.report_sarif.specs.Log.{driver_data, flow_data, flows_data, kind_word, level_word, log_data, message_at, physical_data, region_data, result_data, rule_data, run_data, step_data, steps_flows, text_data, tool_data};
+ghost use Rattle.report_sarif.specs.Log.{driver_data, fingerprints_data, fix_data, fixes_data, flow_data, flows_data, kind_word, level_word, locations_data, log_data, message_at, physical_data, region_data, replacement_data, result_data, rule_data, run_data, step_data, steps_flows, text_data, tool_data};
 
 use crate::uri::uri_of;
+use mend_fixes::LineEdit;
+use model::items::Items;
 use serde_json::{Value, json};
 use std::alloc::{AllocError, Global};
 
@@ -81,6 +83,8 @@ pub struct Finding {
     /// The path there, and the other one of two: none where they are empty.
     pub path: Vec<Step>,
     pub other: Vec<Step>,
+    /// How the text is mended, one edit after another: not, where there are none.
+    pub fix: Items<LineEdit>,
     /// What is the same of two of them that are one, wherever their lines were moved.
     pub fingerprint: String,
 }
@@ -198,21 +202,39 @@ fn results_value(alloc: Global, findings: &[Finding]) -> Result<Value, AllocErro
 fn result_value(alloc: Global, finding: &Finding) -> Result<Value, AllocError>
     ensures { IfOk result (λ value. view value ≡ result_data finding.now) }
 {
+    let flows = flows_value(alloc, finding)?;
+    let fixes = fixes_value(alloc, finding)?;
+    let locations = locations_value(alloc, finding)?;
+    let message = text_value(alloc, finding.message.as_str())?;
+    let fingerprints = fingerprints_value(alloc, finding)?;
+    // From the last to the first: so each is put before all others, and compared with one alone.
+    json!(in alloc; {
+        "ruleId": &finding.rule,
+        "partialFingerprints": fingerprints,
+        "message": message,
+        "locations": locations,
+        "level": finding.kind.level(),
+        "kind": finding.kind.as_str(),
+        "fixes": fixes,
+        "codeFlows": flows,
+    })
+}
+
+/// Where what is wrong is.
+fn locations_value(alloc: Global, finding: &Finding) -> Result<Value, AllocError>
+    ensures { IfOk result (λ value. view value ≡ locations_data finding.now) }
+{
     let physical = physical_value(alloc, finding.file.as_str(), finding.region)?;
     let location = json!(in alloc; {"physicalLocation": physical})?;
-    let locations = only(alloc, location)?;
-    let message = text_value(alloc, finding.message.as_str())?;
-    let fingerprints = json!(in alloc; {"pafteis/v1": &finding.fingerprint})?;
-    let flows = flows_value(alloc, finding)?;
-    json!(in alloc; {
-        "codeFlows": flows,
-        "kind": finding.kind.as_str(),
-        "level": finding.kind.level(),
-        "locations": locations,
-        "message": message,
-        "partialFingerprints": fingerprints,
-        "ruleId": &finding.rule,
-    })
+    only(alloc, location)
+}
+
+/// What is equal in two results that are the same.
+fn fingerprints_value(alloc: Global, finding: &Finding) -> Result<Value, AllocError>
+    ensures { IfOk result
+        (λ value. view value ≡ fingerprints_data (string_bytes finding.now.fingerprint)) }
+{
+    json!(in alloc; {"pafteis/v1": &finding.fingerprint})
 }
 
 /// The paths to what is wrong.
@@ -285,6 +307,50 @@ fn message_at(alloc: Global, step: &Step) -> Result<String, AllocError>
         ..
     } = step;
     format!(in alloc; "at {position}: {known}")
+}
+
+/// How the file is mended.
+fn fixes_value(alloc: Global, finding: &Finding) -> Result<Value, AllocError>
+    ensures { IfOk result (λ value. view value ≡ array (items_of (fixes_data finding.now))) }
+{
+    let mut list = Vec::new(alloc);
+    let edits = finding.fix.as_slice();
+    if !edits.is_empty() {
+        list.push(fix_value(alloc, finding.file.as_str(), edits)?)?;
+    }
+    Ok(Value::Array(list))
+}
+
+/// Edits of lines of a file, as one fix.
+fn fix_value(alloc: Global, file: &str, edits: &[LineEdit]) -> Result<Value, AllocError>
+    ensures { IfOk result (λ value. view value ≡ fix_data file.now edits.now) }
+{
+    let mut list = Vec::new(alloc);
+    for edit in edits {
+        list.push(replacement_value(alloc, edit)?)?;
+    }
+    let uri = uri_of(alloc, file)?;
+    let artifact = json!(in alloc; {"uri": &uri})?;
+    let change = json!(in alloc; {
+        "artifactLocation": artifact,
+        "replacements": Value::Array(list),
+    })?;
+    let changes = only(alloc, change)?;
+    json!(in alloc; {"artifactChanges": changes})
+}
+
+/// Lines that are replaced.
+fn replacement_value(alloc: Global, edit: &LineEdit) -> Result<Value, AllocError>
+    ensures { IfOk result (λ value. view value ≡ replacement_data edit.now) }
+{
+    let region = json!(in alloc; {
+        "endColumn": 1,
+        "endLine": edit.end,
+        "startColumn": 1,
+        "startLine": edit.start,
+    })?;
+    let content = text_value(alloc, edit.text.as_str())?;
+    json!(in alloc; {"deletedRegion": region, "insertedContent": content})
 }
 
 /// Where a result is.
