@@ -111,11 +111,11 @@ fn accept(
 }
 
 /// Adds the line of a refusal; one for want of memory is no verdict.
-pub(crate) fn refuse(
-    file: &str,
-    refusal: Refusal,
-    lines: &mut JsonLines,
-) -> Result<Outcome, AllocError>
+///
+/// # Errors
+///
+/// When memory runs out.
+pub fn refuse(file: &str, refusal: Refusal, lines: &mut JsonLines) -> Result<Outcome, AllocError>
     ensures { IfOk result (λ outcome. (outcome ≡ Outcome.Stopped)
         × (refusal.rule ≢ Rule.Memory)
         × (lines.new ≡ lines.old ++ json_line (refusal_json file.now refusal))) }

@@ -22,7 +22,7 @@ use report_json::json_lines::JsonLines;
 use std::alloc::{AllocError, Global};
 
 /// What is told of a driver set, and what else it takes for it.
-pub(crate) trait Job {
+pub trait Job {
     // The right answers for the bytes of a file and the set that they name.
     ghost right: { Self → List ℕ → Set → Answer → Type 0 };
 
@@ -63,7 +63,7 @@ pub(crate) trait Job {
 
 /// Tells what a job tells of the set that the source has which is the file of a name, or its fault.
 /// The answer is the exit status. What keeps the job from that is told on the error writer.
-pub(crate) fn answer<J: Job, S: Source, O: Sink, E: Sink>(
+pub fn answer<J: Job, S: Source, O: Sink, E: Sink>(
     job: &mut J,
     alloc: Global,
     name: &str,
@@ -144,7 +144,11 @@ fn perform_for<J: Job, O: Sink>(
 }
 
 /// Adds the line of a fault of the file of a name.
-pub(crate) fn tell_fault(
+///
+/// # Errors
+///
+/// When memory runs out.
+pub fn tell_fault(
     name: &str,
     fault: InputFault,
     lines: &mut JsonLines,

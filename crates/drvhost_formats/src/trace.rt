@@ -190,7 +190,11 @@ fn trace_any<P: Source, O: Sink>(
 }
 
 /// The schedule that the text of a source lists, or its fault.
-fn read_schedule<P: Source>(
+///
+/// # Errors
+///
+/// When a read fails, or memory runs out.
+pub fn read_schedule<P: Source>(
     alloc: Global,
     source: &mut P,
 ) -> Result<Result<Schedule, ScheduleFault>, Fault>
