@@ -94,12 +94,12 @@ explain_command =
     ∷ jobs_option
     ∷ value_option (codes "RULE") (codes "rule") AnyText ∷ [])
 
--- `tell FILE SCHEDULE [--unchecked] [--quiet] [--every] [--strict]`: the second and the third don't go
--- together
+-- `tell FILE SCHEDULE [--unchecked] [--quiet] [--every] [--strict] [--format FORMAT]`: the second and
+-- the third don't go together, nor with JSON
 abbrev pub tell_command : App
 tell_command =
     schedule_command (codes "tell")
-    (flag (codes "quiet") ∷ flag (codes "every") ∷ flag (codes "strict") ∷ [])
+    (flag (codes "quiet") ∷ flag (codes "every") ∷ flag (codes "strict") ∷ format_option ∷ [])
 
 -- `hunt FILE [--threads N] [--packets N] [--states N] [--events N] [--argument N] [--stuck]
 -- [--exact]`: the last two don't go together

@@ -150,6 +150,7 @@ const COMMANDS: [Entry<'static>; 13] = [
             ),
             Argument::Flag("every", "Leaves out no event"),
             Argument::Flag("strict", "Answers 1 also where an event was refused"),
+            FORMAT,
         ],
     },
     Entry {

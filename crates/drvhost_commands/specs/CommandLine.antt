@@ -11,6 +11,7 @@ use Rattle.report.specs.Rule.{IsRuleWord}
 use Rattle.drvhost_devices.specs.declared.verification.Verification.{Verification}
 use Rattle.drvhost_options.specs.declared.extent.Extent.TheVariants.{First}
 use Rattle.drvhost_options.specs.declared.logging.Account.TheVariants.{Verdict, Explanation}
+use Rattle.drvhost_options.specs.declared.manner.Detail.TheVariants.{Usual}
 use Rattle.drvhost_commands.specs.Choices.{IsReach, answer_format_of, command_named, extent_of, figure_of, jobs_of, manner_of, passes_of, report_of, tries_of, verdict_format_of, verification_of, wanted_of}
 use Rattle.drvhost_commands.specs.declared.choices.Format.{Format}
 use Rattle.drvhost_commands.specs.declared.choices.Format.TheVariants.{Text as AsText, Json, Sarif}
@@ -22,7 +23,7 @@ use Rattle.drvhost_commands.specs.declared.job.Page.{Page}
 use Rattle.drvhost_commands.specs.declared.job.Page.TheVariants.{Rule as PageOfRule, LockOrder, Version}
 use Rattle.drvhost_commands.specs.declared.job.Task.TheVariants.{Mend, List as Listing, Hunt, HuntExactly}
 use Rattle.drvhost_commands.specs.declared.job.Way.{Way}
-use Rattle.drvhost_commands.specs.declared.job.Way.TheVariants.{Trace, TraceJson, Tell, Draw, Schedule}
+use Rattle.drvhost_commands.specs.declared.job.Way.TheVariants.{Trace, TraceJson, Tell, TellJson, Draw, Schedule}
 use Rattle.drvhost_commands.specs.declared.job.JobFault.{JobFault}
 use Rattle.drvhost_commands.specs.declared.job.JobFault.TheVariants.{Usage, Memory}
 use Rattle.drvhost_commands.specs.declared.naming.Judgement.{Judgement}
@@ -107,6 +108,12 @@ NamesOf ToTrace rows (OnRun set input way) =
 NamesOf ToTell rows (OnRun set input (Tell verification manner)) =
     Has (codes "FILE") rows set.now × Has (codes "SCHEDULE") rows input.now
     × (verification ≡ verification_of rows) × (manner_of rows ≡ Some manner)
+    × (answer_format_of rows ≡ Some AsText)
+NamesOf ToTell rows (OnRun set input (TellJson verification strictness)) =
+    Has (codes "FILE") rows set.now × Has (codes "SCHEDULE") rows input.now
+    × (verification ≡ verification_of rows)
+    × (manner_of rows ≡ Some (record { detail = Usual; strictness = strictness }))
+    × (answer_format_of rows ≡ Some Json)
 NamesOf ToDraw rows (OnRun set input (Draw verification figure)) =
     Has (codes "FILE") rows set.now × Has (codes "SCHEDULE") rows input.now
     × (verification ≡ verification_of rows) × (figure_of rows ≡ Some figure)

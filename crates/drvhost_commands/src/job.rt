@@ -16,7 +16,7 @@ use drvhost_devices::verification::Verification;
 use drvhost_options::extent::Extent;
 use drvhost_options::figure::Figure;
 use drvhost_options::logging::Logging;
-use drvhost_options::manner::Manner;
+use drvhost_options::manner::{Manner, Strictness};
 use drvhost_options::wanted::Wanted;
 use hunt_bounds::reach::Reach;
 use interleave::read::number_within;
@@ -140,8 +140,10 @@ pub enum Way {
     Trace(Verification),
     /// `trace FILE SCHEDULE [--unchecked] --format json`
     TraceJson(Verification),
-    /// `tell FILE SCHEDULE [--unchecked] [--quiet | --every] [--strict]`
+    /// `tell FILE SCHEDULE [--unchecked] [--quiet | --every] [--strict]`, as text
     Tell(Verification, Manner),
+    /// `tell FILE SCHEDULE [--unchecked] [--strict] --format json`
+    TellJson(Verification, Strictness),
     /// `draw FILE SCHEDULE [--unchecked] [--format svg|perfetto]`
     Draw(Verification, Figure),
     /// `schedule FILE SCENARIO [--unchecked]`

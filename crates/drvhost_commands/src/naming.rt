@@ -16,6 +16,7 @@ use clap::ArgMatches;
 use drvhost_arguments::matches::{argument, arguments, is_given};
 use drvhost_options::extent::Extent;
 use drvhost_options::logging::{Account, Logging};
+use drvhost_options::manner::Detail;
 use report::rule::rule_named;
 use std::alloc::{AllocError, Global};
 
@@ -237,7 +238,12 @@ fn tell_named<'a>(matches: &ArgMatches<'a>) -> Option<Job<'a>>
     let set = argument(matches, "FILE")?;
     let input = argument(matches, "SCHEDULE")?;
     let manner = manner(matches)?;
-    let way = Way::Tell(verification(matches), manner);
+    let verification = verification(matches);
+    let way = match (answer_format(matches)?, manner.detail) {
+        (Format::Text, _) => Way::Tell(verification, manner),
+        (Format::Json, Detail::Usual) => Way::TellJson(verification, manner.strictness),
+        _ => return None,
+    };
     Some(Job::OnRun { set, input, way })
 }
 

@@ -1,6 +1,6 @@
 //! What is told of words that the command line takes, and that name no job.
 
-use crate::choices::verdict_format;
+use crate::choices::{answer_format, verdict_format};
 use clap::ArgMatches;
 use drvhost_arguments::matches::{argument, is_given};
 use drvhost_arguments::program::EXPLAIN_USAGE;
@@ -24,7 +24,7 @@ const TRACE_USAGE: &str = "drvhost trace [OPTIONS] <FILE> <SCHEDULE>";
 /// How `draw` is used.
 const DRAW_USAGE: &str = "drvhost draw [OPTIONS] <FILE> <SCHEDULE>";
 
-/// The formats of verdicts and explanations, those of traces, and those of drawn runs.
+/// The formats of verdicts and explanations, those of other answers, and those of drawn runs.
 const VERDICTS: &str = "text, json or sarif";
 
 const ANSWERS: &str = "text or json";
@@ -36,7 +36,8 @@ pub(crate) fn unnamed(alloc: Global, matches: &ArgMatches<'_>) -> Result<String,
     match matches.subcommand() {
         Some(("explain", inner)) if verdict_format(inner).is_some() => unexplained(alloc, inner),
         Some(("explain", inner)) => unwritten(alloc, inner, VERDICTS, EXPLAIN_USAGE),
-        Some(("tell", _)) => conflicting(alloc, "--quiet", "--every", TELL_USAGE),
+        Some(("tell", inner)) if answer_format(inner).is_some() => untold(alloc, inner),
+        Some(("tell", inner)) => unwritten(alloc, inner, ANSWERS, TELL_USAGE),
         Some(("hunt", inner)) if is_given(inner, "exact") && is_given(inner, "stuck") => {
             conflicting(alloc, "--exact", "--stuck", HUNT_USAGE)
         }
@@ -76,6 +77,15 @@ fn add_rules(alloc: Global, text: &mut String) -> Result<(), AllocError> {
         }
     }
     Ok(())
+}
+
+/// What is told where `tell` is asked for two levels, or in JSON for one.
+fn untold(alloc: Global, matches: &ArgMatches<'_>) -> Result<String, AllocError> {
+    match (is_given(matches, "quiet"), is_given(matches, "every")) {
+        (true, true) => conflicting(alloc, "--quiet", "--every", TELL_USAGE),
+        (true, false) => conflicting(alloc, "--quiet", "--format json", TELL_USAGE),
+        (false, _) => conflicting(alloc, "--every", "--format json", TELL_USAGE),
+    }
 }
 
 /// What is told where two options are given that don't go together.

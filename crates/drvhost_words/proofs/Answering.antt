@@ -13,7 +13,7 @@ use Rattle.drvhost_commands.specs.declared.job.Job.{Job}
 use Rattle.drvhost_commands.specs.declared.job.Task.{Task}
 use Rattle.drvhost_commands.specs.declared.job.Task.TheVariants.{Mend, List as Listing, Hunt, HuntExactly}
 use Rattle.drvhost_commands.specs.declared.job.Way.{Way}
-use Rattle.drvhost_commands.specs.declared.job.Way.TheVariants.{Trace, TraceJson, Tell, Draw, Schedule}
+use Rattle.drvhost_commands.specs.declared.job.Way.TheVariants.{Trace, TraceJson, Tell, TellJson, Draw, Schedule}
 use Rattle.drvhost_commands.specs.declared.job.JobFault.{JobFault}
 use Rattle.drvhost_commands.specs.declared.job.JobFault.TheVariants.{Memory, Usage}
 use Rattle.drvhost_commands.specs.CommandLine.{Names, job_fault_status, job_fault_told, program, text_told}
@@ -194,6 +194,8 @@ way_held (TraceJson v) n o known supply input h answer (bytes, holds, right) =
 way_held (Trace v) n o known supply input h answer (bytes, holds, right) =
     (bytes, holds_known known supply bytes h holds, right)
 way_held (Tell v d) n o known supply input h answer (bytes, holds, right) =
+    (bytes, holds_known known supply bytes h holds, right)
+way_held (TellJson v s) n o known supply input h answer (bytes, holds, right) =
     (bytes, holds_known known supply bytes h holds, right)
 way_held (Draw v f) n o known supply input h answer (bytes, holds, right) =
     (bytes, holds_known known supply bytes h holds, right)

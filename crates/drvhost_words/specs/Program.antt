@@ -31,7 +31,7 @@ use Rattle.drvhost_commands.specs.declared.job.Task.TheVariants.{Mend, List as L
 use Rattle.drvhost_commands.specs.declared.job.Judging.{Judging}
 use Rattle.drvhost_commands.specs.declared.job.Judging.TheVariants.{Check, CheckJson, Explain, ExplainJson}
 use Rattle.drvhost_commands.specs.declared.job.Way.{Way}
-use Rattle.drvhost_commands.specs.declared.job.Way.TheVariants.{Trace, TraceJson, Tell, Draw, Schedule}
+use Rattle.drvhost_commands.specs.declared.job.Way.TheVariants.{Trace, TraceJson, Tell, TellJson, Draw, Schedule}
 use Rattle.drvhost_commands.specs.CommandLine.{Names, NamesJob, program, usage}
 use Rattle.drvhost_files.specs.Files.{Has, IsWritten}
 use Rattle.drvhost_found.specs.declared.find.Found.{Found}
@@ -40,6 +40,7 @@ use Rattle.drvhost_many.specs.One.{IsJudged, is_in_json as judged_in_json}
 use Rattle.drvhost_options.specs.declared.jobs.TheConstants.{MAX_JOBS}
 use Rattle.drvhost_sarif.specs.Log.{PathsEnd as LogEnds}
 use Rattle.drvhost_tests.specs.Tests.{TestsEnd}
+use Rattle.drvhost_told.specs.Tell.{IsTellJsonOf}
 use Rattle.drvhost_words.specs.declared.work.Work.{Work}
 use Rattle.drvhost_words.specs.declared.work.Work.TheVariants.{Do, Judge}
 use Rattle.drvhost_words.specs.Unread.{IsNamedUnread, IsOneOf}
@@ -50,6 +51,14 @@ IsRunBy (Trace verification) name other = IsTraceOf verification
 IsRunBy (TraceJson verification) name other =
     IsTraceJsonOf (record { set = name; schedule = other; verification = verification })
 IsRunBy (Tell verification manner) name other = IsTellOf verification manner
+IsRunBy (TellJson verification strictness) name other =
+    IsTellJsonOf
+    (record {
+      set = name;
+      schedule = other;
+      verification = verification;
+      strictness = strictness;
+    })
 IsRunBy (Draw verification figure) name other = IsDrawOf verification figure
 IsRunBy (Schedule verification) name other = IsScheduleOf verification
 
@@ -58,6 +67,7 @@ abbrev pub verification_of : Way → Verification
 verification_of (Trace verification) = verification
 verification_of (TraceJson verification) = verification
 verification_of (Tell verification manner) = verification
+verification_of (TellJson verification strictness) = verification
 verification_of (Draw verification figure) = verification
 verification_of (Schedule verification) = verification
 

@@ -40,6 +40,7 @@ use drvhost_sets::rewriting::rewrite;
 use drvhost_sets::rule::{explain_lock_order, explain_rule};
 use drvhost_sets::version::version;
 use drvhost_tests::test::{Tests, test};
+use drvhost_told::tell::{self, tell_json};
 use drvhost_views::draw::{Drawing, draw};
 use drvhost_views::tell::{Telling, tell};
 use report_progress::progress::{Progress, Silent};
@@ -691,6 +692,16 @@ fn run<S: Source, P: Source, O: Sink, E: Sink>(
                 manner,
             };
             tell(alloc, set, input, telling, out, err)
+        }
+        Way::TellJson(verification, strictness) => {
+            let names = running.names;
+            let asked = tell::Asked {
+                set: names.set,
+                schedule: names.input,
+                verification,
+                strictness,
+            };
+            tell_json(alloc, asked, set, input, out, err)
         }
         Way::Draw(verification, figure) => {
             let drawing = Drawing {

@@ -9,6 +9,9 @@ returns-in-TraceJson g c = rw c.in-TraceJson.is c.trace_json.ensures
 pub returns-in-Tell : goal.returns-in-Tell
 returns-in-Tell g c = rw c.in-Tell.is c.tell.ensures
 
+pub returns-in-TellJson : goal.returns-in-TellJson
+returns-in-TellJson g c = rw c.in-TellJson.is c.tell_json.ensures
+
 pub returns-in-Draw : goal.returns-in-Draw
 returns-in-Draw g c = rw c.in-Draw.is c.draw.ensures
 

@@ -1,0 +1,2 @@
+pub mod Making
+pub mod ToldRuns

@@ -1,0 +1,2 @@
+pub mod Made
+pub mod Tell
