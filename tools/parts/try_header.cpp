@@ -39,7 +39,7 @@ static void words(const std::string &set, const std::string &events, const std::
     answer lines = trace(set, events, PAFTEIS_CHECKED);
     want(lines.done && lines.text.substr(0, 2) == "0 ", "trace");
     want(has(tell(set, events, PAFTEIS_CHECKED).text, "nothing is amiss"), "tell");
-    want(draw(set, events, PAFTEIS_CHECKED).text.substr(0, 4) == "<svg", "draw");
+    want(draw(set, events, PAFTEIS_CHECKED).text.substr(0, 5) == "<?xml", "draw");
     want(explain(set, PAFTEIS_FIRST).done && !explain(refused, PAFTEIS_EACH).done, "explain");
     want(list(set).text.substr(0, 7) == "driver ", "list");
     const pafteis_hunting asked = {1, 1000, 0, 0, 2, 0};
