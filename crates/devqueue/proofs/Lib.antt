@@ -1,6 +1,6 @@
+pub mod Kept
 pub mod Rows
 pub mod Unlinked
-pub mod Nodes
 pub mod Paths
 pub mod Shown
 pub mod Linking

@@ -2,3 +2,4 @@ pub mod Lists
 pub mod Rings
 pub mod Linked
 pub mod Rows
+pub mod Numbers

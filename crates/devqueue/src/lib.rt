@@ -5,6 +5,7 @@
 pub mod device_queue;
 pub mod guarded;
 pub mod links;
+mod numbers;
 mod rings;
 mod row;
 

@@ -3,16 +3,17 @@
 ghost use Rattle.std.specs.Prelude.{◌≡◌, ◌<◌, ◌^◌, IfOk, length};
 ghost use Rattle.devqueue.specs.Rings.{after, AreAlone, HasJoined, HasLeft};
 
+use crate::numbers::Numbers;
 use std::alloc::{AllocError, Global};
 use std::marker::Model;
 
 /// Nodes, numbered from 0, each of which stands in one ring: it has a next and a previous one, or
 /// is alone and has itself for both. No call but `new` needs memory, and none searches. There are
-/// less than 2^32, and their numbers are kept in 32 bits, so that more of them lie in a cache.
+/// less than 2^32.
 #[derive(Drop)]
 pub struct Rings {
-    next: Vec<u32>,
-    previous: Vec<u32>,
+    next: Numbers,
+    previous: Numbers,
 }
 
 impl Model for Rings {
@@ -21,37 +22,9 @@ impl Model for Rings {
 
     ghost Value = { List ℕ };
 
-    ghost view = { λ r. r.next.items };
+    ghost view = { λ r. r.next };
 
-    ghost invariant = { λ r. AreInverse r.next.items r.previous.items };
-}
-
-/// A number in 32 bits.
-fn narrow(node: usize) -> u32
-    requires { node < 2 ^ 32 }
-    ensures { result ≡ node }
-{
-    node as u32
-}
-
-/// Gives each node its own number.
-fn number(nodes: &mut [u32])
-    requires { length nodes.old < 2 ^ 32 }
-    ensures { AreAlone (length nodes.old) nodes.new }
-{
-    for node in 0..nodes.len() {
-        nodes[node] = narrow(node);
-    }
-}
-
-/// The numbers below a count, each at its place.
-fn alone(alloc: Global, count: usize) -> Result<Vec<u32>, AllocError>
-    requires { count < 2 ^ 32 }
-    ensures { IfOk result (λ nodes. AreAlone count nodes.items) }
-{
-    let mut nodes = vec![in alloc; 0; count]?;
-    number(nodes.as_mut_slice());
-    Ok(nodes)
+    ghost invariant = { λ r. AreInverse r.next r.previous };
 }
 
 impl Rings {
@@ -61,8 +34,8 @@ impl Rings {
         ensures { IfOk result (λ rings. AreAlone count rings) }
     {
         Ok(Rings {
-            next: alone(alloc, count)?,
-            previous: alone(alloc, count)?,
+            next: Numbers::new(alloc, count)?,
+            previous: Numbers::new(alloc, count)?,
         })
     }
 
@@ -71,7 +44,7 @@ impl Rings {
         requires { node < length self.now }
         ensures { result ≡ after self.now node }
     {
-        self.next[node] as usize
+        self.next.at(node)
     }
 
     /// A node leaves its ring, and is alone.
@@ -79,13 +52,12 @@ impl Rings {
         requires { node < length self.old }
         ensures { HasLeft self.old node self.new }
     {
-        let next = self.next[node];
-        let previous = self.previous[node];
-        let alone = narrow(node);
-        self.next[previous as usize] = next;
-        self.previous[next as usize] = previous;
-        self.next[node] = alone;
-        self.previous[node] = alone;
+        let next = self.next.at(node);
+        let previous = self.previous.at(node);
+        self.next.set(previous, next);
+        self.previous.set(next, previous);
+        self.next.set(node, node);
+        self.previous.set(node, node);
     }
 
     /// A node that is alone goes into the ring of another one, before it.
@@ -95,11 +67,10 @@ impl Rings {
         requires alone { after self.old node ≡ node }
         ensures { HasJoined self.old node place self.new }
     {
-        let previous = self.previous[place];
-        let joined = narrow(node);
-        self.next[previous as usize] = joined;
-        self.previous[place] = joined;
-        self.next[node] = narrow(place);
-        self.previous[node] = previous;
+        let previous = self.previous.at(place);
+        self.next.set(previous, node);
+        self.previous.set(place, node);
+        self.next.set(node, place);
+        self.previous.set(node, previous);
     }
 }
