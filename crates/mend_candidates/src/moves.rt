@@ -19,15 +19,20 @@ impl<'a> Scene<'a> {
             let Some(instr) = self.instr(from) else {
                 continue;
             };
-            let stays = matches!(
-                instr,
-                Instr::Ret(_) | Instr::Loop(_) | Instr::End | Instr::Jump(_)
-            );
+            let ends = matches!(instr, Instr::Ret(_) | Instr::End | Instr::Jump(_));
+            let stays = ends || matches!(instr, Instr::Loop(_)) && !self.is_entered(from);
             if !stays && self.is_fresh(from) && from.saturating_add(1) < self.len() {
                 self.add_moves_of(from, &instr, out)?;
             }
         }
         Ok(())
+    }
+
+    /// Whether the fault is a jump into the loop that starts behind it, at a position.
+    fn is_entered(&self, start: u16) -> bool {
+        let is_behind = self.fault.rule == Rule::Malformed && self.fault.at < start;
+        let label = self.bad.label();
+        is_behind && label.is_some_and(|to| self.reading.loops.round(to as usize) == Some(start))
     }
 
     /// Adds the moves of an instruction.
@@ -93,8 +98,7 @@ impl<'a> Scene<'a> {
         }
     }
 
-    /// Whether an instruction is moved over one that sets or uses its registers, but the faulty
-    /// one.
+    /// Whether an instruction is moved over one, but the faulty one, that uses its registers.
     fn is_disturbed(&self, from: u16, to: u16, instr: &Instr) -> bool {
         let (first, end) = if to > from {
             (from.saturating_add(1), to)
