@@ -8,7 +8,7 @@ use crate::hunt::{Hunting, Way};
 use drvhost_devices::device::{Sink, Source};
 use drvhost_sets::job::answer;
 use hunt_bounds::reach::Reach;
-use report_progress::progress::Silent;
+use report_progress::progress::Progress;
 use std::alloc::Global;
 
 /// Writes a shortest run of a driver set, accepted or refused, that ends amiss, as a schedule whose
@@ -16,9 +16,11 @@ use std::alloc::Global;
 /// many events. Runs issue so many packets at most in all. No run that is stuck is looked for. The
 /// answer is the exit status: 0 none, 1 found, 2 where the set's text or its image is faulty or a
 /// read or a write failed, 3 where memory ran out. Faults are told on the error writer.
-pub fn hunt_exactly<S: Source, O: Sink, E: Sink>(
+/// How far the search has come is told meanwhile.
+pub fn hunt_exactly<S: Source, O: Sink, E: Sink, P: Progress>(
     alloc: Global,
     reach: Reach,
+    progress: &P,
     set: &mut S,
     out: &mut O,
     err: &mut E,
@@ -35,7 +37,7 @@ pub fn hunt_exactly<S: Source, O: Sink, E: Sink>(
     let mut job = Hunting {
         reach,
         way: Way::Exact,
-        progress: &Silent,
+        progress,
     };
     answer(&mut job, alloc, set, out, err)
 }

@@ -137,7 +137,7 @@ fn told_of<P: Progress>(
     let bounds = job.reach.bounds();
     let told = match job.way {
         Way::Quick => tell_hunting(alloc, set, bounds, source.as_slice(), job.progress)?,
-        Way::Exact => tell_exactly(alloc, set, bounds, source.as_slice())?,
+        Way::Exact => tell_exactly(alloc, set, bounds, source.as_slice(), job.progress)?,
     };
     Ok(told)
 }

@@ -507,7 +507,7 @@ fn fulfil<S: Source, O: Sink, E: Sink, P: Progress>(
         Task::Mend(tries) => mend(alloc, mend::Asked { tries }, set, out, err),
         Task::List => list(alloc, set, out, err),
         Task::Hunt(reach) => hunt_telling(alloc, reach, beside.progress, set, out, err),
-        Task::HuntExactly(reach) => hunt_exactly(alloc, reach, set, out, err),
+        Task::HuntExactly(reach) => hunt_exactly(alloc, reach, beside.progress, set, out, err),
     }
 }
 

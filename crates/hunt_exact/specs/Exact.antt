@@ -6,7 +6,7 @@ use Rattle.hunt_exact.specs.declared.search.Exactly.TheVariants.{Found, Never, M
 use Rattle.hunt_exact.specs.declared.search.Searched.{Searched}
 use Rattle.hunt_exact.specs.declared.search.Searched.TheVariants.{Amiss, All, More as MoreLeft}
 use Rattle.hunt_exact.specs.declared.search.Shortest.{Shortest}
-use Rattle.hunt_keys.specs.declared.requests.Request.{Request}
+use Rattle.hunt_facts.specs.declared.requests.Request.{Request}
 use Rattle.hunt_exact.specs.Moves.{tried_events}
 use Rattle.hunt_exact.specs.Searched.{IsSearched}
 use Rattle.hunt_exact.specs.Within.{AreWithin, FineUpTo, NeverAmiss, Scope}

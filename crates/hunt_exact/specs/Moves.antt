@@ -2,7 +2,7 @@
 -- that requests are some of a list, and that IoCancelIrp is called at PASSIVE_LEVEL and, where that is
 -- asked for, at DISPATCH_LEVEL.
 use Rattle.std.specs.Prelude.{ℕ, ◌++◌, zero, suc, Bool, true, false, List, [], ◌∷◌, map}
-use Rattle.hunt_keys.specs.declared.requests.Request.{Request}
+use Rattle.hunt_facts.specs.declared.requests.Request.{Request}
 use Rattle.model.specs.declared.event.Event.{Event}
 use Rattle.model.specs.declared.event.Event.TheVariants.{Issue, Cancel, Interrupt, Dpc, StartIo, Step}
 

@@ -2,7 +2,7 @@
 //! one is to be compared.
 
 use checked::Checked;
-use hunt_keys::facts::Facts;
+use hunt_facts::facts::Facts;
 use hunt_keys::keys::write_key;
 use hunt_keys::writer::Writer;
 use indexmap::IndexMap;

@@ -3,15 +3,16 @@
 ghost use Rattle.std.specs.Prelude.{◌≡◌, ◌++◌, IfOk, OnOk};
 ghost use Rattle.hunt_exact.specs.Moves.{begins_below, begins_on, cancels_of, cancels_on, interrupts, requests_on, routines_on, steps, tried_events};
 
-use hunt_keys::requests::Request;
+use hunt_facts::requests::Request;
 use model::event::Event;
 use std::alloc::{AllocError, Global};
 
-/// What is tried: these requests, and IoCancelIrp at PASSIVE_LEVEL, and at DISPATCH_LEVEL where that
-/// is asked for.
+/// What is tried: these requests, so many packets at most in all, and IoCancelIrp at PASSIVE_LEVEL,
+/// and at DISPATCH_LEVEL where that is asked for.
 #[derive(Drop)]
 pub struct Trying {
     pub requests: Vec<Request>,
+    pub packets: u64,
     pub raised: bool,
 }
 
@@ -119,16 +120,16 @@ fn add_begins(
     add_cancels(moves, thread, raised, packets)
 }
 
-/// All events that are tried: of so many packets, devices and threads.
+/// All events that are tried: of so many devices and threads.
 pub(crate) fn tried_events(
     alloc: Global,
     trying: &Trying,
-    packets: u64,
     devices: u8,
     threads: u8,
 ) -> Result<Vec<Event>, AllocError>
     ensures { IfOk result (λ moves. moves.items
-        ≡ tried_events trying.now.requests.items trying.now.raised packets devices threads) }
+        ≡ tried_events trying.now.requests.items trying.now.raised trying.now.packets devices
+        threads) }
 {
     let requests = trying.requests.as_slice();
     let mut moves = Vec::new(alloc);
@@ -139,7 +140,7 @@ pub(crate) fn tried_events(
             &mut moves,
             requests,
             trying.raised,
-            packets,
+            trying.packets,
             devices,
             thread,
         )?;

@@ -4,7 +4,7 @@ ghost use Rattle.std.specs.Prelude.{◌≡◌, ◌≤◌};
 ghost use Rattle.model.specs.declared.limits.TheConstants.{MAX_THREADS};
 
 use driver_set::DriverSet;
-use hunt_keys::facts::Facts;
+use hunt_facts::facts::Facts;
 use model::event::Event;
 use std::marker::Model;
 

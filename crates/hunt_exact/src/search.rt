@@ -14,8 +14,9 @@ use crate::seen::Seen;
 use crate::visiting::expand;
 use driver_set::DriverSet;
 use hunt_ends::ending::{Ending, ending_of};
-use hunt_keys::facts::Facts;
+use hunt_facts::facts::Facts;
 use model::event::Event;
+use report_progress::progress::{Progress, tell_at};
 use std::alloc::{AllocError, Global};
 
 /// How far a search goes.
@@ -121,12 +122,20 @@ fn copied(alloc: Global, events: &[Event]) -> Result<Vec<Event>, AllocError>
     Ok(copy)
 }
 
+/// Tells how far a search has come that has gone on from the run of a number, if that is told of it.
+fn tell<P: Progress>(progress: &P, seen: &Seen, number: usize) {
+    if let Some(path) = seen.path(number) {
+        tell_at(progress, number, seen.len(), path.len());
+    }
+}
+
 /// Goes on from each run that is kept, in that order, until none is left or enough are.
-fn search(
+fn search<P: Progress>(
     alloc: Global,
     scope: &Scope,
     seen: &mut Seen,
     limits: Limits,
+    progress: &P,
 ) -> Result<Searched, AllocError>
     ensures { IfOk result (λ ended. IsSearched scope.now seen.old 0
         → IsEnded scope.now seen.new ended) }
@@ -136,6 +145,7 @@ fn search(
         if let Some(ended) = visited {
             return Ok(ended);
         }
+        tell(progress, seen, number);
     }
     let ended = standing_at(seen, limits.worlds);
     Ok(ended)
@@ -214,27 +224,32 @@ fn answered(
 }
 
 /// Searches the runs of a scope.
-fn hunt_in(alloc: Global, scope: &Scope, limits: Limits) -> Result<Exactly, AllocError>
+fn hunt_in<P: Progress>(
+    alloc: Global,
+    scope: &Scope,
+    limits: Limits,
+    progress: &P,
+) -> Result<Exactly, AllocError>
     ensures { IfOk result (IsExact scope.now) }
 {
     let first = machine_at(alloc, scope, [].as_slice())?;
     let mut seen = Seen::of(alloc, &first, scope.facts())?;
-    let ended = search(alloc, scope, &mut seen, limits)?;
+    let ended = search(alloc, scope, &mut seen, limits, progress)?;
+    progress.clear();
     let answer = answered(alloc, scope, &seen, ended)?;
     Ok(answer)
 }
 
-/// The runs of a set on so many threads, with so many packets and what is tried.
+/// The runs of a set on so many threads, with what is tried.
 fn scope_of(
     alloc: Global,
     set: &DriverSet,
     threads: u8,
-    packets: u64,
     trying: &Trying,
 ) -> Result<Scope, AllocError>
     requires some { 1 ≤ threads }
     requires few { threads ≤ MAX_THREADS }
-    ensures { IfOk result (λ scope. scope ≡ scope_of set.now threads packets
+    ensures { IfOk result (λ scope. scope ≡ scope_of set.now threads trying.now.packets
         trying.now.requests.items trying.now.raised) }
 {
     let facts = Facts::of(alloc, set, None)?;
@@ -242,31 +257,31 @@ fn scope_of(
         return Err(AllocError);
     };
     let devices = set.devices().len() as u8;
-    let moves = tried_events(alloc, trying, packets, devices, threads)?;
-    Ok(Scope::of(copy, threads, packets, moves, facts))
+    let moves = tried_events(alloc, trying, devices, threads)?;
+    Ok(Scope::of(copy, threads, trying.packets, moves, facts))
 }
 
-/// Searches the runs of a set on so many threads, 1 to 64, which issue so many packets at most in all,
-/// and whose requests are some of these: a shortest one that ends amiss; or that none does, of any
-/// length; or that none of up to so many events does.
+/// Searches the runs of a set on so many threads, 1 to 64, in which nothing else is tried: a shortest
+/// one that ends amiss; or that none does, of any length; or that none of up to so many events does.
+/// How far the search has come is told meanwhile.
 ///
 /// # Errors
 ///
 /// When memory runs out.
-pub fn hunt_exactly(
+pub fn hunt_exactly<P: Progress>(
     alloc: Global,
     set: &DriverSet,
     threads: u8,
-    packets: u64,
     trying: &Trying,
     limits: Limits,
+    progress: &P,
 ) -> Result<Exactly, AllocError>
     requires some { 1 ≤ threads }
     requires few { threads ≤ MAX_THREADS }
-    ensures { IfOk result (IsExact (scope_of set.now threads packets
+    ensures { IfOk result (IsExact (scope_of set.now threads trying.now.packets
         trying.now.requests.items trying.now.raised)) }
 {
-    let scope = scope_of(alloc, set, threads, packets, trying)?;
-    let answer = hunt_in(alloc, &scope, limits)?;
+    let scope = scope_of(alloc, set, threads, trying)?;
+    let answer = hunt_in(alloc, &scope, limits, progress)?;
     Ok(answer)
 }

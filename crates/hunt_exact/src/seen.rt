@@ -4,7 +4,7 @@ ghost use Rattle.std.specs.Prelude.{◌≡◌, ◌++◌, ◌∷◌, [], IfOk, If
 
 use crate::index::Index;
 use checked::Checked;
-use hunt_keys::facts::Facts;
+use hunt_facts::facts::Facts;
 use model::event::Event;
 use model::items::Items;
 use std::alloc::{AllocError, Global};

@@ -2,9 +2,6 @@
 //! and threads, and in numbers that can't reach a jump.
 
 use crate::cells::{paged_cell, plain_cell};
-use crate::facts::Facts;
-use crate::reaching::Cells;
-use crate::registers::Registers;
 use crate::sorting::step_number;
 use crate::writer::Writer;
 use checked::{Checked, Thread};
@@ -12,6 +9,9 @@ use checked_frames::{Frame, Managing};
 use checked_parts::Shared;
 use devqueue::{DeviceQueue, Guarded};
 use driver_devices::driver_of;
+use hunt_facts::facts::Facts;
+use hunt_facts::reaching::Cells;
+use hunt_facts::registers::Registers;
 use irp::Packet;
 use model::cell::Cell;
 use model::event::{Lock, OfDevice};

@@ -8,8 +8,8 @@ use Rattle.hunt_exact.specs.declared.search.Exactly.{Exactly}
 use Rattle.hunt_exact.specs.declared.search.Shortest.{Shortest}
 use Rattle.hunt_exact.specs.Exact.{IsExact, IsShortest, scope_of}
 use Rattle.hunt_exact.specs.Within.{FineUpTo, NeverAmiss, Scope}
-use Rattle.hunt_keys.specs.declared.arguments.Asking.{Asking}
-use Rattle.hunt_keys.specs.Requests.{requests_of}
+use Rattle.hunt_facts.specs.declared.arguments.Asking.{Asking}
+use Rattle.hunt_facts.specs.Requests.{requests_of}
 use Rattle.hunt_schedule.specs.declared.telling.Told.{Told}
 use Rattle.hunt_schedule.specs.declared.telling.Told.TheVariants.{Found as TellsFind, Unlisted, All, More as MoreLeft}
 use Rattle.hunt_schedule.specs.Lines.{fine_line, never_line, unlisted_line}

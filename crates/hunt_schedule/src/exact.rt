@@ -1,8 +1,8 @@
 //! What comes of an exact hunt, as it is told.
 
 ghost use Rattle.std.specs.Prelude.{◌≡◌, ◌≤◌, IfOk, List};
-ghost use Rattle.hunt_keys.specs.declared.arguments.Asking.{Asking};
-ghost use Rattle.hunt_keys.specs.Requests.{requests_of};
+ghost use Rattle.hunt_facts.specs.declared.arguments.Asking.{Asking};
+ghost use Rattle.hunt_facts.specs.Requests.{requests_of};
 ghost use Rattle.hunt_schedule.specs.Exact.{AreTold, IsToldExactly, TellsShortest, as_short};
 ghost use Rattle.model.specs.declared.limits.TheConstants.{MAX_THREADS};
 
@@ -13,45 +13,48 @@ use driver_set::DriverSet;
 use hunt_bounds::bounds::{Bounds, Goal};
 use hunt_exact::moves::Trying;
 use hunt_exact::search::{Exactly, Limits, Shortest, hunt_exactly};
-use hunt_keys::facts::Facts;
+use hunt_facts::facts::Facts;
+use report_progress::progress::Progress;
 use std::alloc::{AllocError, Global};
 
 /// Searches the runs of a set within bounds exactly, of which each issues so many packets at most in
 /// all, and tells what comes of it, with the names and the lines of the text that the set was read
-/// from.
+/// from. How far the search has come is told meanwhile.
 ///
 /// # Errors
 ///
 /// When memory runs out.
-pub fn tell_exactly(
+pub fn tell_exactly<P: Progress>(
     alloc: Global,
     set: &DriverSet,
     bounds: Bounds,
     source: &[u8],
+    progress: &P,
 ) -> Result<Told, AllocError>
     requires some { 1 ≤ bounds.threads }
     requires few { bounds.threads ≤ MAX_THREADS }
     ensures { IfOk result (IsToldExactly set.now bounds) }
 {
-    let trying = trying_of(alloc, set, bounds.argument)?;
+    let trying = trying_of(alloc, set, bounds)?;
     let limits = Limits {
         worlds: bounds.worlds,
         events: bounds.events,
     };
-    let packets = bounds.packets as u64;
-    let found = hunt_exactly(alloc, set, bounds.threads, packets, &trying, limits)?;
+    let found = hunt_exactly(alloc, set, bounds.threads, &trying, limits, progress)?;
     let told = tell(alloc, set, bounds, found, source)?;
     Ok(told)
 }
 
-/// What is tried: the requests that a hunt tries, with a further argument, if there is one.
-fn trying_of(alloc: Global, set: &DriverSet, further: Option<u64>) -> Result<Trying, AllocError>
-    ensures { IfOk result (λ trying. (asking : List Asking)
-        × (trying.requests.items ≡ requests_of set.now further asking)) }
+/// What is tried: the requests that a hunt tries, and so many packets as there may be.
+fn trying_of(alloc: Global, set: &DriverSet, bounds: Bounds) -> Result<Trying, AllocError>
+    ensures requests { IfOk result (λ trying. (asking : List Asking)
+        × (trying.requests.items ≡ requests_of set.now bounds.argument asking)) }
+    ensures packets { IfOk result (λ trying. trying.packets ≡ bounds.packets) }
 {
-    let facts = Facts::of(alloc, set, further)?;
+    let facts = Facts::of(alloc, set, bounds.argument)?;
     Ok(Trying {
         requests: Vec::from_slice(alloc, facts.requests.as_slice())?,
+        packets: bounds.packets as u64,
         raised: facts.uses.paged,
     })
 }

@@ -2,7 +2,7 @@
 
 use checked::Checked;
 use hunt_bounds::bounds::Bounds;
-use hunt_keys::facts::Facts;
+use hunt_facts::facts::Facts;
 use model::event::Event;
 use std::alloc::{AllocError, Global};
 use tell_audit::ring::waits_for;

@@ -5,7 +5,7 @@ ghost use Rattle.model.specs.declared.limits.TheConstants.{MAX_THREADS};
 
 use driver_set::DriverSet;
 use hunt_bounds::bounds::Bounds;
-use hunt_keys::facts::Facts;
+use hunt_facts::facts::Facts;
 use model::abs::Rule;
 use std::alloc::{AllocError, Global};
 use std::marker::Model;

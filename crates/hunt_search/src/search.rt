@@ -13,11 +13,8 @@ use driver_set::DriverSet;
 use hunt_bounds::bounds::{Bounds, Goal};
 use hunt_ends::ending::{Ending, ending_of};
 use model::event::Event;
-use report_progress::progress::{Progress, Reached};
+use report_progress::progress::{Progress, tell_at};
 use std::alloc::{AllocError, Global};
-
-/// It is told how far a search has come each time that it has gone on from so many worlds.
-const PACE: usize = 256;
 
 /// A run that was looked for.
 #[derive(Drop)]
@@ -107,7 +104,7 @@ fn search<P: Progress>(
         if worlds.len() > bounds.worlds || is_far(bounds, events) {
             return Ok(Searched::More { events });
         }
-        tell(progress, worlds, number);
+        tell_at(progress, number, worlds.len(), events);
         if let Some(event) = expand(alloc, set, plan, worlds, number)? {
             return Ok(Searched::Amiss { number, event });
         }
@@ -115,16 +112,6 @@ fn search<P: Progress>(
     Ok(Searched::More {
         events: worlds.depth(bounds.worlds),
     })
-}
-
-/// Tells how far a search has come that goes on from the world of a number, if that is told of it.
-fn tell<P: Progress>(progress: &P, worlds: &Worlds, number: usize) {
-    if number % PACE == 0 {
-        progress.tell(Reached::Worlds {
-            worlds: worlds.len(),
-            events: worlds.depth(number),
-        });
-    }
 }
 
 /// Whether a run of so many events is as long as one may be.

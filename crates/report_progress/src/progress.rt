@@ -19,6 +19,17 @@ pub trait Progress {
     fn clear(&self);
 }
 
+/// It is told how far a search has come each time that it has gone on from so many worlds.
+const PACE: usize = 256;
+
+/// Tells how far a search has come that goes on from the world of a number, if that is told of it:
+/// so many worlds, in runs of up to so many events.
+pub fn tell_at<P: Progress>(progress: &P, number: usize, worlds: usize, events: usize) {
+    if number % PACE == 0 {
+        progress.tell(Reached::Worlds { worlds, events });
+    }
+}
+
 /// Tells nothing.
 #[derive(Clone, Copy)]
 pub struct Silent;

@@ -6,8 +6,9 @@ ghost use Rattle.model.specs.declared.limits.TheConstants.{MAX_THREADS};
 use asm::assemble;
 use hunt_exact::moves::Trying;
 use hunt_exact::search::{Exactly, Limits, hunt_exactly};
-use hunt_keys::requests::Request;
+use hunt_facts::requests::Request;
 use model::status::Major;
+use report_progress::progress::Silent;
 use std::alloc::{AllocError, Global};
 use std::process::Abort;
 use std::test::Fail;
@@ -35,8 +36,8 @@ const BOTH_WAYS: &[u8] = b"driver d\n\
       endd\n\
       device v d 1\n";
 
-/// A read and a write.
-fn reading_and_writing(alloc: Global) -> Result<Trying, AllocError> {
+/// A read and a write, of so many packets in all.
+fn reading_and_writing(alloc: Global, packets: u64) -> Result<Trying, AllocError> {
     let mut requests = Vec::new(alloc);
     for major in [Major::Read, Major::Write] {
         requests.push(Request {
@@ -47,6 +48,7 @@ fn reading_and_writing(alloc: Global) -> Result<Trying, AllocError> {
     }
     Ok(Trying {
         requests,
+        packets,
         raised: true,
     })
 }
@@ -63,12 +65,12 @@ fn hunted<R: Abort>(
     requires few { threads ≤ MAX_THREADS }
 {
     let set = assemble(alloc, BOTH_WAYS).ok().expect(rt, "a set");
-    let trying = reading_and_writing(alloc)?;
+    let trying = reading_and_writing(alloc, packets)?;
     let limits = Limits {
         worlds,
         events: None,
     };
-    hunt_exactly(alloc, &set, threads, packets, &trying, limits)
+    hunt_exactly(alloc, &set, threads, &trying, limits, &Silent)
 }
 
 #[test]

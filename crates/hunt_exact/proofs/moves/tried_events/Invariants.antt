@@ -6,4 +6,4 @@ abbrev pub invariant-loop-thread : goal.invariant-loop-thread
 invariant-loop-thread l =
     l.moves.items
     ≡ steps l.threads ++ interrupts l.devices
-    ++ begins_below l.requests l.trying.raised l.packets l.devices l.thread
+    ++ begins_below l.requests l.trying.raised l.trying.packets l.devices l.thread

@@ -1,20 +1,24 @@
-use Rattle.std.proofs.Common.{List, refl, subst}
+use Rattle.std.proofs.Common.{ℕ, List, refl, subst}
 use Rattle.hunt_exact.specs.Exact.{IsExact, scope_of}
-use Rattle.hunt_keys.specs.declared.requests.Request.{Request}
+use Rattle.hunt_facts.specs.declared.requests.Request.{Request}
 use Rattle.hunt_schedule.specs.Exact.{scope_within}
 use Rattle.hunt_schedule.proofs.exact.tell_exactly.Goals as goal
 
 pub returns : goal.returns
-returns c =
+returns g c =
     record {
-      asking = c.in_ok-trying.ensures.0;
+      asking = c.in_ok-trying.ensures.requests.0;
       raised = c.in_ok-trying.trying.raised;
       tells = c.in_ok-told.ensures
-          (scope_within c.args.set.now c.args.bounds c.in_ok-trying.ensures.0
+          (scope_within c.args.set.now c.args.bounds c.in_ok-trying.ensures.requests.0
           c.in_ok-trying.trying.raised)
           refl
           (subst (λ (requests : List Request). IsExact (scope_of c.args.set.now
           c.args.bounds.threads c.args.bounds.packets requests c.in_ok-trying.trying.raised)
           c.in_ok-found.found)
-          c.in_ok-trying.ensures.1 c.in_ok-found.ensures);
+          c.in_ok-trying.ensures.requests.1
+          (subst (λ (packets : ℕ). IsExact (scope_of c.args.set.now c.args.bounds.threads packets
+          c.in_ok-trying.trying.requests.items c.in_ok-trying.trying.raised)
+          c.in_ok-found.found)
+          c.in_ok-trying.ensures.packets c.in_ok-found.ensures));
     }

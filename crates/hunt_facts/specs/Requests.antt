@@ -2,9 +2,9 @@
 -- each argument that may matter.
 use Rattle.std.specs.Prelude.{ℕ, ◌+◌, ◌++◌, ◌&&◌, zero, suc, Bool, List, [], ◌∷◌, Option, None, Some, if◌then◌else◌, is_some, length, map, nat_eq, nat_lt}
 use Rattle.std.specs.List.{list_any}
-use Rattle.hunt_keys.specs.declared.arguments.Asking.{Asking}
-use Rattle.hunt_keys.specs.declared.arguments.TheConstants.{MAX_ARGUMENTS}
-use Rattle.hunt_keys.specs.declared.requests.Request.{Request}
+use Rattle.hunt_facts.specs.declared.arguments.Asking.{Asking}
+use Rattle.hunt_facts.specs.declared.arguments.TheConstants.{MAX_ARGUMENTS}
+use Rattle.hunt_facts.specs.declared.requests.Request.{Request}
 use Rattle.model.specs.declared.instr.Instr.{Instr}
 use Rattle.model.specs.declared.instr.Instr.TheVariants.{Const}
 use Rattle.model.specs.declared.set.Driver.{Driver}

@@ -1,6 +1,6 @@
 use Rattle.std.proofs.Common.{◌≡◌, [], ◌∷◌, drop}
-use Rattle.hunt_keys.specs.Requests.{with_drivers}
-use Rattle.hunt_keys.proofs.arguments.read_arguments.Given as goal
+use Rattle.hunt_facts.specs.Requests.{with_drivers}
+use Rattle.hunt_facts.proofs.arguments.read_arguments.Given as goal
 
 abbrev pub invariant-loop-driver : goal.invariant-loop-driver
 invariant-loop-driver l =

@@ -3,7 +3,7 @@
 
 ghost use Rattle.std.specs.Prelude.{◌≡◌, ◌++◌, IfOk, OnOk, length};
 ghost use Rattle.std.specs.List.{list_any};
-ghost use Rattle.hunt_keys.specs.Requests.{requests_below, requests_by, requests_with, served_major, served_majors, serves};
+ghost use Rattle.hunt_facts.specs.Requests.{requests_below, requests_by, requests_with, served_major, served_majors, serves};
 
 use crate::arguments::Arguments;
 use driver_set::DriverSet;

@@ -1,6 +1,6 @@
 use Rattle.std.proofs.Common.{◌≡◌, ◌++◌, take}
-use Rattle.hunt_keys.specs.Requests.{requests_with}
-use Rattle.hunt_keys.proofs.requests.add_requests_with.Given as goal
+use Rattle.hunt_facts.specs.Requests.{requests_with}
+use Rattle.hunt_facts.proofs.requests.add_requests_with.Given as goal
 
 abbrev pub invariant-loop-argument : goal.invariant-loop-argument
 invariant-loop-argument l =

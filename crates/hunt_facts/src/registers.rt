@@ -4,7 +4,7 @@ use model::register::Register;
 
 /// A set of registers, a bit each.
 #[derive(Clone, Copy)]
-pub(crate) struct Registers {
+pub struct Registers {
     bits: u16,
 }
 
@@ -16,7 +16,7 @@ impl Registers {
     pub(crate) const ALL: Registers = Registers { bits: u16::MAX };
 
     /// Whether a register is in it.
-    pub(crate) fn has(self, register: Register) -> bool {
+    pub fn has(self, register: Register) -> bool {
         self.bits & (1 << register.index()) != 0
     }
 

@@ -1,8 +1,8 @@
 //! What of a driver set says which events may matter.
 
 ghost use Rattle.std.specs.Prelude.{◌≡◌, IfOk, List};
-ghost use Rattle.hunt_keys.specs.declared.arguments.Asking.{Asking};
-ghost use Rattle.hunt_keys.specs.Requests.{requests_of};
+ghost use Rattle.hunt_facts.specs.declared.arguments.Asking.{Asking};
+ghost use Rattle.hunt_facts.specs.Requests.{requests_of};
 
 use crate::arguments::Arguments;
 use crate::reaching::Reaching;
@@ -18,7 +18,7 @@ pub struct Facts {
     pub requests: Vec<Request>,
     pub uses: Uses,
     /// The numbers that matter.
-    pub(crate) reaching: Reaching,
+    pub reaching: Reaching,
 }
 
 /// What some routine of a driver set does.

@@ -1,6 +1,6 @@
 use Rattle.std.proofs.Common.{◌≡◌, drop}
-use Rattle.hunt_keys.specs.Requests.{with_code}
-use Rattle.hunt_keys.proofs.arguments.add_code.Given as goal
+use Rattle.hunt_facts.specs.Requests.{with_code}
+use Rattle.hunt_facts.proofs.arguments.add_code.Given as goal
 
 abbrev pub invariant-loop-instr : goal.invariant-loop-instr
 invariant-loop-instr l =

@@ -3,7 +3,7 @@
 
 ghost use Rattle.std.specs.Prelude.{◌≡◌, [], ◌∷◌, IfOk, OnOk};
 ghost use Rattle.std.specs.List.{list_any};
-ghost use Rattle.hunt_keys.specs.Requests.{arguments_of, asks, of_request, with_argument, with_code, with_constant, with_drivers, with_further, with_instr, with_routines};
+ghost use Rattle.hunt_facts.specs.Requests.{arguments_of, asks, of_request, with_argument, with_code, with_constant, with_drivers, with_further, with_instr, with_routines};
 
 use crate::reaching::Reaching;
 use crate::requests::MAJORS;
@@ -34,7 +34,7 @@ pub(crate) struct Arguments {
 }
 
 impl Model for Arguments {
-    ghost use Rattle.hunt_keys.specs.Requests.{Arguments};
+    ghost use Rattle.hunt_facts.specs.Requests.{Arguments};
 
     ghost Value = { Arguments };
 

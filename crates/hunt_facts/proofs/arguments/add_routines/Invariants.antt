@@ -1,6 +1,6 @@
 use Rattle.std.proofs.Common.{◌≡◌, drop}
-use Rattle.hunt_keys.specs.Requests.{with_routines}
-use Rattle.hunt_keys.proofs.arguments.add_routines.Given as goal
+use Rattle.hunt_facts.specs.Requests.{with_routines}
+use Rattle.hunt_facts.proofs.arguments.add_routines.Given as goal
 
 abbrev pub invariant-loop-routine : goal.invariant-loop-routine
 invariant-loop-routine l =

@@ -1,6 +1,6 @@
 use Rattle.std.proofs.Common.{◌≡◌, ◌++◌, drop}
-use Rattle.hunt_keys.specs.Requests.{requests_by}
-use Rattle.hunt_keys.proofs.requests.add_requests.Given as goal
+use Rattle.hunt_facts.specs.Requests.{requests_by}
+use Rattle.hunt_facts.proofs.requests.add_requests.Given as goal
 
 abbrev pub invariant-loop-major : goal.invariant-loop-major
 invariant-loop-major l =

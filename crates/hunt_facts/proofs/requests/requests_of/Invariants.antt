@@ -1,6 +1,6 @@
 use Rattle.std.proofs.Common.{◌≡◌}
-use Rattle.hunt_keys.specs.Requests.{requests_below, served_majors}
-use Rattle.hunt_keys.proofs.requests.requests_of.Given as goal
+use Rattle.hunt_facts.specs.Requests.{requests_below, served_majors}
+use Rattle.hunt_facts.proofs.requests.requests_of.Given as goal
 
 abbrev pub invariant-loop-device : goal.invariant-loop-device
 invariant-loop-device l =

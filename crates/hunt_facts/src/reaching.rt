@@ -11,16 +11,16 @@ use std::alloc::{AllocError, Global};
 
 /// The cells of a driver's devices whose numbers can reach a jump.
 #[derive(Clone, Copy)]
-pub(crate) struct Cells {
-    pub(crate) plain: [bool; CELLS],
-    pub(crate) paged: [bool; CELLS],
+pub struct Cells {
+    pub plain: [bool; CELLS],
+    pub paged: [bool; CELLS],
 }
 
 /// The fields of packets whose numbers can.
 #[derive(Clone, Copy)]
-pub(crate) struct Fields {
-    pub(crate) argument: bool,
-    pub(crate) information: bool,
+pub struct Fields {
+    pub argument: bool,
+    pub information: bool,
     /// More was found to matter, since this was last cleared.
     grew: bool,
 }
@@ -35,7 +35,7 @@ struct Reached {
 
 /// What of a driver set matters.
 #[derive(Drop)]
-pub(crate) struct Reaching {
+pub struct Reaching {
     drivers: Vec<Reached>,
     fields: Fields,
 }
@@ -74,12 +74,12 @@ impl Reaching {
     }
 
     /// The fields of packets that matter.
-    pub(crate) fn fields(&self) -> Fields {
+    pub fn fields(&self) -> Fields {
         self.fields
     }
 
     /// The cells of a driver's devices that matter.
-    pub(crate) fn cells(&self, driver: u8) -> Option<Cells> {
+    pub fn cells(&self, driver: u8) -> Option<Cells> {
         match self.drivers.get(driver as usize) {
             Some(reached) => Some(reached.cells),
             None => None,
@@ -99,7 +99,7 @@ impl Reaching {
     }
 
     /// The registers that matter where an activation stands.
-    pub(crate) fn registers(&self, a: &Activation) -> Registers {
+    pub fn registers(&self, a: &Activation) -> Registers {
         let Some(reached) = self.drivers.get(a.driver as usize) else {
             return Registers::ALL;
         };
