@@ -5,7 +5,7 @@ use checked::Checked;
 use hunt_ends::amiss::Amiss;
 use model::event::Reply;
 use model::view::PacketView;
-use scenario_run::holding::{amiss, top_out_of};
+use scenario_run::holding::amiss;
 use scenario_run::playing::Playing;
 use scenario_text::scenario::{Action, Expectation, Step};
 use std::alloc::{AllocError, Global};
@@ -179,7 +179,7 @@ fn add_packet(
         })?;
         return add_sites(alloc, words, book, playing.machine(), number);
     }
-    match top_out_of(playing.past(), number) {
+    match playing.top_out(number) {
         Some(top) => {
             words.push_str("it is topped ")?;
             words.push_str(status_text(top.status))?;
@@ -280,10 +280,10 @@ fn add_device(words: &mut String, machine: &Checked, device: u8) -> Result<(), A
 
 /// Adds the last reply.
 fn add_reply(words: &mut String, book: &Book<'_>, playing: &Playing) -> Result<(), AllocError> {
-    let Some(last) = playing.past().last() else {
+    let Some(last) = playing.last() else {
         return words.push_str("nothing can happen");
     };
-    match last.reply {
+    match last {
         Reply::Idle => words.push_str("nothing to do"),
         Reply::Finished => words.push_str("the packet has topped out"),
         Reply::Bug(bug) => {

@@ -1,64 +1,133 @@
--- A run that goes on by an event, with what is kept of it.
-use Rattle.std.proofs.Common.{◌≡◌, ◌∙◌, ◌+◌, ◌<◌, ℕ, List, [], ◌∷◌, ◌++◌, get_or, length, take, refl, sym, ap, subst, map}
-use Rattle.std.proofs.Math.Seq.{set-append_seam}
-use Rattle.std.proofs.lemmas.List.{take_more}
-use Rattle.std.specs.Prelude.{slice_set}
+-- What is kept of a run, with more of it.
+use Rattle.std.proofs.Common.{◌≡◌, ◌∙◌, ◌+◌, ◌<◌, ℕ, zero, List, [], ◌∷◌, ◌++◌, append_assoc, arith, get_or, length, take, refl, replicate, suc, sym, ap, subst}
+use Rattle.std.proofs.lemmas.List.{append-nil, length-append, length-replicate, take_more}
+use Rattle.checked.specs.GoingOn.{GoesOn}
+use Rattle.interleave.specs.declared.read.Repeated.{Repeated}
 use Rattle.model.specs.declared.event.Event.{Event}
+use Rattle.model.specs.declared.event.Event.TheVariants.{Step}
 use Rattle.model.specs.declared.event.Reply.{Reply}
-use Rattle.model.specs.History.{replies, replies_from}
-use Rattle.model.specs.Machine.{AppliesWhole, Machine, ShowsWhole, reply_to}
-use Rattle.model.specs.Run.{Run, begun, run, run_from, step}
+use Rattle.model.specs.declared.event.Reply.TheVariants.{Stepped}
+use Rattle.model.specs.History.{replies}
+use Rattle.model.specs.Machine.{Machine}
+use Rattle.model.specs.Run.{begun}
 use Rattle.model.specs.Set.{Set}
-use Rattle.scenario_run.specs.declared.playing.Happened.{Happened}
-use Rattle.scenario_run.specs.Past.{IsPast, events_of, told_of}
+use Rattle.scenario_run.specs.declared.runner.Runner.{Runner}
+use Rattle.scenario_run.specs.declared.told.Told.{Told}
+use Rattle.scenario_run.specs.Past.{IsPast, events_of}
+use Rattle.scenario_run.specs.Running.{Runs, RunsOn, StaysBegun}
+use Rattle.scenario_run.specs.Told.{Adds, AreTold}
+use Rattle.scenario_run.proofs.Going.{Shown, replies_along, replies_more, shown_along}
+use Rattle.scenario_run.proofs.Running.{runs_gone}
 
--- the events and the replies with those of one more
-pub events_more : (past : List Happened) (h : Happened)
-    → events_of (past ++ h ∷ []) ≡ events_of past ++ h.event ∷ []
-events_more [] h = refl
-events_more (x ∷ past) h = ap (λ later. x.event ∷ later) (events_more past h)
+-- the events with those of an entry more
+pub events_more : (past : List Repeated) (h : Repeated)
+    → events_of (past ++ h ∷ []) ≡ events_of past ++ replicate h.count h.event
+events_more [] h = append-nil (replicate h.count h.event)
+events_more (x ∷ past) h =
+    ap (λ (later : List Event). replicate x.count x.event ++ later) (events_more past h)
+    ∙ sym (append_assoc (replicate x.count x.event) (events_of past) (replicate h.count h.event))
 
-told_more : (past : List Happened) (h : Happened)
-    → told_of (past ++ h ∷ []) ≡ told_of past ++ h.reply ∷ []
-told_more [] h = refl
-told_more (x ∷ past) h = ap (λ later. x.reply ∷ later) (told_more past h)
+-- those of so many entries, and of the next one
+pub events_further : (past : List Repeated) (i : ℕ) (d : Repeated) → i < length past
+    → events_of (take (i + 1) past)
+    ≡ events_of (take i past) ++ replicate (get_or past i d).count (get_or past i d).event
+events_further past i d inside =
+    ap (λ (xs : List Repeated). events_of xs) (take_more past i d inside)
+    ∙ events_more (take i past) (get_or past i d)
 
--- the replies of a run to one event more
-replies_more : (set : Set) (r : Run) (events : List Event) (e : Event)
-    → replies_from set r (events ++ e ∷ [])
-    ≡ replies_from set r events ++ (step set (run_from set r events) e).reply ∷ []
-replies_more set r [] e = refl
-replies_more set r (x ∷ events) e =
-    ap (λ later. (step set r x).reply ∷ later) (replies_more set (step set r x).run events e)
+module _ (r n : Runner) (threads count : ℕ) (past : List Repeated) (told now : Told)
+    (same : n.machine.set ≡ r.machine.set) (is : IsPast r threads count past told) where
+  -- an entry more, by which the run goes on
+  pub past_longer : (h : Repeated) (more : List Reply)
+      → Runs n threads (events_of past ++ replicate h.count h.event)
+      → replies r.machine.set threads (events_of past ++ replicate h.count h.event)
+      ≡ replies r.machine.set threads (events_of past) ++ more
+      → Adds told more now → IsPast n threads (count + h.count) (past ++ h ∷ []) now
+  past_longer h more runs replied adds =
+      let events : List Event = events_of past in
+      let added : List Event = replicate h.count h.event in
+      let all : events_of (past ++ h ∷ []) ≡ events ++ added = events_more past h in
+      let long : length (events ++ added) ≡ length events + length added =
+      length-append events added in
+      let times : length added ≡ h.count = length-replicate h.count h.event in
+      let counts : count + h.count ≡ length (events ++ added) =
+      omega (arith, is.counts, long, times) in
+      record {
+        some = is.some;
+        few = is.few;
+        runs = subst (λ (es : List Event). Runs n threads es) (sym all) runs;
+        counts = counts ∙ ap (λ (es : List Event). length es) (sym all);
+        tells = subst (λ (rs : List Reply). AreTold now rs)
+            (sym replied
+            ∙ ap (λ (s : Set). replies s threads (events ++ added)) (sym same)
+            ∙ ap (λ (es : List Event). replies n.machine.set threads es) (sym all))
+            (adds (replies r.machine.set threads events) is.tells);
+      }
 
-pub past_more : (m n : Machine) (threads : ℕ) (past : List Happened) (h : Happened)
-    → AppliesWhole m h.event n h.reply → IsPast m threads past → IsPast n threads (past ++ h ∷ [])
-past_more m n threads past h on is =
-    let events = events_of past in
-    let more : events_of (past ++ h ∷ []) ≡ events ++ h.event ∷ [] = events_more past h in
+-- an event more
+pub past_more : (r n : Runner) (threads count : ℕ) (past : List Repeated) (told now : Told)
+    (e : Event) (reply : Reply) → RunsOn r e n reply → Adds told (reply ∷ []) now
+    → IsPast r threads count past told
+    → IsPast n threads (count + 1) (past ++ record { event = e; count = 1 } ∷ []) now
+past_more r n threads count past told now e reply on adds is =
+    let events : List Event = events_of past in
+    let h : Repeated = record { event = e; count = 1 } in
+    past_longer r n threads count past told now on.set is h (reply ∷ [])
+    (on.runs threads events is.runs)
+    (replies_more r.machine.set (begun r.machine.set threads) events e
+    ∙ ap (λ (y : Reply). replies r.machine.set threads events ++ y ∷ [])
+    (sym (on.replies threads events is.runs))) adds
+
+-- steps that a thread made by itself
+pub past_gone : (r n : Runner) (t made threads count : ℕ) (past : List Repeated) (told now : Told)
+    → GoesOn t r.machine made n.machine → n.ledger ≡ r.ledger → n.keeping ≡ r.keeping
+    → Adds told (replicate made Stepped) now → IsPast r threads count past told
+    → IsPast n threads (count + made) (past ++ record { event = Step t; count = made } ∷ []) now
+past_gone r n t made threads count past told now goes ledger keeping adds is =
+    let events : List Event = events_of past in
+    let h : Repeated = record { event = Step t; count = made } in
+    let shown : Shown r.machine n.machine threads (events ++ replicate made (Step t)) =
+    shown_along t r.machine made n.machine threads events goes is.runs.shows in
+    past_longer r n threads count past told now shown.same is h (replicate made Stepped)
+    (runs_gone r n t made threads events goes ledger keeping is.runs)
+    (replies_along t r.machine made n.machine threads events goes is.runs.shows) adds
+
+-- none, where it made none
+pub past_rested : (r n : Runner) (t made threads count : ℕ) (past : List Repeated) (told : Told)
+    → made ≡ 0 → GoesOn t r.machine made n.machine → n.ledger ≡ r.ledger
+    → n.keeping ≡ r.keeping → IsPast r threads count past told → IsPast n threads count past told
+past_rested r n t made threads count past told none goes ledger keeping is =
+    let events : List Event = events_of past in
+    let shown : Shown r.machine n.machine threads (events ++ replicate made (Step t)) =
+    shown_along t r.machine made n.machine threads events goes is.runs.shows in
+    let same : events ++ replicate made (Step t) ≡ events =
+    ap (λ (k : ℕ). events ++ replicate k (Step t)) none ∙ append-nil events in
     record {
       some = is.some;
       few = is.few;
-      shows = subst (λ (es : List Event). ShowsWhole n threads es) (sym more)
-          (on.shows threads events is.shows);
-      replies = told_more past h
-          ∙ ap (λ (rs : List Reply). rs ++ h.reply ∷ []) is.replies
-          ∙ ap (λ (r : Reply). replies m.set threads events ++ r ∷ [])
-          (on.replies threads events is.shows)
-          ∙ sym (replies_more m.set (begun m.set threads) events h.event)
-          ∙ ap (λ (s : Set). replies s threads (events ++ h.event ∷ [])) (sym on.set)
-          ∙ ap (λ (es : List Event). replies n.set threads es) (sym more);
+      runs = subst (λ (es : List Event). Runs n threads es) same
+          (runs_gone r n t made threads events goes ledger keeping is.runs);
+      counts = is.counts;
+      tells = subst (λ (s : Set). AreTold told (replies s threads events)) (sym shown.same)
+          is.tells;
     }
 
--- the last of what is kept is changed
-pub set_last : (past : List Happened) (h k : Happened)
-    → slice_set (past ++ h ∷ []) (length past) k ≡ past ++ k ∷ []
-set_last past h k = set-append_seam past h [] k
+-- with a ledger that begins where nothing has happened
+no_events : (events : List Event) → 0 ≡ length events → events ≡ []
+no_events [] none = refl
+no_events (e ∷ events) none = absurd (omega (arith, none))
 
--- the events of so much of what has happened, and the next one
-pub events_further : (past : List Happened) (i : ℕ) (d : Happened) → i < length past
-    → events_of (take (i + 1) past)
-    ≡ events_of (take i past) ++ (get_or past i d).event ∷ []
-events_further past i d inside =
-    ap (λ (xs : List Happened). events_of xs) (take_more past i d inside)
-    ∙ events_more (take i past) (get_or past i d)
+pub past_begun : (r n : Runner) (threads count : ℕ) (past : List Repeated) (told : Told)
+    → count ≡ 0 → n.machine ≡ r.machine → StaysBegun threads r n
+    → IsPast r threads count past told → IsPast n threads count past told
+past_begun r n threads count past told first same begun is =
+    let none : events_of past ≡ [] = no_events (events_of past) (sym first ∙ is.counts) in
+    record {
+      some = is.some;
+      few = is.few;
+      runs = subst (λ (es : List Event). Runs n threads es) (sym none)
+          (begun (subst (λ (es : List Event). Runs r threads es) none is.runs));
+      counts = is.counts;
+      tells = subst (λ (m : Machine). AreTold told (replies m.set threads (events_of past)))
+          (sym same) is.tells;
+    }

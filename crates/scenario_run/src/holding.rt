@@ -1,18 +1,16 @@
 //! Whether what is expected holds in a run.
 
-ghost use Rattle.std.specs.Prelude.{◌≡◌, IfOk};
+ghost use Rattle.std.specs.Prelude.{◌≡◌, ◌++◌, IfOk, OnOk, replicate};
 ghost use Rattle.hunt_ends.specs.Ends.{Rehearses, amiss_in};
-ghost use Rattle.std.specs.List.{list_any};
-ghost use Rattle.model.specs.History.{top_out_of};
-ghost use Rattle.model.specs.Words.{bug_check_code};
-ghost use Rattle.scenario_run.specs.Holding.{device_holds, has_information, has_status, holds, is_bug, is_busy, is_cancelled, is_clean, is_idle, is_live, packet_holds, thread_holds, topped_as};
-ghost use Rattle.scenario_run.specs.Past.{events_of, told_of};
+ghost use Rattle.scenario_run.specs.Holding.{device_holds, has_information, has_status, holds, is_busy, is_cancelled, is_clean, is_idle, is_live, packet_holds, thread_holds, topped_as};
+ghost use Rattle.scenario_run.specs.Past.{events_of};
 ghost use Rattle.scenario_run.specs.Playing.{number_of, replies_of, run_of, world_of};
 
-use crate::playing::{Happened, Playing};
+use crate::playing::Playing;
 use hunt_ends::amiss::Amiss;
 use hunt_ends::rehearsal::Rehearsal;
-use model::event::{BugCheck, Event, Reply};
+use interleave::read::Repeated;
+use model::event::{Event, Reply};
 use model::history::TopOut;
 use model::status::Status;
 use model::view::{PacketView, ThreadView};
@@ -34,7 +32,7 @@ pub fn holds(
 {
     match *expectation {
         Expectation::Clean => is_clean(alloc, playing),
-        Expectation::Bug(number) => Ok(has_bug(playing, number)),
+        Expectation::Bug(number) => Ok(playing.has_bug(number)),
         Expectation::Packet { packet, state } => Ok(packet_holds(playing, packet, state)),
         Expectation::Thread { thread, state } => Ok(thread_holds(playing, thread, state)),
         Expectation::Device { device, state } => Ok(device_holds(playing, device, state)),
@@ -48,7 +46,10 @@ fn is_clean(alloc: Global, playing: &Playing) -> Result<bool, AllocError>
     if playing.machine().stopped() {
         return Ok(false);
     }
-    Ok(amiss(alloc, playing)?.is_none())
+    match playing.is_fine()? {
+        Some(fine) => Ok(fine),
+        None => Ok(amiss(alloc, playing)?.is_none()),
+    }
 }
 
 /// What an audit finds amiss in a run, first.
@@ -78,55 +79,24 @@ fn replay(alloc: Global, playing: &Playing) -> Result<Rehearsal, AllocError>
 ///
 /// When memory runs out.
 #[tactic(auto, using(crate::proofs::Pasts::events_further))]
-pub fn events_of(alloc: Global, past: &[Happened]) -> Result<Vec<Event>, AllocError>
+pub fn events_of(alloc: Global, past: &[Repeated]) -> Result<Vec<Event>, AllocError>
     ensures { IfOk result (λ events. events.items ≡ events_of past.now) }
 {
     let mut events = Vec::new(alloc);
     for happened in past {
-        events.push(happened.event)?;
+        add_times(&mut events, happened.event, happened.count)?;
     }
     Ok(events)
 }
 
-/// Whether the bug check of a number has stopped the run.
-fn has_bug(playing: &Playing, number: u8) -> bool
-    ensures { result ≡ list_any (is_bug number) (replies_of playing.now) }
+/// Adds an event so many times.
+fn add_times(events: &mut Vec<Event>, event: Event, count: usize) -> Result<(), AllocError>
+    ensures { OnOk result (events.new.items ≡ events.old.items ++ replicate count event) }
 {
-    is_told(number, playing.past())
-}
-
-fn is_told(number: u8, past: &[Happened]) -> bool
-    ensures { result ≡ list_any (is_bug number) (told_of past.now) }
-{
-    for happened in past {
-        if is_bug(number, &happened.reply) {
-            return true;
-        }
+    for _ in 0..count {
+        events.push(event)?;
     }
-    false
-}
-
-fn is_bug(number: u8, reply: &Reply) -> bool
-    ensures { result ≡ is_bug number reply.now }
-{
-    match reply {
-        Reply::Bug(bug) => code_of(bug.check) == number,
-        _ => false,
-    }
-}
-
-/// The number of a bug check in the bug check reference.
-fn code_of(check: BugCheck) -> u8
-    ensures { result ≡ bug_check_code check }
-{
-    match check {
-        BugCheck::IrqlNotLessOrEqual => 0x0A,
-        BugCheck::SpinLockAlreadyOwned => 0x0F,
-        BugCheck::SpinLockNotOwned => 0x10,
-        BugCheck::NoMoreIrpStackLocations => 0x35,
-        BugCheck::MultipleIrpCompleteRequests => 0x44,
-        BugCheck::CancelStateInCompletedIrp => 0x48,
-    }
+    Ok(())
 }
 
 /// Whether this holds of a packet of the scenario.
@@ -143,7 +113,7 @@ fn packet_holds(playing: &Playing, packet: usize, state: PacketState) -> bool
         PacketState::Topped {
             status,
             information,
-        } => topped_as(status, information, top_out_of(playing.past(), number)),
+        } => topped_as(status, information, playing.top_out(number)),
     }
 }
 
@@ -163,29 +133,6 @@ fn is_cancelled(view: &PacketView) -> bool
         PacketView::Live(live) => live.cancel,
         PacketView::Never | PacketView::Topped => false,
     }
-}
-
-/// How a packet topped out, if it has.
-pub fn top_out_of(past: &[Happened], number: u64) -> Option<TopOut>
-    ensures { result ≡ top_out_of (told_of past.now) number }
-{
-    for happened in past {
-        if let Reply::Topped {
-            packet,
-            status,
-            info,
-        } = happened.reply
-        {
-            if packet == number {
-                return Some(TopOut {
-                    packet,
-                    status,
-                    info,
-                });
-            }
-        }
-    }
-    None
 }
 
 fn topped_as(status: Option<Status>, information: Option<u64>, top: Option<TopOut>) -> bool

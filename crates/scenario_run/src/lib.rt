@@ -5,3 +5,6 @@
 pub mod holding;
 pub mod play;
 pub mod playing;
+mod runner;
+mod told;
+mod tops;

@@ -15,12 +15,28 @@ use std::alloc::{AllocError, Global};
 /// # Errors
 ///
 /// When memory runs out.
-#[tactic(auto, using(crate::proofs::Playings::played_on, crate::proofs::Playings::played_stop))]
 pub fn play(
     alloc: Global,
     playing: &mut Playing,
     steps: &[Step],
 ) -> Result<Option<Step>, AllocError>
+    ensures { IfOk result (λ failed.
+        record { now = playing.new; failed = failed } ≡ played playing.old steps.now) }
+{
+    if steps.iter().any(|step| expects_audit(step)) {
+        playing.keep_ledger()?;
+    }
+    play_on(alloc, playing, steps)
+}
+
+/// Whether a step asks for an audit.
+fn expects_audit(step: &Step) -> bool {
+    matches!(step.action, Action::Expect(Expectation::Clean))
+}
+
+/// Plays the steps from here on.
+#[tactic(auto, using(crate::proofs::Playings::played_on, crate::proofs::Playings::played_stop))]
+fn play_on(alloc: Global, playing: &mut Playing, steps: &[Step]) -> Result<Option<Step>, AllocError>
     ensures { IfOk result (λ failed.
         record { now = playing.new; failed = failed } ≡ played playing.old steps.now) }
 {

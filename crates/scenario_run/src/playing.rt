@@ -1,16 +1,25 @@
 //! A scenario as it plays on the reference machine.
 
-ghost use Rattle.std.specs.Prelude.{◌≡◌, ◌≤◌, IfOk};
+ghost use Rattle.std.specs.Prelude.{◌≡◌, ◌≤◌, ◌-◌, IfOk, IfSome, is_none, true};
 ghost use Rattle.model.specs.declared.limits.TheConstants.{MAX_THREADS};
-ghost use Rattle.model.specs.History.{started_by};
+ghost use Rattle.model.specs.History.{started_by, top_out_of};
 ghost use Rattle.model.specs.View.{busy_at, thread_at};
-ghost use Rattle.scenario_run.specs.Past.{events_of, told_of};
-ghost use Rattle.scenario_run.specs.Playing.{begun, cancelled, happened, is_at, issued, most_of, number_of, one, outcome_of, outcome_of_cancel, replies_of, reply_in, reply_of, run_of, run_thread, running, running_to, stands_at, stepping, with_event, world_of};
+ghost use Rattle.hunt_ends.specs.Ends.{amiss_in};
+ghost use Rattle.std.specs.List.{list_any};
+ghost use Rattle.scenario_run.specs.Going.{GoesAhead};
+ghost use Rattle.scenario_run.specs.Holding.{is_bug};
+ghost use Rattle.scenario_run.specs.Past.{events_of};
+ghost use Rattle.scenario_run.specs.Told.{last_of};
+ghost use Rattle.scenario_run.specs.Playing.{begun, cancelled, happened, has_room, is_at, issued, most_of, number_of, one, outcome_of, outcome_of_cancel, replies_of, reply_in, reply_of, run_of, run_thread, running, running_to, stands_at, stepping, with_event, world_of};
 
+use crate::runner::Runner;
+use crate::told::Told;
 use checked::Checked;
 use driver_set::DriverSet;
+use interleave::read::Repeated;
 use interleave::schedule::MAX_EVENTS;
 use model::event::{Event, Reply};
+use model::history::TopOut;
 use model::view::FrameView;
 use scenario_text::names::Spot;
 use std::alloc::{AllocError, Global};
@@ -27,19 +36,17 @@ pub enum Outcome {
     Fails,
 }
 
-/// An event that happened, and the reply of the run.
-#[derive(Clone, Copy)]
-pub struct Happened {
-    pub event: Event,
-    pub reply: Reply,
-}
-
 /// A scenario as it plays.
 #[derive(Drop)]
 pub struct Playing {
-    machine: Checked,
+    runner: Runner,
     threads: u8,
-    past: Vec<Happened>,
+    /// What has happened, each event as often as it did in a row.
+    past: Vec<Repeated>,
+    /// How many events that are.
+    count: usize,
+    /// What the run replied.
+    told: Told,
     /// For each issue so far the number of its packet, if it wasn't refused.
     packets: Vec<Option<u64>>,
 }
@@ -53,13 +60,13 @@ impl Model for Playing {
     ghost Value = { Playing };
 
     ghost view = { λ p. record {
-      set = p.machine.set;
+      set = p.runner.machine.set;
       threads = p.threads;
       events = events_of p.past.items;
       packets = p.packets.items;
     } };
 
-    ghost invariant = { λ p. IsPast p.machine p.threads p.past.items };
+    ghost invariant = { λ p. IsPast p.runner p.threads p.count p.past.items p.told };
 }
 
 impl Playing {
@@ -73,32 +80,42 @@ impl Playing {
         requires few { threads ≤ MAX_THREADS }
         ensures { IfOk result (λ p. p ≡ begun set.now threads) }
     {
-        let Ok(set) = set.copy(alloc) else {
-            return Err(AllocError);
-        };
-        let Ok(machine) = Checked::new(alloc, set, threads) else {
-            return Err(AllocError);
-        };
         Ok(Playing {
-            machine,
+            runner: Runner::new(alloc, set, threads)?,
             threads,
             past: Vec::new(alloc),
+            count: 0,
+            told: Told::new(alloc),
             packets: Vec::new(alloc),
         })
     }
 
+    /// Keeps what an audit needs along the run, if nothing has happened yet.
+    ///
+    /// # Errors
+    ///
+    /// When memory runs out.
+    #[tactic(auto, using(crate::proofs::Pasts::past_begun))]
+    pub(crate) fn keep_ledger(&mut self) -> Result<(), AllocError>
+        ensures { self.new ≡ self.old }
+    {
+        if self.count > 0 {
+            return Ok(());
+        }
+        self.runner.keep_ledger(self.threads)
+    }
+
     /// An event happens.
     fn apply(&mut self, event: Event) -> Result<Reply, AllocError>
+        requires { has_room self.old ≡ true }
         ensures { IfOk result (λ reply. (self.new ≡ with_event self.old event)
             × (reply ≡ reply_in self.old event)) }
     {
-        let place = self.past.len();
-        self.past.push(Happened {
-            event,
-            reply: Reply::Refused,
-        })?;
-        let reply = self.machine.apply(&event);
-        self.past[place] = Happened { event, reply };
+        self.told.make_room()?;
+        self.past.push(Repeated { event, count: 1 })?;
+        self.count += 1;
+        let reply = self.runner.apply(&event);
+        self.told.note(&reply);
         Ok(reply)
     }
 
@@ -107,7 +124,7 @@ impl Playing {
         ensures { IfOk result (λ reply. (self.new ≡ happened self.old event)
             × (reply ≡ reply_of self.old event)) }
     {
-        if self.past.len() < MAX_EVENTS {
+        if self.count < MAX_EVENTS {
             self.apply(event)
         } else {
             Ok(Reply::Refused)
@@ -154,19 +171,39 @@ impl Playing {
         Ok(outcome_of_cancel(&reply))
     }
 
+    /// A thread makes steps by itself, at most so many: how many of them are left.
+    fn go_ahead(&mut self, thread: u8, most: usize) -> Result<usize, AllocError>
+        ensures { IfOk result (λ left. (left ≤ most)
+            × GoesAhead thread self.old (most - left) self.new) }
+    {
+        let room = MAX_EVENTS.saturating_sub(self.count);
+        self.past.reserve(1)?;
+        let made = self.runner.go_on(thread, most.min(room));
+        if made == 0 {
+            return Ok(most);
+        }
+        self.past.push_reserved(Repeated {
+            event: Event::Step { thread },
+            count: made,
+        });
+        self.count += made;
+        self.told.note_steps(made);
+        Ok(most - made)
+    }
+
     /// So many steps of a thread, up to one that fails.
-    #[tactic(auto, using(crate::proofs::Stepping::steps_done, crate::proofs::Stepping::steps_waited, crate::proofs::Stepping::steps_failed))]
+    #[tactic(auto, using(crate::proofs::Going::steps_ahead, crate::proofs::Stepping::steps_done, crate::proofs::Stepping::steps_waited, crate::proofs::Stepping::steps_failed))]
     pub(crate) fn steps(&mut self, thread: u8, count: u64) -> Result<Outcome, AllocError>
         ensures { IfOk result (λ outcome.
             record { now = self.new; outcome = outcome } ≡ stepping thread count self.old) }
     {
-        let mut left = count;
+        let mut left = self.go_ahead(thread, count as usize)?;
         while left > 0 {
             match self.one(Event::Step { thread })? {
                 Outcome::Fails => return Ok(Outcome::Fails),
                 Outcome::Done | Outcome::Waits => {}
             }
-            left -= 1;
+            left = self.go_ahead(thread, left - 1)?;
         }
         Ok(Outcome::Done)
     }
@@ -175,7 +212,7 @@ impl Playing {
     fn most(&self) -> usize
         ensures { result ≡ most_of self.now }
     {
-        (MAX_EVENTS + 1).saturating_sub(self.past.len())
+        (MAX_EVENTS + 1).saturating_sub(self.count)
     }
 
     /// Steps of a thread until it is idle or waits.
@@ -191,12 +228,12 @@ impl Playing {
     }
 
     /// The same by at most so many steps.
-    #[tactic(auto, using(crate::proofs::Stepping::run_idle, crate::proofs::Stepping::run_done, crate::proofs::Stepping::run_waited, crate::proofs::Stepping::run_failed))]
+    #[tactic(auto, using(crate::proofs::Going::runs_ahead, crate::proofs::Stepping::run_idle, crate::proofs::Stepping::run_done, crate::proofs::Stepping::run_waited, crate::proofs::Stepping::run_failed))]
     fn run_on(&mut self, thread: u8, most: usize) -> Result<Outcome, AllocError>
         ensures { IfOk result (λ outcome.
             record { now = self.new; outcome = outcome } ≡ running thread most self.old) }
     {
-        let mut left = most;
+        let mut left = self.go_ahead(thread, most)?;
         while left > 0 {
             if !self.is_busy(thread) {
                 return Ok(Outcome::Done);
@@ -206,7 +243,7 @@ impl Playing {
                 Outcome::Waits => return Ok(Outcome::Waits),
                 Outcome::Fails => return Ok(Outcome::Fails),
             }
-            left -= 1;
+            left = self.go_ahead(thread, left - 1)?;
         }
         Ok(Outcome::Fails)
     }
@@ -244,7 +281,7 @@ impl Playing {
     fn stands_at(&self, thread: u8, spot: Spot) -> bool
         ensures { result ≡ stands_at spot (thread_at (world_of self.now) thread) }
     {
-        match self.machine.thread(thread) {
+        match self.runner.machine.thread(thread) {
             Some(view) => is_at(spot, view.top),
             None => false,
         }
@@ -254,7 +291,7 @@ impl Playing {
     fn is_busy(&self, thread: u8) -> bool
         ensures { result ≡ busy_at (world_of self.now) thread }
     {
-        match self.machine.thread(thread) {
+        match self.runner.machine.thread(thread) {
             Some(view) => view.frames > 0,
             None => false,
         }
@@ -270,13 +307,46 @@ impl Playing {
         }
     }
 
+    /// Whether a bug check of this number has stopped the run.
+    pub fn has_bug(&self, number: u8) -> bool
+        ensures { result ≡ list_any (is_bug number) (replies_of self.now) }
+    {
+        self.told.has_bug(number)
+    }
+
+    /// How the packet of a number has topped out, if it has.
+    pub fn top_out(&self, number: u64) -> Option<TopOut>
+        ensures { result ≡ top_out_of (replies_of self.now) number }
+    {
+        self.told.top_out(number)
+    }
+
+    /// The last reply.
+    pub fn last(&self) -> Option<Reply>
+        ensures { result ≡ last_of (replies_of self.now) }
+    {
+        self.told.last
+    }
+
+    /// Whether an audit finds nothing amiss, where what it needs is kept along the run.
+    ///
+    /// # Errors
+    ///
+    /// When memory runs out.
+    pub(crate) fn is_fine(&self) -> Result<Option<bool>, AllocError>
+        ensures { IfOk result (λ fine. IfSome fine (λ fine.
+            fine ≡ is_none (amiss_in self.now.set (run_of self.now)))) }
+    {
+        self.runner.is_fine()
+    }
+
     /// The machine.
     pub fn machine(&self) -> &Checked
         ensures set { result.now.set ≡ self.now.set }
         ensures world { result.now.world ≡ world_of self.now }
         ensures stopped { result.now.stopped ≡ (run_of self.now).stopped }
     {
-        &self.machine
+        &self.runner.machine
     }
 
     /// How many threads there are.
@@ -289,9 +359,8 @@ impl Playing {
     }
 
     /// What has happened.
-    pub fn past(&self) -> &[Happened]
-        ensures events { events_of result.now ≡ self.now.events }
-        ensures replies { told_of result.now ≡ replies_of self.now }
+    pub fn past(&self) -> &[Repeated]
+        ensures { events_of result.now ≡ self.now.events }
     {
         self.past.as_slice()
     }

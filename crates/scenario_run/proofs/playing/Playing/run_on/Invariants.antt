@@ -4,7 +4,7 @@ use Rattle.scenario_run.proofs.playing.Playing.run_on.Given as goal
 
 -- what is left goes as all did
 abbrev pub invariant-loop-left : goal.invariant-loop-left
-invariant-loop-left l = running l.thread l.left l.self ≡ running l.thread l.most l.initial.self
+invariant-loop-left l = running l.thread l.left l.self ≡ running l.thread l.most l.fn.self
 
 abbrev pub decreases-loop-left : goal.decreases-loop-left
 decreases-loop-left l = l.left

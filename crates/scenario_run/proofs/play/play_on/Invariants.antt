@@ -1,6 +1,6 @@
 use Rattle.std.proofs.Common.{◌≡◌, drop}
 use Rattle.scenario_run.specs.Acting.{played}
-use Rattle.scenario_run.proofs.play.play.Given as goal
+use Rattle.scenario_run.proofs.play.play_on.Given as goal
 
 -- what is left plays as all did
 abbrev pub invariant-loop-step : goal.invariant-loop-step

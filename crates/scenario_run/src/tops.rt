@@ -1,0 +1,60 @@
+//! How packets have topped out.
+
+ghost use Rattle.std.specs.Prelude.{◌<◌, ◌≡◌, List, OnOk};
+ghost use Rattle.indexmap.specs.IndexMap.{spare};
+ghost use Rattle.model.specs.declared.event.Reply.{Reply};
+ghost use Rattle.model.specs.History.{top_out_of};
+ghost use Rattle.scenario_run.specs.Tops.{AddsTop, AreTops, top_told};
+
+use indexmap::IndexMap;
+use model::event::Reply;
+use model::history::TopOut;
+use std::alloc::AllocError;
+
+/// Notes how a packet topped out where a reply says so, if that isn't known yet.
+pub(crate) fn note_top(tops: &mut IndexMap<u64, TopOut>, reply: &Reply)
+    requires { 0 < spare tops.old }
+    ensures { AddsTop tops.old reply.now tops.new }
+{
+    let Some(top) = top_of(reply) else {
+        return;
+    };
+    if tops.contains_key(&top.packet) {
+        return;
+    }
+    if let Ok(_none) = tops.insert(top.packet, top) {}
+}
+
+/// How a packet topped out, if a reply says so.
+fn top_of(reply: &Reply) -> Option<TopOut>
+    ensures { result ≡ top_told reply.now }
+{
+    match *reply {
+        Reply::Topped {
+            packet,
+            status,
+            info,
+        } => Some(TopOut {
+            packet,
+            status,
+            info,
+        }),
+        _ => None,
+    }
+}
+
+/// Makes room for one more of them.
+#[tactic(auto, using(crate::proofs::Topping::tops_same))]
+pub(crate) fn make_room(tops: &mut IndexMap<u64, TopOut>) -> Result<(), AllocError>
+    ensures room { OnOk result (0 < spare tops.new) }
+    ensures same { (told : List Reply) → AreTops tops.old told → AreTops tops.new told }
+{
+    tops.reserve(1)
+}
+
+/// How the packet of a number has topped out, if it has.
+pub(crate) fn top_at(tops: &IndexMap<u64, TopOut>, number: u64) -> Option<TopOut>
+    ensures { (told : List Reply) → AreTops tops.now told → result ≡ top_out_of told number }
+{
+    tops.get(&number).copied()
+}
