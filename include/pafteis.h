@@ -353,7 +353,7 @@ uint32_t pafteis_schedule(const uint8_t *schedule, size_t schedule_length,
 
 uint32_t pafteis_version_number(void);
 
-/* `pafteis 1.0.0`, and a line end. Takes no memory. */
+/* `pafteis`, a space, the three numbers and a line end. Takes no memory. */
 uint32_t pafteis_version(uint8_t *buffer, size_t capacity, size_t *needed);
 
 /* Worlds ------------------------------------------------------------------------------------
@@ -522,6 +522,20 @@ typedef struct {
 /* Tells it; _WRONG_ARGUMENT where no packet of this number is live. */
 uint32_t pafteis_world_request(const pafteis_world *world, uint64_t number,
                                pafteis_request *request);
+
+/* The words in the registers r0 to r15 of a routine. A word doesn't say what it is: a number stands
+ * as itself, a status as its value, a packet as the slot in which it stands. Where no instruction
+ * may take anything from a register, its word may be any. */
+typedef struct {
+    uint64_t words[16];
+} pafteis_words;
+
+/* Tells those of the routine on the top of a thread; _WRONG_ARGUMENT where none stands there. */
+uint32_t pafteis_world_words(const pafteis_world *world, uint8_t thread, pafteis_words *words);
+
+/* Tells the number of the live packet in a slot; _WRONG_ARGUMENT where none stands there. Each live
+ * packet stands in one slot, and in no other. */
+uint32_t pafteis_world_number(const pafteis_world *world, uint64_t slot, uint64_t *number);
 
 /* Frees a world; _NO_WORLD where there is none, as where it was freed before. */
 uint32_t pafteis_world_free(pafteis_world *world);

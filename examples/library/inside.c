@@ -60,6 +60,16 @@ static void print_inside(pafteis_world *world, size_t count) {
            (unsigned long long)asked.info);
 }
 
+/* What the routine on thread 0 has in r1 and r2, and which packet in r0. */
+static void print_registers(const pafteis_world *world) {
+    pafteis_words found = {{0}};
+    uint64_t packet = 0;
+    uint32_t stands = pafteis_world_words(world, 0, &found);
+    uint32_t live = pafteis_world_number(world, found.words[0], &packet);
+    printf("words %u: %llu %llu, packet %u: %llu\n", stands, (unsigned long long)found.words[1],
+           (unsigned long long)found.words[2], live, (unsigned long long)packet);
+}
+
 int main(void) {
     pafteis_world world = PAFTEIS_EMPTY_WORLD, other = PAFTEIS_EMPTY_WORLD;
     pafteis_verdict verdict;
@@ -72,6 +82,7 @@ int main(void) {
     pafteis_reply reply;
     pafteis_world_apply(&world, &issue, &reply);
     print_inside(&world, 4);
+    print_registers(&world);
     print_inside(&world, 6);
     print_inside(&world, 4);
     printf("new %u, ", pafteis_world_new(SET, strlen(TEXT), 2, &world, &verdict));

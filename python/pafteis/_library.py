@@ -170,6 +170,12 @@ class CRequest(ctypes.Structure):
     _fields_ = [("argument", c_uint64), ("info", c_uint64), ("major", c_uint64)]
 
 
+class CWords(ctypes.Structure):
+    """`pafteis_words`"""
+
+    _fields_ = [("words", c_uint64 * 16)]
+
+
 class CHunting(ctypes.Structure):
     """`pafteis_hunting`"""
 
@@ -252,6 +258,8 @@ OF_WORLDS: dict[str, list[Any]] = {
     "world_cells": [*WORLD, c_uint8, POINTER(CCells)],
     "world_lock": [*WORLD, c_uint8, c_uint8, POINTER(COwner)],
     "world_request": [*WORLD, c_uint64, POINTER(CRequest)],
+    "world_words": [*WORLD, c_uint8, POINTER(CWords)],
+    "world_number": [*WORLD, c_uint64, POINTER(c_uint64)],
     "world_free": WORLD,
 }
 

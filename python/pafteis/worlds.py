@@ -353,6 +353,20 @@ class World:
         self._ask("world_request", within(packet, 64), ctypes.byref(found))
         return Request(found.major, found.argument, found.info)
 
+    def words(self, thread: int) -> tuple[int, ...]:
+        """The words in the registers r0 to r15 of the routine on the top of a thread. A word
+        doesn't say what it is: a number stands as itself, a status as its value, a packet as the
+        slot of which `number` tells. Raises `WrongArgument` where no routine stands there."""
+        found = _library.CWords()
+        self._ask("world_words", within(thread, 8), ctypes.byref(found))
+        return tuple(found.words)
+
+    def number(self, slot: int) -> int:
+        """The number of the live packet in a slot. Raises `WrongArgument` where there is none."""
+        found = ctypes.c_uint64()
+        self._ask("world_number", within(slot, 64), ctypes.byref(found))
+        return found.value
+
     def _ask(self, name: str, *arguments: object) -> None:
         if self.closed:
             raise NoWorld("the world was closed")

@@ -32,6 +32,7 @@ STRUCTS = {
     "cells": _library.CCells,
     "owner": _library.COwner,
     "request": _library.CRequest,
+    "words": _library.CWords,
     "hunting": _library.CHunting,
     "answer": _library.CAnswer,
     "schedule_size": _library.CScheduleSize,
@@ -56,6 +57,7 @@ OF_SOURCE = {
     "cells": "CellsValue",
     "owner": "OwnerValue",
     "request": "RequestValue",
+    "words": "WordsValue",
     "hunting": "HuntValue",
     "answer": "Kept",
     "schedule_size": "ScheduleValue",
@@ -64,7 +66,7 @@ OF_SOURCE = {
 TYPES = {"u8": "uint8_t", "u32": "uint32_t", "u64": "uint64_t", "bool": "bool"}
 TYPES["*mut u8"] = "void *"
 TYPES |= {found: f"pafteis_{name}" for name, found in OF_SOURCE.items()}
-RENAMED = {"at": "inside", "CELLS": "16"}
+RENAMED = {"at": "inside", "CELLS": "16", "REGISTERS": "16"}
 
 NUMBERS = (
     {f"PAFTEIS_TEXT_{it.name}": int(it) for it in TextFault}

@@ -64,6 +64,8 @@ class Worlds(unittest.TestCase):
             self.assertEqual((world.owner(0, 0), world.owner(0, 1)), (0, None))
             self.assertIsNone(world.owner(0, pafteis.CANCEL_LOCK))
             self.assertEqual(world.request(0), Request(Major.READ, 7, 0))
+            self.assertEqual(world.words(0)[1:3], (7, 4096))
+            self.assertEqual(world.number(world.words(0)[0]), 0)
             world.steps(thread=0, count=6)
             self.assertEqual((world.owner(0, 0), world.request(0).info), (None, 1))
             cells = world.cells(0)
@@ -71,6 +73,8 @@ class Worlds(unittest.TestCase):
             for call in (lambda: world.cells(1), lambda: world.owner(1, 0), lambda: world.owner(0, 9)):
                 self.assertRaises(pafteis.WrongArgument, call)
             self.assertRaises(pafteis.WrongArgument, world.request, 1)
+            self.assertRaises(pafteis.WrongArgument, world.words, 1)
+            self.assertRaises(pafteis.WrongArgument, world.number, 1 << 40)
 
     @full
     def test_begun_anew(self):

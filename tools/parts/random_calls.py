@@ -68,7 +68,8 @@ class Caller:
             return world.apply_all([self.event() for _ in range(self.random.randrange(9))])
         if roll < 0.95:
             name, most = self.random.choice([("thread", 5), ("packet", 30), ("due", 4), ("cells", 4),
-                                             ("request", 30), ("step", 4), ("interrupt", 4)])
+                                             ("request", 30), ("words", 4), ("number", 9),
+                                             ("step", 4), ("interrupt", 4)])
             return getattr(world, name)(number(most))
         return self.random.choice([
             lambda: world.steps(number(4), number(50)), lambda: world.owner(number(3), number(10)),

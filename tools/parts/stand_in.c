@@ -390,6 +390,17 @@ uint32_t pafteis_world_request(const pafteis_world *world, uint64_t number, paft
     return world->live ? PAFTEIS_DONE : PAFTEIS_NO_WORLD;
 }
 
+uint32_t pafteis_world_words(const pafteis_world *world, uint8_t thread, pafteis_words *words) {
+    (void)thread;
+    memset(words, 0, sizeof *words);
+    return world->live ? PAFTEIS_DONE : PAFTEIS_NO_WORLD;
+}
+
+uint32_t pafteis_world_number(const pafteis_world *world, uint64_t slot, uint64_t *number) {
+    *number = slot;
+    return world->live ? PAFTEIS_DONE : PAFTEIS_NO_WORLD;
+}
+
 uint32_t pafteis_world_free(pafteis_world *world) {
     if (!world->live)
         return PAFTEIS_NO_WORLD;

@@ -66,6 +66,8 @@ static void worlds(const std::string &set) {
     want(first.issue(0, 0, PAFTEIS_READ, 7).kind == PAFTEIS_STARTED, "issue");
     want(first.look<pafteis_thread>(pafteis_world_thread, 0).frames == 1, "look at a thread");
     want(!first.look<pafteis_owner>(pafteis_world_lock, 0, 0).owned, "look at a lock");
+    uint64_t slot = first.look<pafteis_words>(pafteis_world_words, 0).words[0];
+    want(first.look<uint64_t>(pafteis_world_number, slot) == 0, "look at a register");
     world moved(std::move(first));
     want(thrown([&] { first.step(0); }).status == PAFTEIS_NO_WORLD, "step of a moved world");
     std::vector<pafteis_reply> replies = moved.apply({{0, 0, PAFTEIS_STEP, 0, 0, 0, 0},

@@ -111,6 +111,7 @@ INSIDE = b"""0 counter
 schedule 0: 2 threads, 14 events; fault 0 line 0
 schedule 2: 0 threads, 0 events; fault 2 line 2
 4 steps: cell 0, lock owned, packet 0: 3 7 0
+words 0: 7 4096, packet 0: 0
 6 steps: cell 1, lock free, packet 0: 3 7 1
 2 steps: cell 1, lock free, packet 4: 0 0 0
 new 6, another 0, again 6
@@ -146,7 +147,7 @@ def wrong_worlds(folder, commands):
         yield "a world from C++ answers otherwise"
     files = [f"examples/{name}" for name in ("csq.drv", "csq.sched", "race.drv")]
     told = answered([f"{folder}/try_header", *files])
-    if told[:2] != (0, b"25 tried, 0 wrong\n"):
+    if told[:2] != (0, b"26 tried, 0 wrong\n"):
         yield f"calls from C++ answer otherwise: {told}"
     told = answered([f"{folder}/locks"])
     if told[:2] != (0, LOCKS):

@@ -5,6 +5,7 @@ use Rattle.model.specs.declared.event.Event.{Event}
 use Rattle.model.specs.declared.limits.TheConstants.{MAX_THREADS}
 use Rattle.model.specs.declared.event.Reply.{Reply}
 use Rattle.model.specs.World.{World}
+use Rattle.pafteis.specs.declared.reading.WordsValue.{WordsValue}
 use Rattle.pafteis_values.specs.declared.event.EventValue.{EventValue}
 use Rattle.pafteis_values.specs.declared.reply.ReplyValue.{ReplyValue}
 use Rattle.pafteis_values.specs.declared.verdict.Verdict.{Verdict}
@@ -138,6 +139,16 @@ abbrev pub TellsIf : {A V : Type 0} → (World → Option A) → (A → V) → H
 TellsIf {A} tell value before after old new status =
     (answer : Option (Option A)) × driven.Tells tell before answer after
     × IsToldIf value answer old new status
+
+abbrev pub TellsWords : ℕ → Handle → Handle → WordsValue → WordsValue → ℕ → Type 0
+TellsWords t before after old new status =
+    (answer : Option (Option (List ℕ))) × driven.TellsWords t before answer after
+    × IsToldIf (λ found. record { words = found }) answer old new status
+
+abbrev pub TellsNumber : ℕ → Handle → Handle → ℕ → ℕ → ℕ → Type 0
+TellsNumber slot before after old new status =
+    (answer : Option (Option ℕ)) × driven.TellsNumber slot before answer after
+    × IsToldIf (λ n. n) answer old new status
 
 -- a world was freed, if there was one
 abbrev pub closed_status : Bool → ℕ

@@ -1,12 +1,13 @@
 //! What is read of what the threads of a world share.
 
 ghost use Rattle.machine.specs.Read.{cells_at, owner_at};
-ghost use Rattle.pafteis.specs.Driving.{TellsIf};
+ghost use Rattle.pafteis.specs.Driving.{TellsIf, TellsNumber, TellsWords};
 ghost use Rattle.pafteis_values.specs.Shared.{cells_value, lock_named, owner_value};
 ghost use Rattle.pafteis_world.specs.Read.{request_at};
 
 use crate::texts::WRONG_ARGUMENT;
 use crate::worlds::{DONE, NO_WORLD};
+use model::limits::REGISTERS;
 use pafteis_values::shared::{
     CellsValue, OwnerValue, RequestValue, cells_value, lock_of, owner_value,
 };
@@ -72,6 +73,55 @@ pub extern "C" fn pafteis_world_request(
     match reading::request(alloc, world, number) {
         Some(Some(told)) => {
             *request = told;
+            DONE
+        }
+        Some(None) => WRONG_ARGUMENT,
+        None => NO_WORLD,
+    }
+}
+
+/// The words in the registers of a routine.
+#[repr(C)]
+#[derive(Clone, Copy)]
+pub struct WordsValue {
+    /// Of r0 to r15.
+    pub words: [u64; REGISTERS],
+}
+
+/// Tells the words in the registers of the routine on the top of a thread; 4 where none stands
+/// there.
+#[unsafe(no_mangle)]
+pub extern "C" fn pafteis_world_words(
+    alloc: Global,
+    world: &mut Handle,
+    thread: u8,
+    words: &mut WordsValue,
+) -> u32
+    ensures { TellsWords thread world.old world.new words.old words.new result }
+{
+    match reading::words(alloc, world, thread) {
+        Some(Some(told)) => {
+            *words = WordsValue { words: told };
+            DONE
+        }
+        Some(None) => WRONG_ARGUMENT,
+        None => NO_WORLD,
+    }
+}
+
+/// Tells the number of the packet in a slot; 4 where none stands there.
+#[unsafe(no_mangle)]
+pub extern "C" fn pafteis_world_number(
+    alloc: Global,
+    world: &mut Handle,
+    slot: u64,
+    number: &mut u64,
+) -> u32
+    ensures { TellsNumber slot world.old world.new number.old number.new result }
+{
+    match reading::number(alloc, world, slot) {
+        Some(Some(told)) => {
+            *number = told;
             DONE
         }
         Some(None) => WRONG_ARGUMENT,

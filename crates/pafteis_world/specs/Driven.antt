@@ -1,7 +1,9 @@
 -- A world behind a handle, driven.
 use Rattle.std.specs.Prelude.{ℕ, ⊤, ◌≡◌, ◌≢◌, ◌≤◌, ◌<◌, Bool, true, false, List, [], Option, None, Some}
 use Rattle.machine.specs.declared.world.Steps.{Steps}
+use Rattle.machine.specs.Registers.{LendsWords}
 use Rattle.machine.specs.Runs.{GoesOn, RulesKept, StepsThreads, TellsOf}
+use Rattle.machine.specs.Slots.{HasSlots, number_at}
 use Rattle.machine.specs.Steps.{MakesSteps}
 use Rattle.model.specs.declared.event.Event.{Event}
 use Rattle.model.specs.declared.event.Event.TheVariants.{Step}
@@ -100,3 +102,23 @@ pub record Told {A : Type 0} (tell : World → A) (before : Shown) (answer : A) 
 
 abbrev pub Tells : {A : Type 0} → (World → A) → Handle → Option A → Handle → Type 0
 Tells tell before answer after = Does (Told tell) (world_in before) answer (world_in after)
+
+-- the words in the registers of a thread's routine are told likewise
+pub record ToldWords (t : ℕ) (before : Shown) (words : Option (List ℕ)) (after : Shown)
+    : Type 0 where
+  pub same : after ≡ before
+  pub lends : LendsWords before t words
+
+abbrev pub TellsWords : ℕ → Handle → Option (Option (List ℕ)) → Handle → Type 0
+TellsWords t before words after = Does (ToldWords t) (world_in before) words (world_in after)
+
+-- and the number of the packet in a slot
+pub record ToldNumber (slot : ℕ) (before : Shown) (number : Option ℕ) (after : Shown)
+    : Type 0 where
+  pub same : after ≡ before
+  pub is : number ≡ number_at before slot
+  pub slots : HasSlots before
+
+abbrev pub TellsNumber : ℕ → Handle → Option (Option ℕ) → Handle → Type 0
+TellsNumber slot before number after =
+    Does (ToldNumber slot) (world_in before) number (world_in after)

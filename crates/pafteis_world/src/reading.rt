@@ -1,9 +1,10 @@
 //! What is read of what the threads of a world share.
 
 ghost use Rattle.std.specs.Prelude.{◌≡◌};
-ghost use Rattle.pafteis_world.specs.Driven.{Tells};
+ghost use Rattle.pafteis_world.specs.Driven.{Tells, TellsNumber, TellsWords};
 ghost use Rattle.pafteis_world.specs.Read.{request_at, request_of};
 ghost use Rattle.machine.specs.Read.{cells_at, owner_at};
+ghost use Rattle.machine.specs.Registers.{LendsWords};
 ghost use Rattle.machine.specs.Runs.{TellsOf};
 
 use crate::driving::taken;
@@ -11,6 +12,7 @@ use crate::handle::Handle;
 use machine::World;
 use model::event::Lock;
 use model::instr::Field;
+use model::limits::REGISTERS;
 use model::world::Cells;
 use pafteis_values::shared::RequestValue;
 use std::alloc::Global;
@@ -64,4 +66,34 @@ fn request_of(argument: Option<u64>, info: Option<u64>, major: Option<u64>) -> O
         info: info?,
         major: major?,
     })
+}
+
+/// The words in the registers of the routine on the top of a thread, if one stands there.
+pub fn words(alloc: Global, handle: &mut Handle, thread: u8) -> Option<Option<[u64; REGISTERS]>>
+    ensures { TellsWords thread handle.old result handle.new }
+{
+    let world = taken(alloc, handle)?;
+    let told = words_in(&world, thread);
+    *handle = Handle::of(world);
+    Some(told)
+}
+
+/// The same of a world.
+fn words_in(world: &World, thread: u8) -> Option<[u64; REGISTERS]>
+    ensures { LendsWords world.now thread result }
+{
+    match world.words(thread) {
+        Some(words) => Some(*words),
+        None => None,
+    }
+}
+
+/// The number of the packet in a slot, if one stands there.
+pub fn number(alloc: Global, handle: &mut Handle, slot: u64) -> Option<Option<u64>>
+    ensures { TellsNumber slot handle.old result handle.new }
+{
+    let world = taken(alloc, handle)?;
+    let told = world.number(slot);
+    *handle = Handle::of(world);
+    Some(told)
 }

@@ -11,7 +11,19 @@ pub const PAFTEIS_WRONG_ARGUMENT: u32 = 4;
 pub const PAFTEIS_NO_WORLD: u32 = 5;
 pub const PAFTEIS_NO_ANSWER: u32 = 5;
 pub const PAFTEIS_HAS_WORLD: u32 = 6;
-pub const PAFTEIS_VERSION_NUMBER: u32 = 1_000_000;
+pub const PAFTEIS_VERSION_NUMBER: u32 = 1_000_000 * number(env!("CARGO_PKG_VERSION_MAJOR"))
+    + 1_000 * number(env!("CARGO_PKG_VERSION_MINOR"))
+    + number(env!("CARGO_PKG_VERSION_PATCH"));
+
+/// A number of the package's version.
+const fn number(digits: &str) -> u32 {
+    let (digits, mut at, mut found) = (digits.as_bytes(), 0, 0);
+    while at < digits.len() {
+        found = 10 * found + (digits[at] - b'0') as u32;
+        at += 1;
+    }
+    found
+}
 
 #[repr(C)]
 #[derive(Clone, Copy, Debug, Default, PartialEq, Eq)]
@@ -178,6 +190,12 @@ pub struct pafteis_request {
     pub major: u64,
 }
 
+#[repr(C)]
+#[derive(Clone, Copy, Debug, Default, PartialEq, Eq)]
+pub struct pafteis_words {
+    pub words: [u64; 16],
+}
+
 pub const PAFTEIS_STUCK: u32 = 1;
 pub const PAFTEIS_BOUNDED: u32 = 2;
 pub const PAFTEIS_FURTHER: u32 = 4;
@@ -274,5 +292,7 @@ unsafe extern "C" {
     pub fn pafteis_world_cells(world: *const pafteis_world, device: u8, cells: *mut pafteis_cells) -> u32;
     pub fn pafteis_world_lock(world: *const pafteis_world, device: u8, lock: u8, owner: *mut pafteis_owner) -> u32;
     pub fn pafteis_world_request(world: *const pafteis_world, number: u64, request: *mut pafteis_request) -> u32;
+    pub fn pafteis_world_words(world: *const pafteis_world, thread: u8, words: *mut pafteis_words) -> u32;
+    pub fn pafteis_world_number(world: *const pafteis_world, slot: u64, number: *mut u64) -> u32;
     pub fn pafteis_world_free(world: *mut pafteis_world) -> u32;
 }

@@ -270,6 +270,25 @@ impl World {
         Ok(found)
     }
 
+    /// The words in the registers r0 to r15 of the routine on the top of a thread. A word doesn't
+    /// say what it is: a number stands as itself, a status as its value, a packet as its slot.
+    ///
+    /// # Errors
+    ///
+    /// `WrongArgument` where no routine stands there; so has the call below, of an empty slot.
+    pub fn words(&self, thread: u8) -> Result<[u64; 16], Error> {
+        let mut found = sys::pafteis_words::default();
+        done(unsafe { sys::pafteis_world_words(self.handle.get(), thread, &mut found) })?;
+        Ok(found.words)
+    }
+
+    /// The number of the live packet in a slot.
+    pub fn number(&self, slot: u64) -> Result<u64, Error> {
+        let mut found = 0;
+        done(unsafe { sys::pafteis_world_number(self.handle.get(), slot, &mut found) })?;
+        Ok(found)
+    }
+
     /// Begins anew: before the first event, with so many threads.
     ///
     /// # Errors

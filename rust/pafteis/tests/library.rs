@@ -147,6 +147,11 @@ fn what_threads_share() {
     assert_eq!(world.owner(0, 0), Ok(Some(0)));
     assert_eq!(world.owner(0, CANCEL_LOCK), Ok(None));
     assert_eq!(world.owner(1, 0), Err(Error::WrongArgument));
+    let words = world.words(0).unwrap();
+    assert_eq!((words[1], words[2]), (7, 4096));
+    assert_eq!(world.number(words[0]), Ok(0));
+    assert_eq!(world.number(1 << 40), Err(Error::WrongArgument));
+    assert_eq!(world.words(1), Err(Error::WrongArgument));
     world.steps(0, 6);
     let asked = world.request(0).unwrap();
     assert_eq!((asked.major, asked.argument, asked.info), (3, 7, 1));
