@@ -10,7 +10,8 @@ text. Where several files are judged the answer has to be that of the files befo
 after a read those behind it. With COMMAND only the runs of that one are tried, as `mend`. The last line counts."""
 import os, re, subprocess, sys, tempfile
 
-TOP = os.path.dirname(os.path.dirname(os.path.dirname(os.path.abspath(__file__))))
+from versions import TOP, VERSION
+
 LIBRARY = os.path.join(TOP, 'tools/parts/refuse_growth.c')
 
 QUEUES = '''driver d
@@ -162,7 +163,7 @@ CASES = [
     ('mend applied --tries 60 --apply', 0, MENDED + 'applied mend 1\n', ''),
     ('mend image --apply', 0, 'accepted: nothing to mend\n', ''),
     ('mend open --nth 1', 2, '', 'text fault 6 Unclosed line 2\n'),
-    ('version', 0, 'drvhost 1.0.0\n', ''),
+    ('version', 0, f'drvhost {VERSION}\n', ''),
     ('trace set schedule', 0, TRACED, ''),
     ('trace set schedule --unchecked', 0, TRACED, ''),
     ('host set script --workers 1', 0, '0 topped 0 0x00000000 0\n1 stepped\nhistory 17 agrees\n', ''),

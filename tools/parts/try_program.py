@@ -4,7 +4,7 @@ streams, for what a proof can't see of them, and compares its exit status and wh
 each case that is answered otherwise; the last line counts."""
 import os, subprocess, sys, tempfile
 
-TOP = os.path.dirname(os.path.dirname(os.path.dirname(os.path.abspath(__file__))))
+from versions import TOP, VERSION
 
 GOOD = b'driver d\ndispatch READ f\nroutine f dispatch\ncomplete r0 SUCCESS\nret SUCCESS\nendr\nendd\ndevice v d 1\n'
 TWICE = GOOD.replace(b'ret SUCCESS', b'complete r0 SUCCESS\nret SUCCESS')
@@ -161,7 +161,7 @@ CASES = [
     ('mend open.drv --nth 1', 2, b'', b'text fault 6 Unclosed line 2\n'),
     ('mend nothing.drv --apply', 2, b'', b'cannot read nothing.drv\n'),
     ('mend twice.drv --nth 4', 2, b'', SOME),
-    ('version', 0, b'drvhost 1.0.0\n', b''),
+    ('version', 0, f'drvhost {VERSION}\n'.encode(), b''),
     ('trace good.drv good.sched', 0, TRACED, b''),
     ('trace good.drv good.sched --unchecked', 0, TRACED, b''),
     ('trace twice.drv good.sched', 1, REFUSED, b''),

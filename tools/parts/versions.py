@@ -1,6 +1,7 @@
 """tools/keep version [--write]: the version of the project, which the file VERSION has. Tells each
 place where another stands, in the sources, the header and the packages; with --write makes these
-the same. What is proved reads no file, and each package wants a version of its own."""
+the same. What is proved reads no file, C and Cargo want a literal, and a Python package has its own
+files."""
 import os
 import re
 import sys
@@ -22,25 +23,12 @@ COPIES = (
     ("crates/drvhost_arguments/src/program.rt", 'VERSION: &str = "', VERSION, '"'),
     ("crates/drvhost_devices/specs/Answer.antt", 'codes "drvhost ', VERSION, '\\n"'),
     ("crates/drvhost_sets/src/version.rt", 'b"drvhost ', VERSION, '\\n"'),
-    ("crates/drvhost_sets/proofs/version/version/Answers.antt", 'codes "drvhost ', VERSION, '\\n"'),
-    ("crates/pafteis/src/version.rt", "The version ", VERSION, ":"),
     ("crates/pafteis/src/version.rt", "VERSION_NUMBER: u32 = ", f"{int(NUMBER):_}", ";"),
-    ("crates/pafteis/src/version.rt", "result ≡ ", NUMBER, " }"),
-    ("crates/pafteis/src/version.rt", 'codes "pafteis ', VERSION, '\\n"'),
     ("crates/pafteis/src/version.rt", 'b"pafteis ', VERSION, '\\n"'),
-    ("crates/report_sarif/specs/Log.antt",
-     'rule_data rules)))\n    (member (codes "version") (string (codes "', VERSION, '"'),
-    ("crates/report_sarif/src/log.rt", '"rules": list, "version": "', VERSION, '"'),
-    ("crates/tests_runs/src/failures.rt", 'b"drvhost ', VERSION, '\\n"'),
-    ("docs/STABILITY.md", "`drvhost ", VERSION, "`"),
-    ("docs/STABILITY.md", "`pafteis ", VERSION, "`"),
+    ("crates/report_sarif/src/log.rt", 'VERSION: &str = "', VERSION, '"'),
     ("include/pafteis.h", "VERSION_NUMBER ", NUMBER, "\n"),
-    ("include/pafteis.h", "`pafteis ", VERSION, "`"),
     ("python/pafteis/VERSION", "", VERSION, "\n"),
     ("rust/Cargo.toml", '\nversion = "', VERSION, '"'),
-    ("rust/pafteis/Cargo.toml", ', version = "', VERSION, '"'),
-    ("tools/parts/refuse_program.py", "'drvhost ", VERSION, "\\n'"),
-    ("tools/parts/try_program.py", "b'drvhost ", VERSION, "\\n'"),
 )
 
 

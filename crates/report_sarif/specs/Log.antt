@@ -11,6 +11,7 @@ use Rattle.report_sarif.specs.declared.log.Kind.TheVariants.{Fail, Pass}
 use Rattle.report_sarif.specs.declared.log.Region.{Region}
 use Rattle.report_sarif.specs.declared.log.RuleText.{RuleText}
 use Rattle.report_sarif.specs.declared.log.Step.{Step}
+use Rattle.report_sarif.specs.declared.log.TheConstants.{VERSION}
 use Rattle.report_sarif.specs.Uri.{uri_of}
 
 -- a text (3.11, 3.12)
@@ -171,7 +172,7 @@ driver_data rules =
     object
     (member (codes "name") (string (codes "drvhost"))
     (member (codes "rules") (array (items_of (map rule_data rules)))
-    (member (codes "version") (string (codes "1.0.0"))
+    (member (codes "version") (string VERSION.now)
     no_members)))
 
 abbrev pub tool_data : List RuleText → Data

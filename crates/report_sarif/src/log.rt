@@ -143,12 +143,15 @@ fn tool_value(alloc: Global, rules: &[RuleText]) -> Result<Value, AllocError>
     json!(in alloc; {"driver": driver})
 }
 
+/// The program's version.
+pub const VERSION: &str = "1.0.0";
+
 /// The program that it is, with its rules.
 fn driver_value(alloc: Global, rules: &[RuleText]) -> Result<Value, AllocError>
     ensures { IfOk result (λ value. view value ≡ driver_data rules.now) }
 {
     let list = rules_value(alloc, rules)?;
-    json!(in alloc; {"name": "drvhost", "rules": list, "version": "1.0.0"})
+    json!(in alloc; {"name": "drvhost", "rules": list, "version": VERSION})
 }
 
 /// The rules.

@@ -72,8 +72,6 @@ const TOLD: &[u8] = b"\
 
 const SCRIPT: &[u8] = b"request 0 READ 0\ninterrupt 0\n";
 
-const VERSION: &[u8] = b"drvhost 1.0.0\n";
-
 const SERVED: &[u8] = b"0 topped 0 0x00000000 0\n1 stepped\nhistory 17 agrees\n";
 
 /// A gate that lets all workers go on.
@@ -715,18 +713,24 @@ fn no_one_to_tell_of_a_failure(rt: HostRuntime) {
 }
 
 /// Whether the version goes out, or so many bytes of it before a write fails.
-fn is_versioned(alloc: Global, calls: usize) -> bool {
+fn is_versioned(alloc: Global, told: &[u8], calls: usize) -> bool {
     let mut out = Narrow::new(alloc, 1, Some(calls));
     let mut err = Narrow::new(alloc, 1, None);
     let status = version(&mut out, &mut err);
-    have_taken(&out, &err, status, VERSION, calls)
+    have_taken(&out, &err, status, told, calls)
 }
 
 /// The program's name and version need no file.
 #[test]
 fn each_write_of_the_version_fails_in_turn(rt: HostRuntime) {
-    for calls in 0..=VERSION.len() {
-        assert!(rt; is_versioned(rt.alloc(), calls), "{calls}");
+    let mut whole = Narrow::new(rt.alloc(), 1, None);
+    let mut err = Narrow::new(rt.alloc(), 1, None);
+    assert_eq!(rt; version(&mut whole, &mut err), 0);
+    for calls in 0..=whole.written.len() {
+        assert!(rt;
+            is_versioned(rt.alloc(), whole.written.as_slice(), calls),
+            "{calls}"
+        );
     }
 }
 

@@ -1,6 +1,4 @@
 use Rattle.std.proofs.Common.{[], arith, codes, inl, refl}
-use Rattle.drvhost_devices.specs.Answer.{ended}
-use Rattle.drvhost_devices.specs.declared.fault.End.TheVariants.{Complete}
 use Rattle.drvhost_devices.specs.Ends.{Rightly, WriteFailed}
 use Rattle.drvhost_devices.proofs.Writing.{appends_none, keeps_same}
 use Rattle.drvhost_sets.proofs.version.version.Goals as goal
@@ -13,7 +11,7 @@ returns-in-Ok g c = λ reads. record {
   reads_are = omega arith;
   writes_are = omega (arith, c.in-Ok.ensures.counted);
   tells = inl (refl, appends_none _ _ (keeps_same _));
-  ends = Rightly (ended Complete (codes "drvhost 1.0.0\n")) refl refl refl refl refl
+  ends = Rightly _ refl refl refl refl refl
       c.in-Ok.ensures.written;
 }
 
@@ -25,6 +23,6 @@ returns-in-Err g c = λ reads. record {
   reads_are = omega arith;
   writes_are = omega (arith, c.in-Err.ensures.counted);
   tells = rw c.as_bytes.ensures.value at c.say.ensures;
-  ends = WriteFailed (ended Complete (codes "drvhost 1.0.0\n")) refl refl refl refl refl
+  ends = WriteFailed _ refl refl refl refl refl
       c.in-Err.ensures.written;
 }
