@@ -73,7 +73,8 @@ impl<'a> Scene<'a> {
             from - to
         };
         let place = from.max(to).min(fault).max(low);
-        let mut cost = u32::from(far).saturating_mul(5).saturating_add(120);
+        let mut cost = u32::from(far).saturating_mul(5);
+        cost = cost.saturating_add(least_cost(instr));
         cost = cost.saturating_add(self.near(place));
         if from != fault && to != fault && to != fault.saturating_add(1) {
             cost = cost.saturating_add(30);
@@ -143,5 +144,13 @@ impl<'a> Scene<'a> {
         };
         let up = from > self.fault.at && to <= self.fault.at;
         self.fault.rule == Rule::WrongKind && up && set.is_some_and(|r| self.is_named(r))
+    }
+}
+
+/// What it costs at least to move an instruction: a loop moves where nothing nearer helps.
+fn least_cost(instr: &Instr) -> u32 {
+    match *instr {
+        Instr::Loop(_) => 340,
+        _ => 120,
     }
 }
