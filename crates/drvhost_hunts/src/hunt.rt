@@ -69,7 +69,7 @@ pub fn hunt_telling<S: Source, O: Sink, E: Sink, P: Progress>(
 
 /// How runs are searched.
 #[derive(Clone, Copy)]
-pub(crate) enum Way {
+pub enum Way {
     /// Worlds that differ only in what can't matter are taken for one; packets are bounded that live
     /// at once.
     Quick,
@@ -79,10 +79,10 @@ pub(crate) enum Way {
 
 /// The job of hunting through the runs of a set.
 #[derive(Drop)]
-pub(crate) struct Hunting<'p, P> {
-    pub(crate) reach: Reach,
-    pub(crate) way: Way,
-    pub(crate) progress: &'p P,
+pub struct Hunting<'p, P> {
+    pub reach: Reach,
+    pub way: Way,
+    pub progress: &'p P,
 }
 
 impl<P: Progress> Job for Hunting<'_, P> {
@@ -124,7 +124,11 @@ fn write_hunt<O: Sink, P: Progress>(
 }
 
 /// What is told of a hunt, with the names and the lines of the text, or of an image's listing.
-fn told_of<P: Progress>(
+///
+/// # Errors
+///
+/// `Memory` when memory runs out.
+pub fn told_of<P: Progress>(
     alloc: Global,
     job: &Hunting<'_, P>,
     set: &DriverSet,
@@ -153,7 +157,7 @@ fn text_told(told: &Told) -> &[u8]
 }
 
 /// How a hunt has ended.
-fn end_told(told: &Told) -> End
+pub fn end_told(told: &Told) -> End
     ensures { result ≡ end_told told.now }
 {
     match told {
