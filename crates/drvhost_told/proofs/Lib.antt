@@ -1,2 +1,3 @@
 pub mod Making
 pub mod ToldRuns
+pub mod ServedScripts

@@ -1,0 +1,74 @@
+-- What came of a script that was served.
+use Rattle.std.proofs.Common.{◌≡◌, ◌∙◌, ℕ, List, [], ◌++◌, length, None, Option, Some, Ok, Err, sym, ap}
+use Rattle.std.specs.Global.{Vec}
+use Rattle.interleave.specs.declared.schedule.ScheduleFault.{ScheduleFault}
+use Rattle.model.specs.declared.event.Reply.{Reply}
+use Rattle.model.specs.declared.history.Command.{Command}
+use Rattle.model.specs.declared.history.Entry.{Entry}
+use Rattle.model.specs.History.{events_of, world_after_all}
+use Rattle.model.specs.Machine.{Machine}
+use Rattle.model.specs.Run.{run}
+use Rattle.model.specs.Set.{Set}
+use Rattle.model.specs.World.{World}
+use Rattle.report_json.specs.declared.fault.InputFault.TheVariants as input
+use Rattle.report_json.specs.Line.{json_line}
+use Rattle.report_json.specs.Served.{history_json}
+use Rattle.tell_audit.specs.Findings.{ringed_threads}
+use Rattle.workers_script.specs.declared.hosted.Hosted.{Hosted}
+use Rattle.workers_script.specs.Standing.{IsStanding}
+use Rattle.workers_script.specs.Told.{Hosts, all_told}
+use Rattle.drvhost_devices.specs.Answer.{Answer}
+use Rattle.drvhost_devices.specs.Device.{Supply}
+use Rattle.drvhost_formats.specs.declared.outcome.Outcome.{Outcome}
+use Rattle.drvhost_formats.specs.Events.{outcome_of}
+use Rattle.drvhost_formats.specs.Told.{fault_answer, told}
+use Rattle.drvhost_runs.proofs.Idling.{none_ringed}
+use Rattle.drvhost_runs.specs.Served.{ringed_after, rings_in, served_end}
+use Rattle.drvhost_told.specs.Served.{IsServedInJson, IsServedJsonOf, ReadsCommands, command_objects, served_objects}
+
+-- the threads that wait in a ring after a history, by what stands
+rings_after : (set : Set) (workers : ℕ) (history : List Entry) (standing : Option Machine)
+    → IsStanding set workers history standing
+    → rings_in standing ≡ ringed_after set workers history
+rings_after set workers history None idle =
+    sym (none_ringed set (world_after_all set workers history) idle)
+rings_after set workers history (Some machine) h =
+    ap (λ (w : World). ringed_threads machine.set w) h.run.world
+    ∙ ap (λ (s : Set). ringed_threads s (run s workers (events_of history)).world) h.same_set
+
+-- the lines of what was hosted are right
+pub hosted_told : (set : Set) (workers : ℕ) (commands : List Command) (hosted : Hosted)
+    (outcome : Outcome) (old lines : List ℕ) → Hosts set workers commands hosted → old ≡ []
+    → outcome ≡ outcome_of (served_end (rings_in hosted.standing))
+    → lines ≡ old ++ (command_objects 0 hosted.told.items
+    ++ json_line (history_json hosted.entries (rings_in hosted.standing)))
+    → IsServedInJson workers commands set (told outcome lines)
+hosted_told set workers commands hosted outcome old lines h empty is added =
+    let rings = rings_in hosted.standing in
+    let all = command_objects 0 hosted.told.items
+    ++ json_line (history_json hosted.entries rings) in
+    let these : List (Option Reply) = all_told h.history (length commands) in
+    let whole : lines ≡ all = rw empty at added in
+    let same = rings_after set workers h.history hosted.standing h.standing in
+    let right : told outcome lines
+    ≡ served_objects these (length h.history) (ringed_after set workers h.history) =
+    ap (λ (o : Outcome). told o lines) is
+    ∙ ap (λ x. told (outcome_of (served_end rings)) x) whole
+    ∙ ap (λ x. served_objects x hosted.entries rings) h.told
+    ∙ ap (λ x. served_objects these x rings) h.entries
+    ∙ ap (λ x. served_objects these (length h.history) x) same in
+    (h.history, h.served, right)
+
+-- a script was read, and its commands were served, or it is faulty
+pub served_well : (workers : ℕ) (name : List ℕ) (held : Supply) (commands : Vec Command)
+    (set : Set) (answer : Answer) → ReadsCommands held (Ok commands)
+    → IsServedInJson workers commands.items set answer
+    → IsServedJsonOf workers name held set answer
+served_well workers name held commands set answer (text, holds, says) right =
+    (text, holds, rw says right)
+
+pub served_faulty : (workers : ℕ) (name : List ℕ) (held : Supply) (fault : ScheduleFault)
+    (set : Set) (answer : Answer) → ReadsCommands held (Err fault)
+    → answer ≡ fault_answer name (input.Script fault) → IsServedJsonOf workers name held set answer
+served_faulty workers name held fault set answer (text, holds, says) is =
+    (text, holds, rw says is)

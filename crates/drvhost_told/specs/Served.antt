@@ -1,0 +1,69 @@
+-- What `host` answers in JSON: an object for each command of a script, and one for their history.
+use Rattle.std.specs.Prelude.{ℕ, ◌≡◌, ◌+◌, ◌++◌, ◌⊎◌, List, [], ◌∷◌, None, Option, Some, Result, Ok, Err, length}
+use Rattle.std.specs.Global.{Vec}
+use Rattle.interleave.specs.declared.schedule.ScheduleFault.{ScheduleFault}
+use Rattle.interleave_script.specs.Script.{script_in}
+use Rattle.model.specs.declared.event.Reply.{Reply}
+use Rattle.model.specs.declared.history.Command.{Command}
+use Rattle.model.specs.declared.history.Entry.{Entry}
+use Rattle.model.specs.Set.{Set}
+use Rattle.report_json.specs.declared.fault.InputFault.TheVariants as input
+use Rattle.report_json.specs.Line.{json_line}
+use Rattle.report_json.specs.Served.{command_json, history_json}
+use Rattle.workers_script.specs.Served.{HasServed}
+use Rattle.workers_script.specs.Told.{all_told}
+use Rattle.drvhost_devices.specs.Answer.{Answer}
+use Rattle.drvhost_devices.specs.Device.{Holds, Supply}
+use Rattle.drvhost_devices.specs.declared.verification.Verification.TheVariants.{Required}
+use Rattle.drvhost_formats.specs.Events.{outcome_of}
+use Rattle.drvhost_formats.specs.Told.{IsToldOf, fault_answer, told}
+use Rattle.drvhost_formats.specs.Trace.{IsJudgedJson}
+use Rattle.drvhost_runs.specs.Served.{ringed_after, served_end}
+
+-- a line for each command, the first of which has this number, with what is told of it
+abbrev pub command_objects : ℕ → List (Option Reply) → List ℕ
+command_objects n [] = []
+command_objects n (its ∷ rest) = json_line (command_json n its) ++ command_objects (n + 1) rest
+
+-- what is answered of commands that were served: a line for each, and one for their history
+abbrev pub served_objects : List (Option Reply) → ℕ → List ℕ → Answer
+served_objects all entries ringed =
+    told (outcome_of (served_end ringed))
+    (command_objects 0 all ++ json_line (history_json entries ringed))
+
+-- what `host` answers for a set that is accepted, with so many workers, and these commands: that of
+-- some history in which they served them, each reply of which is the run's
+abbrev pub IsServedInJson : ℕ → List Command → Set → Answer → Type 0
+IsServedInJson workers commands set answer =
+    (history : List Entry) × HasServed set workers commands history
+    × (answer ≡ served_objects (all_told history (length commands)) (length history)
+    (ringed_after set workers history))
+
+-- for what its script, which is the file of a name, says: that, or the fault of the script
+abbrev pub IsServedJson : ℕ → List ℕ → Result (List Command) ScheduleFault → Set → Answer → Type 0
+IsServedJson workers name (Ok commands) set answer = IsServedInJson workers commands set answer
+IsServedJson workers name (Err fault) set answer = answer ≡ fault_answer name (input.Script fault)
+
+-- a source has the text of these commands, or one that has this fault
+abbrev pub ReadsCommands : Supply → Result (Vec Command) ScheduleFault → Type 0
+ReadsCommands supply (Ok commands) =
+    (text : List ℕ) × Holds supply text × (script_in text ≡ Ok commands.items)
+ReadsCommands supply (Err fault) =
+    (text : List ℕ) × Holds supply text × (script_in text ≡ Err fault)
+
+-- by the script that a source has
+abbrev pub IsServedJsonOf : ℕ → List ℕ → Supply → Set → Answer → Type 0
+IsServedJsonOf workers name supply set answer =
+    (script : List ℕ) × Holds supply script
+    × IsServedJson workers name (script_in script) set answer
+
+-- what is right for a set, by the names of its file and of the script's
+abbrev pub IsHostJson : ℕ → List ℕ → List ℕ → Supply → Set → Answer → Type 0
+IsHostJson workers set_name script_name script set answer =
+    IsJudgedJson Required set_name (IsServedJsonOf workers script_name script) set answer
+
+-- what `host` answers in JSON for what its sources have that are the files of these names: it reads
+-- the script's for an accepted set alone
+abbrev pub IsHostJsonOf : ℕ → List ℕ → List ℕ → Supply → Supply → Answer → Type 0
+IsHostJsonOf workers set_name script_name set script answer =
+    IsToldOf (λ bytes. IsHostJson workers set_name script_name script) set_name set answer
