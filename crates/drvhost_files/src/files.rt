@@ -24,10 +24,11 @@ pub trait Files {
     // What the file of a name has to give, where something is known of it.
     ghost supply: { Self → List ℕ → Supply };
 
-    // What a path may stand for.
+    // What a path may stand for where such files are sought.
     ghost use Rattle.drvhost_found.specs.declared.find.Found.{Found};
+    ghost use Rattle.drvhost_found.specs.declared.sought.Sought.{Sought};
 
-    ghost stands: { Self → List ℕ → Found → Type 0 };
+    ghost stands: { Self → Sought → List ℕ → Found → Type 0 };
 
     // How many files were opened to be read and handed back so far.
     ghost opened: { Self → ℕ };
@@ -41,14 +42,14 @@ pub trait Files {
     // How many writes to these failed.
     ghost unwritten: { Self → ℕ };
 
-    /// The files that a path stands for: itself, or those of driver sets in and below the folder
+    /// The files that a path stands for: itself, or those that are sought in and below the folder
     /// that it is.
     ///
     /// # Errors
     ///
     /// When memory runs out.
-    fn find(&self, path: &str) -> Result<Found, AllocError>
-        ensures { IfOk result (stands self.now path.now) };
+    fn find(&self, sought: Sought, path: &str) -> Result<Found, AllocError>
+        ensures { IfOk result (stands self.now sought path.now) };
 
     /// Opens the file of a name, to read it from its start. One that can't be opened is a source
     /// that is closed.
@@ -133,7 +134,6 @@ impl<'r, R: fs::Files + Input + AllocGlobal + Clone + Drop> Disk<'r, R> {
 }
 
 impl<R: fs::Files + Input + AllocGlobal + Clone + Drop> Files for Disk<'_, R> {
-    ghost use Rattle.drvhost_found.specs.declared.sought.Sought.TheVariants.{Sets};
     ghost use Rattle.drvhost_found.specs.Found.{IsFound};
 
     type File = Reader<Opened<R::File, R::Reader>>;
@@ -142,7 +142,7 @@ impl<R: fs::Files + Input + AllocGlobal + Clone + Drop> Files for Disk<'_, R> {
 
     ghost supply = { λ _ _. Unknown };
 
-    ghost stands = { λ _ path found. IsFound Sets path found };
+    ghost stands = { λ _ sought path found. IsFound sought path found };
 
     ghost opened = { λ disk. disk.opened };
 
@@ -152,11 +152,11 @@ impl<R: fs::Files + Input + AllocGlobal + Clone + Drop> Files for Disk<'_, R> {
 
     ghost unwritten = { λ disk. disk.unwritten };
 
-    fn find(&self, path: &str) -> Result<Found, AllocError> {
+    fn find(&self, sought: Sought, path: &str) -> Result<Found, AllocError> {
         if path == STANDARD_INPUT {
             return alone(self.system.alloc(), path);
         }
-        find(self.system, Sought::Sets, path)
+        find(self.system, sought, path)
     }
 
     fn open(&self, name: &str) -> Reader<Opened<R::File, R::Reader>> {

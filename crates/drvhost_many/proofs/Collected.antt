@@ -8,6 +8,7 @@ use Rattle.drvhost_devices.proofs.Writing.{appends_none}
 use Rattle.drvhost_files.proofs.Known.{holds_known}
 use Rattle.drvhost_commands.specs.declared.job.Judging.{Judging}
 use Rattle.drvhost_commands.specs.declared.job.Judging.TheVariants.{Check, CheckJson, Explain, ExplainJson}
+use Rattle.drvhost_options.specs.declared.coloring.Coloring.TheVariants.{Auto, Always, Never}
 use Rattle.drvhost_many.specs.One.{IsJudged}
 use Rattle.drvhost_many.specs.Told.{Collects}
 
@@ -19,8 +20,12 @@ judged_known Check name known supply h answer (bytes, holds, right) =
     (bytes, holds_known known supply bytes h holds, right)
 judged_known CheckJson name known supply h answer (bytes, holds, right) =
     (bytes, holds_known known supply bytes h holds, right)
-judged_known (Explain extent) name known supply h answer (alone, (bytes, holds, right), shown) =
+judged_known (Explain extent Auto) name known supply h answer (alone, (bytes, holds, right), shown) =
     (alone, (bytes, holds_known known supply bytes h holds, right), shown)
+judged_known (Explain extent Never) name known supply h answer (alone, (bytes, holds, right), shown) =
+    (alone, (bytes, holds_known known supply bytes h holds, right), shown)
+judged_known (Explain extent Always) name known supply h answer (plain, (alone, (bytes, holds, right), shown), is) =
+    (plain, (alone, (bytes, holds_known known supply bytes h holds, right), shown), is)
 judged_known (ExplainJson extent) name known supply h answer (bytes, holds, right) =
     (bytes, holds_known known supply bytes h holds, right)
 
@@ -41,13 +46,13 @@ appended : (n : Option (List ℕ)) (text taken : List ℕ) → Appends (Some [])
 appended n text taken a e =
     let P : Option (List ℕ) → Type 0 = λ x. Appends (Some []) x text in sym (subst P e a)
 
-said_in : (v : ℕ) (errors : Option (List ℕ)) (told taken : List ℕ)
+pub said_in : (v : ℕ) (errors : Option (List ℕ)) (told taken : List ℕ)
     → Says 0 v (Some []) errors told → v ≡ 0 → errors ≡ Some taken → told ≡ taken
 said_in v errors told taken (inl (same, a)) none e = appended errors told taken a e
 said_in v errors told taken (inr (more, a)) none e = absurd (not_both v more none)
 
 -- the answer is right that a call gave which failed nowhere
-right_end : (Right : Answer → Type 0) (reads writes : ℕ) (n : Option (List ℕ)) (status : ℕ)
+pub right_end : (Right : Answer → Type 0) (reads writes : ℕ) (n : Option (List ℕ)) (status : ℕ)
     (told : List ℕ) (answer : Answer) → Ends Right reads writes (Some []) n status told
     → reads ≡ 0 → writes ≡ 0 → status ≢ 3 → answer.status ≡ status → n ≡ Some answer.output
     → told ≡ answer.told → Right answer

@@ -442,5 +442,5 @@ no_memory_told judging name a d text p q r =
         → (name ++ gap judging) ++ codes "out of memory\n" ≡ noted judging name (codes "out of memory\n")
     no_memory_noted Check name = refl
     no_memory_noted CheckJson name = refl
-    no_memory_noted (Explain extent) name = refl
+    no_memory_noted (Explain extent coloring) name = refl
     no_memory_noted (ExplainJson extent) name = refl

@@ -43,5 +43,5 @@ pub unopened_in_json : (judging : Judging) (name : List ℕ) (answer : Answer)
     → is_in_json judging ≡ true → IsUnopenedJson name answer → IsUnopenedAs judging name answer
 unopened_in_json Check name answer e is = cc
 unopened_in_json CheckJson name answer e is = is
-unopened_in_json (Explain extent) name answer e is = cc
+unopened_in_json (Explain extent coloring) name answer e is = cc
 unopened_in_json (ExplainJson extent) name answer e is = is

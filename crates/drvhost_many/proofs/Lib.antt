@@ -4,4 +4,5 @@ pub mod Joining
 pub mod Reading
 pub mod Ending
 pub mod Judged
+pub mod Colored
 pub mod Alone

@@ -8,7 +8,7 @@ use Rattle.drvhost_devices.specs.Answer.{Answer}
 abbrev pub gap : Judging → List ℕ
 gap Check = codes ": "
 gap CheckJson = codes ": "
-gap (Explain extent) = codes ":\n"
+gap (Explain extent coloring) = codes ":\n"
 gap (ExplainJson extent) = codes ": "
 
 -- a text with a name before each of its lines, by whether a line begins here
@@ -28,14 +28,14 @@ headed name (byte ∷ text) = (name ++ codes ":\n") ++ byte ∷ text
 abbrev pub marked : Judging → List ℕ → List ℕ → List ℕ
 marked Check name text = lines_named name true text
 marked CheckJson name text = text
-marked (Explain extent) name text = headed name text
+marked (Explain extent coloring) name text = headed name text
 marked (ExplainJson extent) name text = text
 
 -- what is told besides, which is never JSON
 abbrev pub noted : Judging → List ℕ → List ℕ → List ℕ
 noted Check name text = lines_named name true text
 noted CheckJson name text = lines_named name true text
-noted (Explain extent) name text = headed name text
+noted (Explain extent coloring) name text = headed name text
 noted (ExplainJson extent) name text = lines_named name true text
 
 -- the answer for a file, told with its name

@@ -10,28 +10,30 @@ use Rattle.drvhost_formats.specs.Check.{IsCheckJsonOf}
 use Rattle.drvhost_formats.specs.Explain.{IsExplainJsonOf}
 use Rattle.drvhost_formats.specs.Told.{IsUnopenedJson}
 use Rattle.drvhost_sets.specs.Explained.{IsFileExplained}
+use Rattle.drvhost_many.specs.Painted.{IsShown}
 use Rattle.drvhost_many.specs.declared.many.Halt.{Halt}
 use Rattle.drvhost_many.specs.declared.many.Halt.TheVariants.{Memory, Write}
 
 -- what is answered for a set that is judged, where its file has this name and this to give
 abbrev pub IsJudged : Judging → List ℕ → Supply → Answer → Type 0
-IsJudged Check name = IsCheckOf
-IsJudged CheckJson name = IsCheckJsonOf name
-IsJudged (Explain extent) name = IsFileExplained extent name
-IsJudged (ExplainJson extent) name = IsExplainJsonOf extent name
+IsJudged Check name supply = IsCheckOf supply
+IsJudged CheckJson name supply = IsCheckJsonOf name supply
+IsJudged (Explain extent coloring) name supply =
+    IsShown coloring (IsFileExplained extent name supply)
+IsJudged (ExplainJson extent) name supply = IsExplainJsonOf extent name supply
 
 -- whether all that is answered is JSON
 abbrev pub is_in_json : Judging → Bool
 is_in_json Check = false
 is_in_json CheckJson = true
-is_in_json (Explain extent) = false
+is_in_json (Explain extent coloring) = false
 is_in_json (ExplainJson extent) = true
 
 -- then a file that can't be opened is told so too
 abbrev pub IsUnopenedAs : Judging → List ℕ → Answer → Type 0
 IsUnopenedAs Check name answer = ⊥
 IsUnopenedAs CheckJson name answer = IsUnopenedJson name answer
-IsUnopenedAs (Explain extent) name answer = ⊥
+IsUnopenedAs (Explain extent coloring) name answer = ⊥
 IsUnopenedAs (ExplainJson extent) name answer = IsUnopenedJson name answer
 
 abbrev pub IsJudgedFile : Judging → List ℕ → Supply → Answer → Type 0

@@ -10,6 +10,7 @@ ghost use Rattle.drvhost_many.specs.One.{IsJudged, is_in_json};
 
 use crate::held::{Contents, Held};
 use crate::named::{One, with_name};
+use crate::painting::{Explaining, explain_shown};
 use crate::told::{Told, collected};
 use drvhost_commands::job::Judging;
 use drvhost_devices::device::{Reader, Sink, Source, Writer};
@@ -17,7 +18,6 @@ use drvhost_formats::check::check_json;
 use drvhost_formats::explain::explain_json;
 use drvhost_formats::unopened::unopened_json;
 use drvhost_sets::check::check;
-use drvhost_sets::showing::explain_file;
 use report::fault::READ_FAILED;
 use std::alloc::{AllocError, Global};
 
@@ -107,7 +107,14 @@ pub fn judge<S: Source, O: Sink, E: Sink>(
     match judging {
         Judging::Check => check(alloc, set, out, err),
         Judging::CheckJson => check_json(alloc, name, set, out, err),
-        Judging::Explain(extent) => explain_file(alloc, extent, name, set, out, err),
+        Judging::Explain(extent, coloring) => {
+            let explaining = Explaining {
+                extent,
+                coloring,
+                name,
+            };
+            explain_shown(alloc, explaining, set, out, err)
+        }
         Judging::ExplainJson(extent) => explain_json(alloc, extent, name, set, out, err),
     }
 }

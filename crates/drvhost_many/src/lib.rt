@@ -6,5 +6,6 @@ pub mod file;
 mod held;
 pub mod many;
 pub mod named;
+pub mod painting;
 pub mod paths;
 pub mod told;

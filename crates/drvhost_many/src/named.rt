@@ -50,7 +50,7 @@ fn mark(alloc: Global, one: One<'_>, text: &[u8]) -> Result<Vec<u8>, AllocError>
             bytes.extend_from_slice(text)?;
             Ok(bytes)
         }
-        Judging::Explain(_extent) => head(alloc, one.name, text),
+        Judging::Explain(_extent, _coloring) => head(alloc, one.name, text),
     }
 }
 
@@ -63,7 +63,7 @@ fn note(alloc: Global, one: One<'_>, text: &[u8]) -> Result<Vec<u8>, AllocError>
         Judging::Check | Judging::CheckJson | Judging::ExplainJson(_) => {
             name_lines(alloc, one.name, text)
         }
-        Judging::Explain(_extent) => head(alloc, one.name, text),
+        Judging::Explain(_extent, _coloring) => head(alloc, one.name, text),
     }
 }
 
@@ -120,6 +120,6 @@ fn gap(judging: Judging) -> &'static str
 {
     match judging {
         Judging::Check | Judging::CheckJson | Judging::ExplainJson(_) => ": ",
-        Judging::Explain(_extent) => ":\n",
+        Judging::Explain(_extent, _coloring) => ":\n",
     }
 }

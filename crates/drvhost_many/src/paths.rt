@@ -4,21 +4,23 @@ ghost use Rattle.std.specs.Prelude.{ℕ, IfNone, IfOk, IfSome, List};
 ghost use Rattle.drvhost_many.specs.All.{AreFound, IsAlone};
 
 use drvhost_files::files::Files;
+use drvhost_found::sought::Sought;
 use std::alloc::{AllocError, Global};
 
-/// The names of the files that paths stand for, path by path. Behind those of each stand what can't
-/// be looked at in and below it: as a file it can't be read, and is told so.
+/// The names of the files that are sought for which paths stand, path by path. Behind those of each
+/// stand what can't be looked at in and below it: as a file it can't be read, and is told so.
 pub fn find_all<F: Files>(
     alloc: Global,
+    sought: Sought,
     paths: &[&str],
     files: &F,
 ) -> Result<Vec<String>, AllocError>
     ensures { IfOk result (λ names.
-        AreFound (λ path. F.stands files.now path.now) paths.now names.items) }
+        AreFound (λ path. F.stands files.now sought path.now) paths.now names.items) }
 {
     let mut names = Vec::new(alloc);
     for path in paths {
-        let mut found = files.find(path)?;
+        let mut found = files.find(sought, path)?;
         names.append(&mut found.files)?;
         names.append(&mut found.unread)?;
     }

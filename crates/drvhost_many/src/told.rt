@@ -78,8 +78,12 @@ impl Told {
 const NO_MEMORY: u8 = 3;
 
 /// What a call answered with this exit status, of which so many reads failed, and which wrote to
-/// writers in memory. None where a read or a write failed: what fails in memory is a growth alone.
-pub(crate) fn collected(
+/// writers in memory. What fails in memory is a growth alone.
+///
+/// # Errors
+///
+/// When memory ran out, or a read or a write failed.
+pub fn collected(
     exit: u8,
     reads: u64,
     output: Writer<Vec<u8>>,

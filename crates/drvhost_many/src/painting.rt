@@ -1,0 +1,133 @@
+//! Answers in colour.
+
+ghost use Rattle.std.specs.Prelude.{ℕ, ◌≡◌, if◌then◌else◌};
+ghost use Rattle.drvhost_devices.specs.Device.{CanCount, Says};
+ghost use Rattle.drvhost_devices.specs.Ends.{Answers};
+ghost use Rattle.drvhost_many.specs.Painted.{IsInColor, IsPaintedAs, IsPaintedOf, IsShown};
+ghost use Rattle.drvhost_sets.specs.Explained.{IsFileExplained};
+
+use crate::told::{Told, collected};
+use drvhost_colors::paint::paint;
+use drvhost_devices::device::{Failed, Sink, Source, Writer};
+use drvhost_devices::fault::{no_memory, say};
+use drvhost_devices::transfer::write_whole;
+use drvhost_options::coloring::Coloring;
+use drvhost_options::extent::Extent;
+use drvhost_sets::showing::explain_file;
+use report::fault::{READ_FAILED, WRITE_FAILED};
+use std::alloc::{AllocError, Global};
+
+/// How the set of a file is explained: which of its faults, whether in colour, and the file's name.
+#[derive(Clone, Copy)]
+pub(crate) struct Explaining<'n> {
+    pub(crate) extent: Extent,
+    pub(crate) coloring: Coloring,
+    pub(crate) name: &'n str,
+}
+
+/// Explains the set of a source, in colour where it is always chosen.
+pub(crate) fn explain_shown<S: Source, O: Sink, E: Sink>(
+    alloc: Global,
+    explaining: Explaining<'_>,
+    set: &mut S,
+    out: &mut O,
+    err: &mut E,
+) -> u8
+    requires set { CanCount (S.failures set.old) }
+    requires out { CanCount (O.failures out.old) }
+    requires err { CanCount (E.failures err.old) }
+    ensures { Answers (IsShown explaining.entry.coloring
+        (IsFileExplained explaining.entry.extent explaining.entry.name.now (S.supply set.old)))
+        (S.failures set.old) (S.failures set.new) (O.failures out.old) (O.failures out.new)
+        (O.contents out.old) (O.contents out.new)
+        (Says (E.failures err.old) (E.failures err.new) (E.contents err.old) (E.contents err.new))
+        result }
+{
+    let extent = explaining.extent;
+    let name = explaining.name;
+    match explaining.coloring {
+        Coloring::Always => explain_painted(alloc, extent, name, set, out, err),
+        Coloring::Auto => explain_file(alloc, extent, name, set, out, err),
+        Coloring::Never => explain_file(alloc, extent, name, set, out, err),
+    }
+}
+
+/// Explains the set of a source, whose file has this name, in colour: with the paint taken out, what
+/// goes out is what [`explain_file`] writes, and the exit status is the same. It stands in memory
+/// before any of it goes out.
+fn explain_painted<S: Source, O: Sink, E: Sink>(
+    alloc: Global,
+    extent: Extent,
+    name: &str,
+    set: &mut S,
+    out: &mut O,
+    err: &mut E,
+) -> u8
+    requires set { CanCount (S.failures set.old) }
+    requires out { CanCount (O.failures out.old) }
+    requires err { CanCount (E.failures err.old) }
+    ensures { Answers (IsInColor (IsFileExplained extent name.now (S.supply set.old)))
+        (S.failures set.old) (S.failures set.new) (O.failures out.old) (O.failures out.new)
+        (O.contents out.old) (O.contents out.new)
+        (Says (E.failures err.old) (E.failures err.new) (E.contents err.old) (E.contents err.new))
+        result }
+{
+    let before = set.failures();
+    let mut output = Writer::new(Vec::new(alloc));
+    let mut errors = Writer::new(Vec::new(alloc));
+    let exit = explain_file(alloc, extent, name, set, &mut output, &mut errors);
+    let after = set.failures();
+    let told = collected(exit, 0, output, errors);
+    show(alloc, before < after, told, out, err)
+}
+
+/// Writes an answer that was collected in memory to its writers, its output painted, or what kept
+/// from it: a read that failed, or want of memory. The answer is the exit status.
+pub fn show<O: Sink, E: Sink>(
+    alloc: Global,
+    is_unread: bool,
+    told: Result<Told, AllocError>,
+    out: &mut O,
+    err: &mut E,
+) -> u8
+    requires out { CanCount (O.failures out.old) }
+    requires err { CanCount (E.failures err.old) }
+    ensures { Answers (IsPaintedOf is_unread told) 0 (if is_unread then 1 else 0)
+        (O.failures out.old) (O.failures out.new) (O.contents out.old) (O.contents out.new)
+        (Says (E.failures err.old) (E.failures err.new) (E.contents err.old) (E.contents err.new))
+        result }
+{
+    if is_unread {
+        say(err, READ_FAILED.as_bytes());
+        return 2;
+    }
+    match told {
+        Ok(told) => write_painted(alloc, &told, out, err),
+        Err(AllocError) => no_memory(err),
+    }
+}
+
+/// Writes an answer to its writers, its output painted.
+fn write_painted<O: Sink, E: Sink>(alloc: Global, told: &Told, out: &mut O, err: &mut E) -> u8
+    requires out { CanCount (O.failures out.old) }
+    requires err { CanCount (E.failures err.old) }
+    ensures { (reads : ℕ) → Answers (IsPaintedAs told.now) reads reads
+        (O.failures out.old) (O.failures out.new) (O.contents out.old) (O.contents out.new)
+        (Says (E.failures err.old) (E.failures err.new) (E.contents err.old) (E.contents err.new))
+        result }
+{
+    let painted = match paint(alloc, told.output()) {
+        Ok(painted) => painted,
+        Err(AllocError) => return no_memory(err),
+    };
+    match write_whole(out, painted.as_slice()) {
+        Ok(()) => {
+            say(err, told.told());
+            told.status()
+        }
+        Err(Failed) => {
+            say(err, WRITE_FAILED.as_bytes());
+            2
+        }
+    }
+}
