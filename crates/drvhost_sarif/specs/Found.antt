@@ -78,10 +78,15 @@ IsRefusalFound name bytes refusal =
     IsPlain Fail name (rule_word refusal.rule) (refusal_print refusal) (refusal_words refusal)
     (refusal_region bytes refusal)
 
--- that of a fault of a kind
-abbrev pub IsFault : List ℕ → List ℕ → Option Region → Finding → Type 0
-IsFault name kind place =
-    IsPlain Fail name kind kind (codes "the file is faulty: " ++ kind) place
+-- that of a fault of a kind, with what is said of it behind
+abbrev pub IsFault : List ℕ → List ℕ → List ℕ → Option Region → Finding → Type 0
+IsFault name kind said place =
+    IsPlain Fail name kind kind (codes "the file is faulty: " ++ (kind ++ said)) place
+
+-- what is said of a faulty text: something where verdicts are explained, below the kind
+abbrev pub IsSaid : Account → List ℕ → Type 0
+IsSaid Verdict said = said ≡ []
+IsSaid (Explanation extent) said = (words : List ℕ) × (said ≡ 10 ∷ words)
 
 -- that of a refusal, explained: the paths of its evidence, behind its place some words, and edits
 -- that mend it, or none
@@ -134,13 +139,19 @@ IsVerdictFound logging name bytes set found =
     (IsTypable set × IsPassed logging.passes name found)
     ⊎ IsRefused logging.account name bytes set found
 
--- that the file of a name has a fault of a kind
-pub record IsFaultFound (name kind : List ℕ) (region : Option Region) (found : Found) : Type 0
+-- that the file of a name has a fault of a kind, with this behind
+pub record IsFaultFound (name kind said : List ℕ) (region : Option Region) (found : Found) : Type 0
   where
     pub status : found.status ≡ 2
     pub finding : Finding
-    pub fault : IsFault name kind region finding
+    pub fault : IsFault name kind said region finding
     pub alone : found.findings.items ≡ finding ∷ []
+
+-- the fault of a text, at its line
+abbrev pub IsTextFaultFound : Account → List ℕ → List ℕ → AsmFault → Found → Type 0
+IsTextFaultFound account name bytes fault found =
+    (said : List ℕ) × IsSaid account said
+    × IsFaultFound name (text_kind_name fault.kind) said (region_at bytes fault.line) found
 
 -- what is found in the bytes of the file of a name: in the set that they are; or their first fault,
 -- at its line in a text, and with no place in an image
@@ -148,16 +159,16 @@ abbrev pub IsFoundIn : Logging → List ℕ → List ℕ → Found → Type 0
 IsFoundIn logging name bytes found =
     ((set : Set) × FileSays bytes (Ok set) × IsVerdictFound logging name bytes set found)
     ⊎ (((fault : AsmFault) × FileSays bytes (Err (text_fault_line fault))
-    × IsFaultFound name (text_kind_name fault.kind) (region_at bytes fault.line) found)
+    × IsTextFaultFound logging.account name bytes fault found)
     ⊎ ((fault : ImageFault) × FileSays bytes (Err (image_fault_line fault))
-    × IsFaultFound name (image_fault_name fault) None found))
+    × IsFaultFound name (image_fault_name fault) [] None found))
 
 -- what is found in the file of a name that has this to give, of which so many reads failed: what is
 -- in its bytes, or that it can't be read
 abbrev pub IsFoundOf : Logging → List ℕ → Supply → ℕ → Found → Type 0
 IsFoundOf logging name supply reads found =
     ((reads ≡ 0) × ((bytes : List ℕ) × Holds supply bytes × IsFoundIn logging name bytes found))
-    ⊎ ((reads ≡ 1) × IsFaultFound name (codes "Unreadable") None found)
+    ⊎ ((reads ≡ 1) × IsFaultFound name (codes "Unreadable") [] None found)
 
 -- the same of a call, by the failed reads before and after it; or memory ran out
 pub record ReadsOne {E : Type 0} (logging : Logging) (name : List ℕ) (supply : Supply)

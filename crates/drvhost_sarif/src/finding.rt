@@ -1,14 +1,16 @@
 //! What is found in a file, as results of SARIF.
 
-ghost use Rattle.std.specs.Prelude.{◌≡◌, ◌⊎◌, IfOk};
+ghost use Rattle.std.specs.Prelude.{◌≡◌, ◌⊎◌, IfOk, string_bytes};
 ghost use Rattle.model.specs.Typable.{IsFirstFault, at_start};
 ghost use Rattle.model.specs.Words.{rule_word};
 ghost use Rattle.report.specs.Rule.{rule_name};
 ghost use Rattle.report_sarif.specs.declared.log.Region.{Region as PlacedRegion};
-ghost use Rattle.drvhost_sarif.specs.Found.{AreTold, IsFault, IsFaultFound, IsFoundIn, IsPass, IsPassed, IsRefused, IsRefusalFound, IsVerdictFound, refusal_print, refusal_words};
+ghost use Rattle.drvhost_sarif.specs.Found.{AreTold, IsFault, IsFaultFound, IsFoundIn, IsPass, IsPassed, IsRefused, IsRefusalFound, IsSaid, IsTextFaultFound, IsVerdictFound, refusal_print, refusal_words};
 
 use crate::explaining::explained;
 use crate::found::{Found, only};
+use asm::AsmFault;
+use asm_faults::fault_words;
 use drvhost_devices::fault::Fault;
 use drvhost_devices::reading::set_of;
 use drvhost_evidence::region::{refusal_region, region_at};
@@ -41,11 +43,8 @@ pub(crate) fn found_in(
 {
     match set_of(alloc, file.bytes) {
         Ok(set) => judged(alloc, logging, file, set),
-        Err(Fault::Text(fault)) => {
-            let region = region_at(file.bytes, fault.line);
-            fault_in(alloc, file.name, text_kind_name(fault.kind), region)
-        }
-        Err(Fault::Image(fault)) => fault_in(alloc, file.name, image_fault_name(fault), None),
+        Err(Fault::Text(fault)) => text_fault_in(alloc, logging.account, file, fault),
+        Err(Fault::Image(fault)) => fault_in(alloc, file.name, image_fault_name(fault), "", None),
         Err(_) => Err(AllocError),
     }
 }
@@ -178,16 +177,60 @@ pub(crate) fn words_of(rule: Rule) -> (&'static str, &'static str)
     words
 }
 
-/// That the file of a name has a fault of a kind.
+/// What is found in a faulty text: its first fault, at its line. Where verdicts are explained, so is
+/// that, in the words with which `explain` tells it.
+fn text_fault_in(
+    alloc: Global,
+    account: Account,
+    file: ReadFile<'_>,
+    fault: AsmFault,
+) -> Result<Found, AllocError>
+    ensures { IfOk result
+        (IsTextFaultFound account file.entry.name.now file.entry.bytes.now fault) }
+{
+    let said = said_of(alloc, account, file.bytes, fault)?;
+    let region = region_at(file.bytes, fault.line);
+    fault_in(
+        alloc,
+        file.name,
+        text_kind_name(fault.kind),
+        said.as_str(),
+        region,
+    )
+}
+
+/// What is said of the fault of a text behind its kind: where verdicts are explained, in lines of
+/// their own, the words on it.
+fn said_of(
+    alloc: Global,
+    account: Account,
+    text: &[u8],
+    fault: AsmFault,
+) -> Result<String, AllocError>
+    ensures { IfOk result (λ said. IsSaid account (string_bytes said)) }
+{
+    match account {
+        Account::Verdict => Ok(String::new(alloc)),
+        Account::Explanation(_extent) => {
+            let words = fault_words(alloc, text, fault)?;
+            let mut said = String::from_str(alloc, "\n")?;
+            said.push_str(words.as_str().trim())?;
+            Ok(said)
+        }
+    }
+}
+
+/// That the file of a name has a fault of a kind, with what is said of it behind.
 pub(crate) fn fault_in(
     alloc: Global,
     name: &str,
     kind: &str,
+    said: &str,
     region: Option<Region>,
 ) -> Result<Found, AllocError>
-    ensures { IfOk result (IsFaultFound name.now kind.now region) }
+    ensures { IfOk result (IsFaultFound name.now kind.now said.now region) }
 {
-    let finding = of_fault(alloc, name, kind, region)?;
+    let finding = of_fault(alloc, name, kind, said, region)?;
     Found::one(alloc, 2, finding)
 }
 
@@ -196,15 +239,16 @@ fn of_fault(
     alloc: Global,
     name: &str,
     kind: &str,
+    said: &str,
     region: Option<Region>,
 ) -> Result<Finding, AllocError>
-    ensures { IfOk result (IsFault name.now kind.now region) }
+    ensures { IfOk result (IsFault name.now kind.now said.now region) }
 {
     Ok(Finding {
         file: String::from_str(alloc, name)?,
         kind: Kind::Fail,
         rule: String::from_str(alloc, kind)?,
-        message: format!(in alloc; "the file is faulty: {kind}")?,
+        message: format!(in alloc; "the file is faulty: {kind}{said}")?,
         region,
         path: Vec::new(alloc),
         other: Vec::new(alloc),

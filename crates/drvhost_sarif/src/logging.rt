@@ -13,6 +13,7 @@ use drvhost_devices::device::{Failed, Sink};
 use drvhost_devices::fault::{no_memory, say};
 use drvhost_devices::transfer::write_whole;
 use drvhost_files::files::Files;
+use drvhost_found::sought::Sought;
 use drvhost_many::paths::find_all;
 use drvhost_options::logging::Logging;
 use report::fault::WRITE_FAILED;
@@ -37,7 +38,7 @@ pub fn log_paths<F: Files, O: Sink, E: Sink>(
     requires files { F.failures files.old < 2 ^ 63 }
     requires out { CanCount (O.failures out.old) }
     requires err { CanCount (E.failures err.old) }
-    ensures answers { Counted (PathsEnd logging (λ path. F.stands files.old path.now)
+    ensures answers { Counted (PathsEnd logging (λ path. F.stands files.old Sought.Sets path.now)
         (F.supply files.old) paths.now) (F.opened files.old) (F.opened files.new)
         (F.failures files.old) (F.failures files.new) (O.failures out.old) (O.failures out.new)
         (O.contents out.old) (O.contents out.new)
@@ -47,7 +48,7 @@ pub fn log_paths<F: Files, O: Sink, E: Sink>(
     ensures created { F.created files.new ≡ F.created files.old }
     ensures unwritten { F.unwritten files.new ≡ F.unwritten files.old }
 {
-    match find_all(alloc, paths, files) {
+    match find_all(alloc, Sought::Sets, paths, files) {
         Ok(names) => log_files(alloc, logging, names.as_slice(), files, out, err),
         Err(AllocError) => no_memory(err),
     }

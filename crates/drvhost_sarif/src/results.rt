@@ -62,7 +62,7 @@ fn found_of<F: Files>(
             };
             found_in(alloc, logging, read)
         }
-        Err(Fault::Read) => fault_in(alloc, name, "Unreadable", None),
+        Err(Fault::Read) => fault_in(alloc, name, "Unreadable", "", None),
         Err(_) => Err(AllocError),
     }
 }
