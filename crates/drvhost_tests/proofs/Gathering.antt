@@ -15,7 +15,6 @@ use Rattle.report.specs.Fault.{image_fault_line, schedule_fault_line, text_fault
 use Rattle.report.specs.Verdict.{refusal_line}
 use Rattle.scenario_text.specs.Listing.{Listed}
 use Rattle.scenario_text.specs.declared.scenario.Step.{Step}
-use Rattle.drvhost_commands.specs.declared.job.Report.{Report}
 use Rattle.drvhost_devices.specs.Answer.{Answer, FileSays, IsRefused, ended, faulty}
 use Rattle.drvhost_devices.specs.declared.fault.End.{End}
 use Rattle.drvhost_devices.specs.declared.fault.End.TheVariants.{Complete, Stopped}
@@ -34,14 +33,14 @@ use Rattle.drvhost_tests.specs.Reports.{framed, reported}
 use Rattle.drvhost_tests.specs.Tests.{AreJudgedBy, ArePlayed, AreTestsOf, Asked, Gathers, IsFaultOf, IsScenarioTold, IsTestOf, marked}
 
 -- the answers for one scenario more
-tests_more : (report : Report) (bytes : List ℕ) (set : Set) (supply : List ℕ → Supply)
+tests_more : (asked : Asked) (bytes : List ℕ) (set : Set) (supply : List ℕ → Supply)
     (names : List (Bor (List ℕ))) (name : Bor (List ℕ)) (r s : ℕ) (first last : Answer)
-    → AreTestsOf report bytes set supply names r first
-    → IsTestOf bytes set name.now (supply name.now) s last
-    → AreTestsOf report bytes set supply (names ++ name ∷ []) (r + s)
-    (joined first (reported report name.now last))
-tests_more report bytes set supply [] name r s first last (none, empty) is =
-    let told = reported report name.now last in (
+    → AreTestsOf asked bytes set supply names r first
+    → IsTestOf asked.verbosity bytes set name.now (supply name.now) s last
+    → AreTestsOf asked bytes set supply (names ++ name ∷ []) (r + s)
+    (joined first (reported asked.report name.now last))
+tests_more asked bytes set supply [] name r s first last (none, empty) is =
+    let told = reported asked.report name.now last in (
       s,
       0,
       last,
@@ -51,45 +50,45 @@ tests_more report bytes set supply [] name r s first last (none, empty) is =
       omega (arith, none),
       ap (λ (a : Answer). joined a told) empty ∙ joined_none told,
     )
-tests_more report bytes set supply (one ∷ names) name r s first last (failed, others, answer, rest, here, more, sum, whole) is =
-    let told = reported report name.now last in (
+tests_more asked bytes set supply (one ∷ names) name r s first last (failed, others, answer, rest, here, more, sum, whole) is =
+    let told = reported asked.report name.now last in (
       failed,
       others + s,
       answer,
       joined rest told,
       here,
-      tests_more report bytes set supply names name others s rest last more is,
+      tests_more asked bytes set supply names name others s rest last more is,
       omega (arith, sum),
       ap (λ (a : Answer). joined a told) whole
-          ∙ joined_assoc (reported report one.now answer) rest told,
+          ∙ joined_assoc (reported asked.report one.now answer) rest told,
     )
 
 -- those up to an index and the next
-pub tests_next : (report : Report) (bytes : List ℕ) (set : Set) (supply known : List ℕ → Supply)
+pub tests_next : (asked : Asked) (bytes : List ℕ) (set : Set) (supply known : List ℕ → Supply)
     (names : List (Bor (List ℕ))) (i : ℕ) (d : Bor (List ℕ)) (r s : ℕ) (first last all : Answer)
     → i < length names → known ≡ supply
-    → AreTestsOf report bytes set supply (take i names) r first
-    → IsTestOf bytes set (get_or names i d).now (known (get_or names i d).now) s last
-    → all ≡ joined first (reported report (get_or names i d).now last)
-    → AreTestsOf report bytes set supply (take (i + 1) names) (r + s) all
-tests_next report bytes set supply known names i d r s first last all h same so here whole =
+    → AreTestsOf asked bytes set supply (take i names) r first
+    → IsTestOf asked.verbosity bytes set (get_or names i d).now (known (get_or names i d).now) s last
+    → all ≡ joined first (reported asked.report (get_or names i d).now last)
+    → AreTestsOf asked bytes set supply (take (i + 1) names) (r + s) all
+tests_next asked bytes set supply known names i d r s first last all h same so here whole =
     let name = (get_or names i d).now in
-    let said : IsTestOf bytes set name (supply name) s last =
-    subst (λ (k : List ℕ → Supply). IsTestOf bytes set name (k name) s last) same here in
+    let said : IsTestOf asked.verbosity bytes set name (supply name) s last =
+    subst (λ (k : List ℕ → Supply). IsTestOf asked.verbosity bytes set name (k name) s last) same here in
     let more =
-    tests_more report bytes set supply (take i names) (get_or names i d) r s first last so said in
-    subst (λ (a : Answer). AreTestsOf report bytes set supply (take (i + 1) names) (r + s) a)
+    tests_more asked bytes set supply (take i names) (get_or names i d) r s first last so said in
+    subst (λ (a : Answer). AreTestsOf asked bytes set supply (take (i + 1) names) (r + s) a)
     (sym whole)
-    (subst (λ (l : List (Bor (List ℕ))). AreTestsOf report bytes set supply l (r + s)
-    (joined first (reported report name last))) (sym (take_more names i d h)) more)
+    (subst (λ (l : List (Bor (List ℕ))). AreTestsOf asked bytes set supply l (r + s)
+    (joined first (reported asked.report name last))) (sym (take_more names i d h)) more)
 
 -- all of them
-tests_all : (report : Report) (bytes : List ℕ) (set : Set) (supply : List ℕ → Supply)
+tests_all : (asked : Asked) (bytes : List ℕ) (set : Set) (supply : List ℕ → Supply)
     (names : List (Bor (List ℕ))) (i reads : ℕ) (whole : Answer) → length names ≤ i
-    → AreTestsOf report bytes set supply (take i names) reads whole
-    → AreTestsOf report bytes set supply names reads whole
-tests_all report bytes set supply names i reads whole h so =
-    subst (λ (l : List (Bor (List ℕ))). AreTestsOf report bytes set supply l reads whole)
+    → AreTestsOf asked bytes set supply (take i names) reads whole
+    → AreTestsOf asked bytes set supply names reads whole
+tests_all asked bytes set supply names i reads whole h so =
+    subst (λ (l : List (Bor (List ℕ))). AreTestsOf asked bytes set supply l reads whole)
     (take_all i names h) so
 
 -- a scenario that plays is not faulty
@@ -214,7 +213,7 @@ gathers_broken R i r n s o m p x y z e opened read few more again fewer =
 pub all_framed : {E : Type 0} (asked : Asked) (supply : List ℕ → Supply) (bytes : List ℕ)
     (set : Set) (i reads o m x y count : ℕ) (all : Answer) (result : Result Answer E)
     → length asked.names ≤ i → i ≤ length asked.names → m ≡ o + i → y ≡ x + reads → reads ≤ i
-    → AreTestsOf asked.report bytes set supply (take i asked.names) reads all
+    → AreTestsOf asked bytes set supply (take i asked.names) reads all
     → count ≡ length asked.names
     → IfOk result (λ whole. whole ≡ framed asked.report asked.set count all)
     → Gathers (ArePlayed asked supply bytes set) o m x y result
@@ -230,7 +229,7 @@ all_framed asked supply bytes set i reads o m x y count all result past up opene
             refl,
             (
               all,
-              tests_all asked.report bytes set supply asked.names i reads all past so,
+              tests_all asked bytes set supply asked.names i reads all past so,
               is ∙ ap (λ (k : ℕ). framed asked.report asked.set k all) same,
             ),
           )) ok;

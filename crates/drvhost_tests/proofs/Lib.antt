@@ -1,1 +1,3 @@
 pub mod Gathering
+pub mod Sources
+pub mod Texting

@@ -1,14 +1,25 @@
 -- What tests of a driver set answer: a line for each scenario, in order.
-use Rattle.std.specs.Prelude.{ℕ, ◌≡◌, ◌≤◌, ◌+◌, ◌++◌, ◌⊎◌, List, [], ◌∷◌, codes, length, IfOk, Option, Result, Ok, Err}
+use Rattle.std.specs.Prelude.{ℕ, ◌≡◌, ◌≢◌, ◌≤◌, ◌+◌, ◌++◌, ◌⊎◌, List, [], ◌∷◌, codes, length, map, IfOk, Option, Result, Ok, Err, String, string_bytes}
 use Rattle.std.specs.Borrow.{Bor}
+use Rattle.std.specs.Global.{Global}
 use Rattle.drvhost_commands.specs.declared.job.Report.{Report}
 use Rattle.drvhost_devices.specs.Answer.{Answer, FileSays, IsRefused, faulty}
-use Rattle.drvhost_devices.specs.Device.{Holds, Supply}
+use Rattle.drvhost_devices.specs.Device.{Bytes, Holds, Supply}
 use Rattle.drvhost_devices.specs.Ends.{Ends}
 use Rattle.drvhost_devices.specs.declared.verification.Verification.{Verification}
 use Rattle.drvhost_devices.specs.declared.verification.Verification.TheVariants.{Required, Skipped}
-use Rattle.drvhost_many.specs.All.{joined, nothing}
-use Rattle.drvhost_scenarios.specs.Scenarios.{IsTested, names_in}
+use Rattle.drvhost_found.specs.declared.find.Found.{Found}
+use Rattle.drvhost_found.specs.declared.sought.Sought.{Sought}
+use Rattle.drvhost_found.specs.declared.sought.Sought.TheVariants.{Scenarios}
+use Rattle.drvhost_many.specs.All.{AreFound, joined, nothing}
+use Rattle.drvhost_options.specs.declared.manner.Detail.TheVariants.{Usual}
+use Rattle.drvhost_options.specs.declared.manner.Manner.{Manner}
+use Rattle.drvhost_options.specs.declared.manner.Strictness.TheVariants.{Lenient}
+use Rattle.drvhost_options.specs.declared.verbosity.Verbosity.{Verbosity}
+use Rattle.drvhost_options.specs.declared.verbosity.Verbosity.TheVariants.{Brief, Verbose}
+use Rattle.drvhost_scenarios.specs.Scenarios.{IsOfScenario, IsTested, names_in, right_of}
+use Rattle.drvhost_scenarios.specs.declared.telling.Asked.TheVariants.{Schedule}
+use Rattle.drvhost_views.specs.Told.{IsTellOf}
 use Rattle.interleave.specs.declared.schedule.ScheduleFault.{ScheduleFault}
 use Rattle.model.specs.Set.{Set}
 use Rattle.model.specs.Typable.{IsTypable}
@@ -30,41 +41,71 @@ IsScenarioTold name set (Ok scenario) answer = IsTested name set scenario answer
 IsScenarioTold name set (Err fault) answer =
     (words : List ℕ) × (answer ≡ faulty (marked name (schedule_fault_line fault ++ words)))
 
--- the same of the file of a name, of which so many reads failed, with the names of a set's bytes
-abbrev pub IsTestOf : List ℕ → Set → List ℕ → Supply → ℕ → Answer → Type 0
-IsTestOf bytes set name supply reads answer =
+-- how the run of a test that fails is told
+abbrev pub usual : Manner
+usual = record { detail = Usual; strictness = Lenient }
+
+-- the run of a scenario of a set, of whose file these are the bytes, as `tell` tells it by the
+-- schedule of what the scenario made happen
+abbrev pub IsRunOf : List ℕ → Set → Result Listed ScheduleFault → Answer → Type 0
+IsRunOf bytes set said run =
+    (schedule : Answer) × IsOfScenario (right_of Schedule) set said schedule
+    × IsTellOf Skipped usual (Bytes bytes) (Bytes schedule.output) run
+
+-- that run stands behind what is told of the scenario: where it fails, and that is wanted
+abbrev pub IsRunTold : List ℕ → Set → Result Listed ScheduleFault → Answer → Answer → Type 0
+IsRunTold bytes set said told answer =
+    (run : Answer) × IsRunOf bytes set said run × (answer ≡ joined told run)
+
+abbrev pub IsToldWith : Verbosity → List ℕ → Set → Result Listed ScheduleFault → Answer → Answer
+    → Type 0
+IsToldWith Brief bytes set said told answer = answer ≡ told
+IsToldWith Verbose bytes set said told answer =
+    ((told.status ≢ 1) × (answer ≡ told))
+    ⊎ ((told.status ≡ 1) × IsRunTold bytes set said told answer)
+
+abbrev pub IsScenarioShown : Verbosity → List ℕ → List ℕ → Set → Result Listed ScheduleFault
+    → Answer → Type 0
+IsScenarioShown verbosity bytes name set said answer =
+    (told : Answer) × IsScenarioTold name set said told
+    × IsToldWith verbosity bytes set said told answer
+
+-- what is told of the file of a name, of which so many reads failed, with the names of a set's bytes
+abbrev pub IsTestOf : Verbosity → List ℕ → Set → List ℕ → Supply → ℕ → Answer → Type 0
+IsTestOf verbosity bytes set name supply reads answer =
     ((reads ≡ 0) × ((text : List ℕ) × Holds supply text
-    × IsScenarioTold name set (scenario_in (names_in bytes) text) answer))
+    × IsScenarioShown verbosity bytes name set (scenario_in (names_in bytes) text) answer))
     ⊎ ((reads ≡ 1) × (answer ≡ unread name))
 
--- and of files, in order, as they are reported
-abbrev pub AreTestsOf : Report → List ℕ → Set → (List ℕ → Supply) → List (Bor (List ℕ)) → ℕ
-    → Answer → Type 0
-AreTestsOf report bytes set supply [] reads whole = (reads ≡ 0) × (whole ≡ nothing)
-AreTestsOf report bytes set supply (name ∷ names) reads whole =
-    (failed others : ℕ) × (answer rest : Answer)
-    × IsTestOf bytes set name.now (supply name.now) failed answer
-    × AreTestsOf report bytes set supply names others rest × (reads ≡ failed + others)
-    × (whole ≡ joined (reported report name.now answer) rest)
-
--- what is asked: the files of the set and of the scenarios, whether the set has to be accepted, and
--- how the tests are reported
+-- what is asked: the file of the set, the paths of the scenarios, whether the set has to be accepted,
+-- how the tests are reported, and how much is told of one that fails
 pub record Asked : Type 0 where
   pub set : List ℕ
   pub names : List (Bor (List ℕ))
   pub verification : Verification
   pub report : Report
+  pub verbosity : Verbosity
+
+-- and of files, in order, as they are reported
+abbrev pub AreTestsOf : Asked → List ℕ → Set → (List ℕ → Supply) → List (Bor (List ℕ)) → ℕ
+    → Answer → Type 0
+AreTestsOf asked bytes set supply [] reads whole = (reads ≡ 0) × (whole ≡ nothing)
+AreTestsOf asked bytes set supply (name ∷ names) reads whole =
+    (failed others : ℕ) × (answer rest : Answer)
+    × IsTestOf asked.verbosity bytes set name.now (supply name.now) failed answer
+    × AreTestsOf asked bytes set supply names others rest × (reads ≡ failed + others)
+    × (whole ≡ joined (reported asked.report name.now answer) rest)
 
 -- what is right where so many files are opened, of which so many reads fail: for one file; for all
 -- scenarios, which are played; and where none is
-abbrev pub IsOne : List ℕ → Set → List ℕ → Supply → ℕ → ℕ → Answer → Type 0
-IsOne bytes set name supply opened reads answer =
-    (opened ≡ 1) × IsTestOf bytes set name supply reads answer
+abbrev pub IsOne : Verbosity → List ℕ → Set → List ℕ → Supply → ℕ → ℕ → Answer → Type 0
+IsOne verbosity bytes set name supply opened reads answer =
+    (opened ≡ 1) × IsTestOf verbosity bytes set name supply reads answer
 
 abbrev pub ArePlayed : Asked → (List ℕ → Supply) → List ℕ → Set → ℕ → ℕ → Answer → Type 0
 ArePlayed asked supply bytes set opened reads answer =
     (opened ≡ length asked.names) × ((whole : Answer)
-    × AreTestsOf asked.report bytes set supply asked.names reads whole
+    × AreTestsOf asked bytes set supply asked.names reads whole
     × (answer ≡ framed asked.report asked.set (length asked.names) whole))
 
 abbrev pub IsUnplayed : Asked → (Answer → Type 0) → ℕ → ℕ → Answer → Type 0
@@ -100,12 +141,29 @@ AreOfFile asked supply opened reads answer =
     × AreOfBytes asked supply bytes others reads answer))
     ⊎ ((opened ≡ 1) × (reads ≡ 1) × (answer ≡ alone asked.report asked.set (unread asked.set)))
 
+-- these are the texts of names
+abbrev pub AreTexts : List (String Global) → List (Bor (List ℕ)) → Type 0
+AreTexts names texts = map (λ (text : Bor (List ℕ)). text.now) texts ≡ map string_bytes names
+
+-- for scenarios of files of these names
+abbrev pub AreNamed : Asked → List (String Global) → (List ℕ → Supply) → ℕ → ℕ → Answer → Type 0
+AreNamed asked names supply opened reads answer =
+    (texts : List (Bor (List ℕ))) × AreTexts names texts
+    × AreOfFile (record asked { names = texts }) supply opened reads answer
+
+-- for those that paths stand for
+abbrev pub AreOfPaths : Asked → (Sought → List ℕ → Found → Type 0) → (List ℕ → Supply) → ℕ → ℕ
+    → Answer → Type 0
+AreOfPaths asked stands supply opened reads answer =
+    (names : List (String Global)) × AreFound (λ path. stands Scenarios path.now) asked.names names
+    × AreNamed asked names supply opened reads answer
+
 -- how tests end: by how many files were opened, how many reads and writes failed, what the output
 -- held before and after, the exit status, and what is told
-abbrev pub TestsEnd : Asked → (List ℕ → Supply) → ℕ → ℕ → ℕ → Option (List ℕ) → Option (List ℕ)
-    → ℕ → List ℕ → Type 0
-TestsEnd asked supply opened reads writes before after status told =
-    Ends (AreOfFile asked supply opened reads) 0 writes before after status told
+abbrev pub TestsEnd : Asked → (Sought → List ℕ → Found → Type 0) → (List ℕ → Supply) → ℕ → ℕ → ℕ
+    → Option (List ℕ) → Option (List ℕ) → ℕ → List ℕ → Type 0
+TestsEnd asked stands supply opened reads writes before after status told =
+    Ends (AreOfPaths asked stands supply opened reads) 0 writes before after status told
 
 -- what a call gathers, by the opened files and the failed reads before and after it; or memory ran
 -- out

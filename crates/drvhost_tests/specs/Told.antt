@@ -9,4 +9,5 @@ asked_of tests =
       names = tests.scenarios.now;
       verification = tests.verification;
       report = tests.report;
+      verbosity = tests.verbosity;
     }

@@ -3,7 +3,9 @@
 #![tactic(auto)]
 
 mod reporting;
+mod running;
 mod scenario;
 mod set;
 mod telling;
 pub mod test;
+mod texts;

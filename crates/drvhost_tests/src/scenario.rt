@@ -3,14 +3,16 @@
 ghost use Rattle.std.specs.Prelude.{◌≡◌, ◌+◌, ◌<◌, ◌^◌, IfOk};
 ghost use Rattle.drvhost_devices.specs.Device.{CanCount};
 ghost use Rattle.drvhost_scenarios.specs.Scenarios.{names_in};
-ghost use Rattle.drvhost_tests.specs.Tests.{Gathers, IsOne, IsScenarioTold};
+ghost use Rattle.drvhost_tests.specs.Tests.{Gathers, IsOne, IsScenarioShown, IsScenarioTold};
 ghost use Rattle.scenario_text.specs.Listing.{scenario_in};
 
+use crate::running::with_run;
 use crate::telling::{answer_of, tell_schedule_fault, tell_unread};
 use drvhost_devices::fault::Fault;
 use drvhost_devices::transfer::read_whole;
 use drvhost_files::files::Files;
 use drvhost_many::told::Told;
+use drvhost_options::verbosity::Verbosity;
 use drvhost_scenarios::telling::{Asked, names_in, tell_text};
 use image::DriverSet;
 use scenario_faults::fault_words;
@@ -20,6 +22,7 @@ use std::alloc::{AllocError, Global};
 /// bytes.
 pub(crate) fn test_scenario<F: Files>(
     alloc: Global,
+    verbosity: Verbosity,
     bytes: &[u8],
     set: &DriverSet,
     name: &str,
@@ -27,7 +30,8 @@ pub(crate) fn test_scenario<F: Files>(
 ) -> Result<Told, AllocError>
     requires opened { F.opened files.old + 1 < 2 ^ 64 }
     requires files { CanCount (F.failures files.old) }
-    ensures gathers { Gathers (IsOne bytes.now set.now name.now (F.supply files.old name.now))
+    ensures gathers { Gathers
+        (IsOne verbosity bytes.now set.now name.now (F.supply files.old name.now))
         (F.opened files.old) (F.opened files.new) (F.failures files.old) (F.failures files.new)
         result }
     ensures supply { F.supply files.new ≡ F.supply files.old }
@@ -38,13 +42,30 @@ pub(crate) fn test_scenario<F: Files>(
     let read = read_whole(alloc, &mut file);
     files.close(file);
     match read {
-        Ok(text) => test_text(alloc, bytes, set, name, text.as_slice()),
+        Ok(text) => test_text(alloc, verbosity, bytes, set, name, text.as_slice()),
         Err(fault) => tell_unread(alloc, name, fault),
     }
 }
 
-/// What is answered for the scenario that a text lists.
+/// What is answered for the scenario that a text lists, with its run where it fails and that is
+/// wanted.
 fn test_text(
+    alloc: Global,
+    verbosity: Verbosity,
+    bytes: &[u8],
+    set: &DriverSet,
+    name: &str,
+    text: &[u8],
+) -> Result<Told, AllocError>
+    ensures { IfOk result (IsScenarioShown verbosity bytes.now name.now set.now
+        (scenario_in (names_in bytes.now) text.now)) }
+{
+    let told = test_alone(alloc, bytes, set, name, text)?;
+    with_run(alloc, verbosity, bytes, set, text, told)
+}
+
+/// What is answered for the scenario that a text lists.
+fn test_alone(
     alloc: Global,
     bytes: &[u8],
     set: &DriverSet,

@@ -133,7 +133,7 @@ fn test_all<F: Files>(
 {
     let mut all = Told::of(0, Vec::new(alloc), Vec::new(alloc));
     for scenario in tests.scenarios {
-        let told = test_scenario(alloc, bytes, set, scenario, files)?;
+        let told = test_scenario(alloc, tests.verbosity, bytes, set, scenario, files)?;
         add_entry(alloc, tests.report, scenario, &told, &mut all)?;
     }
     framed(alloc, tests.report, tests.set, tests.scenarios.len(), &all)

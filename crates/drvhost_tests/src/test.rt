@@ -4,36 +4,43 @@ ghost use Rattle.std.specs.Prelude.{◌≡◌, ◌<◌, ◌^◌, ℕ};
 ghost use Rattle.drvhost_devices.specs.Device.{CanCount, Says};
 ghost use Rattle.drvhost_devices.specs.Ends.{Answers};
 ghost use Rattle.drvhost_many.specs.All.{Counted};
-ghost use Rattle.drvhost_tests.specs.Tests.{TestsEnd};
+ghost use Rattle.drvhost_tests.specs.Tests.{AreNamed, AreOfPaths, Gathers, TestsEnd};
 ghost use Rattle.drvhost_tests.specs.Told.{asked_of};
 
 use crate::set::test_set;
+use crate::texts::texts_of;
 use drvhost_commands::job::Report;
 use drvhost_devices::device::{Failed, Sink};
 use drvhost_devices::fault::{no_memory, say};
 use drvhost_devices::transfer::write_whole;
 use drvhost_devices::verification::Verification;
 use drvhost_files::files::Files;
+use drvhost_found::sought::Sought;
+use drvhost_many::paths::find_all;
 use drvhost_many::told::Told;
+use drvhost_options::verbosity::Verbosity;
 use report::fault::WRITE_FAILED;
 use std::alloc::{AllocError, Global};
 
-/// Tests of a driver set: the file of the set, those of the scenarios, whether the set has to be
-/// accepted, and how the tests are reported.
+/// Tests of a driver set: the file of the set, the paths that stand for those of the scenarios,
+/// whether the set has to be accepted, how the tests are reported, and how much is told of one that
+/// fails.
 #[derive(Clone, Copy)]
 pub struct Tests<'n> {
     pub set: &'n str,
     pub scenarios: &'n [&'n str],
     pub verification: Verification,
     pub report: Report,
+    pub verbosity: Verbosity,
 }
 
 /// Plays scenarios over a driver set, one after another, and writes a line for each: that all that it
-/// expects holds, or the first step that fails, with what is there instead. Where verification is
-/// required, a refused set isn't run, and what is written is the line of its refusal. The answer is the
-/// exit status, the greatest of those of the scenarios: 0 where all holds, 1 where a step fails or the
-/// set is refused, 2 where a file is faulty or can't be read, which is told with its name; 2 where a
-/// write failed, and 3 where memory ran out.
+/// expects holds, or the first step that fails, with what is there instead, and if it is wanted the
+/// run up to there. A folder stands for the scenarios in and below it, in the order of their paths.
+/// Where verification is required, a refused set isn't run, and what is written is the line of its
+/// refusal. The answer is the exit status, the greatest of those of the scenarios: 0 where all holds,
+/// 1 where a step fails or the set is refused, 2 where a file is faulty or can't be read, which is
+/// told with its name; 2 where a write failed, and 3 where memory ran out.
 pub fn test<F: Files, O: Sink, E: Sink>(
     alloc: Global,
     tests: Tests<'_>,
@@ -45,7 +52,8 @@ pub fn test<F: Files, O: Sink, E: Sink>(
     requires files { F.failures files.old < 2 ^ 63 }
     requires out { CanCount (O.failures out.old) }
     requires err { CanCount (E.failures err.old) }
-    ensures answers { Counted (TestsEnd (asked_of tests.entry) (F.supply files.old))
+    ensures answers { Counted
+        (TestsEnd (asked_of tests.entry) (F.stands files.old) (F.supply files.old))
         (F.opened files.old) (F.opened files.new) (F.failures files.old) (F.failures files.new)
         (O.failures out.old) (O.failures out.new) (O.contents out.old) (O.contents out.new)
         (Says (E.failures err.old) (E.failures err.new) (E.contents err.old) (E.contents err.new))
@@ -54,9 +62,52 @@ pub fn test<F: Files, O: Sink, E: Sink>(
     ensures created { F.created files.new ≡ F.created files.old }
     ensures unwritten { F.unwritten files.new ≡ F.unwritten files.old }
 {
-    match test_set(alloc, tests, files) {
+    match test_paths(alloc, tests, files) {
         Ok(told) => deliver(&told, out, err),
         Err(AllocError) => no_memory(err),
+    }
+}
+
+/// What is answered for the scenarios that paths stand for, played over a set.
+fn test_paths<F: Files>(alloc: Global, tests: Tests<'_>, files: &mut F) -> Result<Told, AllocError>
+    requires opened { F.opened files.old < 2 ^ 63 }
+    requires files { F.failures files.old < 2 ^ 63 }
+    ensures gathers { Gathers
+        (AreOfPaths (asked_of tests.entry) (F.stands files.old) (F.supply files.old))
+        (F.opened files.old) (F.opened files.new) (F.failures files.old) (F.failures files.new)
+        result }
+    ensures supply { F.supply files.new ≡ F.supply files.old }
+    ensures created { F.created files.new ≡ F.created files.old }
+    ensures unwritten { F.unwritten files.new ≡ F.unwritten files.old }
+{
+    match find_all(alloc, Sought::Scenarios, tests.scenarios, files) {
+        Ok(names) => test_found(alloc, tests, names.as_slice(), files),
+        Err(AllocError) => Err(AllocError),
+    }
+}
+
+/// What is answered for those of files of these names.
+fn test_found<F: Files>(
+    alloc: Global,
+    tests: Tests<'_>,
+    names: &[String],
+    files: &mut F,
+) -> Result<Told, AllocError>
+    requires opened { F.opened files.old < 2 ^ 63 }
+    requires files { F.failures files.old < 2 ^ 63 }
+    ensures gathers { Gathers (AreNamed (asked_of tests.entry) names.now (F.supply files.old))
+        (F.opened files.old) (F.opened files.new) (F.failures files.old) (F.failures files.new)
+        result }
+    ensures supply { F.supply files.new ≡ F.supply files.old }
+    ensures created { F.created files.new ≡ F.created files.old }
+    ensures unwritten { F.unwritten files.new ≡ F.unwritten files.old }
+{
+    match texts_of(alloc, names) {
+        Ok(texts) => {
+            let scenarios = texts.as_slice();
+            test_set(alloc, Tests { scenarios, ..tests }, files)
+        }
+        Err(AllocError) => Err(AllocError),
     }
 }
 

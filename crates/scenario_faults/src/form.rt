@@ -32,7 +32,7 @@ pub(crate) fn form_of(line: &FaultyLine<'_>, place: usize) -> Option<Form> {
     let word = line.token(place)?;
     if let Some(equals) = line.token(behind) {
         if is(equals, b"=") {
-            return Some(of(behind.saturating_add(1), &ISSUE, 5));
+            return Some(of(place, &ISSUE, 7));
         }
     }
     match word {
@@ -49,7 +49,9 @@ pub(crate) fn form_of(line: &FaultyLine<'_>, place: usize) -> Option<Form> {
     }
 }
 
-const ISSUE: [Operand; 5] = [
+const ISSUE: [Operand; 7] = [
+    Operand::Name,
+    Operand::Equals,
     Operand::Issue,
     Operand::Thread,
     Operand::Device,

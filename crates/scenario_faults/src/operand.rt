@@ -2,7 +2,7 @@
 
 use crate::known::Known;
 use interleave::schedule::MAX_EVENTS;
-use text::class::is;
+use text::class::{is, is_name};
 use text::major::major_of;
 use text::number::number;
 use text_faults::fit::Fit;
@@ -10,6 +10,8 @@ use text_faults::fit::Fit;
 /// What stands at one place of a line.
 #[derive(Clone, Copy)]
 pub(crate) enum Operand {
+    Name,
+    Equals,
     Issue,
     Thread,
     Device,
@@ -54,6 +56,11 @@ impl Operand {
     /// What stands there, in words.
     pub(crate) fn words(self) -> &'static str {
         match self {
+            Operand::Name => {
+                "a name for the packet (small letters, digits and `_`, at most 32, not beginning \
+                 with a digit)"
+            }
+            Operand::Equals => "`=`",
             Operand::Issue => "`issue`, behind the name of the packet and `=`",
             Operand::Thread => "the number of a thread, counted from 0, at most 255",
             Operand::Device => "a device, by its name in the driver text or by its number",
@@ -91,6 +98,8 @@ impl Operand {
             Operand::Packet => Fit::if_so(known.has_packet(token)),
             Operand::Spot => Fit::if_so(known.has_spot(token)),
             Operand::Major => Fit::if_so(major_of(token).is_some()),
+            Operand::Name => Fit::if_so(is_name(token)),
+            Operand::Equals => Fit::if_so(is(token, b"=")),
             Operand::Issue => Fit::if_so(is(token, b"issue")),
             Operand::Until => Fit::if_so(is(token, b"until")),
             Operand::Line => Fit::if_so(is(token, b"line")),

@@ -45,7 +45,7 @@ loop-scenario-preserved g c =
         so.0 + one.reads,
         omega (arith, so.1, one.few, right.0),
         omega (arith, so.2, one.reads_are),
-        tests_next c.args.tests.report c.args.bytes.now c.args.set.now supply
+        tests_next (asked_of c.args.tests) c.args.bytes.now c.args.set.now supply
             (g.F.Files.supply at.files) names at.scenario-index _ so.0 one.reads _
             c.in_ok-told.told _ c.loop-scenario-test.true at.invariant.supply so.3 right.1
             c.in_ok-add_entry.ensures,

@@ -1,5 +1,6 @@
 use Rattle.std.proofs.Common.{◌≡◌, ◌+◌, ◌≤◌, ℕ, take}
 use Rattle.drvhost_tests.specs.Tests.{AreTestsOf}
+use Rattle.drvhost_tests.specs.Told.{asked_of}
 use Rattle.drvhost_tests.proofs.set.test_all.Given as goal
 
 abbrev pub invariant-loop-scenario : goal.invariant-loop-scenario
@@ -12,6 +13,6 @@ invariant-loop-scenario g l =
       tested :
           (reads : ℕ) × (reads ≤ l.scenario-index)
           × (g.F.Files.failures l.files ≡ g.F.Files.failures l.initial.files + reads)
-          × AreTestsOf l.tests.report l.bytes l.set (g.F.Files.supply l.initial.files)
+          × AreTestsOf (asked_of l.tests) l.bytes l.set (g.F.Files.supply l.initial.files)
           (take l.scenario-index l.tests.scenarios.now) reads l.all;
     }
