@@ -78,6 +78,10 @@ format_option = value_option (codes "format") (codes "format") AnyText
 abbrev pub jobs_option : Rule
 jobs_option = number_option (codes "jobs") MAX_JOBS
 
+-- `--color WHEN`
+abbrev pub color_option : Rule
+color_option = value_option (codes "color") (codes "color") AnyText
+
 -- `check PATH.. [--format FORMAT] [--pass] [--jobs N]`
 abbrev pub check_command : App
 check_command =
@@ -85,24 +89,25 @@ check_command =
     (required (values_argument (codes "PATH")) ∷ format_option ∷ flag (codes "pass")
     ∷ jobs_option ∷ [])
 
--- `explain [PATH..] [--all] [--format FORMAT] [--pass] [--jobs N] [--rule RULE]`: what goes with what
--- is said where a job is named
+-- `explain [PATH..] [--all] [--format FORMAT] [--pass] [--jobs N] [--color WHEN] [--rule RULE]`: what
+-- goes with what is said where a job is named
 abbrev pub explain_command : App
 explain_command =
     command (codes "explain")
     (values_argument (codes "PATH") ∷ flag (codes "all") ∷ format_option ∷ flag (codes "pass")
-    ∷ jobs_option
+    ∷ jobs_option ∷ color_option
     ∷ value_option (codes "RULE") (codes "rule") AnyText ∷ [])
 
--- `tell FILE SCHEDULE [--unchecked] [--quiet] [--every] [--strict] [--format FORMAT]`: the second and
--- the third don't go together, nor with JSON
+-- `tell FILE SCHEDULE [--unchecked] [--quiet] [--every] [--strict] [--format FORMAT] [--color WHEN]`:
+-- the second and the third don't go together, nor with JSON
 abbrev pub tell_command : App
 tell_command =
     schedule_command (codes "tell")
-    (flag (codes "quiet") ∷ flag (codes "every") ∷ flag (codes "strict") ∷ format_option ∷ [])
+    (flag (codes "quiet") ∷ flag (codes "every") ∷ flag (codes "strict") ∷ format_option
+    ∷ color_option ∷ [])
 
 -- `hunt FILE [--threads N] [--packets N] [--states N] [--events N] [--argument N] [--stuck]
--- [--exact]`: the last two don't go together
+-- [--exact] [--scenario]`: `--stuck` and `--exact` don't go together
 abbrev pub hunt_command : App
 hunt_command =
     set_command (codes "hunt")
@@ -111,14 +116,14 @@ hunt_command =
     ∷ number_option (codes "states") MAX_WORLDS
     ∷ any_number_option (codes "events")
     ∷ any_number_option (codes "argument")
-    ∷ flag (codes "stuck") ∷ flag (codes "exact") ∷ [])
+    ∷ flag (codes "stuck") ∷ flag (codes "exact") ∷ flag (codes "scenario") ∷ [])
 
--- `host FILE SCRIPT --workers N`
+-- `host FILE SCRIPT --workers N [--format FORMAT]`
 abbrev pub host_command : App
 host_command =
     set_command (codes "host")
     (file_argument (codes "SCRIPT")
-    ∷ required (number_option (codes "workers") MAX_THREADS) ∷ [])
+    ∷ required (number_option (codes "workers") MAX_THREADS) ∷ format_option ∷ [])
 
 -- `mend FILE [--tries N] [--apply] [--nth K]`
 abbrev pub mend_command : App
@@ -127,11 +132,12 @@ mend_command =
     (number_option (codes "tries") MAX_TRIES ∷ flag (codes "apply")
     ∷ number_option (codes "nth") MAX_OFFERS ∷ [])
 
--- `test FILE SCENARIO.. [--unchecked] [--format FORMAT]`
+-- `test FILE SCENARIO.. [--unchecked] [--format FORMAT] [--verbose]`
 abbrev pub test_command : App
 test_command =
     set_command (codes "test")
-    (required (values_argument (codes "SCENARIO")) ∷ flag (codes "unchecked") ∷ format_option ∷ [])
+    (required (values_argument (codes "SCENARIO")) ∷ flag (codes "unchecked") ∷ format_option
+    ∷ flag (codes "verbose") ∷ [])
 
 -- all commands, in the order of the texts of help
 abbrev pub commands : List App

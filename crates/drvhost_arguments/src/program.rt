@@ -80,6 +80,13 @@ const JOBS: Argument<'static> = Argument::Value(
     "Jobs that share the files, 1 to 64; one for each processor where none is given",
 );
 
+const COLOR: Argument<'static> = Argument::Value(
+    "color",
+    "color",
+    ValueParser::String,
+    "Whether the answer is painted, auto, always or never; auto where none is given",
+);
+
 /// All commands, in the order of the texts of help.
 const COMMANDS: [Entry<'static>; 13] = [
     Entry {
@@ -98,6 +105,7 @@ const COMMANDS: [Entry<'static>; 13] = [
             VERDICT_FORMAT,
             PASS,
             JOBS,
+            COLOR,
             Argument::Value(
                 "RULE",
                 "rule",
@@ -151,6 +159,7 @@ const COMMANDS: [Entry<'static>; 13] = [
             Argument::Flag("every", "Leaves out no event"),
             Argument::Flag("strict", "Answers 1 also where an event was refused"),
             FORMAT,
+            COLOR,
         ],
     },
     Entry {
@@ -182,6 +191,10 @@ const COMMANDS: [Entry<'static>; 13] = [
                 "format",
                 ValueParser::String,
                 "How it is reported, text, tap or junit; text where none is given",
+            ),
+            Argument::Flag(
+                "verbose",
+                "Tells the run of each test that fails up to there",
             ),
         ],
     },
@@ -235,6 +248,10 @@ const COMMANDS: [Entry<'static>; 13] = [
                 "exact",
                 "Takes no world for another one, and bounds the packets that a run issues in all",
             ),
+            Argument::Flag(
+                "scenario",
+                "Writes the run as a scenario that fails by it, in place of a schedule",
+            ),
         ],
     },
     Entry {
@@ -250,6 +267,7 @@ const COMMANDS: [Entry<'static>; 13] = [
                 ValueParser::Signed(1, MAX_THREADS as i64),
                 "How many workers serve it, 1 to 64",
             ),
+            FORMAT,
         ],
     },
     Entry {

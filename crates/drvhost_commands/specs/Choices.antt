@@ -10,6 +10,8 @@ use Rattle.interleave.specs.Line.{number_within}
 use Rattle.model.specs.declared.limits.TheConstants.{MAX_THREADS}
 use Rattle.drvhost_devices.specs.declared.verification.Verification.{Verification}
 use Rattle.drvhost_devices.specs.declared.verification.Verification.TheVariants.{Required, Skipped}
+use Rattle.drvhost_options.specs.declared.coloring.Coloring.{Coloring}
+use Rattle.drvhost_options.specs.declared.coloring.Coloring.TheVariants.{Auto, Always, Never}
 use Rattle.drvhost_options.specs.declared.extent.Extent.{Extent}
 use Rattle.drvhost_options.specs.declared.extent.Extent.TheVariants.{First, Each}
 use Rattle.drvhost_options.specs.declared.figure.Figure.{Figure}
@@ -23,11 +25,15 @@ use Rattle.drvhost_options.specs.declared.manner.Manner.{Manner}
 use Rattle.drvhost_options.specs.declared.manner.Strictness.{Strictness}
 use Rattle.drvhost_options.specs.declared.manner.Strictness.TheVariants.{Lenient, Strict}
 use Rattle.drvhost_options.specs.declared.tries.TheConstants.{MAX_TRIES, USUAL_TRIES}
+use Rattle.drvhost_options.specs.declared.verbosity.Verbosity.{Verbosity}
+use Rattle.drvhost_options.specs.declared.verbosity.Verbosity.TheVariants.{Brief, Verbose}
 use Rattle.drvhost_options.specs.declared.wanted.TheConstants.{MAX_OFFERS}
 use Rattle.drvhost_options.specs.declared.wanted.Wanted.{Wanted}
 use Rattle.drvhost_options.specs.declared.wanted.Wanted.TheVariants.{Sure, Number}
 use Rattle.drvhost_commands.specs.declared.choices.Format.{Format}
 use Rattle.drvhost_commands.specs.declared.choices.Format.TheVariants.{Text as AsText, Json, Sarif}
+use Rattle.drvhost_commands.specs.declared.job.Form.{Form}
+use Rattle.drvhost_commands.specs.declared.job.Form.TheVariants.{Lines as InLines, Json as InJson}
 use Rattle.drvhost_commands.specs.declared.job.Report.{Report}
 use Rattle.drvhost_commands.specs.declared.job.Report.TheVariants.{Lines, Tap, JUnit}
 use Rattle.drvhost_commands.specs.declared.subcommand.Subcommand.{Subcommand}
@@ -89,12 +95,30 @@ reports = (codes "text", Lines) ∷ (codes "tap", Tap) ∷ (codes "junit", JUnit
 abbrev pub report_of : List Row → Option Report
 report_of rows = chosen Lines reports (first_of (codes "format") rows)
 
+-- how what came of commands is written
+abbrev pub forms : List (Text × Form)
+forms = (codes "text", InLines) ∷ (codes "json", InJson) ∷ []
+
+abbrev pub form_of : List Row → Option Form
+form_of rows = chosen InLines forms (first_of (codes "format") rows)
+
+-- whether an answer is painted
+abbrev pub colorings : List (Text × Coloring)
+colorings = (codes "auto", Auto) ∷ (codes "always", Always) ∷ (codes "never", Never) ∷ []
+
+abbrev pub coloring_of : List Row → Option Coloring
+coloring_of rows = chosen Auto colorings (first_of (codes "color") rows)
+
 -- of which faults words are written, and whether accepted sets are told
 abbrev pub extent_of : List Row → Extent
 extent_of rows = if is_given (codes "all") rows then Each else First
 
 abbrev pub passes_of : List Row → Passes
 passes_of rows = if is_given (codes "pass") rows then Listed else Omitted
+
+-- how much is told of a test that fails
+abbrev pub verbosity_of : List Row → Verbosity
+verbosity_of rows = if is_given (codes "verbose") rows then Verbose else Brief
 
 -- whether a set has to be accepted before it runs
 abbrev pub verification_of : List Row → Verification

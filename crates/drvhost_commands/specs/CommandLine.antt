@@ -1,6 +1,6 @@
 -- Which job the matches of a command line name.
 use Rattle.std.specs.Borrow.{Bor}
-use Rattle.std.specs.Prelude.{◌≡◌, ◌⊎◌, ℕ, List, [], ◌∷◌, ⊤, Option, None, Some, codes, false, map, option_and_then, string_bytes, true}
+use Rattle.std.specs.Prelude.{◌≡◌, ◌⊎◌, ℕ, List, [], ◌∷◌, ⊤, IsSome, Option, None, Some, codes, false, map, option_and_then, string_bytes, true}
 use Rattle.clap.specs.Words.{Row, Text, all_of, fault_of, first_of, subcommand_of}
 pub use Rattle.drvhost_arguments.specs.Program.{program}
 use Rattle.drvhost_arguments.specs.Given.{is_given}
@@ -9,10 +9,11 @@ use Rattle.interleave.specs.Line.{number_within}
 use Rattle.model.specs.declared.limits.TheConstants.{MAX_THREADS}
 use Rattle.report.specs.Rule.{IsRuleWord}
 use Rattle.drvhost_devices.specs.declared.verification.Verification.{Verification}
+use Rattle.drvhost_options.specs.declared.coloring.Coloring.{Coloring}
 use Rattle.drvhost_options.specs.declared.extent.Extent.TheVariants.{First}
 use Rattle.drvhost_options.specs.declared.logging.Account.TheVariants.{Verdict, Explanation}
 use Rattle.drvhost_options.specs.declared.manner.Detail.TheVariants.{Usual}
-use Rattle.drvhost_commands.specs.Choices.{IsReach, answer_format_of, command_named, extent_of, figure_of, jobs_of, manner_of, passes_of, report_of, tries_of, verdict_format_of, verification_of, wanted_of}
+use Rattle.drvhost_commands.specs.Choices.{IsReach, answer_format_of, coloring_of, command_named, extent_of, figure_of, form_of, jobs_of, manner_of, passes_of, report_of, tries_of, verbosity_of, verdict_format_of, verification_of, wanted_of}
 use Rattle.drvhost_commands.specs.declared.choices.Format.{Format}
 use Rattle.drvhost_commands.specs.declared.choices.Format.TheVariants.{Text as AsText, Json, Sarif}
 use Rattle.drvhost_commands.specs.declared.job.Job.{Job}
@@ -21,7 +22,7 @@ use Rattle.drvhost_commands.specs.declared.job.Judging.{Judging}
 use Rattle.drvhost_commands.specs.declared.job.Judging.TheVariants.{Check, CheckJson, Explain, ExplainJson}
 use Rattle.drvhost_commands.specs.declared.job.Page.{Page}
 use Rattle.drvhost_commands.specs.declared.job.Page.TheVariants.{Rule as PageOfRule, LockOrder, Version}
-use Rattle.drvhost_commands.specs.declared.job.Task.TheVariants.{Mend, List as Listing, Hunt, HuntExactly}
+use Rattle.drvhost_commands.specs.declared.job.Task.TheVariants.{Mend, List as Listing, Hunt, HuntExactly, Find, FindExactly}
 use Rattle.drvhost_commands.specs.declared.job.Way.{Way}
 use Rattle.drvhost_commands.specs.declared.job.Way.TheVariants.{Trace, TraceJson, Tell, TellJson, Draw, Schedule}
 use Rattle.drvhost_commands.specs.declared.job.JobFault.{JobFault}
@@ -58,6 +59,8 @@ pub record IsPageAsked (rows : List Row) (page : Page) : Type 0 where
   pub alone : first_of (codes "PATH") rows ≡ None
   pub first : extent_of rows ≡ First
   pub text : verdict_format_of rows ≡ Some AsText
+  pub coloring : Coloring
+  pub colored : coloring_of rows ≡ Some coloring
 
 -- the sets that paths stand for, one or more, are judged as text or in JSON, and so many jobs share
 -- them; or one log is written
@@ -81,14 +84,18 @@ IsTrace (Some AsText) verification way = way ≡ Trace verification
 IsTrace (Some Json) verification way = way ≡ TraceJson verification
 IsTrace _ verification way = ⊥
 
--- sets that are explained
-abbrev pub explaining : List Row → Judgement
-explaining rows =
+-- sets that are explained, painted so
+abbrev pub explaining : Coloring → List Row → Judgement
+explaining coloring rows =
     record {
-      text = Explain (extent_of rows);
+      text = Explain (extent_of rows) coloring;
       json = ExplainJson (extent_of rows);
       log = Explanation (extent_of rows);
     }
+
+abbrev pub NamesExplained : Option Coloring → List Row → Job → Type 0
+NamesExplained None rows job = ⊥
+NamesExplained (Some coloring) rows job = NamesJudged (explaining coloring rows) rows job
 
 -- what the matches of a command name
 abbrev pub NamesOf : Subcommand → List Row → Job → Type 0
@@ -96,7 +103,7 @@ NamesOf ToCheck rows job =
     NamesJudged (record { text = Check; json = CheckJson; log = Verdict }) rows job
 NamesOf ToExplain rows (OfPage page) = IsPageAsked rows page
 NamesOf ToExplain rows job =
-    (first_of (codes "RULE") rows ≡ None) × NamesJudged (explaining rows) rows job
+    (first_of (codes "RULE") rows ≡ None) × NamesExplained (coloring_of rows) rows job
 NamesOf ToMend rows (OnSet set (Mend tries)) =
     Has (codes "FILE") rows set.now × (tries_of rows ≡ Some tries) × (wanted_of rows ≡ Some None)
 NamesOf ToMend rows (Apply set tries wanted) =
@@ -105,33 +112,42 @@ NamesOf ToMend rows (Apply set tries wanted) =
 NamesOf ToTrace rows (OnRun set input way) =
     Has (codes "FILE") rows set.now × Has (codes "SCHEDULE") rows input.now
     × IsTrace (answer_format_of rows) (verification_of rows) way
-NamesOf ToTell rows (OnRun set input (Tell verification manner)) =
+NamesOf ToTell rows (OnRun set input (Tell verification manner coloring)) =
     Has (codes "FILE") rows set.now × Has (codes "SCHEDULE") rows input.now
     × (verification ≡ verification_of rows) × (manner_of rows ≡ Some manner)
-    × (answer_format_of rows ≡ Some AsText)
+    × (answer_format_of rows ≡ Some AsText) × (coloring_of rows ≡ Some coloring)
 NamesOf ToTell rows (OnRun set input (TellJson verification strictness)) =
     Has (codes "FILE") rows set.now × Has (codes "SCHEDULE") rows input.now
     × (verification ≡ verification_of rows)
     × (manner_of rows ≡ Some (record { detail = Usual; strictness = strictness }))
-    × (answer_format_of rows ≡ Some Json)
+    × (answer_format_of rows ≡ Some Json) × IsSome (coloring_of rows)
 NamesOf ToDraw rows (OnRun set input (Draw verification figure)) =
     Has (codes "FILE") rows set.now × Has (codes "SCHEDULE") rows input.now
     × (verification ≡ verification_of rows) × (figure_of rows ≡ Some figure)
-NamesOf ToTest rows (Test set scenarios verification report) =
+NamesOf ToTest rows (Test set scenarios verification report verbosity) =
     Has (codes "FILE") rows set.now × HasAll (codes "SCENARIO") rows scenarios.items
     × (verification ≡ verification_of rows) × (report_of rows ≡ Some report)
+    × (verbosity ≡ verbosity_of rows)
 NamesOf ToSchedule rows (OnRun set input (Schedule verification)) =
     Has (codes "FILE") rows set.now × Has (codes "SCENARIO") rows input.now
     × (verification ≡ verification_of rows)
 NamesOf ToHunt rows (OnSet set (Hunt reach)) =
     Has (codes "FILE") rows set.now × IsReach rows reach × (is_given (codes "exact") rows ≡ false)
+    × (is_given (codes "scenario") rows ≡ false)
 NamesOf ToHunt rows (OnSet set (HuntExactly reach)) =
     Has (codes "FILE") rows set.now × IsReach rows reach × (is_given (codes "exact") rows ≡ true)
-    × (is_given (codes "stuck") rows ≡ false)
-NamesOf ToHost rows (Host set script workers) =
+    × (is_given (codes "stuck") rows ≡ false) × (is_given (codes "scenario") rows ≡ false)
+NamesOf ToHunt rows (OnSet set (Find reach)) =
+    Has (codes "FILE") rows set.now × IsReach rows reach × (is_given (codes "exact") rows ≡ false)
+    × (is_given (codes "scenario") rows ≡ true)
+NamesOf ToHunt rows (OnSet set (FindExactly reach)) =
+    Has (codes "FILE") rows set.now × IsReach rows reach × (is_given (codes "exact") rows ≡ true)
+    × (is_given (codes "stuck") rows ≡ false) × (is_given (codes "scenario") rows ≡ true)
+NamesOf ToHost rows (Host set script workers form) =
     Has (codes "FILE") rows set.now × Has (codes "SCRIPT") rows script.now
     × (option_and_then (number_within 1 MAX_THREADS) (first_of (codes "workers") rows)
     ≡ Some workers)
+    × (form_of rows ≡ Some form)
 NamesOf ToList rows (OnSet set Listing) = Has (codes "FILE") rows set.now
 NamesOf ToRewrite rows (Rewrite set output) =
     Has (codes "FILE") rows set.now × Has (codes "OUT") rows output.now

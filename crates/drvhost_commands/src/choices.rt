@@ -2,18 +2,20 @@
 
 ghost use Rattle.std.specs.Prelude.{◌≡◌, ◌≤◌, IfNone, IfSome, option_map};
 ghost use Rattle.drvhost_arguments.specs.Given.{given_by};
-ghost use Rattle.drvhost_commands.specs.Choices.{IsReach, answer_format_of, any_number, detail_of, extent_of, figure_of, goal_of, jobs_of, manner_of, number_or, passes_of, report_of, strictness_of, tries_of, verdict_format_of, verification_of, wanted_of};
+ghost use Rattle.drvhost_commands.specs.Choices.{IsReach, answer_format_of, any_number, coloring_of, detail_of, extent_of, figure_of, form_of, goal_of, jobs_of, manner_of, number_or, passes_of, report_of, strictness_of, tries_of, verbosity_of, verdict_format_of, verification_of, wanted_of};
 
-use crate::job::Report;
+use crate::job::{Form, Report};
 use clap::ArgMatches;
 use drvhost_arguments::matches::{argument, is_given};
 use drvhost_devices::verification::Verification;
+use drvhost_options::coloring::Coloring;
 use drvhost_options::extent::Extent;
 use drvhost_options::figure::Figure;
 use drvhost_options::jobs::MAX_JOBS;
 use drvhost_options::logging::Passes;
 use drvhost_options::manner::{Detail, Manner, Strictness};
 use drvhost_options::tries::{MAX_TRIES, USUAL_TRIES};
+use drvhost_options::verbosity::Verbosity;
 use drvhost_options::wanted::{MAX_OFFERS, Wanted};
 use hunt_bounds::bounds::{Bounds, Goal};
 use hunt_bounds::reach::{
@@ -67,6 +69,18 @@ pub(crate) fn figure(matches: &ArgMatches<'_>) -> Option<Figure>
     }
 }
 
+/// How what came of commands is to be written, if there is such a format.
+pub(crate) fn form(matches: &ArgMatches<'_>) -> Option<Form>
+    ensures { result ≡ form_of (given_by matches.now) }
+{
+    match argument(matches, "format") {
+        None => Some(Form::Lines),
+        Some("text") => Some(Form::Lines),
+        Some("json") => Some(Form::Json),
+        Some(_) => None,
+    }
+}
+
 /// How tests are to be reported, if there is such a format.
 pub(crate) fn report(matches: &ArgMatches<'_>) -> Option<Report>
     ensures { result ≡ report_of (given_by matches.now) }
@@ -76,6 +90,19 @@ pub(crate) fn report(matches: &ArgMatches<'_>) -> Option<Report>
         Some("text") => Some(Report::Lines),
         Some("tap") => Some(Report::Tap),
         Some("junit") => Some(Report::JUnit),
+        Some(_) => None,
+    }
+}
+
+/// Whether an answer is to be painted, if there is such a choice.
+pub(crate) fn coloring(matches: &ArgMatches<'_>) -> Option<Coloring>
+    ensures { result ≡ coloring_of (given_by matches.now) }
+{
+    match argument(matches, "color") {
+        None => Some(Coloring::Auto),
+        Some("auto") => Some(Coloring::Auto),
+        Some("always") => Some(Coloring::Always),
+        Some("never") => Some(Coloring::Never),
         Some(_) => None,
     }
 }
@@ -99,6 +126,17 @@ pub(crate) fn passes(matches: &ArgMatches<'_>) -> Passes
         Passes::Listed
     } else {
         Passes::Omitted
+    }
+}
+
+/// How much is to be told of a test that fails.
+pub(crate) fn verbosity(matches: &ArgMatches<'_>) -> Verbosity
+    ensures { result ≡ verbosity_of (given_by matches.now) }
+{
+    if is_given(matches, "verbose") {
+        Verbosity::Verbose
+    } else {
+        Verbosity::Brief
     }
 }
 

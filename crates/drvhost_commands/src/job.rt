@@ -13,10 +13,12 @@ use drvhost_arguments::parsing::{Unmatched, matches_of};
 use drvhost_devices::device::Sink;
 use drvhost_devices::fault::say;
 use drvhost_devices::verification::Verification;
+use drvhost_options::coloring::Coloring;
 use drvhost_options::extent::Extent;
 use drvhost_options::figure::Figure;
 use drvhost_options::logging::Logging;
 use drvhost_options::manner::{Manner, Strictness};
+use drvhost_options::verbosity::Verbosity;
 use drvhost_options::wanted::Wanted;
 use hunt_bounds::reach::Reach;
 use interleave::read::number_within;
@@ -47,13 +49,14 @@ pub enum Job<'a> {
         paths: Vec<&'a str>,
         logging: Logging,
     },
-    /// `test FILE SCENARIO.. [--unchecked] [--format tap|junit]`: a set is tested by the scenarios
-    /// of other files
+    /// `test FILE SCENARIO.. [--unchecked] [--format tap|junit] [--verbose]`: a set is tested by the
+    /// scenarios that paths stand for
     Test {
         set: &'a str,
         scenarios: Vec<&'a str>,
         verification: Verification,
         report: Report,
+        verbosity: Verbosity,
     },
     /// `rewrite FILE OUT`
     Rewrite {
@@ -77,11 +80,12 @@ pub enum Job<'a> {
         input: &'a str,
         way: Way,
     },
-    /// `host FILE SCRIPT --workers N`
+    /// `host FILE SCRIPT --workers N [--format json]`
     Host {
         set: &'a str,
         script: &'a str,
         workers: Workers,
+        form: Form,
     },
 }
 
@@ -103,10 +107,19 @@ pub enum Judging {
     Check,
     /// `check PATH.. --format json`
     CheckJson,
-    /// `explain PATH.. [--all]`, as text
-    Explain(Extent),
+    /// `explain PATH.. [--all] [--color WHEN]`, as text
+    Explain(Extent, Coloring),
     /// `explain PATH.. [--all] --format json`
     ExplainJson(Extent),
+}
+
+/// How what came of the commands of a script is written.
+#[derive(Clone, Copy)]
+pub enum Form {
+    /// In a line each.
+    Lines,
+    /// In an object of JSON each.
+    Json,
 }
 
 /// How tests are reported.
@@ -131,6 +144,10 @@ pub enum Task {
     Hunt(Reach),
     /// The same with `--exact`, which doesn't go with `--stuck`.
     HuntExactly(Reach),
+    /// As `Hunt`, with `--scenario`.
+    Find(Reach),
+    /// As `HuntExactly`, with `--scenario`.
+    FindExactly(Reach),
 }
 
 /// How a driver set is run by an input.
@@ -140,8 +157,8 @@ pub enum Way {
     Trace(Verification),
     /// `trace FILE SCHEDULE [--unchecked] --format json`
     TraceJson(Verification),
-    /// `tell FILE SCHEDULE [--unchecked] [--quiet | --every] [--strict]`, as text
-    Tell(Verification, Manner),
+    /// `tell FILE SCHEDULE [--unchecked] [--quiet | --every] [--strict] [--color WHEN]`, as text
+    Tell(Verification, Manner, Coloring),
     /// `tell FILE SCHEDULE [--unchecked] [--strict] --format json`
     TellJson(Verification, Strictness),
     /// `draw FILE SCHEDULE [--unchecked] [--format svg|perfetto]`

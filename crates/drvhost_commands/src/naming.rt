@@ -7,8 +7,8 @@ ghost use Rattle.drvhost_commands.specs.declared.job.Job.TheVariants.{OnPaths};
 ghost use Rattle.drvhost_commands.specs.CommandLine.{IsNamed, IsPageOf, Names, NamesJudged, NamesOf};
 
 use crate::choices::{
-    Format, answer_format, extent, figure, jobs, manner, passes, reach, report, tries,
-    verdict_format, verification, wanted,
+    Format, answer_format, coloring, extent, figure, form, jobs, manner, passes, reach, report,
+    tries, verbosity, verdict_format, verification, wanted,
 };
 use crate::job::{Job, Judging, Page, Task, Way, Workers};
 use crate::subcommand::Subcommand;
@@ -101,9 +101,12 @@ fn sets_to_explain<'a>(
     ensures { IfOk result (λ named.
         IsNamed named (NamesOf Subcommand.Explain (given_by matches.now))) }
 {
+    let Some(coloring) = coloring(matches) else {
+        return Ok(None);
+    };
     let extent = extent(matches);
     let judgement = Judgement {
-        text: Judging::Explain(extent),
+        text: Judging::Explain(extent, coloring),
         json: Judging::ExplainJson(extent),
         log: Account::Explanation(extent),
     };
@@ -120,8 +123,9 @@ fn page_named<'a>(word: &str, matches: &ArgMatches<'a>) -> Option<Job<'a>>
         argument(matches, "PATH"),
         extent(matches),
         verdict_format(matches)?,
+        coloring(matches)?,
     ) {
-        (None, Extent::First, Format::Text) => {
+        (None, Extent::First, Format::Text, _coloring) => {
             let page = page_of(word)?;
             Some(Job::Page(page))
         }
@@ -238,9 +242,10 @@ fn tell_named<'a>(matches: &ArgMatches<'a>) -> Option<Job<'a>>
     let set = argument(matches, "FILE")?;
     let input = argument(matches, "SCHEDULE")?;
     let manner = manner(matches)?;
+    let coloring = coloring(matches)?;
     let verification = verification(matches);
     let way = match (answer_format(matches)?, manner.detail) {
-        (Format::Text, _) => Way::Tell(verification, manner),
+        (Format::Text, _) => Way::Tell(verification, manner, coloring),
         (Format::Json, Detail::Usual) => Way::TellJson(verification, manner.strictness),
         _ => return None,
     };
@@ -285,6 +290,7 @@ fn test_named<'a>(alloc: Global, matches: &ArgMatches<'a>) -> Result<Option<Job<
         scenarios,
         verification: verification(matches),
         report,
+        verbosity: verbosity(matches),
     }))
 }
 
@@ -293,10 +299,16 @@ fn hunt_named<'a>(matches: &ArgMatches<'a>) -> Option<Job<'a>>
 {
     let set = argument(matches, "FILE")?;
     let reach = reach(matches)?;
-    let task = match (is_given(matches, "exact"), is_given(matches, "stuck")) {
-        (true, true) => return None,
-        (true, false) => Task::HuntExactly(reach),
-        (false, _) => Task::Hunt(reach),
+    let task = match (
+        is_given(matches, "exact"),
+        is_given(matches, "stuck"),
+        is_given(matches, "scenario"),
+    ) {
+        (true, true, _) => return None,
+        (true, false, true) => Task::FindExactly(reach),
+        (true, false, false) => Task::HuntExactly(reach),
+        (false, _, true) => Task::Find(reach),
+        (false, _, false) => Task::Hunt(reach),
     };
     Some(Job::OnSet { set, task })
 }
@@ -307,10 +319,12 @@ fn host_named<'a>(matches: &ArgMatches<'a>) -> Option<Job<'a>>
     let set = argument(matches, "FILE")?;
     let script = argument(matches, "SCRIPT")?;
     let workers = Workers::of(argument(matches, "workers")?)?;
+    let form = form(matches)?;
     Some(Job::Host {
         set,
         script,
         workers,
+        form,
     })
 }
 

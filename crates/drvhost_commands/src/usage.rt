@@ -1,6 +1,6 @@
 //! What is told of words that the command line takes, and that name no job.
 
-use crate::choices::{answer_format, verdict_format};
+use crate::choices::{answer_format, coloring, form, verdict_format};
 use clap::ArgMatches;
 use drvhost_arguments::matches::{argument, is_given};
 use drvhost_arguments::program::EXPLAIN_USAGE;
@@ -21,8 +21,10 @@ const CHECK_USAGE: &str = "drvhost check [OPTIONS] <PATH>...";
 
 const TRACE_USAGE: &str = "drvhost trace [OPTIONS] <FILE> <SCHEDULE>";
 
-/// How `draw` is used.
+/// How `draw` is used, and how `host` is.
 const DRAW_USAGE: &str = "drvhost draw [OPTIONS] <FILE> <SCHEDULE>";
+
+const HOST_USAGE: &str = "drvhost host [OPTIONS] --workers <workers> <FILE> <SCRIPT>";
 
 /// The formats of verdicts and explanations, those of other answers, and those of drawn runs.
 const VERDICTS: &str = "text, json or sarif";
@@ -31,15 +33,25 @@ const ANSWERS: &str = "text or json";
 
 const FIGURES: &str = "svg or perfetto";
 
+/// What may be said of colour.
+const COLORS: &str = "auto, always or never";
+
 /// What is told of words that the command line takes, and that name no job.
 pub(crate) fn unnamed(alloc: Global, matches: &ArgMatches<'_>) -> Result<String, AllocError> {
     match matches.subcommand() {
+        Some(("explain", inner)) if coloring(inner).is_none() => {
+            unpainted(alloc, inner, EXPLAIN_USAGE)
+        }
         Some(("explain", inner)) if verdict_format(inner).is_some() => unexplained(alloc, inner),
         Some(("explain", inner)) => unwritten(alloc, inner, VERDICTS, EXPLAIN_USAGE),
+        Some(("tell", inner)) if coloring(inner).is_none() => unpainted(alloc, inner, TELL_USAGE),
         Some(("tell", inner)) if answer_format(inner).is_some() => untold(alloc, inner),
         Some(("tell", inner)) => unwritten(alloc, inner, ANSWERS, TELL_USAGE),
         Some(("hunt", inner)) if is_given(inner, "exact") && is_given(inner, "stuck") => {
             conflicting(alloc, "--exact", "--stuck", HUNT_USAGE)
+        }
+        Some(("host", inner)) if form(inner).is_none() => {
+            unwritten(alloc, inner, ANSWERS, HOST_USAGE)
         }
         Some(("check", inner)) => unwritten(alloc, inner, VERDICTS, CHECK_USAGE),
         Some(("trace", inner)) => unwritten(alloc, inner, ANSWERS, TRACE_USAGE),
@@ -104,6 +116,14 @@ fn unwritten(
 ) -> Result<String, AllocError> {
     let word = argument(matches, "format").unwrap_or("");
     let mut text = format!(in alloc; "error: there is no format '{word}': it is {formats}")?;
+    add_usage(&mut text, usage)?;
+    Ok(text)
+}
+
+/// What is told where an answer is to be painted in a way that there isn't.
+fn unpainted(alloc: Global, matches: &ArgMatches<'_>, usage: &str) -> Result<String, AllocError> {
+    let word = argument(matches, "color").unwrap_or("");
+    let mut text = format!(in alloc; "error: there is no color '{word}': it is {COLORS}")?;
     add_usage(&mut text, usage)?;
     Ok(text)
 }

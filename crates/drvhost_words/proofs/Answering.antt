@@ -6,15 +6,17 @@ use Rattle.clap.specs.Words.{Text, subcommand_of, takes}
 use Rattle.drvhost_devices.specs.Answer.{Answer}
 use Rattle.drvhost_devices.specs.Device.{Bytes, Closed, Holds, IsSuppliedAs, MayBeClosed, Says, Supply, Unknown}
 use Rattle.drvhost_devices.specs.Ends.{Answers, Ends, HoldsRun, IsCheckOf, IsRewriteOf, OutOfMemory, ReadFailed, Rightly, WriteFailed}
-use Rattle.drvhost_runs.specs.Readiness.{AreWarningsOf, SaysWarned}
-use Rattle.drvhost_runs.specs.Served.{IsHostOf}
+use Rattle.drvhost_runs.specs.Readiness.{SaysWarned}
 use Rattle.drvhost_devices.specs.declared.verification.Verification.{Verification}
+use Rattle.drvhost_commands.specs.declared.job.Form.{Form}
+use Rattle.drvhost_commands.specs.declared.job.Form.TheVariants.{Lines, Json}
 use Rattle.drvhost_commands.specs.declared.job.Job.{Job}
 use Rattle.drvhost_commands.specs.declared.job.Task.{Task}
-use Rattle.drvhost_commands.specs.declared.job.Task.TheVariants.{Mend, List as Listing, Hunt, HuntExactly}
+use Rattle.drvhost_commands.specs.declared.job.Task.TheVariants.{Mend, List as Listing, Hunt, HuntExactly, Find, FindExactly}
 use Rattle.drvhost_commands.specs.declared.job.Way.{Way}
 use Rattle.drvhost_commands.specs.declared.job.Way.TheVariants.{Trace, TraceJson, Tell, TellJson, Draw, Schedule}
 use Rattle.drvhost_commands.specs.declared.job.JobFault.{JobFault}
+use Rattle.drvhost_options.specs.declared.coloring.Coloring.TheVariants.{Auto, Always, Never}
 use Rattle.drvhost_commands.specs.declared.job.JobFault.TheVariants.{Memory, Usage}
 use Rattle.drvhost_commands.specs.CommandLine.{Names, job_fault_status, job_fault_told, program, text_told}
 use Rattle.drvhost_files.specs.Files.{supply_of}
@@ -22,7 +24,7 @@ use Rattle.drvhost_files.proofs.Known.{holds_known}
 use Rattle.drvhost_many.specs.All.{Counted}
 use Rattle.drvhost_many.proofs.Collected.{judged_known}
 use Rattle.drvhost_many.proofs.Judged.{ends_rightly}
-use Rattle.drvhost_words.specs.Program.{EndsAtOnce, IsDoneOf, IsQuietly, IsRunBy, IsTaskOf, IsUsage}
+use Rattle.drvhost_words.specs.Program.{AreWarningsBy, EndsAtOnce, IsDoneOf, IsQuietly, IsRunBy, IsServedBy, IsTaskOf, IsUsage}
 use Rattle.drvhost_words.specs.declared.work.Work.{Work}
 use Rattle.drvhost_words.specs.declared.work.Work.TheVariants.{Do, Judge}
 use Rattle.drvhost_words.specs.Unread.{IsNamedUnread, SaysAround, SaysMore, SaysUnread}
@@ -159,6 +161,10 @@ task_known (Hunt reach) known supply h answer (bytes, holds, right) =
     (bytes, holds_known known supply bytes h holds, right)
 task_known (HuntExactly reach) known supply h answer (bytes, holds, right) =
     (bytes, holds_known known supply bytes h holds, right)
+task_known (Find reach) known supply h answer (bytes, holds, right) =
+    (bytes, holds_known known supply bytes h holds, right)
+task_known (FindExactly reach) known supply h answer (bytes, holds, right) =
+    (bytes, holds_known known supply bytes h holds, right)
 
 pub work_known : (work : Work) (name : List ℕ) (known supply : Supply) → IsSuppliedAs known supply
     → (answer : Answer) → IsDoneOf work name supply answer → IsDoneOf work name known answer
@@ -171,20 +177,31 @@ pub rewrite_known : (known supply : Supply) → IsSuppliedAs known supply → (a
 rewrite_known known supply h answer (bytes, holds, right) =
     (bytes, holds_known known supply bytes h holds, right)
 
-pub host_known : (workers : ℕ) (known supply script other : Supply)
+served_held : (form : Form) (workers : ℕ) (n o : List ℕ) (known supply script : Supply)
+    → IsSuppliedAs known supply → (answer : Answer)
+    → IsServedBy form workers n o supply script answer
+    → IsServedBy form workers n o known script answer
+served_held Lines workers n o known supply script h answer (bytes, holds, right) =
+    (bytes, holds_known known supply bytes h holds, right)
+served_held Json workers n o known supply script h answer (bytes, holds, right) =
+    (bytes, holds_known known supply bytes h holds, right)
+
+pub served_known : (form : Form) (workers : ℕ) (n o : List ℕ) (known supply script other : Supply)
     → IsSuppliedAs known supply → other ≡ script → (answer : Answer)
-    → IsHostOf workers supply other answer → IsHostOf workers known script answer
-host_known workers known supply script other h e answer (bytes, holds, right) =
-    let P : Supply → Type 0 = λ s. IsHostOf workers known s answer in
-    subst P e (bytes, holds_known known supply bytes h holds, right)
+    → IsServedBy form workers n o supply other answer
+    → IsServedBy form workers n o known script answer
+served_known form workers n o known supply script other h e answer right =
+    let P : Supply → Type 0 = λ s. IsServedBy form workers n o known s answer in
+    subst P e (served_held form workers n o known supply other h answer right)
 
 -- the warnings of the set that a file holds are those of what is known of it
-pub warnings_known : (known supply : Supply) → IsSuppliedAs known supply → (status : ℕ)
-    (warnings : List ℕ) → AreWarningsOf supply status warnings
-    → AreWarningsOf known status warnings
-warnings_known known supply h status warnings (inl (bytes, holds, warns)) =
+pub warned_known : (form : Form) (known supply : Supply) → IsSuppliedAs known supply → (status : ℕ)
+    (warnings : List ℕ) → AreWarningsBy form supply status warnings
+    → AreWarningsBy form known status warnings
+warned_known Lines known supply h status warnings (inl (bytes, holds, warns)) =
     inl (bytes, holds_known known supply bytes h holds, warns)
-warnings_known known supply h status warnings (inr none) = inr none
+warned_known Lines known supply h status warnings (inr none) = inr none
+warned_known Json known supply h status warnings none = none
 
 way_held : (way : Way) (n o : Bor (List ℕ)) (known supply input : Supply)
     → IsSuppliedAs known supply → (answer : Answer) → IsRunBy way n o supply input answer
@@ -193,8 +210,12 @@ way_held (TraceJson v) n o known supply input h answer (bytes, holds, right) =
     (bytes, holds_known known supply bytes h holds, right)
 way_held (Trace v) n o known supply input h answer (bytes, holds, right) =
     (bytes, holds_known known supply bytes h holds, right)
-way_held (Tell v d) n o known supply input h answer (bytes, holds, right) =
+way_held (Tell v d Auto) n o known supply input h answer (bytes, holds, right) =
     (bytes, holds_known known supply bytes h holds, right)
+way_held (Tell v d Never) n o known supply input h answer (bytes, holds, right) =
+    (bytes, holds_known known supply bytes h holds, right)
+way_held (Tell v d Always) n o known supply input h answer (plain, (bytes, holds, right), is) =
+    (plain, (bytes, holds_known known supply bytes h holds, right), is)
 way_held (TellJson v s) n o known supply input h answer (bytes, holds, right) =
     (bytes, holds_known known supply bytes h holds, right)
 way_held (Draw v f) n o known supply input h answer (bytes, holds, right) =

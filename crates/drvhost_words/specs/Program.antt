@@ -1,6 +1,6 @@
 -- How the program answers the words of its command line, which files it opens, and what it writes to
 -- one.
-use Rattle.std.specs.Prelude.{ℕ, ◌≡◌, ◌≢◌, ◌+◌, ◌++◌, ◌≤◌, ◌⊎◌, Bool, List, [], None, Option, Some, false, map, min, true, Result, Ok, Err, String, drop, string_bytes}
+use Rattle.std.specs.Prelude.{ℕ, ◌≡◌, ◌≢◌, ◌+◌, ◌++◌, ◌≤◌, ◌⊎◌, Bool, List, [], None, Option, Some, false, if◌then◌else◌, map, min, true, Result, Ok, Err, String, drop, string_bytes}
 use Rattle.std.specs.Borrow.{Bor}
 use Rattle.std.specs.Global.{Global, Vec}
 use Rattle.std.specs.declared.io.ErrorKind.{ErrorKind}
@@ -11,8 +11,10 @@ use Rattle.drvhost_devices.specs.Device.{MayBeClosed, Supply}
 use Rattle.drvhost_devices.specs.declared.verification.Verification.{Verification}
 use Rattle.drvhost_devices.specs.declared.verification.Verification.TheVariants.{Required}
 use Rattle.drvhost_devices.specs.Ends.{Ends, HoldsRun, IsCheckOf, IsListOf, IsRewriteOf, IsTraceOf}
+use Rattle.drvhost_finds.specs.Find.{IsFindOf}
 use Rattle.drvhost_formats.specs.Told.{IsUnopenedJson}
 use Rattle.drvhost_formats.specs.Trace.{IsTraceJsonOf}
+use Rattle.drvhost_hunts.specs.declared.hunt.Way.TheVariants.{Quick, Exact}
 use Rattle.drvhost_hunts.specs.Hunt.{IsExactHuntOf, IsHuntOf}
 use Rattle.drvhost_mends.specs.declared.apply.Asked.{Asked as Applying}
 use Rattle.drvhost_mends.specs.Apply.{IsApplyOf, IsApplyWith}
@@ -22,12 +24,14 @@ use Rattle.drvhost_sets.specs.Explained.{IsLockOrderExplained}
 use Rattle.drvhost_runs.specs.Readiness.{AreWarningsOf}
 use Rattle.drvhost_runs.specs.Served.{IsHostOf}
 use Rattle.drvhost_views.specs.Told.{IsDrawOf, IsTellOf}
+use Rattle.drvhost_commands.specs.declared.job.Form.{Form}
+use Rattle.drvhost_commands.specs.declared.job.Form.TheVariants.{Lines, Json}
 use Rattle.drvhost_commands.specs.declared.job.Job.{Job}
 use Rattle.drvhost_commands.specs.declared.job.Job.TheVariants.{Page as OfPage, OnPaths, Log, Test, Rewrite, Apply, OnSet, OnRun, Host}
 use Rattle.drvhost_commands.specs.declared.job.Page.{Page}
 use Rattle.drvhost_commands.specs.declared.job.Page.TheVariants.{Rule, LockOrder, Version}
 use Rattle.drvhost_commands.specs.declared.job.Task.{Task}
-use Rattle.drvhost_commands.specs.declared.job.Task.TheVariants.{Mend, List as Listing, Hunt, HuntExactly}
+use Rattle.drvhost_commands.specs.declared.job.Task.TheVariants.{Mend, List as Listing, Hunt, HuntExactly, Find, FindExactly}
 use Rattle.drvhost_commands.specs.declared.job.Judging.{Judging}
 use Rattle.drvhost_commands.specs.declared.job.Judging.TheVariants.{Check, CheckJson, Explain, ExplainJson}
 use Rattle.drvhost_commands.specs.declared.job.Way.{Way}
@@ -35,11 +39,19 @@ use Rattle.drvhost_commands.specs.declared.job.Way.TheVariants.{Trace, TraceJson
 use Rattle.drvhost_commands.specs.CommandLine.{Names, NamesJob, program, usage}
 use Rattle.drvhost_files.specs.Files.{Has, IsWritten}
 use Rattle.drvhost_found.specs.declared.find.Found.{Found}
+use Rattle.drvhost_found.specs.declared.sought.Sought.{Sought}
+use Rattle.drvhost_found.specs.declared.sought.Sought.TheVariants.{Sets}
 use Rattle.drvhost_many.specs.All.{AreFound, EachEnds, IsAlone, IsUnfound, width_of}
 use Rattle.drvhost_many.specs.One.{IsJudged, is_in_json as judged_in_json}
+use Rattle.drvhost_many.specs.Painted.{IsShown}
+use Rattle.drvhost_options.specs.declared.coloring.Coloring.{Coloring}
+use Rattle.drvhost_options.specs.declared.coloring.Coloring.TheVariants.{Always, Never}
 use Rattle.drvhost_options.specs.declared.jobs.TheConstants.{MAX_JOBS}
+use Rattle.drvhost_options.specs.declared.surroundings.Surroundings.{Surroundings}
+use Rattle.drvhost_options.specs.Painting.{is_painted}
 use Rattle.drvhost_sarif.specs.Log.{PathsEnd as LogEnds}
 use Rattle.drvhost_tests.specs.Tests.{TestsEnd}
+use Rattle.drvhost_told.specs.Served.{IsHostJsonOf}
 use Rattle.drvhost_told.specs.Tell.{IsTellJsonOf}
 use Rattle.drvhost_words.specs.declared.work.Work.{Work}
 use Rattle.drvhost_words.specs.declared.work.Work.TheVariants.{Do, Judge}
@@ -47,11 +59,12 @@ use Rattle.drvhost_words.specs.Unread.{IsNamedUnread, IsOneOf}
 
 -- what a run of a set by an input answers, by the names of their files and what these have
 abbrev pub IsRunBy : Way → Bor (List ℕ) → Bor (List ℕ) → Supply → Supply → Answer → Type 0
-IsRunBy (Trace verification) name other = IsTraceOf verification
-IsRunBy (TraceJson verification) name other =
-    IsTraceJsonOf (record { set = name; schedule = other; verification = verification })
-IsRunBy (Tell verification manner) name other = IsTellOf verification manner
-IsRunBy (TellJson verification strictness) name other =
+IsRunBy (Trace verification) name other set input = IsTraceOf verification set input
+IsRunBy (TraceJson verification) name other set input =
+    IsTraceJsonOf (record { set = name; schedule = other; verification = verification }) set input
+IsRunBy (Tell verification manner coloring) name other set input =
+    IsShown coloring (IsTellOf verification manner set input)
+IsRunBy (TellJson verification strictness) name other set input =
     IsTellJsonOf
     (record {
       set = name;
@@ -59,17 +72,49 @@ IsRunBy (TellJson verification strictness) name other =
       verification = verification;
       strictness = strictness;
     })
-IsRunBy (Draw verification figure) name other = IsDrawOf verification figure
-IsRunBy (Schedule verification) name other = IsScheduleOf verification
+    set input
+IsRunBy (Draw verification figure) name other set input = IsDrawOf verification figure set input
+IsRunBy (Schedule verification) name other set input = IsScheduleOf verification set input
+
+-- whether an answer is in colour, by what a run of the program finds around it
+abbrev pub settled : Surroundings → Coloring → Coloring
+settled surroundings coloring = if is_painted coloring surroundings then Always else Never
+
+abbrev pub settled_judging : Surroundings → Judging → Judging
+settled_judging surroundings Check = Check
+settled_judging surroundings CheckJson = CheckJson
+settled_judging surroundings (Explain extent coloring) =
+    Explain extent (settled surroundings coloring)
+settled_judging surroundings (ExplainJson extent) = ExplainJson extent
+
+abbrev pub settled_way : Surroundings → Way → Way
+settled_way surroundings (Trace verification) = Trace verification
+settled_way surroundings (TraceJson verification) = TraceJson verification
+settled_way surroundings (Tell verification manner coloring) =
+    Tell verification manner (settled surroundings coloring)
+settled_way surroundings (TellJson verification strictness) = TellJson verification strictness
+settled_way surroundings (Draw verification figure) = Draw verification figure
+settled_way surroundings (Schedule verification) = Schedule verification
 
 -- whether the set has to be accepted
 abbrev pub verification_of : Way → Verification
 verification_of (Trace verification) = verification
 verification_of (TraceJson verification) = verification
-verification_of (Tell verification manner) = verification
+verification_of (Tell verification manner coloring) = verification
 verification_of (TellJson verification strictness) = verification
 verification_of (Draw verification figure) = verification
 verification_of (Schedule verification) = verification
+
+-- what so many workers answer that serve the commands of a script, in a form, by the names of the
+-- files of the set and of the script and what these have
+abbrev pub IsServedBy : Form → ℕ → List ℕ → List ℕ → Supply → Supply → Answer → Type 0
+IsServedBy Lines workers name other = IsHostOf workers
+IsServedBy Json workers name other = IsHostJsonOf workers name other
+
+-- the warnings that are told before: none, where it is JSON
+abbrev pub AreWarningsBy : Form → Supply → ℕ → List ℕ → Type 0
+AreWarningsBy Lines set status warnings = AreWarningsOf set status warnings
+AreWarningsBy Json set status warnings = warnings ≡ []
 
 -- what a task with a set answers, where this is what its file has
 abbrev pub IsTaskOf : Task → Supply → Answer → Type 0
@@ -77,6 +122,8 @@ IsTaskOf (Mend tries) = IsMendOf (record { tries = tries })
 IsTaskOf Listing = IsListOf
 IsTaskOf (Hunt reach) = IsHuntOf reach
 IsTaskOf (HuntExactly reach) = IsExactHuntOf reach
+IsTaskOf (Find reach) = IsFindOf Quick reach
+IsTaskOf (FindExactly reach) = IsFindOf Exact reach
 
 -- what any work with it does, by the name of its file and what this has
 abbrev pub IsDoneOf : Work → List ℕ → Supply → Answer → Type 0
@@ -172,8 +219,8 @@ FileEnds Check supply name opened reads writes before after status told =
     (opened ≡ 1) × Ends (IsCheckOf (supply name)) reads writes before after status told
 FileEnds CheckJson supply name opened reads writes before after status told =
     WorkEnds (Judge CheckJson) supply name opened reads writes before after status told
-FileEnds (Explain extent) supply name opened reads writes before after status told =
-    WorkEnds (Judge (Explain extent)) supply name opened reads writes before after status told
+FileEnds (Explain extent coloring) supply name opened reads writes before after status told =
+    WorkEnds (Judge (Explain extent coloring)) supply name opened reads writes before after status told
 FileEnds (ExplainJson extent) supply name opened reads writes before after status told =
     WorkEnds (Judge (ExplainJson extent)) supply name opened reads writes before after status told
 
@@ -194,48 +241,62 @@ FoundEnds judging jobs supply paths names opened reads writes before after statu
     × EachEnds judging (width_of count) supply names opened reads writes before after status told)
 
 -- how that of the sets does that paths stand for
-abbrev pub PathsEnd : (List ℕ → Found → Type 0) → (List ℕ → Supply) → List (Bor (List ℕ))
+abbrev pub PathsEnd : (Sought → List ℕ → Found → Type 0) → (List ℕ → Supply) → List (Bor (List ℕ))
     → Judging → Option ℕ → ℕ → ℕ → ℕ → Option (List ℕ) → Option (List ℕ) → ℕ → List ℕ → Type 0
 PathsEnd stands supply paths judging jobs opened reads writes before after status told =
-    ((names : List (String Global)) × AreFound (λ path. stands path.now) paths names
+    ((names : List (String Global)) × AreFound (λ path. stands Sets path.now) paths names
     × FoundEnds judging jobs supply paths names opened reads writes before after status told)
     ⊎ IsUnfound opened reads writes before after status told
 
--- how a job ends, where paths stand for such files, and the files of names have this to give: by the
--- number of files that it opens, that of reads and of writes that fail, what went out, its exit
--- status, and all that it tells
-abbrev pub JobEnds : (List ℕ → Found → Type 0) → (List ℕ → Supply) → Job → ℕ → ℕ → ℕ
+-- how a run of a set by an input does, in this way
+abbrev pub RunEnds : Way → (List ℕ → Supply) → Bor (List ℕ) → Bor (List ℕ) → ℕ → ℕ → ℕ
     → Option (List ℕ) → Option (List ℕ) → ℕ → List ℕ → Type 0
-JobEnds stands supply (OfPage page) opened reads writes before after status told =
+RunEnds way supply set input opened reads writes before after status told =
+    OpensToTrace (verification_of way) (supply set.now) opened
+    × EndsTelling (IsNamedUnread (IsOneOf set.now input.now) 0 reads)
+    (IsRunBy way set input (supply set.now) (supply input.now)) reads writes before after status told
+
+-- how a job ends, for what the program finds around it, where paths stand for such files, and the
+-- files of names have this to give: by the number of files that it opens, that of reads and of writes
+-- that fail, what went out, its exit status, and all that it tells
+abbrev pub JobEnds : Surroundings → (Sought → List ℕ → Found → Type 0) → (List ℕ → Supply) → Job → ℕ → ℕ → ℕ
+    → Option (List ℕ) → Option (List ℕ) → ℕ → List ℕ → Type 0
+JobEnds surroundings stands supply (OfPage page) opened reads writes before after status told =
     (opened ≡ 0) × Ends (IsPage page) reads writes before after status told
-JobEnds stands supply (OnPaths paths judging jobs) opened reads writes before after status told =
-    PathsEnd stands supply paths.items judging jobs opened reads writes before after status told
-JobEnds stands supply (Log paths logging) opened reads writes before after status told =
-    LogEnds logging (λ path. stands path.now) supply paths.items opened reads writes before after
+JobEnds surroundings stands supply (OnPaths paths judging jobs) opened reads writes before after status told =
+    PathsEnd stands supply paths.items (settled_judging surroundings judging) jobs opened reads writes
+    before after status told
+JobEnds surroundings stands supply (Log paths logging) opened reads writes before after status told =
+    LogEnds logging (λ path. stands Sets path.now) supply paths.items opened reads writes before after
     status told
-JobEnds stands supply (Test set scenarios verification report) opened reads writes before after status told =
+JobEnds surroundings stands supply (Test set scenarios verification report verbosity) opened reads writes before after status told =
     TestsEnd
-    (record { set = set.now; names = scenarios.items; verification = verification; report = report })
-    supply opened reads writes before after status told
-JobEnds stands supply (Rewrite set output) opened reads writes before after status told =
+    (record {
+      set = set.now;
+      names = scenarios.items;
+      verification = verification;
+      report = report;
+      verbosity = verbosity;
+    })
+    stands supply opened reads writes before after status told
+JobEnds surroundings stands supply (Rewrite set output) opened reads writes before after status told =
     (opened ≡ 1)
     × Ends (IsQuietly (IsRewriteOf (supply set.now))) reads writes before after status told
-JobEnds stands supply (Apply set tries wanted) opened reads writes before after status told =
+JobEnds surroundings stands supply (Apply set tries wanted) opened reads writes before after status told =
     (opened ≡ 1)
     × EndsTelling (IsNamedUnread (λ unread. unread ≡ set.now) 0 reads)
     (IsOfApply (record { tries = tries; wanted = wanted }) supply set.now) reads writes before after
     status told
-JobEnds stands supply (OnSet set task) opened reads writes before after status told =
+JobEnds surroundings stands supply (OnSet set task) opened reads writes before after status told =
     WorkEnds (Do task) supply set.now opened reads writes before after status told
-JobEnds stands supply (OnRun set input way) opened reads writes before after status told =
-    OpensToTrace (verification_of way) (supply set.now) opened
-    × EndsTelling (IsNamedUnread (IsOneOf set.now input.now) 0 reads)
-    (IsRunBy way set input (supply set.now) (supply input.now)) reads writes before after status told
-JobEnds stands supply (Host set script workers) opened reads writes before after status told =
+JobEnds surroundings stands supply (OnRun set input way) opened reads writes before after status told =
+    RunEnds (settled_way surroundings way) supply set input opened reads writes before after status told
+JobEnds surroundings stands supply (Host set script workers form) opened reads writes before after status told =
     OpensToTrace Required (supply set.now) opened
-    × EndsWarned (AreWarningsOf (supply set.now) status)
+    × EndsWarned (AreWarningsBy form (supply set.now) status)
     (IsNamedUnread (IsOneOf set.now script.now) 0 reads)
-    (IsHostOf workers (supply set.now) (supply script.now)) reads writes before after status told
+    (IsServedBy form workers set.now script.now (supply set.now) (supply script.now)) reads writes
+    before after status told
 
 -- how words are answered that name no job, where these answers are right: nothing is read
 abbrev pub EndsAtOnce : (Answer → Type 0) → ℕ → ℕ → ℕ → Option (List ℕ) → Option (List ℕ) → ℕ
@@ -244,20 +305,20 @@ EndsAtOnce Right opened reads writes before after status told =
     (opened ≡ 0) × (reads ≡ 0) × (writes ≡ 0) × Ends Right 0 0 before after status told
 
 -- how the words of a command line are answered
-abbrev pub WordsEnd : (List ℕ → Found → Type 0) → (List ℕ → Supply) → List Text → ℕ → ℕ → ℕ
+abbrev pub WordsEnd : Surroundings → (Sought → List ℕ → Found → Type 0) → (List ℕ → Supply) → List Text → ℕ → ℕ → ℕ
     → Option (List ℕ) → Option (List ℕ) → ℕ → List ℕ → Type 0
-WordsEnd stands supply words opened reads writes before after status told =
+WordsEnd surroundings stands supply words opened reads writes before after status told =
     ((job : Job) × NamesJob words job
-    × JobEnds stands supply job opened reads writes before after status told)
+    × JobEnds surroundings stands supply job opened reads writes before after status told)
     ⊎ EndsAtOnce (IsUsage words) opened reads writes before after status told
 
 -- how all words of a command line are, the program's name first
-abbrev pub ProgramEnds : (List ℕ → Found → Type 0) → (List ℕ → Supply)
+abbrev pub ProgramEnds : Surroundings → (Sought → List ℕ → Found → Type 0) → (List ℕ → Supply)
     → Result (Vec (String Global)) ErrorKind → ℕ → ℕ → ℕ → Option (List ℕ) → Option (List ℕ) → ℕ
     → List ℕ → Type 0
-ProgramEnds stands supply (Ok words) opened reads writes before after status told =
-    WordsEnd stands supply (arguments words) opened reads writes before after status told
-ProgramEnds stands supply (Err kind) opened reads writes before after status told =
+ProgramEnds surroundings stands supply (Ok words) opened reads writes before after status told =
+    WordsEnd surroundings stands supply (arguments words) opened reads writes before after status told
+ProgramEnds surroundings stands supply (Err kind) opened reads writes before after status told =
     EndsAtOnce (IsAnswerToLost kind) opened reads writes before after status told
 
 -- what the files of names have to give before and after, and how many were written until then and

@@ -3,24 +3,26 @@
 ghost use Rattle.std.specs.Prelude.{◌≡◌, ◌+◌, ◌<◌, ◌^◌, ◌⊎◌, ℕ, List, Option, drop, map, string_bytes, true};
 ghost use Rattle.drvhost_words.specs.Program.{FileEnds, IsAnswerToLost, IsDoneOf, IsOfApply, IsOfWork, IsPage, IsRunBy, IsJobCount, IsTaskOf, IsUnopenedBy, OpensToTrace, IsQuietly, EndsAtOnce, JobEnds, JobStores, MendsFile, PathsEnd, ProgramEnds, ProgramStores, RewritesFile, WordsEnd, WordsStore, is_in_json, verification_of};
 ghost use Rattle.drvhost_many.specs.All.{Counted};
-ghost use Rattle.drvhost_words.specs.Unread.{IsNamedUnread, IsOneOf, SaysAround, SaysMore};
+ghost use Rattle.drvhost_words.specs.Unread.{IsNamedUnread, IsOneOf, SaysMore};
 ghost use Rattle.drvhost_devices.specs.Device.{CanCount, Says};
 ghost use Rattle.drvhost_devices.specs.Ends.{Answers, HoldsRun, IsCheckOf, IsRewriteOf};
-ghost use Rattle.drvhost_runs.specs.Readiness.{AreWarningsOf};
-ghost use Rattle.drvhost_runs.specs.Served.{IsHostOf};
 
+use crate::coloring::{settled_judging, settled_way};
+use crate::serving::{Serving, host_files};
+use crate::telling::{Shown, tell_shown};
 use crate::unread::{Names, tell_if_unread, tell_which_unread};
 use crate::work::Work;
 use drvhost_commands::job::{
-    Job, JobFault, Judging, Page, Task, Way, Workers, refuse_unknown_words, refuse_words,
+    Job, JobFault, Judging, Page, Task, Way, refuse_unknown_words, refuse_words,
 };
 use drvhost_devices::device::{Sink, Source};
 use drvhost_devices::fault::no_memory;
 use drvhost_devices::unopened::tell_unopened;
-use drvhost_devices::verification::Verification;
 use drvhost_files::files::{Files, Later, Pending};
+use drvhost_finds::find::{find_exactly, find_telling};
 use drvhost_formats::trace::{Asked, trace_json};
 use drvhost_formats::unopened::unopened_json;
+use drvhost_found::sought::Sought;
 use drvhost_hunts::exact::hunt_exactly;
 use drvhost_hunts::hunt::hunt_telling;
 use drvhost_many::file::{self, judge};
@@ -30,7 +32,6 @@ use drvhost_mends::apply::{self, apply};
 use drvhost_mends::mend::{self, mend};
 use drvhost_options::jobs::MAX_JOBS;
 use drvhost_options::surroundings::Surroundings;
-use drvhost_runs::host::{Hosting, host};
 use drvhost_runs::trace::trace;
 use drvhost_sarif::logging::log_paths;
 use drvhost_scenarios::schedule::schedule;
@@ -42,13 +43,11 @@ use drvhost_sets::version::version;
 use drvhost_tests::test::{Tests, test};
 use drvhost_told::tell::{self, tell_json};
 use drvhost_views::draw::{Drawing, draw};
-use drvhost_views::tell::{Telling, tell};
 use report_progress::progress::{Progress, Silent};
 use std::alloc::{AllocError, Global};
 use std::io::ErrorKind;
 use std::sync::Wait;
 use std::thread::Threads;
-use workers::Gate;
 
 /// Where the program runs.
 #[derive(Clone, Copy)]
@@ -77,7 +76,7 @@ pub fn answer<F: Files, O: Sink, E: Sink, R: Threads + Wait + Sync + Progress>(
     requires unwritten { CanCount (F.unwritten files.old) }
     requires out { CanCount (O.failures out.old) }
     requires err { CanCount (E.failures err.old) }
-    ensures answers { Counted (ProgramEnds (F.stands files.old) (F.supply files.old) words)
+    ensures answers { Counted (ProgramEnds setting.surroundings (F.stands files.old) (F.supply files.old) words)
         (F.opened files.old) (F.opened files.new) (F.failures files.old) (F.failures files.new)
         (F.unwritten files.old + O.failures out.old) (F.unwritten files.new + O.failures out.new)
         (O.contents out.old) (O.contents out.new)
@@ -135,7 +134,7 @@ fn answer_words<F: Files, O: Sink, E: Sink, R: Threads + Wait + Sync + Progress>
     requires out { CanCount (O.failures out.old) }
     requires err { CanCount (E.failures err.old) }
     ensures answers { Counted
-        (WordsEnd (F.stands files.old) (F.supply files.old) (map string_bytes words.now))
+        (WordsEnd setting.surroundings (F.stands files.old) (F.supply files.old) (map string_bytes words.now))
         (F.opened files.old) (F.opened files.new) (F.failures files.old) (F.failures files.new)
         (F.unwritten files.old + O.failures out.old) (F.unwritten files.new + O.failures out.new)
         (O.contents out.old) (O.contents out.new)
@@ -166,7 +165,7 @@ fn perform<F: Files, O: Sink, E: Sink, R: Threads + Wait + Sync + Progress>(
     requires unwritten { CanCount (F.unwritten files.old) }
     requires out { CanCount (O.failures out.old) }
     requires err { CanCount (E.failures err.old) }
-    ensures answers { Counted (JobEnds (F.stands files.old) (F.supply files.old) job.now)
+    ensures answers { Counted (JobEnds setting.surroundings (F.stands files.old) (F.supply files.old) job.now)
         (F.opened files.old) (F.opened files.new) (F.failures files.old) (F.failures files.new)
         (F.unwritten files.old + O.failures out.old) (F.unwritten files.new + O.failures out.new)
         (O.contents out.old) (O.contents out.new)
@@ -185,7 +184,7 @@ fn perform<F: Files, O: Sink, E: Sink, R: Threads + Wait + Sync + Progress>(
         } => {
             let paths = Paths {
                 setting,
-                judging: *judging,
+                judging: settled_judging(setting.surroundings, *judging),
                 jobs: *jobs,
                 paths: paths.as_slice(),
             };
@@ -199,12 +198,14 @@ fn perform<F: Files, O: Sink, E: Sink, R: Threads + Wait + Sync + Progress>(
             scenarios,
             verification,
             report,
+            verbosity,
         } => {
             let tests = Tests {
                 set,
                 scenarios: scenarios.as_slice(),
                 verification: *verification,
                 report: *report,
+                verbosity: *verbosity,
             };
             test(alloc, tests, files, out, err)
         }
@@ -225,17 +226,20 @@ fn perform<F: Files, O: Sink, E: Sink, R: Threads + Wait + Sync + Progress>(
         }
         Job::OnRun { set, input, way } => {
             let names = Names::of(set, input);
-            run_files(alloc, Running { names, way: *way }, files, out, err)
+            let way = settled_way(setting.surroundings, *way);
+            run_files(alloc, Running { names, way }, files, out, err)
         }
         Job::Host {
             set,
             script,
             workers,
+            form,
         } => {
             let names = Names::of(set, script);
             let serving = Serving {
                 names,
                 workers: *workers,
+                form: *form,
             };
             host_files(rt, alloc, serving, files, out, err)
         }
@@ -294,7 +298,7 @@ fn judge_paths<R: Threads + Sync + Progress, F: Files, O: Sink, E: Sink>(
     ensures unwritten { F.unwritten files.new ≡ F.unwritten files.old }
 {
     let alloc = asked.setting.alloc;
-    match find_all(alloc, asked.paths, files) {
+    match find_all(alloc, Sought::Sets, asked.paths, files) {
         Ok(names) => match alone(asked.paths, names.as_slice()) {
             Some(path) => judge_file(alloc, asked.judging, path, files, out, err),
             None => {
@@ -347,7 +351,7 @@ fn judge_file<F: Files, O: Sink, E: Sink>(
 {
     match judging {
         Judging::Check => check_file(alloc, set, files, out, err),
-        Judging::CheckJson | Judging::Explain(_) | Judging::ExplainJson(_) => {
+        Judging::CheckJson | Judging::Explain(_, _) | Judging::ExplainJson(_) => {
             let beside = Beside {
                 alloc,
                 progress: &Silent,
@@ -508,6 +512,8 @@ fn fulfil<S: Source, O: Sink, E: Sink, P: Progress>(
         Task::List => list(alloc, set, out, err),
         Task::Hunt(reach) => hunt_telling(alloc, reach, beside.progress, set, out, err),
         Task::HuntExactly(reach) => hunt_exactly(alloc, reach, beside.progress, set, out, err),
+        Task::Find(reach) => find_telling(alloc, reach, beside.progress, set, out, err),
+        Task::FindExactly(reach) => find_exactly(alloc, reach, beside.progress, set, out, err),
     }
 }
 
@@ -686,12 +692,13 @@ fn run<S: Source, P: Source, O: Sink, E: Sink>(
             };
             trace_json(alloc, asked, set, input, out, err)
         }
-        Way::Tell(verification, manner) => {
-            let telling = Telling {
+        Way::Tell(verification, manner, coloring) => {
+            let shown = Shown {
                 verification,
                 manner,
+                coloring,
             };
-            tell(alloc, set, input, telling, out, err)
+            tell_shown(alloc, set, input, shown, out, err)
         }
         Way::TellJson(verification, strictness) => {
             let names = running.names;
@@ -712,81 +719,4 @@ fn run<S: Source, P: Source, O: Sink, E: Sink>(
         }
         Way::Schedule(verification) => schedule(alloc, verification, set, input, out, err),
     }
-}
-
-/// A gate that is always open.
-#[derive(Drop)]
-struct Open;
-
-impl Gate for Open {
-    fn before(&self, _worker: u32, _count: u64) -> bool
-        ensures { result ≡ true }
-    {
-        true
-    }
-
-    fn at_once(&self, worker: u32, count: u64) -> bool
-        ensures { result ≡ true }
-    {
-        self.before(worker, count)
-    }
-}
-
-/// Workers that serve the script of a file on the set of another one.
-#[derive(Clone, Copy)]
-struct Serving<'n> {
-    names: Names<'n>,
-    workers: Workers,
-}
-
-/// Has workers serve the script of a file on the set of another one. That of the script is opened
-/// for a set that is accepted. The one that can't be read is named.
-fn host_files<F: Files, O: Sink, E: Sink, R: Threads + Wait + Sync>(
-    rt: &R,
-    alloc: Global,
-    serving: Serving<'_>,
-    files: &mut F,
-    out: &mut O,
-    err: &mut E,
-) -> u8
-    requires opened { F.opened files.old + 2 < 2 ^ 64 }
-    requires files { CanCount (F.failures files.old) }
-    requires out { CanCount (O.failures out.old) }
-    requires err { CanCount (E.failures err.old) }
-    ensures answers { Answers (IsHostOf serving.entry.workers
-        (F.supply files.old serving.entry.names.set.now)
-        (F.supply files.old serving.entry.names.input.now))
-        (F.failures files.old) (F.failures files.new) (O.failures out.old) (O.failures out.new)
-        (O.contents out.old) (O.contents out.new)
-        (SaysAround (AreWarningsOf (F.supply files.old serving.entry.names.set.now) result)
-        (IsNamedUnread (IsOneOf serving.entry.names.set.now serving.entry.names.input.now)
-        (F.failures files.old) (F.failures files.new))
-        (E.failures err.old) (E.failures err.new) (E.contents err.old) (E.contents err.new))
-        result }
-    ensures opened { (count : ℕ)
-        × OpensToTrace Verification.Required
-        (F.supply files.old serving.entry.names.set.now) count
-        × (F.opened files.new ≡ F.opened files.old + count) }
-    ensures supply { F.supply files.new ≡ F.supply files.old }
-    ensures created { F.created files.new ≡ F.created files.old }
-    ensures unwritten { F.unwritten files.new ≡ F.unwritten files.old }
-{
-    let names = serving.names;
-    let count = serving.workers.count();
-    let hosting = Hosting {
-        runtime: rt,
-        workers: count,
-        gate: &Open,
-    };
-    let failures = err.failures();
-    let mut file = files.open(names.set);
-    let mut later = Later::new(files, names.input);
-    let status = host(alloc, &mut file, &mut later, &hosting, out, err);
-    tell_which_unread(names, &file, &later, failures, err);
-    let commands = later.into_file();
-    files.close(file);
-    if let Some(commands) = commands {
-        files.close(commands);
-    }
-    status
 }

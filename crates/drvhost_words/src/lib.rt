@@ -3,5 +3,8 @@
 #![tactic(auto)]
 
 pub mod answer;
+mod coloring;
+mod serving;
+mod telling;
 mod unread;
 mod work;

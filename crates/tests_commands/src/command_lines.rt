@@ -3,6 +3,7 @@
 use drvhost_commands::job::{Job, JobFault, Judging, Page, Task, Way, refuse_words};
 use drvhost_devices::device::Writer;
 use drvhost_devices::verification::Verification;
+use drvhost_options::coloring::Coloring;
 use drvhost_options::extent::Extent;
 use drvhost_options::figure::Figure;
 use drvhost_options::manner::{Detail, Manner, Strictness};
@@ -203,6 +204,58 @@ fn is_to_mend(job: &Job<'_>, wanted: u64) -> bool {
     }
 }
 
+#[test]
+fn colors(rt: HostRuntime) -> Result<(), Fail> {
+    let alloc = rt.alloc();
+    for word in ["auto", "always", "never"] {
+        let explained = ["explain", "a", "--color", word];
+        let job = Job::of(alloc, &explained)?;
+        assert!(rt; coloring_of(&job) == colored(word), "{word}");
+        let told = ["tell", "a", "b", "--color", word];
+        let job = Job::of(alloc, &told)?;
+        assert!(rt; coloring_of(&job) == colored(word), "{word}");
+        assert!(rt;
+            is_refused(alloc, &["trace", "a", "b", "--color", word]),
+            "{word}"
+        );
+    }
+    assert!(rt; Job::of(alloc, &["explain", "a", "--color", "Always"]).is_err());
+    assert!(rt; Job::of(alloc, &["explain", "--rule", "V1", "--color", "red"]).is_err());
+    assert!(rt;
+        Job::of(
+            alloc,
+            &["tell", "a", "b", "--format", "json", "--color", "red"]
+        )
+        .is_err()
+    );
+    Ok(())
+}
+
+/// What a word says of colour.
+fn colored(word: &str) -> Option<Coloring> {
+    match word {
+        "auto" => Some(Coloring::Auto),
+        "always" => Some(Coloring::Always),
+        "never" => Some(Coloring::Never),
+        _ => None,
+    }
+}
+
+/// What is said of colour where an answer may have it.
+fn coloring_of(job: &Job<'_>) -> Option<Coloring> {
+    match *job {
+        Job::OnPaths {
+            judging: Judging::Explain(_extent, coloring),
+            ..
+        } => Some(coloring),
+        Job::OnRun {
+            way: Way::Tell(_verification, _manner, coloring),
+            ..
+        } => Some(coloring),
+        _ => None,
+    }
+}
+
 /// A run that is told so, and not strictly.
 fn leniently(detail: Detail) -> Manner {
     Manner {
@@ -217,8 +270,14 @@ fn is_to_tell(job: &Job<'_>, run: Verification, told: Manner) -> bool {
         Job::OnRun {
             set,
             input,
-            way: Way::Tell(verification, manner),
-        } => set == "a" && input == "b" && verification == run && manner == told,
+            way: Way::Tell(verification, manner, coloring),
+        } => {
+            set == "a"
+                && input == "b"
+                && verification == run
+                && manner == told
+                && coloring == Coloring::Auto
+        }
         _ => false,
     }
 }
@@ -231,6 +290,7 @@ fn is_to_test(job: &Job<'_>, wanted: &str, by: &[&str], run: Verification) -> bo
             scenarios,
             verification,
             report: _,
+            verbosity: _,
         } => *set == wanted && are(scenarios.as_slice(), by) && *verification == run,
         _ => false,
     }
@@ -283,7 +343,7 @@ fn is_to_explain(job: &Job<'_>, wanted: &[&str], all: Extent) -> bool {
     match job {
         Job::OnPaths {
             paths,
-            judging: Judging::Explain(extent),
+            judging: Judging::Explain(extent, _coloring),
             jobs: _,
         } => are(paths.as_slice(), wanted) && *extent == all,
         _ => false,

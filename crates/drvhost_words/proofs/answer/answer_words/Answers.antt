@@ -6,18 +6,20 @@ use Rattle.drvhost_words.proofs.answer.answer_words.Goals as goal
 
 pub returns-in-Ok-clause-answers : goal.returns-in-Ok-clause-answers
 returns-in-Ok-clause-answers g c =
+    let around = c.args.setting.surroundings in
     let stands = g.F.Files.stands c.args.files.now in
     let supply = g.F.Files.supply c.args.files.now in
-    counted_as (JobEnds stands supply c.in-Ok.job) (WordsEnd stands supply _)
+    counted_as (JobEnds around stands supply c.in-Ok.job) (WordsEnd around stands supply _)
     _ _ _ _ _ _ _ _ _ _
     (λ opened reads writes told ends. inl (c.in-Ok.job, c.in-Ok.ensures.task, ends))
     c.perform.ensures.answers
 
 pub returns-in-Err-clause-answers : goal.returns-in-Err-clause-answers
 returns-in-Err-clause-answers g c =
+    let around = c.args.setting.surroundings in
     let stands = g.F.Files.stands c.args.files.now in
     let supply = g.F.Files.supply c.args.files.now in
-    counted_as (EndsAtOnce (IsUsage _)) (WordsEnd stands supply _)
+    counted_as (EndsAtOnce (IsUsage _)) (WordsEnd around stands supply _)
     _ _ _ _ _ _ _ _ _ _ (λ opened reads writes told ends. inr ends)
     (refused_words _ c.in-Err.fault _ _ _ _ _ _ c.in-Err.ensures.refused
     c.refuse_words.ensures.status c.refuse_words.ensures.told)

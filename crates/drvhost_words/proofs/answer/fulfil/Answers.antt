@@ -11,3 +11,9 @@ returns-in-Hunt g c = rw c.in-Hunt.is c.hunt_telling.ensures
 
 pub returns-in-HuntExactly : goal.returns-in-HuntExactly
 returns-in-HuntExactly g c = rw c.in-HuntExactly.is c.hunt_exactly.ensures
+
+pub returns-in-Find : goal.returns-in-Find
+returns-in-Find g c = rw c.in-Find.is c.find_telling.ensures
+
+pub returns-in-FindExactly : goal.returns-in-FindExactly
+returns-in-FindExactly g c = rw c.in-FindExactly.is c.find_exactly.ensures

@@ -2,6 +2,7 @@ use Rattle.std.proofs.Common.{◌≡◌, ◌⊎◌, ℕ, List, Option, inl, inr,
 use Rattle.drvhost_commands.specs.declared.job.Judging.{Judging}
 use Rattle.drvhost_commands.specs.declared.job.Judging.TheVariants.{Check, CheckJson, Explain, ExplainJson}
 use Rattle.drvhost_devices.specs.Device.{Supply}
+use Rattle.drvhost_options.specs.declared.coloring.Coloring.{Coloring}
 use Rattle.drvhost_options.specs.declared.extent.Extent.{Extent}
 use Rattle.drvhost_words.specs.declared.work.Work.TheVariants.{Judge}
 use Rattle.drvhost_words.specs.Program.{FileEnds, WorkEnds}
@@ -10,16 +11,16 @@ use Rattle.drvhost_words.proofs.answer.judge_file.Goals as goal
 
 -- what is judged otherwise than in lines of text ends as work with a file does
 as_work : (judging : Judging) (supply : List ℕ → Supply) (name : List ℕ)
-    → (judging ≡ CheckJson) ⊎ (((extent : Extent) × (judging ≡ Explain extent))
+    → (judging ≡ CheckJson) ⊎ (((extent : Extent) × (coloring : Coloring) × (judging ≡ Explain extent coloring))
     ⊎ ((extent : Extent) × (judging ≡ ExplainJson extent)))
     → (opened reads writes : ℕ) (before after : Option (List ℕ)) (status : ℕ) (told : List ℕ)
     → WorkEnds (Judge judging) supply name opened reads writes before after status told
     → FileEnds judging supply name opened reads writes before after status told
 as_work Check supply name (inl is) opened reads writes before after status told ends = cc
-as_work Check supply name (inr (inl (extent, is))) opened reads writes before after status told ends = cc
+as_work Check supply name (inr (inl (extent, coloring, is))) opened reads writes before after status told ends = cc
 as_work Check supply name (inr (inr (extent, is))) opened reads writes before after status told ends = cc
 as_work CheckJson supply name is opened reads writes before after status told ends = ends
-as_work (Explain extent) supply name is opened reads writes before after status told ends = ends
+as_work (Explain extent coloring) supply name is opened reads writes before after status told ends = ends
 as_work (ExplainJson extent) supply name is opened reads writes before after status told ends =
     ends
 

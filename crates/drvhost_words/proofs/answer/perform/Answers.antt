@@ -16,7 +16,7 @@ pub returns-in-OnPaths-clause-answers : goal.returns-in-OnPaths-clause-answers
 returns-in-OnPaths-clause-answers g c =
     rw c.in-OnPaths.is
     (counted_beside _ _ _ _ _ _ _ _ _ _ _ _ _
-    (rw c.as_slice.ensures.value at c.judge_paths.ensures.answers)
+    (rw (c.as_slice.ensures.value, c.settled_judging.ensures) at c.judge_paths.ensures.answers)
     c.judge_paths.ensures.unwritten)
 
 pub returns-in-OnPaths-clause-stores : goal.returns-in-OnPaths-clause-stores
@@ -81,11 +81,12 @@ returns-in-OnSet-clause-stores g c =
 
 pub returns-in-OnRun-clause-answers : goal.returns-in-OnRun-clause-answers
 returns-in-OnRun-clause-answers g c =
-    let opened = rw c.of-names.ensures.set at c.run_files.ensures.opened in
+    let opened = rw (c.of-names.ensures.set, c.settled_way-way.ensures) at c.run_files.ensures.opened in
     rw c.in-OnRun.is
     (counted_beside _ _ _ _ _ _ _ _ _ _ _ _ _
     (counted_telling _ _ _ opened.0 _ _ _ _ _ _ _ _ _ _ _ _ _ opened.1 opened.2
-    (rw (c.of-names.ensures.set, c.of-names.ensures.input) at c.run_files.ensures.answers))
+    (rw (c.of-names.ensures.set, c.of-names.ensures.input, c.settled_way-way.ensures)
+    at c.run_files.ensures.answers))
     c.run_files.ensures.unwritten)
 
 pub returns-in-OnRun-clause-stores : goal.returns-in-OnRun-clause-stores

@@ -7,7 +7,7 @@ pub returns-in-TraceJson : goal.returns-in-TraceJson
 returns-in-TraceJson g c = rw c.in-TraceJson.is c.trace_json.ensures
 
 pub returns-in-Tell : goal.returns-in-Tell
-returns-in-Tell g c = rw c.in-Tell.is c.tell.ensures
+returns-in-Tell g c = rw c.in-Tell.is c.tell_shown.ensures
 
 pub returns-in-TellJson : goal.returns-in-TellJson
 returns-in-TellJson g c = rw c.in-TellJson.is c.tell_json.ensures

@@ -1,8 +1,5 @@
-use Rattle.std.proofs.Common.{◌≡◌, inl, inr, refl, sym, rules, Option, Result, Ok, Err, IfErr, IsErrAnd, List, subst}
+use Rattle.std.proofs.Common.{inl, sym, Option, List, subst}
 use Rattle.clap.specs.Words.{Row, Text}
-use Rattle.drvhost_commands.specs.declared.job.Job.{Job}
-use Rattle.drvhost_commands.specs.declared.job.JobFault.{JobFault}
-use Rattle.drvhost_commands.specs.declared.job.JobFault.TheVariants.{Memory}
 use Rattle.drvhost_commands.specs.CommandLine.{Names}
 use Rattle.drvhost_commands.proofs.Named.{is_none, is_some}
 use Rattle.drvhost_commands.proofs.job.Job.of.Goals as goal

@@ -1,0 +1,148 @@
+//! Scripts that workers serve, each by the names of its files.
+
+ghost use Rattle.std.specs.Prelude.{◌≡◌, ◌+◌, ◌<◌, ◌≤◌, ◌^◌, ◌⊎◌, ℕ, true};
+ghost use Rattle.drvhost_devices.specs.Device.{CanCount};
+ghost use Rattle.drvhost_devices.specs.Ends.{Answers, HoldsRun};
+ghost use Rattle.drvhost_runs.specs.Readiness.{SaysWarned};
+ghost use Rattle.drvhost_words.specs.Program.{AreWarningsBy, IsServedBy, OpensToTrace};
+ghost use Rattle.drvhost_words.specs.Unread.{IsNamedUnread, IsOneOf, SaysAround};
+ghost use Rattle.model.specs.declared.limits.TheConstants.{MAX_THREADS};
+
+use crate::unread::{Names, tell_which_unread};
+use drvhost_commands::job::{Form, Workers};
+use drvhost_devices::device::{Sink, Source};
+use drvhost_devices::verification::Verification;
+use drvhost_files::files::{Files, Later};
+use drvhost_runs::host::{Hosting, host};
+use drvhost_told::host::{Asked, host_json};
+use std::alloc::Global;
+use std::sync::Wait;
+use std::thread::Threads;
+use workers::Gate;
+
+/// A gate that is always open.
+#[derive(Drop)]
+struct Open;
+
+impl Gate for Open {
+    fn before(&self, _worker: u32, _count: u64) -> bool
+        ensures { result ≡ true }
+    {
+        true
+    }
+
+    fn at_once(&self, worker: u32, count: u64) -> bool
+        ensures { result ≡ true }
+    {
+        self.before(worker, count)
+    }
+}
+
+/// Workers that serve the script of a file on the set of another one.
+#[derive(Clone, Copy)]
+pub(crate) struct Serving<'n> {
+    pub(crate) names: Names<'n>,
+    pub(crate) workers: Workers,
+    pub(crate) form: Form,
+}
+
+/// A script that is to be served, and how what comes of it is written.
+#[derive(Drop)]
+struct Orders<'a, R> {
+    asked: Asked<'a, R, Open>,
+    form: Form,
+}
+
+/// Has workers serve the script of a file on the set of another one. That of the script is opened
+/// for a set that is accepted. The one that can't be read is named.
+pub(crate) fn host_files<F: Files, O: Sink, E: Sink, R: Threads + Wait + Sync>(
+    rt: &R,
+    alloc: Global,
+    serving: Serving<'_>,
+    files: &mut F,
+    out: &mut O,
+    err: &mut E,
+) -> u8
+    requires opened { F.opened files.old + 2 < 2 ^ 64 }
+    requires files { CanCount (F.failures files.old) }
+    requires out { CanCount (O.failures out.old) }
+    requires err { CanCount (E.failures err.old) }
+    ensures answers { Answers (IsServedBy serving.entry.form serving.entry.workers
+        serving.entry.names.set.now serving.entry.names.input.now
+        (F.supply files.old serving.entry.names.set.now)
+        (F.supply files.old serving.entry.names.input.now))
+        (F.failures files.old) (F.failures files.new) (O.failures out.old) (O.failures out.new)
+        (O.contents out.old) (O.contents out.new)
+        (SaysAround (AreWarningsBy serving.entry.form
+        (F.supply files.old serving.entry.names.set.now) result)
+        (IsNamedUnread (IsOneOf serving.entry.names.set.now serving.entry.names.input.now)
+        (F.failures files.old) (F.failures files.new))
+        (E.failures err.old) (E.failures err.new) (E.contents err.old) (E.contents err.new))
+        result }
+    ensures opened { (count : ℕ)
+        × OpensToTrace Verification.Required
+        (F.supply files.old serving.entry.names.set.now) count
+        × (F.opened files.new ≡ F.opened files.old + count) }
+    ensures supply { F.supply files.new ≡ F.supply files.old }
+    ensures created { F.created files.new ≡ F.created files.old }
+    ensures unwritten { F.unwritten files.new ≡ F.unwritten files.old }
+{
+    let names = serving.names;
+    let count = serving.workers.count();
+    let orders = Orders {
+        asked: Asked {
+            set: names.set,
+            script: names.input,
+            hosting: Hosting {
+                runtime: rt,
+                workers: count,
+                gate: &Open,
+            },
+        },
+        form: serving.form,
+    };
+    let failures = err.failures();
+    let mut file = files.open(names.set);
+    let mut later = Later::new(files, names.input);
+    let status = serve(alloc, &orders, &mut file, &mut later, out, err);
+    tell_which_unread(names, &file, &later, failures, err);
+    let commands = later.into_file();
+    files.close(file);
+    if let Some(commands) = commands {
+        files.close(commands);
+    }
+    status
+}
+
+/// Has workers serve the script of a source on the set of another one.
+fn serve<S: Source, P: Source, O: Sink, E: Sink, R: Threads + Wait + Sync>(
+    alloc: Global,
+    orders: &Orders<'_, R>,
+    set: &mut S,
+    script: &mut P,
+    out: &mut O,
+    err: &mut E,
+) -> u8
+    requires some { 1 ≤ orders.now.asked.hosting.workers }
+    requires few { orders.now.asked.hosting.workers ≤ MAX_THREADS }
+    requires set { CanCount (S.failures set.old) }
+    requires script { CanCount (P.failures script.old) }
+    requires out { CanCount (O.failures out.old) }
+    requires err { CanCount (E.failures err.old) }
+    ensures unread { (script.new ≡ script.old)
+        ⊎ HoldsRun Verification.Required (S.supply set.old) }
+    ensures answers { Answers
+        (IsServedBy orders.now.form orders.now.asked.hosting.workers
+        orders.now.asked.set.now orders.now.asked.script.now
+        (S.supply set.old) (P.supply script.old))
+        (S.failures set.old + P.failures script.old) (S.failures set.new + P.failures script.new)
+        (O.failures out.old) (O.failures out.new) (O.contents out.old) (O.contents out.new)
+        (SaysWarned (AreWarningsBy orders.now.form (S.supply set.old) result)
+        (E.failures err.old) (E.failures err.new) (E.contents err.old) (E.contents err.new))
+        result }
+{
+    match orders.form {
+        Form::Lines => host(alloc, set, script, &orders.asked.hosting, out, err),
+        Form::Json => host_json(alloc, &orders.asked, set, script, out, err),
+    }
+}
