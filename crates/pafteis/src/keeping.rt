@@ -18,7 +18,7 @@ use crate::shown::telling_of;
 use crate::texts::{NO_MEMORY, extent_of, verification_of, wrong};
 use crate::worlds::{DONE, NO_WORLD};
 use model::memory::OutOfMemory;
-use pafteis_parts::answers;
+use pafteis_parts::answers::{self, Run, run_as};
 use pafteis_parts::returned::Told;
 use pafteis_world::keeping;
 use pafteis_world::kept::Kept;
@@ -57,7 +57,7 @@ pub extern "C" fn pafteis_answer_trace(
 {
     match verification_of(flags) {
         Some(verification) => {
-            let told = answers::trace(alloc, set, schedule, verification);
+            let told = run_as(alloc, set, schedule, Run::Trace(verification));
             keep(alloc, told, answer, needed)
         }
         None => wrong(needed),
@@ -79,7 +79,7 @@ pub extern "C" fn pafteis_answer_tell(
 {
     match telling_of(flags) {
         Some(telling) => {
-            let told = answers::tell(alloc, set, schedule, telling);
+            let told = run_as(alloc, set, schedule, Run::Tell(telling));
             keep(alloc, told, answer, needed)
         }
         None => wrong(needed),
@@ -101,7 +101,7 @@ pub extern "C" fn pafteis_answer_draw(
 {
     match verification_of(flags) {
         Some(verification) => {
-            let told = answers::draw(alloc, set, schedule, verification);
+            let told = run_as(alloc, set, schedule, Run::Draw(verification));
             keep(alloc, told, answer, needed)
         }
         None => wrong(needed),

@@ -7,7 +7,7 @@ use crate::texts::{put, verification_of, wrong};
 use drvhost_devices::verification::Verification;
 use drvhost_options::manner::{Detail, Manner, Strictness};
 use drvhost_views::tell::Telling;
-use pafteis_parts::answers;
+use pafteis_parts::answers::{Run, run_as};
 use std::alloc::Global;
 
 /// A run of a set by a schedule in words, with an audit behind. The flags are the sum of 1 where any
@@ -25,7 +25,11 @@ pub extern "C" fn pafteis_tell(
     ensures { Tells flags set.now schedule.now buffer.old buffer.new needed.new result }
 {
     match telling_of(flags) {
-        Some(telling) => put(answers::tell(alloc, set, schedule, telling), buffer, needed),
+        Some(telling) => put(
+            run_as(alloc, set, schedule, Run::Tell(telling)),
+            buffer,
+            needed,
+        ),
         None => wrong(needed),
     }
 }
@@ -45,7 +49,7 @@ pub extern "C" fn pafteis_draw(
 {
     match verification_of(flags) {
         Some(verification) => put(
-            answers::draw(alloc, set, schedule, verification),
+            run_as(alloc, set, schedule, Run::Draw(verification)),
             buffer,
             needed,
         ),

@@ -9,7 +9,7 @@ use crate::worlds::DONE;
 use drvhost_devices::verification::Verification;
 use drvhost_options::extent::Extent;
 use model::memory::OutOfMemory;
-use pafteis_parts::answers;
+use pafteis_parts::answers::{self, Run, run_as};
 use pafteis_parts::delivery::{deliver, place};
 use pafteis_parts::returned::Told;
 use pafteis_values::rule::rule_of;
@@ -106,7 +106,7 @@ pub extern "C" fn pafteis_trace(
 {
     match verification_of(flags) {
         Some(verification) => put(
-            answers::trace(alloc, set, schedule, verification),
+            run_as(alloc, set, schedule, Run::Trace(verification)),
             buffer,
             needed,
         ),

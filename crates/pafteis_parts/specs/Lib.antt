@@ -1,2 +1,3 @@
 pub mod Told
 pub mod Delivery
+pub mod Shown

@@ -1,23 +1,24 @@
 //! The program's answers, over bytes in memory. A call may answer that no memory was found,
 //! whatever it is asked.
 
-ghost use Rattle.std.specs.Prelude.{IfOk};
+ghost use Rattle.std.specs.Prelude.{◌+◌, IfOk};
 ghost use Rattle.drvhost_devices.specs.Answer.{IsRuleExplained};
-ghost use Rattle.drvhost_devices.specs.Device.{Bytes};
-ghost use Rattle.drvhost_devices.specs.Ends.{IsCheckOf, IsListOf, IsRewriteOf, IsTraceOf};
+ghost use Rattle.drvhost_devices.specs.Device.{Bytes, CanCount, Says};
+ghost use Rattle.drvhost_devices.specs.Ends.{Answers, IsCheckOf, IsListOf, IsRewriteOf};
 ghost use Rattle.drvhost_hunts.specs.Hunt.{IsHuntOf};
 ghost use Rattle.drvhost_mends.specs.Mend.{IsMendOf};
 ghost use Rattle.drvhost_sets.specs.Explained.{IsExplainedOf};
-ghost use Rattle.drvhost_views.specs.Told.{IsDrawOf, IsTellOf};
+ghost use Rattle.pafteis_parts.specs.Shown.{IsRunAs};
 
 use crate::returned::{Told, collected};
-use drvhost_devices::device::{Reader, Source, Writer};
+use drvhost_devices::device::{Reader, Sink, Source, Writer};
 use drvhost_devices::verification::Verification;
 use drvhost_mends::mend::Asked;
 use drvhost_options::extent::Extent;
 use drvhost_options::figure::Figure;
-use drvhost_views::draw::Drawing;
-use drvhost_views::tell::Telling;
+use drvhost_runs::trace::trace;
+use drvhost_views::draw::{Drawing, draw};
+use drvhost_views::tell::{Telling, tell};
 use hunt_bounds::reach::Reach;
 use model::abs::Rule;
 use model::memory::OutOfMemory;
@@ -61,81 +62,68 @@ pub fn explain_rule(alloc: Global, rule: Rule) -> Result<Told, OutOfMemory>
     collected(exit, 0, 0, output, errors)
 }
 
-/// The trace of a set by a schedule.
-pub fn trace(
-    alloc: Global,
-    set: &[u8],
-    schedule: &[u8],
-    verification: Verification,
-) -> Result<Told, OutOfMemory>
-    ensures { IfOk result (IsTraceOf verification (Bytes set.now) (Bytes schedule.now)) }
+/// A run of a set by a schedule, by how it is shown.
+#[derive(Clone, Copy)]
+pub enum Run {
+    /// Its trace.
+    Trace(Verification),
+    /// In words.
+    Tell(Telling),
+    /// As a picture.
+    Draw(Verification),
+}
+
+/// A run of a set by a schedule.
+pub fn run_as(alloc: Global, set: &[u8], schedule: &[u8], run: Run) -> Result<Told, OutOfMemory>
+    ensures { IfOk result (IsRunAs run (Bytes set.now) (Bytes schedule.now)) }
 {
     let mut source = Reader::new(Some(set));
     let mut events = Reader::new(Some(schedule));
     let mut output = Writer::new(Vec::new(alloc));
     let mut errors = Writer::new(Vec::new(alloc));
-    let exit = drvhost_runs::trace::trace(
+    let exit = show(
         alloc,
+        run,
         &mut source,
         &mut events,
-        verification,
         &mut output,
         &mut errors,
     );
     collected(exit, source.failures(), events.failures(), output, errors)
 }
 
-/// A run of a set by a schedule, told in words.
-pub fn tell(
+/// The same over devices. The answer is the exit status.
+fn show<S: Source, P: Source, O: Sink, E: Sink>(
     alloc: Global,
-    set: &[u8],
-    schedule: &[u8],
-    telling: Telling,
-) -> Result<Told, OutOfMemory>
-    ensures { IfOk result
-        (IsTellOf telling.verification telling.manner (Bytes set.now) (Bytes schedule.now)) }
+    run: Run,
+    set: &mut S,
+    schedule: &mut P,
+    out: &mut O,
+    err: &mut E,
+) -> u8
+    requires set { CanCount (S.failures set.old) }
+    requires schedule { CanCount (P.failures schedule.old) }
+    requires out { CanCount (O.failures out.old) }
+    requires err { CanCount (E.failures err.old) }
+    ensures { Answers (IsRunAs run (S.supply set.old) (P.supply schedule.old))
+        (S.failures set.old + P.failures schedule.old)
+        (S.failures set.new + P.failures schedule.new)
+        (O.failures out.old) (O.failures out.new) (O.contents out.old) (O.contents out.new)
+        (Says (E.failures err.old) (E.failures err.new) (E.contents err.old) (E.contents err.new))
+        result }
 {
-    let mut source = Reader::new(Some(set));
-    let mut events = Reader::new(Some(schedule));
-    let mut output = Writer::new(Vec::new(alloc));
-    let mut errors = Writer::new(Vec::new(alloc));
-    let exit = drvhost_views::tell::tell(
-        alloc,
-        &mut source,
-        &mut events,
-        telling,
-        &mut output,
-        &mut errors,
-    );
-    collected(exit, source.failures(), events.failures(), output, errors)
-}
-
-/// A run of a set by a schedule, as a picture.
-pub fn draw(
-    alloc: Global,
-    set: &[u8],
-    schedule: &[u8],
-    verification: Verification,
-) -> Result<Told, OutOfMemory>
-    ensures { IfOk result (IsDrawOf verification Figure.Picture (Bytes set.now) (Bytes schedule.now)) }
-{
-    let mut source = Reader::new(Some(set));
-    let mut events = Reader::new(Some(schedule));
-    let mut output = Writer::new(Vec::new(alloc));
-    let mut errors = Writer::new(Vec::new(alloc));
-    let drawing = Drawing {
-        verification,
-        figure: Figure::Picture,
-    };
-    let exit = drvhost_views::draw::draw(
-        alloc,
-        drawing,
-        &mut source,
-        &mut events,
-        &mut output,
-        &mut errors,
-    );
-    collected(exit, source.failures(), events.failures(), output, errors)
+    match run {
+        Run::Trace(verification) => trace(alloc, set, schedule, verification, out, err),
+        Run::Tell(telling) => tell(alloc, set, schedule, telling, out, err),
+        Run::Draw(verification) => {
+            let figure = Figure::Picture;
+            let drawing = Drawing {
+                verification,
+                figure,
+            };
+            draw(alloc, drawing, set, schedule, out, err)
+        }
+    }
 }
 
 /// A shortest run of a set that ends amiss, as a schedule, or that none is within reach.

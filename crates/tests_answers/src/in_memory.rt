@@ -7,7 +7,9 @@ use hunt_bounds::bounds::{Bounds, Goal};
 use hunt_bounds::reach::Reach;
 use model::abs::Rule;
 use model::memory::OutOfMemory;
-use pafteis_parts::answers::{check, explain, explain_rule, hunt, list, mend, rewrite, trace};
+use pafteis_parts::answers::{
+    Run, check, explain, explain_rule, hunt, list, mend, rewrite, run_as,
+};
 use pafteis_parts::delivery::deliver;
 use pafteis_parts::returned::Told;
 
@@ -106,12 +108,12 @@ fn verdicts_in_memory(rt: HostRuntime) {
 fn traces_in_memory(rt: HostRuntime) {
     let alloc = rt.alloc();
     let run = b"0 started 0\n1 stepped\n2 topped 0 0x00000000 0\n3 finished\n";
-    let answer = trace(alloc, ECHO, ONE_READ, Verification::Required);
+    let answer = run_as(alloc, ECHO, ONE_READ, Run::Trace(Verification::Required));
     assert!(rt; is_told(answer, 0, run, b""));
-    let answer = trace(alloc, TWICE, ONE_READ, Verification::Required);
+    let answer = run_as(alloc, TWICE, ONE_READ, Run::Trace(Verification::Required));
     assert!(rt; is_told(answer, 1, REFUSED, b""));
     let bug = b"0 started 0\n1 stepped\n2 topped 0 0x00000000 0\n3 bug 0x44 packet 0\n";
-    let answer = trace(alloc, TWICE, ONE_READ, Verification::Skipped);
+    let answer = run_as(alloc, TWICE, ONE_READ, Run::Trace(Verification::Skipped));
     assert!(rt; is_told(answer, 1, bug, b""));
 }
 

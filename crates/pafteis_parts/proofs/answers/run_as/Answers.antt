@@ -1,5 +1,5 @@
 use Rattle.pafteis_parts.proofs.Answered.{answered}
-use Rattle.pafteis_parts.proofs.answers.trace.Goals as goal
+use Rattle.pafteis_parts.proofs.answers.run_as.Goals as goal
 
 pub returns : goal.returns
 returns c =
@@ -15,5 +15,5 @@ returns c =
       c.new-errors.ensures.contents,
       c.new.ensures.items,
       c.new-2.ensures.items,
-    ) at c.trace-exit.ensures.answers)
+    ) at c.show-exit.ensures)
     (rw (c.failures.ensures, c.failures-2.ensures) at c.collected.ensures)
