@@ -18,7 +18,8 @@ def values(flag):
     """What may stand behind a flag; nothing where it takes no value, or any."""
     known = {"--rule RULE": rules(), "--workers N": [str(2 ** power) for power in range(7)],
              "--format FORMAT": ["text", "json", "sarif"],
-             "--format FIGURE": ["svg", "perfetto"], "--format FORM": ["text", "tap", "junit"]}
+             "--format FIGURE": ["svg", "perfetto"], "--format FORM": ["text", "tap", "junit"],
+             "--color WHEN": ["auto", "always", "never"]}
     return known.get(flag, [])
 
 BASH = """\

@@ -231,7 +231,9 @@ def stray(all_groups):
     there = files - {name for name in beside if os.path.basename(name) not in ASKED}
     there |= {text.name for text in texts(all_groups)}
     told = ['%s: it can stand in its group of runs' % name for name in loose]
-    told += ['%s: no run names it' % name for name in sorted(there - named(all_groups))]
+    folders = {word + '/' for group in all_groups for run in group.runs for word in run.words}
+    unnamed = [name for name in sorted(there - named(all_groups)) if os.path.dirname(name) + '/' not in folders]
+    told += ['%s: no run names it' % name for name in unnamed]
     for group in all_groups:
         for run in group.runs:
             missing = [name for name in run.files() if name not in there]

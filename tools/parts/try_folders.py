@@ -24,6 +24,9 @@ TREE = {
     b'tree/b/c/good.image': IMAGE,
     b'tree/b/note.txt': b'none',
     b'tree/b/drv': b'none',
+    b'tree/b/holds.scenario': b'threads 1\na = issue 0 v READ 1\nrun 0\nexpect a topped SUCCESS\nexpect clean\n',
+    b'tree/b/c/faulty.scenario': b'threads 1\nstop 0\n',
+    b'tree/fails.scenario': b'threads 1\nstep 0\n',
     b'tree/folder.drv/in.drv': GOOD,
     b'tree/sp ace.drv': GOOD,
     b'tree/quo\'te".drv': TWICE,
@@ -165,6 +168,12 @@ def answers(program, folder):
     status, written, told = run(program, [b'explain', b'three.drv', b'one.drv'], folder)
     faulty = run(program, [b'explain', b'three.drv'], folder)
     yield 'explain three.drv one.drv', (2, b'one.drv:\n' + alone[1][1], b'three.drv:\n' + faulty[2]), (status, written, told)
+    # a folder stands for the scenarios in and below it too
+    names = sorted(name for name in TREE if name.startswith(b'tree/') and name.endswith(b'.scenario'))
+    alone = [run(program, [b'test', b'one.drv', name], folder) for name in names]
+    whole = max(one[0] for one in alone), b''.join(one[1] for one in alone), b''.join(one[2] for one in alone)
+    yield 'test one.drv tree', whole, run(program, [b'test', b'one.drv', b'tree'], folder)
+    yield 'test one.drv none', (0, b'', b''), run(program, [b'test', b'one.drv', b'none'], folder)
     yield 'check of a file that grows', named([(b'grows.drv', ACCEPTED), (b'one.drv', ACCEPTED)]), growing(program, folder)
     yield 'check of a pipe', named([(b'one.drv', ACCEPTED), (b'pipe.drv', REFUSED)]), piped(program, folder)
     status, told = told_at(program, folder, True)

@@ -3,13 +3,16 @@
 example (at most N worlds, 20,000 if no number is given). What is found has to end as its first line tells, by `tell --unchecked`,
 with exit status 1; where the run by hand shows that the driver is wrong, one has to be found, and with no more events. Where none
 is found, and all worlds were seen, that run mustn't show it, and `--stuck` is asked for too: the audit of such a run has nothing
-amiss, and names each packet that lives. The last lines count finds and events."""
+amiss, and names each packet that lives. With `--scenario` each find has to be a scenario under the same first line, which fails in
+`test --unchecked` at its last line, where it expects a clean run, and of which `schedule` writes the find's events; one that is
+stuck has none. The last lines count finds and events."""
 import argparse, glob, os, re, subprocess, sys, tempfile
 
 import finds
 import gallery
 
 FINDING = re.compile(r'^; (.*)$', re.M)
+UNSHOWN = '; a run was found that no scenario shows: hunt without --scenario for its schedule\n'
 
 def answer(program, *words):
     """What the program writes, and the exit status."""
@@ -21,11 +24,17 @@ def events(told):
     numbers = re.findall(r'^(\d+) ', told.partition('\naudit\n')[0], re.M)
     return int(numbers[-1]) + 1 if numbers else 0
 
+def lines(schedule):
+    """The lines of a schedule, without what is said of them."""
+    return list(filter(None, (line.partition(';')[0].strip() for line in schedule.splitlines())))
+
 class Hunt:
-    """What comes of a hunt in the set of a file."""
+    """What comes of a hunt in the set of a file, and with `--scenario`."""
 
     def __init__(self, program, path, states, *more):
-        self.path, (self.text, self.status) = path, answer(program, 'hunt', '--states', str(states), *more, path)
+        asked = ['hunt', '--states', str(states), *more, path]
+        self.program, self.path, (self.text, self.status) = program, path, answer(program, *asked)
+        self.scenario = answer(program, *asked, '--scenario')
         self.is_all = self.text.startswith('none: all ')
         self.told, self.told_status = None, None
         if self.status == 1:
@@ -38,8 +47,28 @@ class Hunt:
         """Whether a run was found that is stuck."""
         return self.status == 1 and self.text.startswith('; stuck: ')
 
+    def played(self):
+        """What is wrong with the scenario of a find."""
+        text, status = self.scenario
+        if status != self.status:
+            return ['with --scenario its exit status is %d' % status]
+        if self.status == 0 or self.is_stuck():
+            return [] if text == (UNSHOWN if self.status else self.text) else ['it has a scenario: ' + text]
+        with tempfile.NamedTemporaryFile('w', suffix='.scenario') as file:
+            file.write(text)
+            file.flush()
+            asked = ['--unchecked', self.path, file.name]
+            (told, failed), (schedule, _) = answer(self.program, 'test', *asked), answer(self.program, 'schedule', *asked)
+        wanted = 'failed %s line %d: expected clean, ' % (file.name, text.count('\n'))
+        fails = failed == 1 and told.startswith(wanted) and FINDING.match(text)[0] == FINDING.match(self.text)[0]
+        return [] if fails and lines(schedule) == lines(self.text) else ['its scenario does not fail by it: ' + text]
+
     def wrong(self):
         """What is wrong with a find."""
+        return self.played() + self.ended()
+
+    def ended(self):
+        """What is wrong with its end."""
         if self.status not in (0, 1) or (self.status == 0) != self.text.startswith('none'):
             return ['exit status %d' % self.status]
         if self.status == 0:

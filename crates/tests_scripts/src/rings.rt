@@ -5,6 +5,7 @@ ghost use Rattle.model.specs.declared.limits.TheConstants.{MAX_THREADS};
 
 use drvhost_devices::device::{Reader, Writer};
 use drvhost_runs::host::{Hosting, host};
+use drvhost_told::host::{Asked, host_json};
 use std::alloc::{AllocError, Global};
 use std::process::Abort;
 use std::sync::Wait;
@@ -83,6 +84,56 @@ fn end_in_ring<R: Threads + Wait + Abort + Sync, C: Clock + Sync>(
     let told = str::from_utf8(err.as_slice()).ok().expect(rt, "text");
     let rings = told.strip_prefix(WARNING).expect(rt, "a warning");
     assert!(rt; is_ring(rings), "{told}");
+}
+
+/// In JSON the last object has the numbers of the threads in the ring, and no line warns of it.
+#[test]
+fn scripts_end_in_a_ring_in_json(rt: HostRuntime) {
+    let alloc = rt.alloc();
+    let script = script(alloc).ok().expect(&rt, "memory");
+    for _ in 0..TIMES {
+        let clock = rt.clone().ok().expect(&rt, "a clock");
+        end_in_json(&rt, alloc, script.as_str(), &Crossing::new(clock));
+    }
+}
+
+/// Two workers end in a ring: each began a request, and the others are left.
+fn end_in_json<R: Threads + Wait + Abort + Sync, C: Clock + Sync>(
+    rt: &R,
+    alloc: Global,
+    script: &str,
+    crossing: &Crossing<C>,
+) {
+    let mut set = Reader::new(Some(CROSSES));
+    let mut commands = Reader::new(Some(script.as_bytes()));
+    let mut out = Writer::new(Vec::<u8>::new(alloc));
+    let mut err = Writer::new(Vec::<u8>::new(alloc));
+    let asked = Asked {
+        set: "pair.drv",
+        script: "crossing.script",
+        hosting: Hosting {
+            runtime: rt,
+            workers: 2,
+            gate: crossing,
+        },
+    };
+    let status = host_json(alloc, &asked, &mut set, &mut commands, &mut out, &mut err);
+    assert_eq!(rt; status, 1);
+    let out = out.into_inner();
+    let told = str::from_utf8(out.as_slice()).ok().expect(rt, "text");
+    let mut left = 0usize;
+    for line in told.lines() {
+        if line.ends_with("\"outcome\":\"left\"}") {
+            left = left.saturating_add(1);
+        }
+    }
+    assert_eq!(rt; left, REQUESTS - 2);
+    assert!(rt;
+        told.ends_with("\"verdict\":\"agrees\",\"ring\":[0,1]}\n"),
+        "{told}"
+    );
+    let err = err.into_inner();
+    assert_eq!(rt; err.len(), 0);
 }
 
 /// Each worker began a request, and the others are left. The history agrees.
