@@ -1,19 +1,41 @@
 #!/usr/bin/env python3
 """tools/measure hunts [--states N] [--stuck] [PROGRAM]: what the program (crates/drvhost/out/drvhost, if none is named) takes for
-a hunt in each example: a table of what it answers, time, worlds a second and memory, at most N worlds (200,000 if no number is
-given). Of finds no worlds are known."""
+a hunt in each example: a table of what it answers, time, worlds a second, the most memory, and how many bytes a world takes
+beyond what the smallest hunt has, at most N worlds (200,000 if no number is given). Of finds no worlds are known, and bytes
+are told where there are 10,000 worlds or more."""
 import argparse, glob, os, re, subprocess, sys, time
 
 TOP = os.path.dirname(os.path.dirname(os.path.dirname(os.path.abspath(__file__))))
 
+MANY = 10_000
+
+def high_water(process):
+    """The most memory that a running process has had, in KB, or 0 where it has ended."""
+    try:
+        with open('/proc/%d/status' % process) as status:
+            found = re.search(r'^VmHWM:\s+(\d+)', status.read(), re.M)
+    except OSError:
+        return 0
+    return int(found.group(1)) if found else 0
+
 def hunted(words):
-    """What a hunt writes, the seconds that it takes, and the most memory that it has, in MB."""
-    began = time.monotonic()
+    """What a hunt writes, the seconds that it takes, and the most memory that it has, in KB."""
+    began, most = time.monotonic(), 0
     with subprocess.Popen(words, stdout=subprocess.PIPE, stderr=subprocess.DEVNULL, text=True) as running:
-        told = running.stdout.read()
-        _, _, usage = os.wait4(running.pid, 0)
-        running.returncode = 0
-    return told, time.monotonic() - began, usage.ru_maxrss / 1024
+        while running.poll() is None:
+            most = max(most, high_water(running.pid))
+            time.sleep(0.001)
+        seconds = time.monotonic() - began
+        return running.stdout.read(), seconds, most
+
+def row(path, told, seconds, most, least):
+    """The table's line of a hunt in the set of a file; the smallest hunt has so many KB."""
+    worlds = re.search(r'(\d+) worlds', told)
+    count = int(worlds.group(1)) if worlds else 0
+    speed = '%d' % (count / seconds) if count else ''
+    size = '%d' % ((most - least) * 1024 / count) if count >= MANY else ''
+    return '| `%s` | %s | %.2f | %s | %.1f | %s |' % (
+        os.path.basename(path)[:-4], told.partition('\n')[0].lstrip('; '), seconds, speed, most / 1024, size)
 
 def main():
     asked = argparse.ArgumentParser()
@@ -22,12 +44,12 @@ def main():
     asked.add_argument('program', nargs='?', default=os.path.join(TOP, 'crates/drvhost/out/drvhost'))
     asked = asked.parse_args()
     more = ['--stuck'] if asked.stuck else []
-    print('| Set | Answer | Seconds | Worlds a second | MB |\n|---|---|---|---|---|')
-    for path in sorted(glob.glob(os.path.join(TOP, 'examples/*.drv'))):
-        told, seconds, memory = hunted([asked.program, 'hunt', '--states', str(asked.states), *more, path])
-        worlds = re.search(r'(\d+) worlds', told)
-        speed = '%d' % (int(worlds.group(1)) / seconds) if worlds else ''
-        print('| `%s` | %s | %.2f | %s | %d |' % (os.path.basename(path)[:-4], told.partition('\n')[0].lstrip('; '), seconds, speed, memory), flush=True)
+    paths = sorted(glob.glob(os.path.join(TOP, 'examples/*.drv')))
+    found = [(path, *hunted([asked.program, 'hunt', '--states', str(asked.states), *more, path])) for path in paths]
+    least = min(most for *_, most in found if most)
+    print('| Set | Answer | Seconds | Worlds a second | MB | Bytes a world |\n|---|---|---|---|---|---|')
+    for one in found:
+        print(row(*one, least))
 
 if __name__ == '__main__':
     sys.exit(main())
