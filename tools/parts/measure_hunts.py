@@ -1,8 +1,9 @@
 #!/usr/bin/env python3
-"""tools/measure hunts [--states N] [--stuck] [PROGRAM]: what the program (crates/drvhost/out/drvhost, if none is named) takes for
-a hunt in each example: a table of what it answers, time, worlds a second, the most memory, and how many bytes a world takes
-beyond what the smallest hunt has, at most N worlds (200,000 if no number is given). Of finds no worlds are known, and bytes
-are told where there are 10,000 worlds or more."""
+"""tools/measure hunts [--states N] [--stuck] [PROGRAM]: what the program (crates/drvhost/out/drvhost,
+if none is named) takes for a hunt in each example: a table of what it answers, time, worlds a
+second, the most memory, and how many bytes a world takes beyond what the smallest hunt has, at most
+N worlds (200,000 if no number is given). Of finds no worlds are known, and bytes are told where
+there are 10,000 worlds or more."""
 import argparse, glob, os, re, subprocess, sys, time
 
 TOP = os.path.dirname(os.path.dirname(os.path.dirname(os.path.abspath(__file__))))
@@ -21,7 +22,8 @@ def high_water(process):
 def hunted(words):
     """What a hunt writes, the seconds that it takes, and the most memory that it has, in KB."""
     began, most = time.monotonic(), 0
-    with subprocess.Popen(words, stdout=subprocess.PIPE, stderr=subprocess.DEVNULL, text=True) as running:
+    pipes = {'stdout': subprocess.PIPE, 'stderr': subprocess.DEVNULL}
+    with subprocess.Popen(words, text=True, **pipes) as running:
         while running.poll() is None:
             most = max(most, high_water(running.pid))
             time.sleep(0.001)
@@ -34,20 +36,22 @@ def row(path, told, seconds, most, least):
     count = int(worlds.group(1)) if worlds else 0
     speed = '%d' % (count / seconds) if count else ''
     size = '%d' % ((most - least) * 1024 / count) if count >= MANY else ''
-    return '| `%s` | %s | %.2f | %s | %.1f | %s |' % (
-        os.path.basename(path)[:-4], told.partition('\n')[0].lstrip('; '), seconds, speed, most / 1024, size)
+    name, answer = os.path.basename(path)[:-4], told.partition('\n')[0].lstrip('; ')
+    return '| `%s` | %s | %.2f | %s | %.1f | %s |' % (name, answer, seconds, speed, most / 1024, size)
 
 def main():
     asked = argparse.ArgumentParser()
     asked.add_argument('--states', type=int, default=200000)
     asked.add_argument('--stuck', action='store_true')
-    asked.add_argument('program', nargs='?', default=os.path.join(TOP, 'crates/drvhost/out/drvhost'))
+    built = os.path.join(TOP, 'crates/drvhost/out/drvhost')
+    asked.add_argument('program', nargs='?', default=built)
     asked = asked.parse_args()
-    more = ['--stuck'] if asked.stuck else []
+    words = [asked.program, 'hunt', '--states', str(asked.states)] + ['--stuck'] * asked.stuck
     paths = sorted(glob.glob(os.path.join(TOP, 'examples/*.drv')))
-    found = [(path, *hunted([asked.program, 'hunt', '--states', str(asked.states), *more, path])) for path in paths]
+    found = [(path, *hunted([*words, path])) for path in paths]
     least = min(most for *_, most in found if most)
-    print('| Set | Answer | Seconds | Worlds a second | MB | Bytes a world |\n|---|---|---|---|---|---|')
+    print('| Set | Answer | Seconds | Worlds a second | MB | Bytes a world |')
+    print('|---|---|---|---|---|---|')
     for one in found:
         print(row(*one, least))
 

@@ -12,11 +12,13 @@ TOP = gallery.TOP
 END = b'\x1b[0m'
 GOOD, BAD, DOUBTFUL, PLACE = b'\x1b[32m', b'\x1b[1;31m', b'\x1b[33m', b'\x1b[1m'
 BEGINNINGS = [(GOOD, [b'accepted', b'nothing is amiss']), (PLACE, [b'in ']),
-              (BAD, [b'refused ', b'text fault ', b'image fault ', b'schedule fault ', b'  > ', b'the run was stopped'])]
+              (BAD, [b'refused ', b'text fault ', b'image fault ', b'schedule fault ', b'  > ',
+                     b'the run was stopped'])]
 PARTS = [(BAD, [b' bug 0x', b' wrong ', b' is lost: ', b' is left behind: ', b' waits in a ring']),
          (DOUBTFUL, [b' refused ', b' is still to be cancelled: ', b' was refused: '])]
-HEADS = [b'why:', b'see:', b'mend it:', b'show it:', b'at fault:', b'a path there:', b'one path there:', b'another path there:',
-         b'what differs:', b'what is known where it arrives:', b'audit']
+HEADS = [b'why:', b'see:', b'mend it:', b'show it:', b'at fault:', b'a path there:',
+         b'one path there:', b'another path there:', b'what differs:',
+         b'what is known where it arrives:', b'audit']
 
 def color_of(line):
     """The colour of a line that is painted whole."""
@@ -36,12 +38,14 @@ def painted(line):
     return PLACE + head + END + line[len(head):] if head else line
 
 def answer(program, words, **how):
-    return subprocess.run([program, *words], cwd=TOP, stdout=subprocess.PIPE, stderr=subprocess.DEVNULL, **how)
+    return subprocess.run([program, *words], cwd=TOP, stdout=subprocess.PIPE,
+                          stderr=subprocess.DEVNULL, **how)
 
 def at_terminal(program, words, **more):
     """What goes to a terminal."""
     leader, follower = pty.openpty()
-    child = subprocess.Popen([program, *words], cwd=TOP, stdout=follower, stderr=subprocess.DEVNULL, env={**os.environ, **more})
+    child = subprocess.Popen([program, *words], cwd=TOP, stdout=follower,
+                             stderr=subprocess.DEVNULL, env={**os.environ, **more})
     os.close(follower)
     out = b''
     try:
@@ -76,16 +80,19 @@ def faults(program, words):
 def terminal_faults(program, words):
     plain, always = (answer(program, [*words, '--color', it]).stdout for it in ('never', 'always'))
     env = {'NO_COLOR': ''}
-    for flags, more, wanted in ([], env, always), (['--color', 'never'], env, plain), ([], {'NO_COLOR': '1'}, plain), \
-            (['--color', 'always'], {'NO_COLOR': '1'}, always):
+    none = {'NO_COLOR': '1'}
+    for flags, more, wanted in ([], env, always), (['--color', 'never'], env, plain), \
+            ([], none, plain), (['--color', 'always'], none, always):
         if at_terminal(program, [*words, *flags], **more) != wanted:
             yield 'at a terminal with %s and NO_COLOR=%s' % (flags, more['NO_COLOR'])
 
 def main():
-    program = os.path.abspath(sys.argv[1] if len(sys.argv) > 1 else os.path.join(TOP, 'crates/drvhost/out/drvhost'))
+    built = os.path.join(TOP, 'crates/drvhost/out/drvhost')
+    program = os.path.abspath(sys.argv[1] if len(sys.argv) > 1 else built)
     count = wrong = 0
     every = list(cases())
-    tried = [(words, faults) for words in every] + [(words, terminal_faults) for words in (every[0], every[1], every[-2])]
+    tried = [(words, faults) for words in every]
+    tried += [(words, terminal_faults) for words in (every[0], every[1], every[-2])]
     for words, told in tried:
         count += 1
         for fault in told(program, words):
