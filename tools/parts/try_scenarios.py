@@ -1,5 +1,5 @@
 #!/usr/bin/env python3
-"""tools/try scenarios [PROGRAM]: plays scenarios with the program (crates/drvhost/out/drvhost). The scenario beside each example
+"""tools/try scenarios [PROGRAM]: plays scenarios with the program (crates/drvhost/out/drvhost). Each scenario of an example
 has to hold, as `test --unchecked` says. Of each schedule of the gallery a scenario is made that does the same and expects a clean
 run at its end: a mended driver has to pass it, and a wrong one to fail it in the line in which its run stops, at the end where
 the audit finds something amiss, and nowhere else. The schedule that `schedule` writes of each has to make the same events
@@ -72,13 +72,18 @@ def is_played(program, driver, schedule, folder):
     done = [reply for reply in replies(program, driver, made) if not reply.startswith(NOTHING)]
     return failing_line(told) == wanted and status == (wanted is not None) and doing == done
 
+def driver_of(scenario):
+    """The driver of an example's scenario: of its name, or of what stands in that before a dash."""
+    name = scenario.removesuffix('.scenario')
+    names = name, name.rpartition('-')[0]
+    return next(it + '.drv' for it in names if os.path.isfile(it + '.drv'))
+
 def main():
     program = os.path.abspath(sys.argv[1]) if len(sys.argv) > 1 else os.path.join(gallery.TOP, 'crates/drvhost/out/drvhost')
     tried, wrong = 0, []
     for scenario in sorted(glob.glob(os.path.join(gallery.TOP, 'examples/**/*.scenario'), recursive=True)):
         tried += 1
-        driver = scenario.removesuffix('.scenario') + '.drv'
-        wrong += [scenario] * (answer(program, 'test', '--unchecked', driver, scenario)[1] != 0)
+        wrong += [scenario] * (answer(program, 'test', '--unchecked', driver_of(scenario), scenario)[1] != 0)
     with tempfile.TemporaryDirectory() as folder:
         for name in gallery.folders():
             for driver in ['driver.drv'] + ['mended.drv'] * gallery.is_mended(name):

@@ -11,7 +11,7 @@ use Rattle.hunt_bounds.specs.declared.bounds.Bounds.{Bounds}
 use Rattle.hunt_schedule.specs.declared.telling.Told.{Told}
 use Rattle.hunt_schedule.specs.declared.telling.Told.TheVariants.{Found, Unlisted, All, More}
 use Rattle.model.specs.Set.{Set}
-use Rattle.scenario_text.specs.Names.{Named}
+use Rattle.scenario_names.specs.Names.{Named}
 
 -- that no scenario shows a run that was found
 abbrev pub unshown_line : List ℕ

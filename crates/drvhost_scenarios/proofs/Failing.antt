@@ -1,19 +1,16 @@
 -- A scenario whose last step fails.
-use Rattle.std.proofs.Common.{◌≡◌, ◌∙◌, ℕ, Bool, true, false, List, [], ◌∷◌, ◌++◌, Option, None, Some, Result, Ok, Err, IfOk, IsTrue, ap, if◌then◌else◌, refl, subst, sym}
+use Rattle.std.proofs.Common.{◌≡◌, ◌∙◌, ℕ, Bool, true, false, List, [], ◌∷◌, ◌++◌, Option, None, Some, Result, Ok, Err, IfOk, IsTrue, ap, if◌then◌else◌, refl, sym}
 use Rattle.std.specs.Prelude.{IfSome, is_some}
-use Rattle.std.specs.Global.{Global, Vec}
+use Rattle.std.specs.Global.{Vec}
 use Rattle.interleave.specs.declared.schedule.Schedule.{Schedule}
 use Rattle.interleave.specs.Listing.{Lists}
 use Rattle.model.specs.declared.event.Event.{Event}
 use Rattle.model.specs.Set.{Set}
-use Rattle.scenario_run.specs.Acting.{Played, acted, expected, passes, played}
-use Rattle.scenario_run.specs.Holding.{holds}
+use Rattle.scenario_run.specs.Acting.{Played, acted, passes, played}
 use Rattle.scenario_run.specs.Playing.{Playing, begun}
-use Rattle.scenario_text.specs.declared.scenario.Action.TheVariants.{Expect}
-use Rattle.scenario_text.specs.declared.scenario.Expectation.TheVariants.{Clean}
 use Rattle.scenario_text.specs.declared.scenario.Step.{Step}
 use Rattle.scenario_text.specs.Listing.{Listed}
-use Rattle.scenario_text.specs.Names.{Named}
+use Rattle.scenario_names.specs.Names.{Named}
 use Rattle.drvhost_scenarios.specs.Finding.{FailsAtLast, FailsFor, FailsFound, IsAmiss}
 use Rattle.drvhost_scenarios.specs.Scenarios.{play_of}
 

@@ -1,5 +1,5 @@
 -- How what is told of a scenario goes out.
-use Rattle.std.proofs.Common.{◌≡◌, ◌∙◌, ℕ, List, [], ◌++◌, ◌⊎◌, inl, inr, Option, Result, Ok, Err, refl, sym, ap, subst, IfOk, IfErr}
+use Rattle.std.proofs.Common.{◌≡◌, ◌∙◌, ℕ, List, [], ◌⊎◌, inl, inr, Option, Result, Ok, Err, refl, sym, ap, subst, IfOk, IfErr, option_map}
 use Rattle.std.specs.Prelude.{◌≢◌}
 use Rattle.std.proofs.lemmas.List.{append-nil}
 use Rattle.std.specs.Io.KnownBytes.{Appends}
@@ -12,7 +12,9 @@ use Rattle.model.specs.Set.{Set}
 use Rattle.model.specs.Typable.{IsFirstFault, IsTypable, at_start}
 use Rattle.report.specs.Fault.{image_fault_line, schedule_fault_line, text_fault_line}
 use Rattle.report.specs.Verdict.{refusal_line}
-use Rattle.scenario_run.specs.Acting.{Played, played}
+use Rattle.scenario_run.specs.Acting.{Played}
+use Rattle.scenario_together.specs.declared.play.Failure.{Failure}
+use Rattle.scenario_together.specs.Plays.{PlaysTo}
 use Rattle.scenario_run.specs.Playing.{Playing, begun}
 use Rattle.scenario_text.specs.declared.scenario.Step.{Step}
 use Rattle.scenario_text.specs.Listing.{Listed, IsFaultOf, scenario_in}
@@ -21,14 +23,14 @@ use Rattle.drvhost_devices.specs.declared.fault.End.TheVariants.{Stopped}
 use Rattle.drvhost_devices.specs.declared.fault.Fault.{Fault}
 use Rattle.drvhost_devices.specs.declared.fault.Fault.TheVariants.{Read, Write, Memory, Text, Image, Schedule as OfSchedule, Script as OfScript}
 use Rattle.drvhost_devices.specs.declared.verification.Verification.{Verification}
-use Rattle.drvhost_devices.specs.Answer.{Answer, FileSays, IsIfAccepted, IsOfFile, IsRefused, IsToRun, ended, faulty}
+use Rattle.drvhost_devices.specs.Answer.{Answer, FileSays, IsIfAccepted, IsOfFile, IsToRun, ended, faulty}
 use Rattle.drvhost_devices.specs.Device.{Bytes, Holds, Supply, TakesBeginning}
 use Rattle.drvhost_devices.specs.Ends.{HoldsRun}
 use Rattle.drvhost_devices.specs.Fault.{Goes, ReadsSet, schedule_fault, schedule_fault_of}
 use Rattle.drvhost_devices.proofs.Writing.{keeps_same}
 use Rattle.drvhost_scenarios.specs.declared.telling.Asked.{Asked}
 use Rattle.drvhost_scenarios.specs.declared.telling.Told.{Told}
-use Rattle.drvhost_scenarios.specs.Scenarios.{IsOfScenario, IsPlayedOf, names_in, right_of, right_of_play}
+use Rattle.drvhost_scenarios.specs.Scenarios.{IsOfScenario, IsPlayedOf, PlaysSo, names_in, right_of, right_of_play}
 use Rattle.drvhost_scenarios.specs.Telling.{Tells}
 
 -- the text is written, or a beginning of it, or there is none
@@ -208,12 +210,19 @@ tells_held Right bytes given held set result holds h =
 
 -- what is told where a scenario has played so, is told of it
 pub play_told : {E : Type 0} (asked : Asked) (set : Set) (scenario : Listed) (start now : Playing)
-    (failed : Option Step) (result : Result Told E) → start ≡ begun set scenario.threads
-    → record { now = now; failed = failed } ≡ played start scenario.steps
+    (failure : Option Failure) (failed : Option Step) (result : Result Told E)
+    → start ≡ begun set scenario.threads → PlaysTo start scenario.steps now failure
+    → failed ≡ option_map (λ (f : Failure). f.step) failure
     → IfOk result (λ told. right_of_play asked (record { now = now; failed = failed })
     (ended told.end told.text.items))
     → IfOk result (λ told. right_of asked set scenario (ended told.end told.text.items))
-play_told asked set scenario start now failed (Err e) begins plays h = h
-play_told asked set scenario start now failed (Ok told) begins plays h =
-    let Right : Played → Type 0 = λ p. right_of_play asked p (ended told.end told.text.items) in
-    subst Right (plays ∙ ap (λ (p : Playing). played p scenario.steps) begins) h
+play_told asked set scenario start now failure failed (Err e) begins plays is h = h
+play_told asked set scenario start now failure failed (Ok told) begins plays is h =
+    let play : Played = record { now = now; failed = failed } in
+    let so : PlaysSo set scenario play =
+    record {
+      failure = failure;
+      plays = subst (λ (p : Playing). PlaysTo p scenario.steps now failure) begins plays;
+      step = is;
+    } in
+    (play, so, h)

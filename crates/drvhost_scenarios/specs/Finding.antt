@@ -1,6 +1,6 @@
 -- The scenario of a run that was found: it makes the run's events happen, and fails at its last step,
 -- which expects that nothing is amiss.
-use Rattle.std.specs.Prelude.{ℕ, ◌≡◌, ◌++◌, List, [], ◌∷◌, false, None, Some, Ok}
+use Rattle.std.specs.Prelude.{ℕ, ◌≡◌, ◌++◌, List, [], ◌∷◌, false, Some, Ok}
 use Rattle.interleave.specs.declared.schedule.Schedule.{Schedule}
 use Rattle.interleave.specs.Listing.{Lists}
 use Rattle.model.specs.declared.event.Event.{Event}
@@ -8,10 +8,10 @@ use Rattle.model.specs.Set.{Set}
 use Rattle.scenario_run.specs.Holding.{holds}
 use Rattle.scenario_run.specs.Playing.{Playing}
 use Rattle.scenario_text.specs.declared.scenario.Action.TheVariants.{Expect}
-use Rattle.scenario_text.specs.declared.scenario.Expectation.TheVariants.{Clean}
+use Rattle.scenario_expected.specs.declared.expectation.Expectation.TheVariants.{Clean}
 use Rattle.scenario_text.specs.declared.scenario.Step.{Step}
 use Rattle.scenario_text.specs.Listing.{Listed, scenario_in}
-use Rattle.scenario_text.specs.Names.{Named}
+use Rattle.scenario_names.specs.Names.{Named}
 use Rattle.drvhost_scenarios.specs.Scenarios.{play_of}
 
 -- a step expects that nothing is amiss, and something is

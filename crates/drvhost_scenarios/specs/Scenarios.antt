@@ -1,6 +1,6 @@
 -- What is told of a scenario that is played: whether all that it expects holds, or its first line that
 -- fails; and, as `schedule` answers it, the plain schedule of what it makes happen.
-use Rattle.std.specs.Prelude.{ℕ, ◌≡◌, ◌⊎◌, ◌++◌, Bool, true, false, List, [], Option, None, Some, Result, Ok, Err, codes, decimal, if◌then◌else◌}
+use Rattle.std.specs.Prelude.{ℕ, ◌≡◌, ◌⊎◌, ◌++◌, List, Option, None, Some, option_map, Result, Ok, Err, codes, decimal, if◌then◌else◌}
 use Rattle.drvhost_devices.specs.Answer.{Answer, IsOfFile, IsTraced, ended, faulty, is_image}
 use Rattle.drvhost_devices.specs.declared.fault.End.{End}
 use Rattle.drvhost_devices.specs.declared.fault.End.TheVariants.{Complete, Stopped}
@@ -12,10 +12,12 @@ use Rattle.model.specs.Set.{Set}
 use Rattle.report.specs.Fault.{schedule_fault_line}
 use Rattle.scenario_run.specs.Acting.{Played, played}
 use Rattle.scenario_run.specs.Playing.{Playing, begun}
+use Rattle.scenario_together.specs.declared.play.Failure.{Failure}
+use Rattle.scenario_together.specs.Plays.{PlaysTo}
 use Rattle.scenario_text.specs.declared.scenario.Scenario.{Scenario}
 use Rattle.scenario_text.specs.declared.scenario.Step.{Step}
 use Rattle.scenario_text.specs.Listing.{Listed, scenario_in}
-use Rattle.scenario_text.specs.Names.{Named, names_of, nothing}
+use Rattle.scenario_names.specs.Names.{Named, names_of, nothing}
 use Rattle.drvhost_scenarios.specs.declared.telling.Asked.{Asked}
 use Rattle.drvhost_scenarios.specs.declared.telling.Asked.TheVariants.{Schedule, Test}
 
@@ -26,6 +28,13 @@ names_in bytes = if is_image bytes then nothing else names_of bytes
 -- how a scenario plays over a set
 abbrev pub play_of : Set → Listed → Played
 play_of set scenario = played (begun set scenario.threads) scenario.steps
+
+-- and how it plays where its threads may run in every interleaving: to an end, or to a step that
+-- fails in one of them
+pub record PlaysSo (set : Set) (scenario : Listed) (play : Played) : Type 0 where
+  pub failure : Option Failure
+  pub plays : PlaysTo (begun set scenario.threads) scenario.steps play.now failure
+  pub step : play.failed ≡ option_map (λ (f : Failure). f.step) failure
 
 -- all holds in the scenario of a name
 abbrev pub ok_line : List ℕ → List ℕ
@@ -43,7 +52,8 @@ IsOutcome name (Some step) answer =
     (words : List ℕ) × (answer ≡ ended Stopped (failure name step.line words))
 
 abbrev pub IsTested : List ℕ → Set → Listed → Answer → Type 0
-IsTested name set scenario answer = IsOutcome name (play_of set scenario).failed answer
+IsTested name set scenario answer =
+    (play : Played) × PlaysSo set scenario play × IsOutcome name play.failed answer
 
 -- a job on a scenario that came to its end, or to a step that fails
 abbrev pub end_of : Option Step → End
@@ -67,7 +77,8 @@ right_of_play (Test name) play answer = IsOutcome name.now play.failed answer
 right_of_play Schedule play answer = IsScheduleTold play.now play.failed answer
 
 abbrev pub right_of : Asked → Set → Listed → Answer → Type 0
-right_of asked set scenario answer = right_of_play asked (play_of set scenario) answer
+right_of asked set scenario answer =
+    (play : Played) × PlaysSo set scenario play × right_of_play asked play answer
 
 -- what a scenario that was read lists
 abbrev pub listed : Scenario → Listed

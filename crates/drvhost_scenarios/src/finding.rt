@@ -14,12 +14,13 @@ use interleave::schedule::ScheduleKind;
 use interleave_lines::listing::listing;
 use interleave_lines::reading;
 use model::event::Event;
+use scenario_expected::expectation::Expectation;
+use scenario_names::names::Names;
 use scenario_run::holding::{events_of, holds};
 use scenario_run::play::play;
 use scenario_run::playing::Playing;
-use scenario_text::names::Names;
 use scenario_text::parse::parse_scenario;
-use scenario_text::scenario::{Action, Expectation, Scenario, Step};
+use scenario_text::scenario::{Action, Scenario, Step};
 use std::alloc::{AllocError, Global};
 
 /// A run that was found, with a line that tells how it ends.

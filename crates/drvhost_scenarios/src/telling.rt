@@ -1,6 +1,6 @@
 //! A scenario that is played, and what is told of it.
 
-ghost use Rattle.std.specs.Prelude.{◌≡◌, ◌≢◌, ◌≤◌, ◌+◌, ◌⊎◌, IfErr, IfOk};
+ghost use Rattle.std.specs.Prelude.{◌≡◌, ◌≢◌, ◌≤◌, ◌+◌, ◌⊎◌, IfErr, IfOk, option_map};
 ghost use Rattle.drvhost_devices.specs.Answer.{IsIfAccepted, IsOfFile, IsTraced, ended};
 ghost use Rattle.drvhost_devices.specs.Device.{Bytes, CanCount};
 ghost use Rattle.drvhost_devices.specs.Ends.{HoldsRun};
@@ -22,11 +22,11 @@ use drvhost_devices::verification::Verification;
 use image::DriverSet;
 use model::abs::{Refusal, Rule};
 use report::lines::Lines;
-use scenario_run::play::play;
+use scenario_names::names::Names;
 use scenario_run::playing::Playing;
-use scenario_text::names::Names;
 use scenario_text::parse::parse_scenario;
 use scenario_text::scenario::{Scenario, Step};
+use scenario_together::play::{Failure, play};
 use std::alloc::{AllocError, Global};
 use verifier::verify;
 
@@ -201,9 +201,20 @@ fn tell_play(
     ensures { IfOk result (λ told. right_of asked.entry set.now (listed scenario.now)
         (ended told.end told.text.items)) }
 {
-    let mut playing = Playing::new(alloc, set, scenario.threads)?;
-    let failed = play(alloc, &mut playing, scenario.steps.as_slice())?;
-    tell_asked(alloc, asked, source, text, &playing, failed)
+    let playing = Playing::new(alloc, set, scenario.threads)?;
+    let played = play(alloc, playing, scenario.steps.as_slice())?;
+    let failed = step_of(&played.failed);
+    tell_asked(alloc, asked, source, text, &played.now, failed)
+}
+
+/// The step that fails, if one does.
+fn step_of(failed: &Option<Failure>) -> Option<Step>
+    ensures { result ≡ option_map (λ failure. failure.step) failed.now }
+{
+    match failed {
+        Some(failure) => Some(failure.step),
+        None => None,
+    }
 }
 
 /// What is told of a scenario that has played, up to a step that fails, if one does.

@@ -3,15 +3,24 @@
 use asm_line::status_text;
 use checked::Checked;
 use hunt_ends::amiss::Amiss;
-use model::event::Reply;
+use interleave::read::Repeated;
+use interleave::schedule::MAX_EVENTS;
+use model::event::{Lock, Reply};
 use model::view::PacketView;
+use model::world::Activation;
+use scenario_expected::expectation::{DeviceState, Expectation, List, PacketState};
+use scenario_names::operands::CellName;
 use scenario_run::holding::amiss;
 use scenario_run::playing::Playing;
-use scenario_text::scenario::{Action, Expectation, Step};
+use scenario_text::scenario::{Action, Step};
+use scenario_world::cells::number_of;
+use scenario_world::lists::entries_of;
+use scenario_world::marks::{is_marked, is_unmarked};
 use std::alloc::{AllocError, Global};
 use tell_audit::ring::waits_for;
 use tell_audit::sites::{Site, sites_of};
 use tell_names::{Book, add_lock, add_number};
+use tell_uses::standing::frames_on;
 use text::add_bytes;
 use text::cut::Lines;
 use text::token::Tokens;
@@ -42,6 +51,11 @@ pub(crate) fn failure_words(
             words.push_str(", ")?;
             add_found(alloc, &mut words, &book, playing, &expectation)?;
         }
+        Action::Together { threads, worlds } => {
+            add_tokens(&mut words, tokens)?;
+            words.push_str(": ")?;
+            add_joined(&mut words, &book, playing, &threads, worlds)?;
+        }
         _ => {
             add_tokens(&mut words, tokens)?;
             words.push_str(": ")?;
@@ -50,6 +64,42 @@ pub(crate) fn failure_words(
     }
     words.push_str("\n")?;
     Ok(words)
+}
+
+/// Adds why threads that ran together failed: one isn't there, a step of an interleaving stopped the
+/// run or had no room in it, or more worlds were met than may be.
+fn add_joined(
+    words: &mut String,
+    book: &Book<'_>,
+    playing: &Playing,
+    threads: &[bool; 64],
+    worlds: u64,
+) -> Result<(), AllocError> {
+    let there = playing.threads() as usize;
+    for thread in there..threads.len() {
+        if threads[thread] {
+            words.push_str("no thread ")?;
+            return add_number(words, thread as u64);
+        }
+    }
+    if playing.machine().stopped() {
+        return add_reply(words, book, playing);
+    }
+    if count_of(playing.past()) >= MAX_EVENTS {
+        return words.push_str("more events than a schedule has");
+    }
+    words.push_str("there are more than ")?;
+    add_number(words, worlds)?;
+    words.push_str(" worlds")
+}
+
+/// How many events these are.
+fn count_of(past: &[Repeated]) -> usize {
+    let mut count: usize = 0;
+    for happened in past {
+        count = count.saturating_add(happened.count);
+    }
+    count
 }
 
 /// The line of a number.
@@ -76,19 +126,37 @@ fn add_subject(
     expectation: &Expectation,
     tokens: &mut Tokens<'_>,
 ) -> Result<(), AllocError> {
-    let sort = match expectation {
-        Expectation::Clean | Expectation::Bug(_) => return Ok(()),
-        Expectation::Packet { .. } => " packet ",
-        Expectation::Thread { .. } => " ",
-        Expectation::Device { .. } => " device ",
-    };
-    words.push_str(sort)?;
-    if let Expectation::Thread { .. } = expectation {
-        add_bytes(words, tokens.next().unwrap_or(&[]))?;
-        words.push_str(" ")?;
+    let (sort, count) = subject_of(expectation);
+    if count == 0 {
+        return Ok(());
     }
-    add_bytes(words, tokens.next().unwrap_or(&[]))?;
+    words.push_str(sort)?;
+    for _ in 0..count {
+        words.push_str(" ")?;
+        add_bytes(words, tokens.next().unwrap_or(&[]))?;
+    }
     words.push_str(":")
+}
+
+/// What its sort is called, and how many tokens of the line name it.
+fn subject_of(expectation: &Expectation) -> (&'static str, usize) {
+    match expectation {
+        Expectation::Clean | Expectation::Bug(_) => ("", 0),
+        Expectation::Packet { .. } => (" packet", 1),
+        Expectation::Thread { .. } => ("", 2),
+        Expectation::Device { state, .. } => match state {
+            DeviceState::Has { .. } => ("", 3),
+            _ => (" device", 1),
+        },
+        Expectation::Lock { lock, .. } => match lock {
+            Lock::SystemCancel => ("", 2),
+            Lock::Spin(_) => ("", 3),
+        },
+        Expectation::Listed { list, .. } => match list {
+            List::Queue(_) => ("", 3),
+            List::StartList | List::DeviceQueue => ("", 4),
+        },
+    }
 }
 
 /// Adds what is there.
@@ -99,13 +167,120 @@ fn add_found(
     playing: &Playing,
     expectation: &Expectation,
 ) -> Result<(), AllocError> {
+    let machine = playing.machine();
     match *expectation {
         Expectation::Clean => add_amiss(alloc, words, book, playing),
         Expectation::Bug(_) => add_reply(words, book, playing),
-        Expectation::Packet { packet, .. } => add_packet(alloc, words, book, playing, packet),
-        Expectation::Thread { thread, .. } => add_thread(words, book, playing.machine(), thread),
-        Expectation::Device { device, .. } => add_device(words, playing.machine(), device),
+        Expectation::Packet { packet, state } => {
+            add_packet(alloc, words, book, playing, packet)?;
+            add_more(alloc, words, book, playing, packet, &state)
+        }
+        Expectation::Thread { thread, .. } => add_thread(words, book, machine, thread),
+        Expectation::Device { device, state } => match state {
+            DeviceState::Has { cell, .. } => add_cell(words, machine, device, cell),
+            _ => add_device(words, machine, device),
+        },
+        Expectation::Lock { lock, .. } => add_owner(words, machine, lock),
+        Expectation::Listed { device, list, .. } => add_list(words, machine, device, list),
     }
+}
+
+/// Adds what else is asked of a packet, where it is live.
+fn add_more(
+    alloc: Global,
+    words: &mut String,
+    book: &Book<'_>,
+    playing: &Playing,
+    packet: usize,
+    state: &PacketState,
+) -> Result<(), AllocError> {
+    let Some(number) = playing.number_of(packet) else {
+        return Ok(());
+    };
+    let machine = playing.machine();
+    let view = machine.packet(number);
+    match state {
+        PacketState::Marked if is_unmarked(&view) => {
+            words.push_str(", its current location isn't marked")
+        }
+        PacketState::Unmarked if is_marked(&view) => {
+            words.push_str(", its current location is marked")
+        }
+        PacketState::Held { .. } => add_holders(alloc, words, book, machine, number),
+        _ => Ok(()),
+    }
+}
+
+/// Adds which routines have a packet in a register.
+fn add_holders(
+    alloc: Global,
+    words: &mut String,
+    book: &Book<'_>,
+    machine: &Checked,
+    number: u64,
+) -> Result<(), AllocError> {
+    let sites = sites_of(alloc, machine, number)?;
+    for site in sites.iter() {
+        if let Site::Register { thread, frame, .. } = *site {
+            if let Some(a) = activation_at(machine, thread, frame) {
+                words.push_str(", held by ")?;
+                book.add_routine(words, a.driver, a.routine)?;
+            }
+        }
+    }
+    Ok(())
+}
+
+/// The routine in a frame of a thread.
+fn activation_at(machine: &Checked, thread: usize, frame: usize) -> Option<&Activation> {
+    frames_on(machine, thread).get(frame)?.activation()
+}
+
+/// Adds the number in a cell of a device.
+fn add_cell(
+    words: &mut String,
+    machine: &Checked,
+    device: u8,
+    cell: CellName,
+) -> Result<(), AllocError> {
+    match number_of(machine, device, cell)? {
+        Some(number) => add_numbered(words, "it is ", number, ""),
+        None => words.push_str("there is no such device"),
+    }
+}
+
+/// Adds who owns a lock.
+fn add_owner(words: &mut String, machine: &Checked, lock: Lock) -> Result<(), AllocError> {
+    match machine.shared().owner(lock) {
+        Some(Some(owner)) => add_numbered(words, "thread ", u64::from(owner), " owns it"),
+        Some(None) => words.push_str("it is free"),
+        None => words.push_str("there is no such device"),
+    }
+}
+
+/// Adds what stands in a list of a device.
+fn add_list(
+    words: &mut String,
+    machine: &Checked,
+    device: u8,
+    list: List,
+) -> Result<(), AllocError> {
+    let Some(entries) = entries_of(machine, device, list) else {
+        return words.push_str("there is no such list");
+    };
+    if entries.len() == 0 {
+        return words.push_str("it is empty");
+    }
+    words.push_str("it has ")?;
+    let mut mark = "";
+    for place in 0..entries.len() {
+        if let Some(number) = entries.entry(place) {
+            words.push_str(mark)?;
+            add_numbered(words, "packet ", number, "")?;
+            mark = ", ";
+        }
+    }
+    Ok(())
 }
 
 /// Adds what is amiss in a run.

@@ -5,7 +5,7 @@ use interleave_lines::appending::{add, add_number, add_numbered};
 use interleave_lines::words::goes_on;
 use model::event::Event;
 use model::status::Major;
-use scenario_text::names::Names;
+use scenario_names::names::Names;
 use std::alloc::{AllocError, Global};
 
 /// A scenario that makes the events of a run happen, with a word before the line of the last one, and

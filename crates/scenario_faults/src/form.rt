@@ -14,8 +14,8 @@ pub(crate) struct Form {
     pub(crate) least: usize,
 }
 
-/// The words that steps begin with.
-pub(crate) const STEPS: [&str; 8] = [
+/// The words that lines begin with, and those of them that may stand behind `may`.
+pub(crate) const LINES: [&str; 11] = [
     "run",
     "step",
     "interrupt",
@@ -24,7 +24,12 @@ pub(crate) const STEPS: [&str; 8] = [
     "cancel",
     "may",
     "expect",
+    "together",
+    "repeat",
+    "end",
 ];
+
+pub(crate) const STEPS: [&str; 6] = ["run", "step", "interrupt", "dpc", "startio", "cancel"];
 
 /// The form of a line that begins with such a word, from a place on.
 pub(crate) fn form_of(line: &FaultyLine<'_>, place: usize) -> Option<Form> {
@@ -37,6 +42,8 @@ pub(crate) fn form_of(line: &FaultyLine<'_>, place: usize) -> Option<Form> {
     }
     match word {
         b"run" => Some(run_form(line, behind)),
+        b"repeat" if place == 0 => Some(of(behind, &[Operand::Times], 1)),
+        b"end" if place == 0 => Some(of(behind, &[], 0)),
         b"step" => Some(of(behind, &[Operand::Thread, Operand::Steps], 1)),
         b"interrupt" => Some(of(behind, &[Operand::Device], 1)),
         b"dpc" | b"startio" => Some(of(behind, &[Operand::Thread, Operand::Device], 2)),
@@ -70,35 +77,198 @@ fn of(first: usize, operands: &'static [Operand], least: usize) -> Form {
 /// The form of `run` from a place on.
 fn run_form(line: &FaultyLine<'_>, place: usize) -> Form {
     let Some(_until) = line.token(place.saturating_add(1)) else {
-        return of(place, &[Operand::Thread], 1);
+        return of(place, &[Operand::Runner], 1);
     };
     match line.token(place.saturating_add(2)) {
-        Some(b"line") => of(
-            place,
-            &[
-                Operand::Thread,
-                Operand::Until,
-                Operand::Line,
-                Operand::LineNumber,
-            ],
-            4,
-        ),
+        Some(b"line") => of(place, &TO_LINE, 4),
+        Some(b"release") => of(place, &TO_RELEASE, 4),
         _ => of(place, &[Operand::Thread, Operand::Until, Operand::Spot], 3),
     }
 }
 
+const TO_LINE: [Operand; 4] = [
+    Operand::Thread,
+    Operand::Until,
+    Operand::Line,
+    Operand::LineNumber,
+];
+
+const TO_RELEASE: [Operand; 4] = [
+    Operand::Thread,
+    Operand::Until,
+    Operand::Release,
+    Operand::SpinLock,
+];
+
+/// The form of what stands behind the threads of `together`, from a place on.
+pub(crate) fn bound_form(place: usize) -> Form {
+    of(
+        place,
+        &[
+            Operand::Up,
+            Operand::To,
+            Operand::WorldCount,
+            Operand::Worlds,
+        ],
+        4,
+    )
+}
+
 /// The form of what stands behind `expect`, if there is anything.
 pub(crate) fn expect_form(line: &FaultyLine<'_>) -> Option<Form> {
-    match line.token(1)? {
-        b"clean" => Some(of(2, &[], 0)),
-        b"bug" => Some(of(2, &[Operand::BugCheck], 1)),
-        b"thread" => Some(of(2, &[Operand::Thread, Operand::ThreadState], 2)),
-        _ => match line.token(2) {
-            Some(state) if is_one_of(state, &DEVICE_STATES) => Some(device_form(state)),
-            _ => Some(packet_form(line)),
-        },
+    let name = line.token(1)?;
+    match (name, line.token(2)) {
+        (b"clean", _) => Some(of(2, &[], 0)),
+        (b"bug", _) => Some(of(2, &[Operand::BugCheck], 1)),
+        (b"thread", _) => Some(thread_form(line)),
+        (_, Some(state)) if is_one_of(state, &DEVICE_STATES) => Some(device_form(state)),
+        (_, Some(b"of")) => Some(of_form(line)),
+        (b"cancel", Some(b"lock")) => Some(owner_form(line)),
+        (b"start", Some(b"list")) | (b"device", Some(b"queue")) => Some(list_form(line)),
+        _ => Some(packet_form(line)),
     }
 }
+
+/// The form of what is said of a thread.
+fn thread_form(line: &FaultyLine<'_>) -> Form {
+    match (line.token(3), line.token(4)) {
+        (Some(b"at"), Some(b"line")) => of(2, &AT_LINE, 4),
+        (Some(b"at"), _) => of(
+            2,
+            &[Operand::Thread, Operand::ThreadState, Operand::Spot],
+            3,
+        ),
+        (Some(b"waiting"), Some(_for)) => of(2, &WAITING_FOR, 5),
+        _ => of(2, &[Operand::Thread, Operand::ThreadState], 2),
+    }
+}
+
+const AT_LINE: [Operand; 4] = [
+    Operand::Thread,
+    Operand::ThreadState,
+    Operand::Line,
+    Operand::LineNumber,
+];
+
+const WAITING_FOR: [Operand; 5] = [
+    Operand::Thread,
+    Operand::ThreadState,
+    Operand::For,
+    Operand::OfThread,
+    Operand::Thread,
+];
+
+/// The form of what is said of what a device has.
+fn of_form(line: &FaultyLine<'_>) -> Form {
+    match line.token(4) {
+        Some(b"is") => of(1, &CELL_IS, 5),
+        Some(b"free") => of(1, &LOCK_OWNED, 4),
+        Some(b"owned") => of(1, &LOCK_OWNED, 7),
+        Some(b"empty") => of(1, &QUEUE_EMPTY, 4),
+        Some(b"has") => of(1, &QUEUE_HAS, 5),
+        _ => of(1, &HAS_STATE, 4),
+    }
+}
+
+const CELL_IS: [Operand; 5] = [
+    Operand::Cell,
+    Operand::Of,
+    Operand::Device,
+    Operand::HasState,
+    Operand::CellNumber,
+];
+
+const LOCK_OWNED: [Operand; 7] = [
+    Operand::SpinLock,
+    Operand::Of,
+    Operand::Device,
+    Operand::HasState,
+    Operand::By,
+    Operand::OfThread,
+    Operand::Thread,
+];
+
+const QUEUE_EMPTY: [Operand; 4] = [
+    Operand::Queue,
+    Operand::Of,
+    Operand::Device,
+    Operand::HasState,
+];
+
+const QUEUE_HAS: [Operand; 20] = [
+    Operand::Queue,
+    Operand::Of,
+    Operand::Device,
+    Operand::HasState,
+    Operand::Packet,
+    Operand::Packet,
+    Operand::Packet,
+    Operand::Packet,
+    Operand::Packet,
+    Operand::Packet,
+    Operand::Packet,
+    Operand::Packet,
+    Operand::Packet,
+    Operand::Packet,
+    Operand::Packet,
+    Operand::Packet,
+    Operand::Packet,
+    Operand::Packet,
+    Operand::Packet,
+    Operand::Packet,
+];
+
+const HAS_STATE: [Operand; 4] = [
+    Operand::Had,
+    Operand::Of,
+    Operand::Device,
+    Operand::HasState,
+];
+
+/// The form of what is said of the system cancel spin lock, behind its name.
+fn owner_form(line: &FaultyLine<'_>) -> Form {
+    match line.token(3) {
+        Some(b"owned") => of(3, &OWNED, 4),
+        _ => of(3, &[Operand::LockState], 1),
+    }
+}
+
+const OWNED: [Operand; 4] = [
+    Operand::LockState,
+    Operand::By,
+    Operand::OfThread,
+    Operand::Thread,
+];
+
+/// The form of what is said of a start list or a device queue, behind its name.
+fn list_form(line: &FaultyLine<'_>) -> Form {
+    match line.token(5) {
+        Some(b"has") => of(3, &LIST_HAS, 4),
+        _ => of(3, &[Operand::Of, Operand::Device, Operand::ListState], 3),
+    }
+}
+
+const LIST_HAS: [Operand; 19] = [
+    Operand::Of,
+    Operand::Device,
+    Operand::ListState,
+    Operand::Packet,
+    Operand::Packet,
+    Operand::Packet,
+    Operand::Packet,
+    Operand::Packet,
+    Operand::Packet,
+    Operand::Packet,
+    Operand::Packet,
+    Operand::Packet,
+    Operand::Packet,
+    Operand::Packet,
+    Operand::Packet,
+    Operand::Packet,
+    Operand::Packet,
+    Operand::Packet,
+    Operand::Packet,
+];
 
 /// The form of what is said of a device with such a word.
 fn device_form(state: &[u8]) -> Form {
@@ -124,9 +294,45 @@ fn packet_form(line: &FaultyLine<'_>) -> Form {
                 3,
             )
         }
+        (Some(b"in"), Some(b"start"), Some(b"list")) => of(1, &IN_LIST, 6),
+        (Some(b"in"), Some(b"device"), Some(b"queue")) => of(1, &IN_LIST, 6),
+        (Some(b"in"), _, _) => of(1, &IN_QUEUE, 5),
+        (Some(b"current"), _, _) => of(1, &CURRENT_ON, 4),
+        (Some(b"held"), _, _) => of(1, &HELD_BY, 4),
         _ => of(1, &[Operand::Packet, Operand::PacketState], 2),
     }
 }
+
+const IN_LIST: [Operand; 6] = [
+    Operand::Packet,
+    Operand::PacketState,
+    Operand::ListWord,
+    Operand::ListWord,
+    Operand::Of,
+    Operand::Device,
+];
+
+const IN_QUEUE: [Operand; 5] = [
+    Operand::Packet,
+    Operand::PacketState,
+    Operand::Queue,
+    Operand::Of,
+    Operand::Device,
+];
+
+const CURRENT_ON: [Operand; 4] = [
+    Operand::Packet,
+    Operand::PacketState,
+    Operand::On,
+    Operand::Device,
+];
+
+const HELD_BY: [Operand; 4] = [
+    Operand::Packet,
+    Operand::PacketState,
+    Operand::By,
+    Operand::Routine,
+];
 
 const TOPPED_WITH: [Operand; 4] = [
     Operand::Packet,

@@ -1,7 +1,9 @@
 //! What the lines of a scenario may name.
 
-use interleave_faults::faulty::tokens_of;
-use scenario_text::names::Names;
+use interleave::schedule::ScheduleKind;
+use interleave_faults::faulty::{FaultyLine, tokens_of};
+use scenario_names::names::Names;
+use scenario_names::operands::{device_of, queue_of};
 use std::alloc::{AllocError, Global};
 use text::PlacedLines;
 use text::class::is;
@@ -14,6 +16,20 @@ use text_faults::fit::Fit;
 pub(crate) struct Known<'a> {
     pub(crate) names: &'a Names<'a>,
     pub(crate) packets: Vec<Piece<'a>>,
+    /// The device that the line names behind `of`.
+    pub(crate) device: Option<u8>,
+}
+
+/// The device that a line names behind `of`, if it does.
+pub(crate) fn device_on(names: &Names<'_>, line: &FaultyLine<'_>) -> Option<u8> {
+    let mut behind = false;
+    for token in line.tokens.iter() {
+        if behind {
+            return device_of(names.devices.as_slice(), token.bytes()).ok();
+        }
+        behind = is(token.bytes(), b"of");
+    }
+    None
 }
 
 /// The packets that the lines of a text before that of a number issue.
@@ -65,6 +81,18 @@ impl Known<'_> {
             Numeral::Number(number) => Fit::if_so(self.names.on_line(number).is_some()),
             Numeral::TooLarge => Fit::OutOfRange,
             Numeral::Other => Fit::Other,
+        }
+    }
+
+    /// Whether it names a queue of the line's device.
+    pub(crate) fn fit_queue(&self, token: &[u8]) -> Fit {
+        let Some(device) = self.device else {
+            return Fit::Fits;
+        };
+        match queue_of(self.names, device, token) {
+            Ok(_) => Fit::Fits,
+            Err(ScheduleKind::OutOfRange) => Fit::OutOfRange,
+            Err(_) => Fit::Other,
         }
     }
 

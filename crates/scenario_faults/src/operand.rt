@@ -2,9 +2,11 @@
 
 use crate::known::Known;
 use interleave::schedule::MAX_EVENTS;
+use model::limits::{CELLS, SPIN_LOCKS};
+use scenario_text::scenario::{MAX_STEPS, MAX_WORLDS};
 use text::class::{is, is_name};
 use text::major::major_of;
-use text::number::number;
+use text::number::{Numeral, number, numbered};
 use text_faults::fit::Fit;
 
 /// What stands at one place of a line.
@@ -33,14 +35,49 @@ pub(crate) enum Operand {
     Status,
     Information,
     Number,
+    Named,
+    Up,
+    To,
+    WorldCount,
+    Worlds,
+    For,
+    OfThread,
+    Of,
+    By,
+    On,
+    Cell,
+    CellNumber,
+    SpinLock,
+    LockState,
+    Queue,
+    ListState,
+    ListWord,
+    Had,
+    HasState,
+    Routine,
+    Runner,
+    Release,
+    Times,
 }
 
 /// The words of threads' states, of devices', of packets', and of what a packet has topped out with.
-pub(crate) const THREAD_STATES: [&str; 3] = ["idle", "busy", "waiting"];
+pub(crate) const THREAD_STATES: [&str; 4] = ["idle", "busy", "waiting", "at"];
 
 pub(crate) const DEVICE_STATES: [&str; 3] = ["idle", "busy", "dpc"];
 
-pub(crate) const PACKET_STATES: [&str; 3] = ["live", "cancelled", "topped"];
+pub(crate) const PACKET_STATES: [&str; 8] = [
+    "live",
+    "cancelled",
+    "topped",
+    "marked",
+    "unmarked",
+    "in",
+    "current",
+    "held",
+];
+
+/// What may be said of what a device has.
+pub(crate) const HAS_STATES: [&str; 5] = ["is", "free", "owned", "empty", "has"];
 
 pub(crate) const STATUSES: [&str; 7] = [
     "SUCCESS",
@@ -69,19 +106,54 @@ impl Operand {
             Operand::Argument => "the argument, a number below 2^64",
             Operand::Level => "the level, 0, 1 or 2",
             Operand::Steps => "how many steps, 1 to 1000000",
-            Operand::Until => "`until`, and then `ROUTINE:LABEL`, or `line` and a number",
+            Operand::Until => {
+                "`until`, and then `ROUTINE:LABEL`, `line` and a number, or `release` and a spin lock"
+            }
             Operand::Spot => "an instruction, as `ROUTINE:LABEL` of the driver text, or `line` N",
+            Operand::Runner => "`all`, or the number of a thread, counted from 0, at most 255",
+            Operand::Release => "`release`, and a spin lock, `l0` to `l7`",
+            Operand::Times => "how often the lines up to `end` are listed, 1 to 65536",
             Operand::Line => "`line`, and the number of an instruction's line in the driver text",
             Operand::LineNumber => "the number of a line of the driver text with an instruction",
             Operand::BugCheck => "the number of a bug check, as 0x0A",
-            Operand::ThreadState => "`idle`, `busy` or `waiting`",
+            Operand::ThreadState => {
+                "`idle`, `busy`, `waiting`, `waiting for thread` and its number, or `at` an \
+                 instruction, as `ROUTINE:LABEL` of the driver text or `line` N"
+            }
             Operand::DeviceState => "`idle`, `busy` or `dpc queued`",
             Operand::Queued => "`queued`",
-            Operand::PacketState => "`live`, `cancelled` or `topped`",
+            Operand::PacketState => {
+                "`live`, `cancelled`, `topped`, `marked`, `unmarked`, `in` a list of a device, \
+                 `current on` a device, or `held by` a routine"
+            }
             Operand::TopOut => "a status, or `information` and a number",
             Operand::Status => "a status, as `SUCCESS` or `CANCELLED`",
             Operand::Information => "`information`, and a number",
             Operand::Number => "the information, a number below 2^64",
+            Operand::Named => "the number of a thread, 0 to 63, or `up to` a number of `worlds`",
+            Operand::Up | Operand::To | Operand::Worlds => "`up to`, a number, and `worlds`",
+            Operand::WorldCount => "how many worlds may be met, 1 to 1000000",
+            Operand::For => "`for thread`, and its number",
+            Operand::OfThread => "`thread`, and its number",
+            Operand::Of => "`of`, and a device",
+            Operand::By => "`by`, and who has it: a routine has a packet, a thread a lock",
+            Operand::On => "`on`, and a device",
+            Operand::Cell => "a cell, `c0` to `c15` or `p0` to `p15`",
+            Operand::CellNumber => "the number in the cell, below 2^64",
+            Operand::SpinLock => "a spin lock, `l0` to `l7`",
+            Operand::LockState => "`free`, or `owned by thread` and its number",
+            Operand::Queue => {
+                "a queue, by its name in the device's driver or as `q0` to `q3`, `start list` or \
+                 `device queue`"
+            }
+            Operand::ListState => "`empty`, or `has` and at most 16 packets",
+            Operand::ListWord => "`start list` or `device queue`",
+            Operand::Had => "what the device has: a cell, a spin lock or a queue",
+            Operand::HasState => {
+                "`is` and a number, of a cell; `free` or `owned by thread` and its number, of a \
+                 spin lock; `empty`, or `has` and packets, of a queue"
+            }
+            Operand::Routine => "a routine, by its name in the driver text",
         }
     }
 
@@ -93,6 +165,9 @@ impl Operand {
             }
             Operand::Argument | Operand::Number => Fit::within(number(token), 0, u64::MAX),
             Operand::Steps => Fit::within(number(token), 1, MAX_EVENTS as u64),
+            Operand::Times => Fit::within(number(token), 1, MAX_STEPS as u64),
+            Operand::Runner if is(token, b"all") => Fit::Fits,
+            Operand::Runner => Fit::within(number(token), 0, u8::MAX as u64),
             Operand::Device => known.fit_device(token),
             Operand::LineNumber => known.fit_line(token),
             Operand::Packet => Fit::if_so(known.has_packet(token)),
@@ -105,6 +180,15 @@ impl Operand {
             Operand::Line => Fit::if_so(is(token, b"line")),
             Operand::Queued => Fit::if_so(is(token, b"queued")),
             Operand::Information => Fit::if_so(is(token, b"information")),
+            Operand::Named => Fit::within(number(token), 0, 63),
+            Operand::WorldCount => Fit::within(number(token), 1, MAX_WORLDS),
+            Operand::Up => Fit::if_so(is(token, b"up")),
+            Operand::To => Fit::if_so(is(token, b"to")),
+            Operand::Worlds => Fit::if_so(is(token, b"worlds")),
+            Operand::Cell | Operand::SpinLock | Operand::Had => fit_had(self, token),
+            Operand::CellNumber => Fit::within(number(token), 0, u64::MAX),
+            Operand::Queue => known.fit_queue(token),
+            Operand::Routine => Fit::if_so(known.names.entry_of(token).is_some()),
             _ => Fit::if_so(is_one_of(token, self.choices())),
         }
     }
@@ -115,14 +199,40 @@ impl Operand {
             Operand::Issue => &["issue"],
             Operand::Until => &["until"],
             Operand::Line => &["line"],
+            Operand::Runner => &["all"],
+            Operand::Release => &["release"],
             Operand::Queued => &["queued"],
             Operand::Information => &["information"],
+            Operand::Named | Operand::Up => &["up"],
+            Operand::To => &["to"],
+            Operand::Worlds => &["worlds"],
+            Operand::For => &["for"],
+            Operand::OfThread => &["thread"],
+            Operand::Of => &["of"],
+            Operand::By => &["by"],
+            Operand::On => &["on"],
+            Operand::LockState => &["free", "owned"],
+            Operand::ListState => &["empty", "has"],
+            Operand::ListWord => &["start", "list", "device", "queue"],
+            Operand::HasState => &HAS_STATES,
             Operand::ThreadState => &THREAD_STATES,
             Operand::DeviceState => &DEVICE_STATES,
             Operand::PacketState => &PACKET_STATES,
             Operand::TopOut | Operand::Status => &STATUSES,
             _ => &[],
         }
+    }
+}
+
+/// Whether a token is what a device has: a cell, a spin lock, or anything.
+fn fit_had(operand: Operand, token: &[u8]) -> Fit {
+    match operand {
+        Operand::Cell => match numbered(b'c', token) {
+            Numeral::Other => Fit::within(numbered(b'p', token), 0, CELLS as u64 - 1),
+            numeral => Fit::within(numeral, 0, CELLS as u64 - 1),
+        },
+        Operand::SpinLock => Fit::within(numbered(b'l', token), 0, SPIN_LOCKS as u64 - 1),
+        _ => Fit::Fits,
     }
 }
 

@@ -1,10 +1,10 @@
 //! A fault of a scenario in words.
 
-use crate::known::{Known, packets_before};
+use crate::known::{Known, device_on, packets_before};
 use crate::wording::add_misfit;
 use interleave::schedule::{ScheduleFault, ScheduleKind};
 use interleave_faults::faulty::FaultyLine;
-use scenario_text::names::Names;
+use scenario_names::names::Names;
 use std::alloc::{AllocError, Global};
 use text_faults::advice::{add_expected, add_wrong};
 use text_faults::lexing::add_lex;
@@ -29,7 +29,13 @@ pub fn fault_words(
         ScheduleKind::Lex => add_lex(alloc, &mut prose, text, line.spot)?,
         ScheduleKind::UnknownWord | ScheduleKind::OutOfRange => {
             let packets = packets_before(alloc, text, fault.line)?;
-            add_misfit(&mut prose, &line, &Known { names, packets })?;
+            let device = device_on(names, &line);
+            let known = Known {
+                names,
+                packets,
+                device,
+            };
+            add_misfit(&mut prose, &line, &known)?;
         }
         ScheduleKind::TooLong => {
             add_wrong(

@@ -1,6 +1,6 @@
 //! Lines of no form, and numbers out of their range.
 
-use crate::form::{Form, STEPS, expect_form, form_of};
+use crate::form::{Form, LINES, STEPS, bound_form, expect_form, form_of};
 use crate::known::Known;
 use crate::operand::Operand;
 use interleave_faults::faulty::FaultyLine;
@@ -18,12 +18,19 @@ const OPENING: &str = "`threads` and how many there are, 1 to 64: the first line
 
 /// What later lines begin with.
 const BEGINNINGS: &str = "`NAME = issue`, `run`, `step`, `interrupt`, `dpc`, `startio`, `cancel`, \
-     `may` before one of these, or `expect`";
+     `may` before one of these, `together`, `repeat`, `end`, or `expect`";
+
+/// What stands behind `may`.
+const GRANTED: &str = "`NAME = issue`, `run`, `step`, `interrupt`, `dpc`, `startio` or `cancel`";
+
+/// What ends lines that are repeated.
+const END: &str = "`end`, alone on a line behind those that are listed more than once";
 
 /// What may be expected.
 const EXPECTED: &str =
-    "`clean`, `bug` and a number, `thread`, its number and its state, or a device \
-     or a packet and its state";
+    "`clean`, `bug` and a number, `thread`, its number and its state, a device or a packet and its \
+     state, a cell, a spin lock or a queue `of` a device, `start list`, `device queue`, or \
+     `cancel lock`";
 
 /// Adds why a line has no form, stands out of its place, or has a number out of its range.
 pub(crate) fn add_misfit(
@@ -32,6 +39,10 @@ pub(crate) fn add_misfit(
     known: &Known<'_>,
 ) -> Result<(), AllocError> {
     if line.tokens.is_empty() {
+        if line.opened {
+            add_wrong(prose, "the scenario ends between `repeat` and `end`")?;
+            return add_expected(prose, END);
+        }
         add_wrong(prose, "the scenario ends, and says of no thread")?;
         return add_expected(prose, OPENING);
     }
@@ -47,8 +58,32 @@ pub(crate) fn add_misfit(
             Some(form) => add_unfit(prose, line, known, form),
             None => add_short(prose, EXPECTED),
         },
+        b"together" => add_misjoined(prose, line, known),
         b"may" => add_misstep(prose, line, known, 1),
+        b"repeat" if is_block(line, known) => {
+            add_at_fault(
+                prose,
+                b"repeat",
+                ", which may not stand before the `end` of another",
+            )?;
+            add_expected(prose, END)
+        }
+        b"end" if line.token(1).is_none() => {
+            add_at_fault(prose, b"end", ", before which no `repeat` is open")?;
+            add_expected(prose, BEGINNINGS)
+        }
         _ => add_misstep(prose, line, known, 0),
+    }
+}
+
+/// Whether a line has the form of one that opens a block.
+fn is_block(line: &FaultyLine<'_>, known: &Known<'_>) -> bool {
+    match (line.token(1), line.token(2)) {
+        (Some(count), None) => match Operand::Times.fit(known, count) {
+            Fit::Fits => true,
+            Fit::OutOfRange | Fit::Other => false,
+        },
+        _ => false,
     }
 }
 
@@ -87,13 +122,41 @@ fn add_misstep(
                 "write a name and `=` before it, as `a = issue 0 d0 READ 7`",
             )
         }
+        Some(word) if place > 0 => {
+            add_at_fault(prose, word, ", which may not stand there")?;
+            add_expected(prose, GRANTED)?;
+            add_nearest(prose, word, &STEPS)
+        }
         Some(word) => {
             add_at_fault(prose, word, ", with which no line begins")?;
             add_expected(prose, BEGINNINGS)?;
-            add_nearest(prose, word, &STEPS)
+            add_nearest(prose, word, &LINES)
         }
-        None => add_short(prose, BEGINNINGS),
+        None => add_short(prose, GRANTED),
     }
+}
+
+/// Adds the same of `together`.
+fn add_misjoined(
+    prose: &mut String,
+    line: &FaultyLine<'_>,
+    known: &Known<'_>,
+) -> Result<(), AllocError> {
+    for place in 1..line.tokens.len() {
+        let token = line.token(place).unwrap_or(&[]);
+        if is(token, b"up") && place > 1 {
+            return add_unfit(prose, line, known, bound_form(place));
+        }
+        match Operand::Named.fit(known, token) {
+            Fit::Fits => {}
+            Fit::OutOfRange => {
+                add_at_fault(prose, token, ", whose number is out of range")?;
+                return add_expected(prose, Operand::Named.words());
+            }
+            Fit::Other => return add_other(prose, known, token, Operand::Named),
+        }
+    }
+    add_short(prose, Operand::Named.words())
 }
 
 /// Adds that a line ends too early.

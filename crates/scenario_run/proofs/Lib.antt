@@ -1,7 +1,10 @@
+pub mod Alike
 pub mod Going
+pub mod Numbers
 pub mod Pasts
 pub mod Playings
 pub mod Running
 pub mod Stepping
 pub mod Telling
 pub mod Topping
+pub mod Turning

@@ -2,7 +2,7 @@
 use Rattle.std.proofs.Common.{◌≡◌, ◌∙◌, ◌<◌, ◌-◌, ℕ, zero, suc, true, false, Bool, sym, subst, ap, arith, if◌then◌else◌}
 use Rattle.model.specs.declared.event.Event.TheVariants as event
 use Rattle.model.specs.View.{busy_at, thread_at}
-use Rattle.scenario_text.specs.declared.names.Spot.{Spot}
+use Rattle.scenario_names.specs.declared.names.Spot.{Spot}
 use Rattle.scenario_run.specs.declared.playing.Outcome.{Outcome}
 use Rattle.scenario_run.specs.declared.playing.Outcome.TheVariants.{Done, Waits, Fails}
 use Rattle.scenario_run.specs.Playing.{Playing, Went, if_done, if_going, one, running, running_to, stands_at, stays, stepping, unless_failed, world_of}

@@ -17,7 +17,7 @@ or_else_last None b c = refl
 or_else_last (Some top) b c = refl
 
 -- the last reply tells of a packet where those before it don't
-told_last : (told : List Reply) (reply : Reply) (n : ℕ)
+pub told_last : (told : List Reply) (reply : Reply) (n : ℕ)
     → top_out_of (told ++ reply ∷ []) n ≡ or_else (top_out_of told n) (top_out_in reply n)
 told_last [] reply n = or_else_none (top_out_in reply n)
 told_last (r ∷ told) reply n =

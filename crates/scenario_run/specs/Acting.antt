@@ -1,19 +1,21 @@
 -- What the steps of a scenario do, one after another.
-use Rattle.std.specs.Prelude.{ℕ, Bool, true, List, [], ◌∷◌, Option, None, Some, if◌then◌else◌}
+use Rattle.std.specs.Prelude.{ℕ, Bool, true, false, List, [], ◌∷◌, Option, None, Some, if◌then◌else◌}
 use Rattle.model.specs.declared.event.Event.TheVariants as event
 use Rattle.scenario_run.specs.declared.playing.Outcome.{Outcome}
 use Rattle.scenario_run.specs.declared.playing.Outcome.TheVariants.{Done, Waits, Fails}
 use Rattle.scenario_run.specs.Holding.{holds}
+use Rattle.scenario_run.specs.Turns.{run_all, running_to_release}
 use Rattle.scenario_run.specs.Playing.{Playing, Went, cancelled, issued, most_of, number_of, one, run_thread, running_to, stays, stepping}
 use Rattle.scenario_text.specs.declared.scenario.Action.{Action}
-use Rattle.scenario_text.specs.declared.scenario.Action.TheVariants.{Issue, Cancel, Interrupt, Dpc, StartIo, Steps, Run as RunAction, RunTo, Expect}
+use Rattle.scenario_text.specs.declared.scenario.Action.TheVariants.{Issue, Cancel, Interrupt, Dpc, StartIo, Steps, Run as RunAction, RunTo, RunToRelease, RunAll, Together, Expect}
+use Rattle.scenario_expected.specs.declared.expectation.Expectation.TheVariants.{Clean}
 use Rattle.scenario_text.specs.declared.scenario.Step.{Step}
 
 -- what is expected holds, or it fails
 abbrev pub expected : Playing → Bool → Went
 expected p holds = stays p (if holds then Done else Fails)
 
--- what a step does
+-- what a step does. What threads do in every interleaving is no one thing: here that fails
 abbrev pub acted : Playing → Action → Went
 acted p (Issue t d major argument) = issued p (event.Issue t d major argument)
 acted p (Cancel t packet level) = cancelled p t level (number_of p packet)
@@ -23,7 +25,15 @@ acted p (StartIo t d) = one p (event.StartIo t d)
 acted p (Steps t count) = stepping t count p
 acted p (RunAction t) = run_thread t p
 acted p (RunTo t spot) = running_to t spot (most_of p) p
+acted p (RunToRelease t lock) = running_to_release t lock (most_of p) p
+acted p RunAll = run_all p
+acted p (Together threads worlds) = stays p Fails
 acted p (Expect expectation) = expected p (holds p expectation)
+
+-- it asks for an audit
+abbrev pub expects_audit : Action → Bool
+expects_audit (Expect Clean) = true
+expects_audit action = false
 
 -- a step that goes so far lets the next one begin
 abbrev pub passes : Bool → Outcome → Bool

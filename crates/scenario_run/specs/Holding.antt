@@ -1,5 +1,5 @@
 -- What is expected of a run holds in it, or doesn't.
-use Rattle.std.specs.Prelude.{ℕ, ◌&&◌, not, Bool, true, false, List, nat_eq, is_none, is_some, Option, None, Some}
+use Rattle.std.specs.Prelude.{ℕ, ◌&&◌, not, Bool, true, false, List, [], ◌∷◌, nat_eq, is_none, is_some, Option, None, Some}
 use Rattle.std.specs.List.{list_any}
 use Rattle.hunt_ends.specs.Ends.{amiss_in}
 use Rattle.laws_locks.specs.Waiting.{waits_for}
@@ -18,16 +18,17 @@ use Rattle.model.specs.Set.{Set}
 use Rattle.model.specs.Status.{status_code}
 use Rattle.model.specs.View.{packet_at, thread_at}
 use Rattle.model.specs.Words.{bug_check_code}
-use Rattle.model.specs.World.{World, is_queued, start_of}
-use Rattle.scenario_run.specs.Playing.{Playing, number_of, replies_of, run_of, world_of}
-use Rattle.scenario_text.specs.declared.scenario.DeviceState.{DeviceState}
-use Rattle.scenario_text.specs.declared.scenario.DeviceState.TheVariants as device
-use Rattle.scenario_text.specs.declared.scenario.Expectation.{Expectation}
-use Rattle.scenario_text.specs.declared.scenario.Expectation.TheVariants.{Clean, Bug as BugCheck, Packet, Thread, Device}
-use Rattle.scenario_text.specs.declared.scenario.PacketState.{PacketState}
-use Rattle.scenario_text.specs.declared.scenario.PacketState.TheVariants.{Live, Cancelled, Topped}
-use Rattle.scenario_text.specs.declared.scenario.ThreadState.{ThreadState}
-use Rattle.scenario_text.specs.declared.scenario.ThreadState.TheVariants as thread
+use Rattle.model.specs.World.{World, is_queued, owner_of, start_of}
+use Rattle.scenario_run.specs.Playing.{Playing, number_of, replies_of, run_of, stands_at, world_of}
+use Rattle.scenario_expected.specs.declared.expectation.DeviceState.{DeviceState}
+use Rattle.scenario_expected.specs.declared.expectation.DeviceState.TheVariants as device
+use Rattle.scenario_expected.specs.declared.expectation.Expectation.{Expectation}
+use Rattle.scenario_expected.specs.declared.expectation.Expectation.TheVariants.{Clean, Bug as BugCheck, Packet, Thread, Device, Lock, Listed}
+use Rattle.scenario_expected.specs.declared.expectation.PacketState.{PacketState}
+use Rattle.scenario_expected.specs.declared.expectation.PacketState.TheVariants.{Live, Cancelled, Marked, Unmarked, Topped, In, Current, Held}
+use Rattle.scenario_expected.specs.declared.expectation.ThreadState.{ThreadState}
+use Rattle.scenario_expected.specs.declared.expectation.ThreadState.TheVariants as thread
+use Rattle.scenario_world.specs.Expected.{entries_of, has_entries, has_entry, is_current, is_held, is_marked, is_number, is_owned, is_unmarked, number_in}
 
 -- nothing is amiss in a run that hasn't stopped
 abbrev pub is_clean : Set → Run → Bool
@@ -75,6 +76,11 @@ packet_is w replies n Live = is_live (packet_at w n)
 packet_is w replies n Cancelled = is_cancelled (packet_at w n)
 packet_is w replies n (Topped status information) =
     topped_as status information (top_out_of replies n)
+packet_is w replies n Marked = is_marked (packet_at w n)
+packet_is w replies n Unmarked = is_unmarked (packet_at w n)
+packet_is w replies n (In d list) = has_entry n (entries_of w.shared d list)
+packet_is w replies n (Current d) = is_current n (start_of w.shared d)
+packet_is w replies n (Held driver routine) = is_held w n driver routine
 
 -- a packet that wasn't issued is nothing of that
 abbrev pub packet_holds : World → List Reply → Option ℕ → PacketState → Bool
@@ -94,6 +100,8 @@ abbrev pub thread_holds : Set → World → ℕ → ThreadState → Bool
 thread_holds set w t thread.Idle = is_idle (thread_at w t)
 thread_holds set w t thread.Busy = is_busy (thread_at w t)
 thread_holds set w t thread.Waiting = is_some (waits_for set w t)
+thread_holds set w t (thread.WaitingFor u) = is_number u (waits_for set w t)
+thread_holds set w t (thread.At spot) = stands_at spot (thread_at w t)
 
 -- a device that there is isn't busy with a packet, or is
 abbrev pub is_free : Option StartState → Bool
@@ -108,6 +116,13 @@ abbrev pub device_holds : World → ℕ → DeviceState → Bool
 device_holds w d device.Idle = is_free (start_of w.shared d)
 device_holds w d device.Busy = is_taken (start_of w.shared d)
 device_holds w d device.DpcQueued = is_queued w.shared d
+device_holds w d (device.Has cell n) = is_number n (number_in w.shared d cell)
+
+-- the numbers of the packets that a line names
+abbrev pub numbers_of : Playing → List (Option ℕ) → List (Option ℕ)
+numbers_of p [] = []
+numbers_of p (None ∷ packets) = numbers_of p packets
+numbers_of p (Some packet ∷ packets) = number_of p packet ∷ numbers_of p packets
 
 -- what is expected holds
 abbrev pub holds : Playing → Expectation → Bool
@@ -117,3 +132,6 @@ holds p (Packet packet state) =
     packet_holds (world_of p) (replies_of p) (number_of p packet) state
 holds p (Thread t state) = thread_holds p.set (world_of p) t state
 holds p (Device d state) = device_holds (world_of p) d state
+holds p (Lock lock owner) = is_owned owner (owner_of (world_of p).shared.locks lock)
+holds p (Listed d list packets) =
+    has_entries (numbers_of p packets) (entries_of (world_of p).shared d list)

@@ -1,4 +1,5 @@
 pub mod Acting
+pub mod Alike
 pub mod Going
 pub mod Holding
 pub mod Past
@@ -6,3 +7,4 @@ pub mod Playing
 pub mod Running
 pub mod Told
 pub mod Tops
+pub mod Turns

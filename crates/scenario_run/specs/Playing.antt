@@ -13,7 +13,7 @@ use Rattle.model.specs.declared.view.FrameView.TheVariants.{Routine, Walk, Cance
 use Rattle.model.specs.declared.view.ThreadView.{ThreadView}
 use Rattle.model.specs.View.{busy_at, thread_at}
 use Rattle.model.specs.World.{World}
-use Rattle.scenario_text.specs.declared.names.Spot.{Spot}
+use Rattle.scenario_names.specs.declared.names.Spot.{Spot}
 use Rattle.scenario_run.specs.declared.playing.Outcome.{Outcome}
 use Rattle.scenario_run.specs.declared.playing.Outcome.TheVariants.{Done, Waits, Fails}
 

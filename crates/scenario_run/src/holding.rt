@@ -2,9 +2,10 @@
 
 ghost use Rattle.std.specs.Prelude.{◌≡◌, ◌++◌, IfOk, OnOk, replicate};
 ghost use Rattle.hunt_ends.specs.Ends.{Rehearses, amiss_in};
-ghost use Rattle.scenario_run.specs.Holding.{device_holds, has_information, has_status, holds, is_busy, is_cancelled, is_clean, is_idle, is_live, packet_holds, thread_holds, topped_as};
+ghost use Rattle.scenario_run.specs.Holding.{device_holds, has_information, has_status, holds, is_busy, is_cancelled, is_clean, is_idle, is_live, numbers_of, packet_holds, thread_holds, topped_as};
 ghost use Rattle.scenario_run.specs.Past.{events_of};
 ghost use Rattle.scenario_run.specs.Playing.{number_of, replies_of, run_of, world_of};
+ghost use Rattle.scenario_world.specs.Expected.{entries_of, has_entries};
 
 use crate::playing::Playing;
 use hunt_ends::amiss::Amiss;
@@ -14,7 +15,14 @@ use model::event::{Event, Reply};
 use model::history::TopOut;
 use model::status::Status;
 use model::view::{PacketView, ThreadView};
-use scenario_text::scenario::{DeviceState, Expectation, PacketState, ThreadState};
+use scenario_expected::expectation::{
+    DeviceState, Expectation, List, MAX_LISTED, PacketState, ThreadState,
+};
+use scenario_world::cells::has_number;
+use scenario_world::holders::is_held;
+use scenario_world::lists::{has_entries, has_entry, is_current};
+use scenario_world::locks::is_owned;
+use scenario_world::marks::{is_marked, is_unmarked};
 use std::alloc::{AllocError, Global};
 use tell_audit::ring::waits_for;
 
@@ -35,7 +43,13 @@ pub fn holds(
         Expectation::Bug(number) => Ok(playing.has_bug(number)),
         Expectation::Packet { packet, state } => Ok(packet_holds(playing, packet, state)),
         Expectation::Thread { thread, state } => Ok(thread_holds(playing, thread, state)),
-        Expectation::Device { device, state } => Ok(device_holds(playing, device, state)),
+        Expectation::Device { device, state } => device_holds(playing, device, state),
+        Expectation::Lock { lock, owner } => Ok(is_owned(playing.machine(), lock, owner)),
+        Expectation::Listed {
+            device,
+            list,
+            packets,
+        } => are_listed(alloc, playing, device, list, &packets),
     }
 }
 
@@ -107,13 +121,19 @@ fn packet_holds(playing: &Playing, packet: usize, state: PacketState) -> bool
     let Some(number) = playing.number_of(packet) else {
         return false;
     };
+    let machine = playing.machine();
     match state {
-        PacketState::Live => is_live(&playing.machine().packet(number)),
-        PacketState::Cancelled => is_cancelled(&playing.machine().packet(number)),
+        PacketState::Live => is_live(&machine.packet(number)),
+        PacketState::Cancelled => is_cancelled(&machine.packet(number)),
         PacketState::Topped {
             status,
             information,
         } => topped_as(status, information, playing.top_out(number)),
+        PacketState::Marked => is_marked(&machine.packet(number)),
+        PacketState::Unmarked => is_unmarked(&machine.packet(number)),
+        PacketState::In { device, list } => has_entry(machine, number, device, list),
+        PacketState::Current(device) => is_current(machine, number, device),
+        PacketState::Held { driver, routine } => is_held(machine, number, driver, routine),
     }
 }
 
@@ -171,6 +191,8 @@ fn thread_holds(playing: &Playing, thread: u8, state: ThreadState) -> bool
         ThreadState::Idle => is_idle(&machine.thread(thread)),
         ThreadState::Busy => is_busy(&machine.thread(thread)),
         ThreadState::Waiting => waits_for(machine, thread).is_some(),
+        ThreadState::WaitingFor(other) => waits_for(machine, thread) == Some(other),
+        ThreadState::At(spot) => playing.stands_at(thread, spot),
     }
 }
 
@@ -193,19 +215,53 @@ fn is_busy(view: &Option<ThreadView>) -> bool
 }
 
 /// Whether this holds of a device.
-fn device_holds(playing: &Playing, device: u8, state: DeviceState) -> bool
-    ensures { result ≡ device_holds (world_of playing.now) device state }
+fn device_holds(playing: &Playing, device: u8, state: DeviceState) -> Result<bool, AllocError>
+    ensures { IfOk result (λ yes. yes ≡ device_holds (world_of playing.now) device state) }
 {
     let shared = playing.machine().shared();
     match state {
         DeviceState::Idle => match shared.start_of(device) {
-            Some(start) => !start.is_busy(),
-            None => false,
+            Some(start) => Ok(!start.is_busy()),
+            None => Ok(false),
         },
         DeviceState::Busy => match shared.start_of(device) {
-            Some(start) => start.is_busy(),
-            None => false,
+            Some(start) => Ok(start.is_busy()),
+            None => Ok(false),
         },
-        DeviceState::DpcQueued => shared.is_queued(device),
+        DeviceState::DpcQueued => Ok(shared.is_queued(device)),
+        DeviceState::Has { cell, number } => has_number(playing.machine(), device, cell, number),
     }
+}
+
+/// Whether these packets stand in a list of a device and no others, in this order.
+fn are_listed(
+    alloc: Global,
+    playing: &Playing,
+    device: u8,
+    list: List,
+    packets: &[Option<usize>; MAX_LISTED],
+) -> Result<bool, AllocError>
+    ensures { IfOk result (λ yes. yes ≡ has_entries (numbers_of playing.now packets.now)
+        (entries_of (world_of playing.now).shared device list)) }
+{
+    let numbers = numbers_of(alloc, playing, packets)?;
+    Ok(has_entries(playing.machine(), numbers.as_slice(), device, list))
+}
+
+/// The numbers of the packets that a line names.
+#[tactic(auto, using(crate::proofs::Numbers::numbers_some, crate::proofs::Numbers::numbers_none, crate::proofs::Numbers::numbers_over))]
+fn numbers_of(
+    alloc: Global,
+    playing: &Playing,
+    packets: &[Option<usize>; MAX_LISTED],
+) -> Result<Vec<Option<u64>>, AllocError>
+    ensures { IfOk result (λ numbers. numbers.items ≡ numbers_of playing.now packets.now) }
+{
+    let mut numbers = Vec::new(alloc);
+    for packet in packets {
+        if let Some(packet) = packet {
+            numbers.push(playing.number_of(*packet))?;
+        }
+    }
+    Ok(numbers)
 }

@@ -8,3 +8,4 @@ pub mod playing;
 mod runner;
 mod told;
 mod tops;
+mod turns;

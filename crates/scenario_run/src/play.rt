@@ -1,13 +1,15 @@
 //! The steps of a scenario, one after another.
 
 ghost use Rattle.std.specs.Prelude.{◌≡◌, IfOk};
-ghost use Rattle.scenario_run.specs.Acting.{acted, expected, passes, played};
+ghost use Rattle.scenario_run.specs.Acting.{acted, expected, expects_audit, passes, played};
 ghost use Rattle.scenario_run.specs.Holding.{holds};
 
 use crate::holding::holds;
 use crate::playing::{Outcome, Playing};
+use crate::turns::{run_all, run_to_release};
 use model::event::Event;
-use scenario_text::scenario::{Action, Expectation, Step};
+use scenario_expected::expectation::Expectation;
+use scenario_text::scenario::{Action, Step};
 use std::alloc::{AllocError, Global};
 
 /// Plays the steps of a scenario, up to the first that fails, and answers that one, if there is one.
@@ -30,8 +32,13 @@ pub fn play(
 }
 
 /// Whether a step asks for an audit.
-fn expects_audit(step: &Step) -> bool {
-    matches!(step.action, Action::Expect(Expectation::Clean))
+pub fn expects_audit(step: &Step) -> bool
+    ensures { result ≡ expects_audit step.now.action }
+{
+    match step.action {
+        Action::Expect(Expectation::Clean) => true,
+        _ => false,
+    }
 }
 
 /// Plays the steps from here on.
@@ -50,7 +57,7 @@ fn play_on(alloc: Global, playing: &mut Playing, steps: &[Step]) -> Result<Optio
 }
 
 /// Whether the next step begins behind one that may fail or not, and went so.
-fn passes(may: bool, outcome: Outcome) -> bool
+pub fn passes(may: bool, outcome: Outcome) -> bool
     ensures { result ≡ passes may outcome }
 {
     match outcome {
@@ -60,7 +67,11 @@ fn passes(may: bool, outcome: Outcome) -> bool
 }
 
 /// Does what a step says.
-fn act(alloc: Global, playing: &mut Playing, action: &Action) -> Result<Outcome, AllocError>
+///
+/// # Errors
+///
+/// When memory runs out.
+pub fn act(alloc: Global, playing: &mut Playing, action: &Action) -> Result<Outcome, AllocError>
     ensures { IfOk result (λ outcome.
         record { now = playing.new; outcome = outcome } ≡ acted playing.old action.now) }
 {
@@ -87,6 +98,9 @@ fn act(alloc: Global, playing: &mut Playing, action: &Action) -> Result<Outcome,
         Action::Steps { thread, count } => playing.steps(thread, count),
         Action::Run(thread) => playing.run(thread),
         Action::RunTo { thread, spot } => playing.run_to(thread, spot),
+        Action::RunToRelease { thread, lock } => run_to_release(playing, thread, lock),
+        Action::RunAll => run_all(playing),
+        Action::Together { .. } => Ok(Outcome::Fails),
         Action::Expect(expectation) => expect(alloc, playing, &expectation),
     }
 }

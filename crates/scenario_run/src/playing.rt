@@ -1,27 +1,29 @@
 //! A scenario as it plays on the reference machine.
 
-ghost use Rattle.std.specs.Prelude.{◌≡◌, ◌≤◌, ◌-◌, IfOk, IfSome, is_none, true};
+ghost use Rattle.std.specs.Prelude.{◌≡◌, ◌≤◌, ◌-◌, [], IfOk, IfSome, IsTrue, is_none, true};
 ghost use Rattle.model.specs.declared.limits.TheConstants.{MAX_THREADS};
 ghost use Rattle.model.specs.History.{started_by, top_out_of};
 ghost use Rattle.model.specs.View.{busy_at, thread_at};
 ghost use Rattle.hunt_ends.specs.Ends.{amiss_in};
 ghost use Rattle.std.specs.List.{list_any};
+ghost use Rattle.scenario_run.specs.Alike.{AreAlike};
 ghost use Rattle.scenario_run.specs.Going.{GoesAhead};
 ghost use Rattle.scenario_run.specs.Holding.{is_bug};
 ghost use Rattle.scenario_run.specs.Past.{events_of};
 ghost use Rattle.scenario_run.specs.Told.{last_of};
 ghost use Rattle.scenario_run.specs.Playing.{begun, cancelled, happened, has_room, is_at, issued, most_of, number_of, one, outcome_of, outcome_of_cancel, replies_of, reply_in, reply_of, run_of, run_thread, running, running_to, stands_at, stepping, with_event, world_of};
 
-use crate::runner::Runner;
+use crate::runner::{Keeping, Runner};
 use crate::told::Told;
 use checked::Checked;
 use driver_set::DriverSet;
+use hunt_worlds::world::same_world;
 use interleave::read::Repeated;
 use interleave::schedule::MAX_EVENTS;
 use model::event::{Event, Reply};
 use model::history::TopOut;
 use model::view::FrameView;
-use scenario_text::names::Spot;
+use scenario_names::names::Spot;
 use std::alloc::{AllocError, Global};
 use std::marker::Model;
 
@@ -90,13 +92,60 @@ impl Playing {
         })
     }
 
+    /// The same scenario behind other events, with the same packets.
+    ///
+    /// # Errors
+    ///
+    /// When memory runs out, or there are more events than a schedule has.
+    pub fn replayed(&self, alloc: Global, events: &[Event]) -> Result<Playing, AllocError>
+        ensures { IfOk result (λ p. p ≡ record self.now { events = events.now }) }
+    {
+        if events.len() > MAX_EVENTS {
+            return Err(AllocError);
+        }
+        let mut fresh = self.afresh(alloc)?;
+        for event in events {
+            let _reply = fresh.apply(*event)?;
+        }
+        Ok(fresh)
+    }
+
+    /// The same scenario before its first event, with the same packets.
+    fn afresh(&self, alloc: Global) -> Result<Playing, AllocError>
+        ensures { IfOk result (λ p. p ≡ record self.now { events = [] }) }
+    {
+        let mut fresh = Playing::new(alloc, self.runner.machine.set(), self.threads())?;
+        if let Keeping::Ledger = self.runner.keeping {
+            fresh.keep_ledger()?;
+        }
+        fresh.packets = Vec::from_slice(alloc, self.packets.as_slice())?;
+        Ok(fresh)
+    }
+
+    /// Whether it goes on like another one over the same set, on as many threads: both have led to
+    /// one world by as many events, no bug check has stopped them, and packets topped out alike.
+    pub fn is_alike(&self, other: &Playing) -> bool
+        ensures { IsTrue result → AreAlike self.now other.now }
+    {
+        let stopped = self.runner.machine.stopped() || other.runner.machine.stopped();
+        if stopped || self.count != other.count {
+            return false;
+        }
+        let told = self.told.is_alike(&other.told);
+        if told {
+            let same = same_world(&self.runner.machine, &other.runner.machine);
+            return same;
+        }
+        false
+    }
+
     /// Keeps what an audit needs along the run, if nothing has happened yet.
     ///
     /// # Errors
     ///
     /// When memory runs out.
     #[tactic(auto, using(crate::proofs::Pasts::past_begun))]
-    pub(crate) fn keep_ledger(&mut self) -> Result<(), AllocError>
+    pub fn keep_ledger(&mut self) -> Result<(), AllocError>
         ensures { self.new ≡ self.old }
     {
         if self.count > 0 {
@@ -132,7 +181,11 @@ impl Playing {
     }
 
     /// One event.
-    pub(crate) fn one(&mut self, event: Event) -> Result<Outcome, AllocError>
+    ///
+    /// # Errors
+    ///
+    /// When memory runs out.
+    pub fn one(&mut self, event: Event) -> Result<Outcome, AllocError>
         ensures { IfOk result (λ outcome.
             record { now = self.new; outcome = outcome } ≡ one self.old event) }
     {
@@ -209,7 +262,7 @@ impl Playing {
     }
 
     /// So many steps may a run of a thread have, and one that fails for want of room.
-    fn most(&self) -> usize
+    pub(crate) fn most(&self) -> usize
         ensures { result ≡ most_of self.now }
     {
         (MAX_EVENTS + 1).saturating_sub(self.count)
@@ -278,7 +331,7 @@ impl Playing {
     }
 
     /// Whether a thread's next step is that of an instruction.
-    fn stands_at(&self, thread: u8, spot: Spot) -> bool
+    pub(crate) fn stands_at(&self, thread: u8, spot: Spot) -> bool
         ensures { result ≡ stands_at spot (thread_at (world_of self.now) thread) }
     {
         match self.runner.machine.thread(thread) {
@@ -288,7 +341,7 @@ impl Playing {
     }
 
     /// Whether a thread has frames.
-    fn is_busy(&self, thread: u8) -> bool
+    pub(crate) fn is_busy(&self, thread: u8) -> bool
         ensures { result ≡ busy_at (world_of self.now) thread }
     {
         match self.runner.machine.thread(thread) {

@@ -1,16 +1,17 @@
 //! What the replies of a run told, as far as a scenario asks for it.
 
-ghost use Rattle.std.specs.Prelude.{◌<◌, ◌≡◌, ◌≤◌, ◌∷◌, [], List, OnOk, replicate, vec_len};
+ghost use Rattle.std.specs.Prelude.{◌<◌, ◌≡◌, ◌≤◌, ◌∷◌, [], IsTrue, List, OnOk, replicate, vec_len};
 ghost use Rattle.std.specs.List.{list_any};
 ghost use Rattle.std.specs.Vec.{vec_capacity};
 ghost use Rattle.model.specs.declared.event.Reply.{Reply};
 ghost use Rattle.model.specs.declared.event.Reply.TheVariants.{Stepped};
 ghost use Rattle.model.specs.History.{top_out_of};
 ghost use Rattle.model.specs.Words.{bug_check_code};
+ghost use Rattle.scenario_run.specs.Alike.{TellAlike};
 ghost use Rattle.scenario_run.specs.Holding.{is_bug};
 ghost use Rattle.scenario_run.specs.Told.{Adds, AddsBug, AreTold, HasRoom, bug_told};
 
-use crate::tops::{make_room, note_top, top_at};
+use crate::tops::{make_room, note_top, same_tops, top_at};
 use indexmap::IndexMap;
 use model::event::{BugCheck, Reply};
 use model::history::TopOut;
@@ -80,6 +81,22 @@ impl Told {
         ensures { (told : List Reply) → AreTold self.now told → result ≡ top_out_of told number }
     {
         top_at(&self.tops, number)
+    }
+
+    /// Whether it is what the replies of another run told, as far as both may go on.
+    #[tactic(auto, using(crate::proofs::Alike::told_alike))]
+    pub(crate) fn is_alike(&self, other: &Told) -> bool
+        ensures { IsTrue result → (told others : List Reply)
+            → AreTold self.now told → AreTold other.now others → TellAlike told others }
+    {
+        if !self.bugs.is_empty() {
+            return false;
+        }
+        if !other.bugs.is_empty() {
+            return false;
+        }
+        let same = same_tops(&self.tops, &other.tops);
+        same
     }
 }
 

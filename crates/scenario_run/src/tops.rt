@@ -1,6 +1,6 @@
 //! How packets have topped out.
 
-ghost use Rattle.std.specs.Prelude.{◌<◌, ◌≡◌, List, OnOk};
+ghost use Rattle.std.specs.Prelude.{◌<◌, ◌≡◌, IsTrue, List, OnOk, slice_get};
 ghost use Rattle.indexmap.specs.IndexMap.{spare};
 ghost use Rattle.model.specs.declared.event.Reply.{Reply};
 ghost use Rattle.model.specs.History.{top_out_of};
@@ -57,4 +57,39 @@ pub(crate) fn top_at(tops: &IndexMap<u64, TopOut>, number: u64) -> Option<TopOut
     ensures { (told : List Reply) → AreTops tops.now told → result ≡ top_out_of told number }
 {
     tops.get(&number).copied()
+}
+
+/// Whether packets topped out alike, in one order.
+pub(crate) fn same_tops(ours: &IndexMap<u64, TopOut>, its: &IndexMap<u64, TopOut>) -> bool
+    ensures { IsTrue result → ours.now.entries ≡ its.now.entries }
+{
+    if ours.len() != its.len() {
+        return false;
+    }
+    for place in 0..ours.len() {
+        if !same_entry(ours, its, place) {
+            return false;
+        }
+    }
+    true
+}
+
+/// Whether the packets at a place of that order did so.
+fn same_entry(ours: &IndexMap<u64, TopOut>, its: &IndexMap<u64, TopOut>, place: usize) -> bool
+    ensures { IsTrue result
+        → slice_get ours.now.entries place ≡ slice_get its.now.entries place }
+{
+    match (ours.get_index(place), its.get_index(place)) {
+        (Some((number, top)), Some((other, its_top))) => {
+            *number == *other && same_top(top, its_top)
+        }
+        _ => false,
+    }
+}
+
+/// Whether a packet topped out as another one did.
+fn same_top(ours: &TopOut, its: &TopOut) -> bool
+    ensures { IsTrue result → ours.now ≡ its.now }
+{
+    ours.packet == its.packet && ours.status == its.status && ours.info == its.info
 }

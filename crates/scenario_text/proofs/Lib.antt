@@ -1,2 +1,2 @@
-pub mod Issuing
+pub mod Blocks
 pub mod Limits

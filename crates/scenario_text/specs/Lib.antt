@@ -1,6 +1,4 @@
-pub mod Expecting
-pub mod Issued
 pub mod Line
 pub mod Listing
-pub mod Names
-pub mod Operands
+pub mod Repeating
+pub mod Together

@@ -5,12 +5,13 @@ use Rattle.interleave.specs.declared.schedule.ScheduleKind.{ScheduleKind}
 use Rattle.interleave.specs.declared.schedule.ScheduleKind.TheVariants.{Lex, UnknownWord}
 use Rattle.text.specs.Class.{is_name}
 use Rattle.text.specs.Cut.{is_clean, tokens_of}
-use Rattle.scenario_text.specs.Expecting.{expect_line}
-use Rattle.scenario_text.specs.Names.{Named}
-use Rattle.scenario_text.specs.Operands.{byte_of, device_of, major_from, number_of, packet_of, spot_labelled, spot_on_line}
+use Rattle.scenario_expected.specs.Expecting.{expect_line}
+use Rattle.scenario_names.specs.Names.{Named}
+use Rattle.scenario_names.specs.Operands.{byte_of, device_of, major_from, number_of, packet_of, spin_lock_of, spot_labelled, spot_on_line}
+use Rattle.scenario_text.specs.Together.{together_line}
 use Rattle.scenario_text.specs.declared.reading.Said.{Said}
 use Rattle.scenario_text.specs.declared.scenario.Action.{Action}
-use Rattle.scenario_text.specs.declared.scenario.Action.TheVariants.{Issue, Cancel, Interrupt, Dpc, StartIo, Steps, Run, RunTo, Expect}
+use Rattle.scenario_text.specs.declared.scenario.Action.TheVariants.{Issue, Cancel, Interrupt, Dpc, StartIo, Steps, Run, RunTo, RunToRelease, RunAll, Together, Expect}
 
 -- a request to a device
 abbrev pub issues : Named → List ℕ → List ℕ → List ℕ → List ℕ → Result Action ScheduleKind
@@ -95,16 +96,28 @@ to_number names thread word number =
     then and_then (λ t. and_then (λ s. Ok (RunTo t s)) (spot_on_line names number)) (byte_of thread)
     else Err UnknownWord
 
--- `ROUTINE:LABEL`, or `line N`
+-- a run of a thread up to the release of a spin lock
+abbrev pub to_release : List ℕ → List ℕ → Result Action ScheduleKind
+to_release thread lock =
+    and_then (λ t. and_then (λ l. Ok (RunToRelease t l)) (spin_lock_of lock)) (byte_of thread)
+
+-- `ROUTINE:LABEL`, `line N`, or `release LOCK`
 abbrev pub until_line : Named → List ℕ → List (List ℕ) → Result Action ScheduleKind
 until_line names thread (place ∷ []) = to_label names thread place
-until_line names thread (word ∷ number ∷ []) = to_number names thread word number
+until_line names thread (word ∷ operand ∷ []) =
+    if bytes_eq word (codes "release") then to_release thread operand
+    else to_number names thread word operand
 until_line names thread _ = Err UnknownWord
 
--- `run T`, or `run T until PLACE`
+-- `run all`, or `run T`
+abbrev pub run_of : List ℕ → Result Action ScheduleKind
+run_of thread =
+    if bytes_eq thread (codes "all") then Ok RunAll else and_then (λ t. Ok (Run t)) (byte_of thread)
+
+-- one of these, or `run T until PLACE`
 abbrev pub run_line : Named → List (List ℕ) → Result Action ScheduleKind
 run_line names [] = Err UnknownWord
-run_line names (thread ∷ []) = and_then (λ t. Ok (Run t)) (byte_of thread)
+run_line names (thread ∷ []) = run_of thread
 run_line names (thread ∷ word ∷ operands) =
     if bytes_eq word (codes "until") then until_line names thread operands else Err UnknownWord
 
@@ -130,6 +143,9 @@ named (StartIo t d) word = None
 named (Steps t count) word = None
 named (Run t) word = None
 named (RunTo t spot) word = None
+named (RunToRelease t lock) word = None
+named RunAll word = None
+named (Together threads worlds) word = None
 named (Expect expected) word = None
 
 abbrev pub saying : Bool → List ℕ → Action → Said
@@ -152,8 +168,9 @@ line_of names packets [] = Ok None
 line_of names packets (word ∷ operands) =
     if bytes_eq word (codes "may") then may_line names packets operands else
     (if bytes_eq word (codes "expect")
-    then says false word (and_then (λ e. Ok (Expect e)) (expect_line names packets operands))
-    else says false word (action_line names packets word operands))
+    then says false word (and_then (λ e. Ok (Expect e)) (expect_line names packets operands)) else
+    (if bytes_eq word (codes "together") then says false word (together_line operands)
+    else says false word (action_line names packets word operands)))
 
 -- the tokens of a line whose bytes are all allowed
 abbrev pub clean_tokens : List ℕ → Result (List (List ℕ)) ScheduleKind

@@ -2,10 +2,8 @@
 //! their texts.
 #![tactic(auto)]
 
-mod expecting;
-pub mod issued;
-pub mod names;
-mod operands;
 pub mod parse;
 pub mod reading;
+pub mod repeating;
 pub mod scenario;
+mod together;

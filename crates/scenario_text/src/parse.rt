@@ -3,14 +3,16 @@
 ghost use Rattle.std.specs.Prelude.{◌≡◌, ◌+◌, ◌<◌, ◌≤◌, ◌^◌, IfOk, IfSome, MatchResult, OnOk, Ok, Err, length};
 ghost use Rattle.interleave.specs.Line.{opening_line};
 ghost use Rattle.model.specs.declared.limits.TheConstants.{MAX_THREADS};
-ghost use Rattle.scenario_text.specs.Listing.{IsFaultOf, given_after, listing, nothing, opening, scenario_in, with_said, with_threads};
+ghost use Rattle.scenario_text.specs.Repeating.{kept};
+ghost use Rattle.scenario_text.specs.Listing.{IsFaultOf, closed, ends, given_after, listing, nothing, opening, opens, repeated, scenario_in, with_line, with_lines, with_said, with_threads};
 
-use crate::issued::Issued;
-use crate::names::Names;
 use crate::reading::{Said, step_line};
+use crate::repeating::{Block, Numbered, Open, block_of};
 use crate::scenario::{MAX_STEPS, Scenario, Step};
 use interleave::read::opening_line;
 use interleave::schedule::{ScheduleFault, ScheduleKind};
+use scenario_names::issued::Issued;
+use scenario_names::names::Names;
 use std::alloc::{AllocError, Global};
 use std::marker::Model;
 use text::cut::Lines;
@@ -125,10 +127,16 @@ fn list(
     let mut given = Given::new(alloc);
     let mut line = first;
     while let Some(raw) = left.next() {
-        if let Err(kind) = given.add_line(names, line, raw)? {
+        if let Err(kind) = given.add_line(alloc, names, line, raw)? {
             return Ok(Err(ScheduleFault { line, kind }));
         }
         line += 1;
+    }
+    if given.block.is_some() {
+        return Ok(Err(ScheduleFault {
+            line,
+            kind: ScheduleKind::UnknownWord,
+        }));
     }
     Ok(Ok(given.steps))
 }
@@ -139,6 +147,8 @@ struct Given<'a> {
     /// The names of the packets that they issue.
     packets: Issued<'a>,
     steps: Vec<Step>,
+    /// The block that is open, if one is.
+    block: Option<Open<'a>>,
 }
 
 impl<'a> Model for Given<'a> {
@@ -146,7 +156,11 @@ impl<'a> Model for Given<'a> {
 
     ghost Value = { Given };
 
-    ghost view = { λ g. record { packets = g.packets; steps = g.steps.items } };
+    ghost view = { λ g. record {
+      packets = g.packets;
+      steps = g.steps.items;
+      block = g.block;
+    } };
 }
 
 impl<'a> Given<'a> {
@@ -157,12 +171,14 @@ impl<'a> Given<'a> {
         Given {
             packets: Issued::new(alloc),
             steps: Vec::new(alloc),
+            block: None,
         }
     }
 
     /// Adds what a line says.
     fn add_line(
         &mut self,
+        alloc: Global,
         names: &Names<'_>,
         number: u64,
         line: &'a [u8],
@@ -171,12 +187,97 @@ impl<'a> Given<'a> {
             (λ _. given_after names.now self.old number line.now ≡ Ok self.new)
             (λ kind. given_after names.now self.old number line.now ≡ Err kind)) }
     {
+        match block_of(line) {
+            Ok(Block::Plain) => self.add_plain(names, number, line),
+            Ok(Block::Opens(times)) => Ok(self.open(alloc, times)),
+            Ok(Block::Ends) => self.end(names),
+            Err(kind) => Ok(Err(kind)),
+        }
+    }
+
+    /// A block opens, where none is open.
+    fn open(&mut self, alloc: Global, times: u64) -> Result<(), ScheduleKind>
+        ensures { MatchResult result
+            (λ _. opens self.old times self.old.block ≡ Ok self.new)
+            (λ kind. opens self.old times self.old.block ≡ Err kind) }
+    {
+        if self.block.is_some() {
+            return Err(ScheduleKind::UnknownWord);
+        }
+        self.block = Some(Open::new(alloc, times));
+        Ok(())
+    }
+
+    /// The block ends: its lines, which are listed once, are listed as often as it says.
+    fn end(&mut self, names: &Names<'_>) -> Result<Result<(), ScheduleKind>, AllocError>
+        ensures { IfOk result (λ r. MatchResult r
+            (λ _. ends names.now self.old self.old.block ≡ Ok self.new)
+            (λ kind. ends names.now self.old self.old.block ≡ Err kind)) }
+    {
+        match self.block.take() {
+            Some(open) => self.repeat(names, open.times().saturating_sub(1), open.lines()),
+            None => Ok(Err(ScheduleKind::UnknownWord)),
+        }
+    }
+
+    /// Adds what these lines say, so often.
+    #[tactic(auto, using(crate::proofs::Blocks::repeated_on, crate::proofs::Blocks::repeated_stop, crate::proofs::Blocks::repeated_over))]
+    fn repeat(
+        &mut self,
+        names: &Names<'_>,
+        times: u64,
+        lines: &[Numbered<'a>],
+    ) -> Result<Result<(), ScheduleKind>, AllocError>
+        ensures { IfOk result (λ r. MatchResult r
+            (λ _. repeated names.now times self.old lines.now ≡ Ok self.new)
+            (λ kind. repeated names.now times self.old lines.now ≡ Err kind)) }
+    {
+        let mut left = times;
+        while left > 0 {
+            if let Err(kind) = self.add_lines(names, lines)? {
+                return Ok(Err(kind));
+            }
+            left -= 1;
+        }
+        Ok(Ok(()))
+    }
+
+    /// Adds what these lines say.
+    #[tactic(auto, using(crate::proofs::Blocks::lines_on, crate::proofs::Blocks::lines_stop))]
+    fn add_lines(
+        &mut self,
+        names: &Names<'_>,
+        lines: &[Numbered<'a>],
+    ) -> Result<Result<(), ScheduleKind>, AllocError>
+        ensures { IfOk result (λ r. MatchResult r
+            (λ _. with_lines names.now self.old lines.now ≡ Ok self.new)
+            (λ kind. with_lines names.now self.old lines.now ≡ Err kind)) }
+    {
+        for line in lines {
+            if let Err(kind) = self.add_plain(names, line.number, line.line.bytes())? {
+                return Ok(Err(kind));
+            }
+        }
+        Ok(Ok(()))
+    }
+
+    /// Adds what a line says that is one of the lines.
+    fn add_plain(
+        &mut self,
+        names: &Names<'_>,
+        number: u64,
+        line: &'a [u8],
+    ) -> Result<Result<(), ScheduleKind>, AllocError>
+        ensures { IfOk result (λ r. MatchResult r
+            (λ _. with_line names.now self.old number line.now ≡ Ok self.new)
+            (λ kind. with_line names.now self.old number line.now ≡ Err kind)) }
+    {
         match step_line(names, &self.packets, line) {
             Ok(Some(said)) => {
                 if self.steps.len() >= MAX_STEPS {
                     return Ok(Err(ScheduleKind::TooLong));
                 }
-                self.add(number, said)?;
+                self.add(number, line, said)?;
                 Ok(Ok(()))
             }
             Ok(None) => Ok(Ok(())),
@@ -184,9 +285,9 @@ impl<'a> Given<'a> {
         }
     }
 
-    /// Adds a step, and the name of the packet that it issues.
-    fn add(&mut self, number: u64, said: Said<'a>) -> Result<(), AllocError>
-        ensures { OnOk result (self.new ≡ with_said self.old number said.entry) }
+    /// Adds a step, the name of the packet that it issues, and its line to the block that is open.
+    fn add(&mut self, number: u64, line: &'a [u8], said: Said<'a>) -> Result<(), AllocError>
+        ensures { OnOk result (self.new ≡ with_said self.old number line.now said.entry) }
     {
         self.steps.push(Step {
             line: number,
@@ -195,6 +296,18 @@ impl<'a> Given<'a> {
         })?;
         if let Some(name) = said.name {
             self.packets.add(name)?;
+        }
+        self.keep(number, line)
+    }
+
+    /// Keeps a line for the block that is open, if one is.
+    fn keep(&mut self, number: u64, line: &'a [u8]) -> Result<(), AllocError>
+        ensures { OnOk result (self.new
+            ≡ record self.old { block = kept self.old.block number line.now }) }
+    {
+        if let Some(mut open) = self.block.take() {
+            open.add(number, line)?;
+            self.block = Some(open);
         }
         Ok(())
     }

@@ -1,16 +1,17 @@
 //! One line of a scenario.
 
 ghost use Rattle.std.specs.Prelude.{◌≡◌};
-ghost use Rattle.scenario_text.specs.Line.{action_line, begins, cancel_line, cancels, clean_tokens, dpc_line, interrupt_line, issue_line, issues, line_of, may_line, request_line, run_line, saying, startio_line, starts, step_line, steps_line, steps_of, to_label, to_number, until_line};
+ghost use Rattle.scenario_text.specs.Line.{action_line, begins, cancel_line, cancels, clean_tokens, dpc_line, interrupt_line, issue_line, issues, line_of, may_line, request_line, run_line, run_of, saying, startio_line, starts, step_line, steps_line, steps_of, to_label, to_number, to_release, until_line};
 
-use crate::expecting::expect_line;
-use crate::issued::Issued;
-use crate::names::Names;
-use crate::operands::{
-    byte_of, device_of, major_from, number_of, packet_of, spot_labelled, spot_on_line,
-};
 use crate::scenario::Action;
+use crate::together::together_line;
 use interleave::schedule::ScheduleKind;
+use scenario_expected::expecting::expect_line;
+use scenario_names::issued::Issued;
+use scenario_names::names::Names;
+use scenario_names::operands::{
+    byte_of, device_of, major_from, number_of, packet_of, spin_lock_of, spot_labelled, spot_on_line,
+};
 use text::class::{is, is_name};
 use text::cut::is_clean;
 use text::piece::Piece;
@@ -43,7 +44,7 @@ pub fn step_line<'a>(
 }
 
 /// The tokens of a line whose bytes are all allowed.
-fn clean_tokens(line: &[u8]) -> Result<Tokens<'_>, ScheduleKind>
+pub(crate) fn clean_tokens(line: &[u8]) -> Result<Tokens<'_>, ScheduleKind>
     ensures { result ≡ clean_tokens line.now }
 {
     if is_clean(line) {
@@ -67,6 +68,9 @@ fn line_of<'a>(
             } else if is(word, b"expect") {
                 let expected = expect_line(names, packets, tokens)?;
                 Ok(Some(saying(false, word, Action::Expect(expected))))
+            } else if is(word, b"together") {
+                let action = together_line(tokens)?;
+                Ok(Some(saying(false, word, action)))
             } else {
                 let action = action_line(names, packets, word, tokens)?;
                 Ok(Some(saying(false, word, action)))
@@ -130,15 +134,12 @@ fn action_line(
     }
 }
 
-/// `run T`, or `run T until PLACE`.
+/// `run all`, `run T`, or `run T until PLACE`.
 fn run_line(names: &Names<'_>, mut operands: Tokens) -> Result<Action, ScheduleKind>
     ensures { result ≡ run_line names.now operands.entry }
 {
     match (operands.next(), operands.next()) {
-        (Some(thread), None) => {
-            let thread = byte_of(thread)?;
-            Ok(Action::Run(thread))
-        }
+        (Some(thread), None) => run_of(thread),
         (Some(thread), Some(word)) => {
             if is(word, b"until") {
                 until_line(names, thread, operands)
@@ -150,7 +151,18 @@ fn run_line(names: &Names<'_>, mut operands: Tokens) -> Result<Action, ScheduleK
     }
 }
 
-/// `ROUTINE:LABEL`, or `line N`.
+/// A run of all threads, or of one.
+fn run_of(thread: &[u8]) -> Result<Action, ScheduleKind>
+    ensures { result ≡ run_of thread.now }
+{
+    if is(thread, b"all") {
+        return Ok(Action::RunAll);
+    }
+    let thread = byte_of(thread)?;
+    Ok(Action::Run(thread))
+}
+
+/// `ROUTINE:LABEL`, `line N`, or `release LOCK`.
 fn until_line(
     names: &Names<'_>,
     thread: &[u8],
@@ -160,9 +172,24 @@ fn until_line(
 {
     match (operands.next(), operands.next(), operands.next()) {
         (Some(place), None, _) => to_label(names, thread, place),
-        (Some(word), Some(number), None) => to_number(names, thread, word, number),
+        (Some(word), Some(operand), None) => {
+            if is(word, b"release") {
+                to_release(thread, operand)
+            } else {
+                to_number(names, thread, word, operand)
+            }
+        }
         _ => Err(ScheduleKind::UnknownWord),
     }
+}
+
+/// A run of a thread up to the release of a spin lock.
+fn to_release(thread: &[u8], lock: &[u8]) -> Result<Action, ScheduleKind>
+    ensures { result ≡ to_release thread.now lock.now }
+{
+    let thread = byte_of(thread)?;
+    let lock = spin_lock_of(lock)?;
+    Ok(Action::RunToRelease { thread, lock })
 }
 
 /// A run of a thread up to the instruction with a label.

@@ -1,7 +1,8 @@
 //! What a scenario is.
 
-use crate::names::Spot;
-use model::status::{Major, Status};
+use model::status::Major;
+use scenario_expected::expectation::Expectation;
+use scenario_names::names::Spot;
 
 /// Threads of a run, what happens, and what is expected of it.
 #[derive(Drop)]
@@ -14,6 +15,11 @@ pub struct Scenario {
 
 /// Steps of a scenario, at most.
 pub const MAX_STEPS: usize = 65_536;
+
+/// Worlds that are met where threads run in every interleaving, at most; where a line doesn't say.
+pub const MAX_WORLDS: u64 = 1_000_000;
+
+pub const USUAL_WORLDS: u64 = 100_000;
 
 /// A step.
 #[derive(Clone, Copy)]
@@ -66,57 +72,19 @@ pub enum Action {
         thread: u8,
         spot: Spot,
     },
+    /// A thread makes steps until its next one releases this spin lock of its device.
+    RunToRelease {
+        thread: u8,
+        lock: u8,
+    },
+    /// The threads make steps in turn, until each is idle or waits.
+    RunAll,
+    /// These of the threads, by their numbers, make steps until each is idle or waits, in every
+    /// interleaving: so many worlds are met at most.
+    Together {
+        threads: [bool; 64],
+        worlds: u64,
+    },
     /// Nothing happens, and something is expected.
     Expect(Expectation),
-}
-
-/// What is expected of the run so far.
-#[derive(Clone, Copy)]
-pub enum Expectation {
-    /// Its audit finds nothing amiss.
-    Clean,
-    /// The bug check of this number has stopped it.
-    Bug(u8),
-    /// Of a packet.
-    Packet { packet: usize, state: PacketState },
-    /// Of a thread.
-    Thread { thread: u8, state: ThreadState },
-    /// Of a device.
-    Device { device: u8, state: DeviceState },
-}
-
-/// What may be expected of a packet.
-#[derive(Clone, Copy)]
-pub enum PacketState {
-    /// It was issued, and hasn't topped out.
-    Live,
-    /// It is live, and its Irp->Cancel is set.
-    Cancelled,
-    /// It has topped out, with this status and this information, where they are given.
-    Topped {
-        status: Option<Status>,
-        information: Option<u64>,
-    },
-}
-
-/// What may be expected of a thread.
-#[derive(Clone, Copy)]
-pub enum ThreadState {
-    /// It has no frame.
-    Idle,
-    /// It has one.
-    Busy,
-    /// Its next step acquires a lock that another thread owns.
-    Waiting,
-}
-
-/// What may be expected of a device.
-#[derive(Clone, Copy)]
-pub enum DeviceState {
-    /// It isn't busy with a packet for its StartIo routine.
-    Idle,
-    /// It is.
-    Busy,
-    /// Its DPC is queued.
-    DpcQueued,
 }

@@ -1,7 +1,5 @@
-use Rattle.std.proofs.Common.{◌≡◌, ◌∙◌, ◌++◌, ◌∷◌, [], List, None, ap, rules, sym}
-use Rattle.scenario_run.specs.Acting.{Played, played}
-use Rattle.scenario_run.specs.Playing.{Playing, begun}
-use Rattle.scenario_text.specs.declared.scenario.Step.{Step}
+use Rattle.std.proofs.Common.{◌≡◌, ◌∙◌, ◌++◌, ◌∷◌, [], None, rules, sym}
+use Rattle.scenario_run.specs.Acting.{played}
 use Rattle.drvhost_scenarios.specs.Scenarios.{listed}
 use Rattle.drvhost_scenarios.proofs.Failing.{fails_if, none_failed}
 use Rattle.drvhost_scenarios.proofs.finding.fails_at_last.Goals as goal

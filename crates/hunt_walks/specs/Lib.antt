@@ -1,0 +1,3 @@
+pub mod Walks
+pub mod Ends
+pub mod Searched

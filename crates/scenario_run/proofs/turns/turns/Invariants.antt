@@ -1,0 +1,8 @@
+use Rattle.std.proofs.Common.{◌≡◌, ◌-◌}
+use Rattle.scenario_run.specs.Turns.{round}
+use Rattle.scenario_run.proofs.turns.turns.Given as goal
+
+-- the turns that are left go as all did
+abbrev pub invariant-loop-thread : goal.invariant-loop-thread
+invariant-loop-thread l =
+    round (l.threads - l.thread) l.thread l.playing ≡ round l.threads 0 l.initial.playing

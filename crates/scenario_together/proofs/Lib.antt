@@ -1,0 +1,10 @@
+pub mod Acting
+pub mod Alike
+pub mod Ending
+pub mod Sets
+pub mod Ways
+pub mod Covering
+pub mod Plain
+pub mod Playing
+pub mod Joining
+pub mod Standing

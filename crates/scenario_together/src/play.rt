@@ -1,0 +1,282 @@
+//! The steps of a scenario, one after another, from every end of interleavings.
+
+ghost use Rattle.std.specs.Prelude.{◌≡◌, Bool, IfOk, IsTrue, List, Some, option_map};
+ghost use Rattle.model.specs.Typable.{IsTypable};
+ghost use Rattle.std.specs.List.{list_any};
+ghost use Rattle.scenario_run.specs.Acting.{expects_audit};
+ghost use Rattle.scenario_run.specs.Playing.{Playing};
+ghost use Rattle.scenario_text.specs.declared.scenario.Step.{Step};
+ghost use Rattle.scenario_together.specs.Joining.{ActedAll, IsFirstOr, JoinedAll, JoinedOne, Leaves, MayMerge, ThereIf};
+ghost use Rattle.scenario_together.specs.Plays.{Plays, PlaysPlainly, together_of};
+
+use crate::interleaving::is_named;
+use crate::together::{MOVES, Together, run_together};
+use driver_set::DriverSet;
+use laws_worlds::same_worlds_go_on_alike;
+use scenario_run::holding::events_of;
+use scenario_run::play::{act, expects_audit, passes};
+use scenario_run::playing::Playing;
+use scenario_text::scenario::{Action, Step};
+use std::alloc::{AllocError, Global};
+use tell_uses::laws::accepted_runs_show_no_disagreement;
+use verifier::verify;
+
+/// A step that fails.
+#[derive(Clone, Copy)]
+pub struct Failure {
+    pub step: Step,
+    /// Whether it fails since more worlds were met there than may be.
+    pub more: bool,
+}
+
+/// How a scenario has played: to an end, or to the first step that fails in one interleaving.
+#[derive(Drop)]
+pub struct Played {
+    pub now: Playing,
+    pub failed: Option<Failure>,
+}
+
+/// What comes of threads that run together from several plays.
+#[derive(Drop)]
+pub(crate) enum Joined {
+    /// The ends of all.
+    Ends(Vec<Playing>),
+    /// A step of an interleaving fails, or a thread isn't there.
+    Fails(Playing),
+    /// From this one more worlds were met than may be.
+    More(Playing),
+}
+
+/// The threads that a step runs together, and how many worlds they may meet.
+#[derive(Clone, Copy)]
+struct Crew {
+    threads: [bool; 64],
+    worlds: u64,
+}
+
+/// Those of a step, if it runs any.
+fn crew_of(action: &Action) -> Option<Crew>
+    ensures { together_of action.now ≡ option_map (λ crew. crew.threads) result }
+{
+    match *action {
+        Action::Together { threads, worlds } => Some(Crew { threads, worlds }),
+        _ => None,
+    }
+}
+
+/// Whether the set is accepted.
+fn is_accepted(alloc: Global, set: &DriverSet) -> Result<bool, AllocError>
+    ensures { IfOk result (λ yes. IsTrue yes → IsTypable set.now) }
+{
+    let Ok(copy) = set.copy(alloc) else {
+        return Err(AllocError);
+    };
+    let verdict = verify(alloc, copy);
+    Ok(verdict.is_ok())
+}
+
+/// The same play once more.
+fn again(alloc: Global, playing: &Playing) -> Result<Playing, AllocError>
+    ensures { IfOk result (λ same. same ≡ playing.now) }
+{
+    let events = events_of(alloc, playing.past())?;
+    playing.replayed(alloc, events.as_slice())
+}
+
+/// Whether all threads that are named are there.
+fn are_there(named: &[bool; 64], playing: &Playing) -> bool
+    ensures { ThereIf result named.now playing.now }
+{
+    for thread in playing.threads()..MOVES {
+        if is_named(named, thread) {
+            return false;
+        }
+    }
+    true
+}
+
+/// Each play does what a step does, up to the first in which that fails.
+fn act_all(
+    alloc: Global,
+    plays: &mut Vec<Playing>,
+    step: &Step,
+) -> Result<Option<usize>, AllocError>
+    ensures { IfOk result (ActedAll step.now plays.old.items plays.new.items) }
+{
+    for place in 0..plays.len() {
+        let outcome = act(alloc, &mut plays[place], &step.action)?;
+        if !passes(step.may, outcome) {
+            return Ok(Some(place));
+        }
+    }
+    Ok(None)
+}
+
+/// Threads run together from each play, up to the first in which that fails.
+#[tactic(auto, using(crate::proofs::Joining::joined_none))]
+fn join_all(
+    alloc: Global,
+    plays: &[Playing],
+    crew: Crew,
+    merges: bool,
+) -> Result<Joined, AllocError>
+    ensures { IfOk result (λ joined. (step : Step)
+        → JoinedAll merges crew.threads step plays.now joined) }
+{
+    let mut all = Vec::new(alloc);
+    for playing in plays {
+        let joined = join_one(alloc, playing, crew, merges)?;
+        match joined {
+            Joined::Ends(mut ends) => all.append(&mut ends)?,
+            Joined::Fails(now) => return Ok(Joined::Fails(now)),
+            Joined::More(now) => return Ok(Joined::More(now)),
+        }
+    }
+    Ok(Joined::Ends(all))
+}
+
+/// Threads run together from one play.
+fn join_one(
+    alloc: Global,
+    playing: &Playing,
+    crew: Crew,
+    merges: bool,
+) -> Result<Joined, AllocError>
+    ensures { IfOk result (JoinedOne merges crew.threads playing.now) }
+{
+    let home = again(alloc, playing)?;
+    if !are_there(&crew.threads, playing) {
+        return Ok(Joined::Fails(home));
+    }
+    let joined = run_together(alloc, home, crew.threads, crew.worlds as usize, merges)?;
+    match joined {
+        Together::Ends(ends) => Ok(Joined::Ends(ends)),
+        Together::Fails(now) => Ok(Joined::Fails(now)),
+        Together::More => Ok(Joined::More(again(alloc, playing)?)),
+    }
+}
+
+/// What is left of plays behind a step: they go on, or the scenario has come to its end.
+#[derive(Drop)]
+pub(crate) enum Left {
+    On(Vec<Playing>),
+    Over(Played),
+}
+
+/// A step of each play.
+fn step_all(
+    alloc: Global,
+    mut plays: Vec<Playing>,
+    step: &Step,
+    merges: bool,
+) -> Result<Left, AllocError>
+    ensures { IfOk result (Leaves merges step.now plays.items) }
+{
+    if let Some(crew) = crew_of(&step.action) {
+        let joined = join_all(alloc, plays.as_slice(), crew, merges)?;
+        return Ok(left_by(joined, step));
+    }
+    match act_all(alloc, &mut plays, step)? {
+        Some(place) => Ok(Left::Over(ended(plays.swap_remove(place), step, false))),
+        None => Ok(Left::On(plays)),
+    }
+}
+
+/// What threads that run together leave.
+fn left_by(joined: Joined, step: &Step) -> Left
+    ensures { (merges : Bool) (named : List Bool) (plays : List Playing)
+        → together_of step.now.action ≡ Some named
+        → JoinedAll merges named step.now plays joined → Leaves merges step.now plays result }
+{
+    match joined {
+        Joined::Ends(plays) => Left::On(plays),
+        Joined::Fails(now) => Left::Over(ended(now, step, false)),
+        Joined::More(now) => Left::Over(ended(now, step, true)),
+    }
+}
+
+/// A scenario that has come to a step that fails.
+fn ended(now: Playing, step: &Step, more: bool) -> Played
+    ensures { result ≡ record { now = now; failed = Some (record { step = step.now; more = more }) } }
+{
+    let failed = Some(Failure { step: *step, more });
+    Played { now, failed }
+}
+
+/// The first of some plays, or another one where there is none.
+fn first_or(mut plays: Vec<Playing>, other: Playing) -> Playing
+    ensures { IsFirstOr plays.items result }
+{
+    if plays.is_empty() {
+        return other;
+    }
+    plays.swap_remove(0)
+}
+
+/// Plays the steps from the first one on.
+fn play_on(alloc: Global, home: Playing, steps: &[Step], merges: bool) -> Result<Played, AllocError>
+    requires { MayMerge merges steps.now home }
+    ensures { IfOk result (Plays home steps.now) }
+{
+    same_worlds_go_on_alike();
+    accepted_runs_show_no_disagreement();
+    let _devices = home.machine().set().devices();
+    let spare = again(alloc, &home)?;
+    let mut plays = Vec::new(alloc);
+    plays.push(home)?;
+    for step in steps {
+        match step_all(alloc, plays, step, merges)? {
+            Left::On(next) => plays = next,
+            Left::Over(played) => return Ok(played),
+        }
+    }
+    let now = first_or(plays, spare);
+    Ok(Played { now, failed: None })
+}
+
+/// Plays the steps of a scenario, each in what every interleaving before it has led to, up to the first
+/// that fails.
+///
+/// Ends of interleavings that lead to one world are taken for one. What an audit finds may be
+/// different there if the set isn't accepted: where that is asked for, none are taken for another.
+///
+/// # Errors
+///
+/// When memory runs out.
+pub fn play(alloc: Global, playing: Playing, steps: &[Step]) -> Result<Played, AllocError>
+    ensures plays { IfOk result (Plays playing steps.now) }
+    ensures plain { IfOk result (PlaysPlainly playing steps.now) }
+{
+    let audits = expect_audits(steps);
+    let home = readied(playing, audits)?;
+    let merges = may_merge(alloc, &home, audits)?;
+    play_on(alloc, home, steps, merges)
+}
+
+/// Whether a step asks for an audit.
+fn expect_audits(steps: &[Step]) -> bool
+    ensures { result ≡ list_any (λ step. expects_audit step.action) steps.now }
+{
+    steps.iter().any(|step| expects_audit(step))
+}
+
+/// The same play, with what an audit needs.
+fn readied(mut playing: Playing, audits: bool) -> Result<Playing, AllocError>
+    ensures { IfOk result (λ same. same ≡ playing) }
+{
+    if audits {
+        playing.keep_ledger()?;
+    }
+    Ok(playing)
+}
+
+/// Whether plays that lead to one world may be taken for one: no audit is asked for, or the set is
+/// accepted.
+fn may_merge(alloc: Global, playing: &Playing, audits: bool) -> Result<bool, AllocError>
+    ensures { IfOk result (λ yes. IsTrue yes → IsTrue audits → IsTypable playing.now.set) }
+{
+    if !audits {
+        return Ok(true);
+    }
+    is_accepted(alloc, playing.machine().set())
+}
