@@ -6,3 +6,4 @@ pub mod Lining
 pub mod RingsTold
 pub mod Readying
 pub mod Idling
+pub mod Kept

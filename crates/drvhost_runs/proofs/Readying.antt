@@ -1,16 +1,17 @@
 -- What is read before workers serve, that it goes rightly, and what is told of it.
-use Rattle.std.proofs.Common.{◌≡◌, ◌∙◌, ◌≢◌, ◌⊎◌, ◌+◌, ◌++◌, arith, ℕ, List, [], Option, None, Some, Result, Ok, Err, IfOk, IfErr, inl, inr, refl, subst, sym}
+use Rattle.std.proofs.Common.{◌≡◌, ◌∙◌, ◌≢◌, ◌⊎◌, ◌++◌, arith, ℕ, List, [], Option, None, Some, Result, Ok, Err, IfOk, IfErr, inl, inr, refl, subst, sym}
+use Rattle.interleave.specs.declared.schedule.ScheduleFault.{ScheduleFault}
 use Rattle.model.specs.declared.abs.Refusal.{Refusal}
 use Rattle.model.specs.declared.abs.Rule.TheVariants as Rule
+use Rattle.model.specs.declared.history.Command.{Command}
 use Rattle.model.specs.Set.{Set}
 use Rattle.model.specs.Typable.{IsFirstFault, IsTypable, at_start}
-use Rattle.report.specs.Fault.{script_fault_line}
 use Rattle.report.specs.Verdict.{refusal_line}
 use Rattle.drvhost_devices.specs.declared.fault.End.{End}
 use Rattle.drvhost_devices.specs.declared.fault.End.TheVariants.{Stopped}
 use Rattle.drvhost_devices.specs.declared.fault.Fault.{Fault}
 use Rattle.drvhost_devices.specs.declared.fault.Fault.TheVariants.{Read, Write, Memory, Text, Image, Schedule as OfSchedule, Script as OfScript}
-use Rattle.drvhost_devices.specs.Answer.{Answer, IsIfAccepted, IsRefused, faulty}
+use Rattle.drvhost_devices.specs.Answer.{Answer, IsIfAccepted, IsRefused}
 use Rattle.drvhost_devices.specs.Device.{Says, Supply}
 use Rattle.drvhost_devices.specs.Fault.{Goes, ReadsScript, ReadsSet, fault_status}
 use Rattle.drvhost_devices.proofs.Jobs.{goes_refused, goes_rightly, right_on, set_unread}
@@ -18,22 +19,22 @@ use Rattle.drvhost_devices.proofs.Writing.{keeps_same, writes_behind}
 use Rattle.drvhost_runs.specs.declared.page.Page.{Page}
 use Rattle.drvhost_runs.specs.declared.ready.Ready.{Ready}
 use Rattle.drvhost_runs.specs.Readiness.{AreWarningsOf, IsReady, IsServing, IsUnserved, warnings_in}
-use Rattle.drvhost_runs.specs.Served.{IsHostOf, IsServed, IsServedOf}
+use Rattle.drvhost_runs.specs.Served.{IsHostOf, IsServed, IsServedOf, IsUnhosted, IsUnservedOf}
 
 -- the set can't be read
 pub unserved_unread : (set script : Supply) (l : List ℕ) (fault : Fault) → ReadsSet set (Err fault)
     → IsUnserved set script l (Err fault)
-unserved_unread set script l fault h workers b =
-    set_unread (IsIfAccepted (IsServedOf workers script)) set b [] l fault h
+unserved_unread set script l fault h b =
+    set_unread (IsIfAccepted (IsUnservedOf script)) set b [] l fault h
 
 -- what a set that was read answers, the sources answer
-on_set : (set script : Supply) (s : Set) (workers : ℕ) (b : Option (List ℕ)) (l : List ℕ)
+on_set : (set script : Supply) (s : Set) (b : Option (List ℕ)) (l : List ℕ)
     (end : Result End Fault) → ReadsSet set (Ok s)
-    → Goes (IsIfAccepted (IsServedOf workers script) s) b b [] l end
-    → Goes (IsHostOf workers set script) b b [] l end
-on_set set script s workers b l end read goes =
-    goes_rightly (IsIfAccepted (IsServedOf workers script) s) (IsHostOf workers set script) b b [] l end
-    (right_on (IsIfAccepted (IsServedOf workers script)) set s read) goes
+    → Goes (IsIfAccepted (IsUnservedOf script) s) b b [] l end
+    → Goes (IsUnhosted set script) b b [] l end
+on_set set script s b l end read goes =
+    goes_rightly (IsIfAccepted (IsUnservedOf script) s) (IsUnhosted set script) b b [] l end
+    (right_on (IsIfAccepted (IsUnservedOf script)) set s read) goes
 
 -- the set is refused, or there was no memory for a verdict
 pub unserved_refused : (set script : Supply) (s : Set) (refusal : Refusal) (l : List ℕ)
@@ -42,39 +43,55 @@ pub unserved_refused : (set script : Supply) (s : Set) (refusal : Refusal) (l : 
     → IfOk end (λ e. (e ≡ Stopped) × (refusal.rule ≢ Rule.Memory) × (l ≡ refusal_line refusal))
     → IfErr end (λ fault. fault ≡ Memory)
     → IsUnserved set script l end
-unserved_refused set script s refusal l end read first ended failed workers b =
-    on_set set script s workers b l end read
-    (goes_rightly (IsRefused s) (IsIfAccepted (IsServedOf workers script) s) b b [] l end
+unserved_refused set script s refusal l end read first ended failed b =
+    on_set set script s b l end read
+    (goes_rightly (IsRefused s) (IsIfAccepted (IsUnservedOf script) s) b b [] l end
     (λ answer refused. inr refused)
     (goes_refused s refusal b l end first ended failed))
 
 -- the script can't be read, or is faulty
-script_unread : (s : Set) (script : Supply) (workers : ℕ) (b : Option (List ℕ)) (l : List ℕ)
+script_unread : (s : Set) (script : Supply) (b : Option (List ℕ)) (l : List ℕ)
     (fault : Fault) → ReadsScript script (Err fault)
-    → Goes (IsServedOf workers script s) b b [] l (Err fault)
-script_unread s script workers b l Read h = keeps_same b
-script_unread s script workers b l Write h = absurd h
-script_unread s script workers b l Memory h = keeps_same b
-script_unread s script workers b l (Text fault) h = absurd h
-script_unread s script workers b l (Image fault) h = absurd h
-script_unread s script workers b l (OfSchedule fault) h = absurd h
-script_unread s script workers b l (OfScript fault) (text, holds, is) = (
-  (
-    text,
-    holds,
-    subst (λ r. IsServed workers s r (faulty (script_fault_line fault))) (sym is) refl,
-  ),
-  keeps_same b,
-)
+    → Goes (IsUnservedOf script s) b b [] l (Err fault)
+script_unread s script b l Read h = keeps_same b
+script_unread s script b l Write h = absurd h
+script_unread s script b l Memory h = keeps_same b
+script_unread s script b l (Text fault) h = absurd h
+script_unread s script b l (Image fault) h = absurd h
+script_unread s script b l (OfSchedule fault) h = absurd h
+script_unread s script b l (OfScript fault) (text, holds, is) =
+    ((text, holds, (fault, is, refl)), keeps_same b)
 
 pub unserved_script : (set script : Supply) (s : Set) (l : List ℕ) (fault : Fault)
     → ReadsSet set (Ok s) → IsTypable s → ReadsScript script (Err fault)
     → IsUnserved set script l (Err fault)
-unserved_script set script s l fault read typable faulted workers b =
-    on_set set script s workers b l (Err fault) read
-    (goes_rightly (IsServedOf workers script s) (IsIfAccepted (IsServedOf workers script) s) b b [] l
+unserved_script set script s l fault read typable faulted b =
+    on_set set script s b l (Err fault) read
+    (goes_rightly (IsUnservedOf script s) (IsIfAccepted (IsUnservedOf script) s) b b [] l
     (Err fault) (λ answer right. inl (typable, right))
-    (script_unread s script workers b l fault faulted))
+    (script_unread s script b l fault faulted))
+
+-- what is answered where nothing is served is right for `host`
+pub unhosted_right : (set script : Supply) (workers : ℕ) (answer : Answer)
+    → IsUnhosted set script answer → IsHostOf workers set script answer
+unhosted_right set script workers answer (bytes, holds, (Ok s, says, inl (typable, right))) =
+    let P : Result (List Command) ScheduleFault → Type 0 = λ r. IsServed workers s r answer in
+    let found = right.2 in (
+      bytes,
+      holds,
+      (Ok s, says, inl (typable, (right.0, right.1, subst P (sym found.1) found.2))),
+    )
+unhosted_right set script workers answer (bytes, holds, (Ok s, says, inr refused)) =
+    (bytes, holds, (Ok s, says, inr refused))
+unhosted_right set script workers answer (bytes, holds, (Err line, says, same)) =
+    (bytes, holds, (Err line, says, same))
+
+pub unserved_host : (set script : Supply) (workers : ℕ) (b : Option (List ℕ)) (l : List ℕ)
+    (end : Result End Fault) → IsUnserved set script l end
+    → Goes (IsHostOf workers set script) b b [] l end
+unserved_host set script workers b l end goes =
+    goes_rightly (IsUnhosted set script) (IsHostOf workers set script) b b [] l end
+    (unhosted_right set script workers) (goes b)
 
 -- what is served for what was read is right for the sources
 pub served_host : (set script : Supply) (page : Page) (ready : Ready) (workers : ℕ)

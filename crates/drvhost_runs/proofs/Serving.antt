@@ -91,6 +91,22 @@ rings_after set workers history (Some machine) h =
     ap (λ (w : World). ringed_threads machine.set w) h.run.world
     ∙ ap (λ (s : Set). ringed_threads s (run s workers (events_of history)).world) h.same_set
 
+-- what is answered of what was hosted is what its history tells
+module _ (set : Set) (workers : ℕ) (commands : List Command) (hosted : Hosted)
+    (ringed words : List ℕ) (h : Hosts set workers commands hosted)
+    (rings : ringed ≡ rings_in hosted.standing) where
+  pub ringed_there : ringed ≡ ringed_after set workers h.history
+  ringed_there = rings ∙ rings_after set workers h.history hosted.standing h.standing
+
+  pub served_there : served_as hosted.told.items hosted.entries ringed words
+      ≡ served_as (all_told h.history (length commands)) (length h.history)
+      (ringed_after set workers h.history) words
+  served_there =
+      let told : List (Option Reply) = all_told h.history (length commands) in
+      ap (λ x. served_as x hosted.entries ringed words) h.told
+      ∙ ap (λ x. served_as told x ringed words) h.entries
+      ∙ ap (λ x. served_as told (length h.history) x words) ringed_there
+
 -- what was hosted is right for the commands of a script
 pub served_right : (set : Set) (workers : ℕ) (commands : List Command) (hosted : Hosted)
     (ringed words : List ℕ) → Hosts set workers commands hosted
@@ -98,16 +114,12 @@ pub served_right : (set : Set) (workers : ℕ) (commands : List Command) (hosted
     → (answer : Answer) → IsServedAs hosted ringed words answer
     → IsServed workers set (Ok commands) answer
 served_right set workers commands hosted ringed words h rings tells answer e =
-    let same : ringed ≡ ringed_after set workers h.history = rings
-    ∙ rings_after set workers h.history hosted.standing h.standing in
-    let told : List (Option Reply) = all_told h.history (length commands) in (
+    let same = ringed_there set workers commands hosted ringed words h rings in (
       h.history,
       h.served,
       (
         words,
         subst (λ xs. TellsOfRing xs words) same tells,
-        e ∙ ap (λ x. served_as x hosted.entries ringed words) h.told
-            ∙ ap (λ x. served_as told x ringed words) h.entries
-            ∙ ap (λ x. served_as told (length h.history) x words) same,
+        e ∙ served_there set workers commands hosted ringed words h rings,
       ),
     )

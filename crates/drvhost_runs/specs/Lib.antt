@@ -4,3 +4,4 @@ pub mod Served
 pub mod Watching
 pub mod Hosting
 pub mod Readiness
+pub mod Keeping

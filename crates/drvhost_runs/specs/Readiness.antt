@@ -12,7 +12,7 @@ use Rattle.drvhost_devices.specs.Fault.{Goes, ReadsScript, ReadsSet}
 use Rattle.drvhost_runs.specs.declared.page.Page.{Page}
 use Rattle.drvhost_runs.specs.declared.ready.Ready.{Ready}
 use Rattle.drvhost_runs.specs.Hosting.{IsBlank}
-use Rattle.drvhost_runs.specs.Served.{IsHostOf}
+use Rattle.drvhost_runs.specs.Served.{IsUnhosted}
 
 -- a set with the script that a source has, and its warnings
 pub record IsReadyOf (set : Set) (script : Supply) (ready : Ready) : Type 0 where
@@ -23,8 +23,7 @@ pub record IsReadyOf (set : Set) (script : Supply) (ready : Ready) : Type 0 wher
 -- nothing is served: a job ends so for what its sources have, with the line that has gathered
 abbrev pub IsUnserved : Supply → Supply → List ℕ → Result End Fault → Type 0
 IsUnserved set script lines end =
-    (workers : ℕ) (before : Option (List ℕ))
-    → Goes (IsHostOf workers set script) before before [] lines end
+    (before : Option (List ℕ)) → Goes (IsUnhosted set script) before before [] lines end
 
 -- what sources have was read: an accepted set with a script, a set that is refused, or a fault
 abbrev pub IsReady : Supply → Supply → Page → Result (Option Ready) Fault → Type 0

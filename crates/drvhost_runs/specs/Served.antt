@@ -72,6 +72,18 @@ abbrev pub IsServedOf : ℕ → Supply → Set → Answer → Type 0
 IsServedOf workers supply set answer =
     (script : List ℕ) × Holds supply script × IsServed workers set (script_in script) answer
 
+-- what is answered for an accepted set where nothing is served: the fault of the script that a source
+-- has
+abbrev pub IsUnservedOf : Supply → Set → Answer → Type 0
+IsUnservedOf supply set answer =
+    (script : List ℕ) × Holds supply script
+    × ((fault : ScheduleFault) × (script_in script ≡ Err fault)
+    × (answer ≡ faulty (script_fault_line fault)))
+
+-- and for what the sources have: that, or the refusal or the fault of the set
+abbrev pub IsUnhosted : Supply → Supply → Answer → Type 0
+IsUnhosted supply script answer = IsOfSupply (IsIfAccepted (IsUnservedOf script)) supply answer
+
 -- what `host` answers for what its sources have: it reads the script's for an accepted set alone
 abbrev pub IsHostOf : ℕ → Supply → Supply → Answer → Type 0
 IsHostOf workers supply script answer =

@@ -155,7 +155,12 @@ fn serve<G: Gate + Sync, O: Sink, R: Threads + Wait + Sync>(
 
 /// Ends the job, as [`finish`] does, behind what the error writer was told since it had failed so
 /// often. Where the job met no fault, the words on a ring are told.
-fn finish_page<E: Sink>(end: Result<End, Fault>, page: &mut Page, failures: u64, err: &mut E) -> u8
+pub(crate) fn finish_page<E: Sink>(
+    end: Result<End, Fault>,
+    page: &mut Page,
+    failures: u64,
+    err: &mut E,
+) -> u8
     requires { CanCount failures }
     ensures status { result ≡ status_of end }
     ensures told { SaysBehind failures (E.failures err.old) (E.failures err.new)
@@ -173,13 +178,18 @@ fn finish_page<E: Sink>(end: Result<End, Fault>, page: &mut Page, failures: u64,
 
 /// Writes the lines of commands that were served, and of their history. The words on a ring are
 /// there before.
-fn tell_hosted<O: Sink>(hosted: &Hosted, page: &mut Page, out: &mut O) -> Result<End, Fault>
+pub(crate) fn tell_hosted<O: Sink>(
+    hosted: &Hosted,
+    page: &mut Page,
+    out: &mut O,
+) -> Result<End, Fault>
     requires out { CanCount (O.failures out.old) }
     requires empty { page.old.lines ≡ [] }
     ensures goes { GoesTold
         (λ answer. answer ≡ served_as hosted.now.told.items hosted.now.entries
         page.old.ringed.items page.old.words.items)
         page.new.words.items (O.contents out.old) (O.contents out.new) [] [] result }
+    ensures fault { IfErr result (λ fault. fault ≡ Fault.Write) }
     ensures reads { reads_failed result ≡ 0 }
     ensures writes { O.failures out.new ≡ O.failures out.old + writes_failed result }
 {

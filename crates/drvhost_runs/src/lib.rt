@@ -5,6 +5,7 @@
 
 pub mod follow;
 pub mod host;
+pub mod keeping;
 mod lined;
 mod page;
 mod ready;

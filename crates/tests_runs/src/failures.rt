@@ -75,7 +75,7 @@ const SCRIPT: &[u8] = b"request 0 READ 0\ninterrupt 0\n";
 const SERVED: &[u8] = b"0 topped 0 0x00000000 0\n1 stepped\nhistory 17 agrees\n";
 
 /// A gate that lets all workers go on.
-struct Open;
+pub(crate) struct Open;
 
 impl Gate for Open {
     fn before(&self, _worker: u32, _count: u64) -> bool {

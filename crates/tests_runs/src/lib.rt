@@ -11,6 +11,8 @@ mod devices;
 #[cfg(test)]
 mod failures;
 #[cfg(test)]
+mod histories;
+#[cfg(test)]
 mod limits;
 #[cfg(test)]
 mod readers;

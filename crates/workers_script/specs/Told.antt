@@ -57,8 +57,8 @@ new_core set threads = record {
   seats = replicate threads None;
 }
 
--- what came of a script's commands: that of a history in which they were served, and what stands
--- after it
+-- what came of a script's commands: that of a history in which they were served, which the core has,
+-- and what stands after it
 pub record Hosts (set : Set) (threads : ℕ) (commands : List Command) (hosted : Hosted) : Type 0
   where
     pub history : List Entry
@@ -67,3 +67,4 @@ pub record Hosts (set : Set) (threads : ℕ) (commands : List Command) (hosted :
     pub told : hosted.told.items ≡ all_told history (length commands)
     pub entries : hosted.entries ≡ length history
     pub standing : IsStanding set threads history hosted.standing
+    pub stored : hosted.core.history ≡ history

@@ -5,7 +5,7 @@ ghost use Rattle.intake.specs.Ends.{AreSubmittersOf, AreTakersOf, submitter_shar
 ghost use Rattle.intake.specs.Lists.{weigh};
 ghost use Rattle.intake.specs.declared.limits.TheConstants.{MAX_CAPACITY, SHARES};
 ghost use Rattle.model.specs.declared.limits.TheConstants.{MAX_THREADS};
-ghost use Rattle.model.specs.History.{NamedCommand};
+ghost use Rattle.model.specs.History.{NamedCommand, events_of};
 ghost use Rattle.model.specs.Sound.{IsSound};
 ghost use Rattle.model.specs.Typable.{IsTypable};
 ghost use Rattle.workers_script.specs.Served.{Accounts, AreStarted};
@@ -20,11 +20,11 @@ use hostcore::{Core, Taken, Ticket};
 use intake::limits::MAX_CAPACITY;
 use intake::{Closed, Intake, Submitter};
 use laws_runs::accepted_runs_keep_the_rules;
-use model::event::Reply;
+use model::event::{Event, Reply};
 use model::history::Command;
 use model::limits::MAX_HISTORY;
 use model::memory::OutOfMemory;
-use std::alloc::Global;
+use std::alloc::{AllocError, Global};
 use std::sync::Wait;
 use std::thread::Threads;
 use verifier::Accepted;
@@ -43,6 +43,26 @@ pub struct Hosted {
     /// Where a thread still has frames: the reference machine, which has run the events of the
     /// history.
     pub standing: Option<Checked>,
+    /// The core, which has the history.
+    pub core: Core,
+}
+
+impl Hosted {
+    /// The events of the history, in their order.
+    ///
+    /// # Errors
+    ///
+    /// When memory runs out.
+    pub fn events(&self, alloc: Global) -> Result<Vec<Event>, AllocError>
+        ensures { IfOk result (λ events. events.items ≡ events_of self.now.core.history) }
+    {
+        let history = self.core.history();
+        let mut events = Vec::with_capacity(alloc, history.len())?;
+        for entry in history {
+            events.push(entry.event())?;
+        }
+        Ok(events)
+    }
 }
 
 /// A core that served commands, and what is told of each.
@@ -94,6 +114,7 @@ pub fn serve_script<G: Gate + Sync, R: Threads + Wait + Sync>(
         entries,
         ends,
         standing,
+        core,
     })
 }
 

@@ -1,4 +1,4 @@
-use Rattle.std.proofs.Common.{Ok}
+use Rattle.std.proofs.Common.{Ok, arith, refl}
 use Rattle.std.proofs.lemmas.Result.{err_from_is_err_and}
 use Rattle.drvhost_devices.proofs.Writing.{keeps_same}
 use Rattle.drvhost_runs.specs.Served.{IsServed}
@@ -12,6 +12,18 @@ returns-in_err-note_standing-in-Ok-clause-goes g c =
     let p = err_from_is_err_and c.from_residual.result c.from_residual.ensures.1 in
     rw (p.1, p.2, c.in_err-note_standing-in-Ok.ensures.fault)
     (keeps_same (g.O.Sink.contents c.args.out.now))
+
+pub returns-in_err-note_standing-in-Ok-clause-reads :
+    goal.returns-in_err-note_standing-in-Ok-clause-reads
+returns-in_err-note_standing-in-Ok-clause-reads g c =
+    let p = err_from_is_err_and c.from_residual.result c.from_residual.ensures.1 in
+    rw (p.1, p.2, c.in_err-note_standing-in-Ok.ensures.fault) refl
+
+pub returns-in_err-note_standing-in-Ok-clause-writes :
+    goal.returns-in_err-note_standing-in-Ok-clause-writes
+returns-in_err-note_standing-in-Ok-clause-writes g c =
+    let p = err_from_is_err_and c.from_residual.result c.from_residual.ensures.1 in
+    rw (p.1, p.2, c.in_err-note_standing-in-Ok.ensures.fault) (omega arith)
 
 pub returns-in-Ok-clause-goes : goal.returns-in-Ok-clause-goes
 returns-in-Ok-clause-goes g c =

@@ -1,9 +1,9 @@
-use Rattle.std.proofs.Common.{Ok, []}
+use Rattle.std.proofs.Common.{Err, Ok, []}
 use Rattle.std.proofs.lemmas.Result.{err_from_is_err_and}
 use Rattle.drvhost_devices.specs.declared.fault.End.TheVariants.{Stopped}
 use Rattle.drvhost_devices.proofs.Jobs.{goes_left}
 use Rattle.drvhost_runs.specs.Served.{IsHostOf, IsServed}
-use Rattle.drvhost_runs.proofs.Readying.{served_host}
+use Rattle.drvhost_runs.proofs.Readying.{served_host, unserved_host}
 use Rattle.drvhost_runs.proofs.RingsTold.{told_broken, told_nothing, told_rightly, told_written}
 use Rattle.drvhost_runs.proofs.host.serve_ready.Goals as goal
 
@@ -24,7 +24,8 @@ returns-in_ok-write_lines-in-Ok-None-clause-goes g c =
     let n = c.args.hosting.now.workers in
     let unserved = rw (c.in-Ok-None.is, c.in-Ok-None.field-0-is) at is in
     told_written (IsHostOf n set script) _ _ _ _ _ Stopped
-    (told_nothing (IsHostOf n set script) _ _ _ _ _ (Ok Stopped) unserved.1 (unserved.0 n _))
+    (told_nothing (IsHostOf n set script) _ _ _ _ _ (Ok Stopped) unserved.1 (unserved_host set script n (g.O.Sink.contents c.args.out.now) c.args.page.now.lines (Ok Stopped)
+    unserved.0))
     c.in_ok-write_lines-in-Ok-None.ensures.written
 
 pub returns-in_err-write_lines-in-Ok-None-clause-goes
@@ -37,7 +38,8 @@ returns-in_err-write_lines-in-Ok-None-clause-goes g c =
     let unserved = rw (c.in-Ok-None.is, c.in-Ok-None.field-0-is) at is in
     rw (p.1, p.2, c.in_err-write_lines-in-Ok-None.ensures.fault)
     (told_broken (IsHostOf n set script) _ _ _ _ _ Stopped
-    (told_nothing (IsHostOf n set script) _ _ _ _ _ (Ok Stopped) unserved.1 (unserved.0 n _))
+    (told_nothing (IsHostOf n set script) _ _ _ _ _ (Ok Stopped) unserved.1 (unserved_host set script n (g.O.Sink.contents c.args.out.now) c.args.page.now.lines (Ok Stopped)
+    unserved.0))
     c.in_err-write_lines-in-Ok-None.ensures.written)
 
 pub returns-in-Err-clause-goes : goal.returns-in-Err-clause-goes
@@ -45,4 +47,5 @@ returns-in-Err-clause-goes g c =
     λ set script is.
     goes_left (IsHostOf c.args.hosting.now.workers set script) _ _ c.args.page.now.lines []
     c.in-Err.fault
-    ((rw c.in-Err.is at is) c.args.hosting.now.workers _)
+    (unserved_host set script c.args.hosting.now.workers (g.O.Sink.contents c.args.out.now)
+    c.args.page.now.lines (Err c.in-Err.fault) (rw c.in-Err.is at is))

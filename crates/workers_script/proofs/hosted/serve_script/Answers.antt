@@ -48,4 +48,5 @@ returns g c =
       entries = ap length c.history-entries.ensures.entries
           ∙ ap (λ (core : CoreState). length core.history) same;
       standing = subst R c.in_ok-set.ensures.set c.in_ok-standing.ensures.standing;
+      stored = kept;
     }
