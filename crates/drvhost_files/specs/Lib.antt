@@ -1,2 +1,3 @@
 pub mod Files
 pub mod Outside
+pub mod Reading

@@ -1,17 +1,21 @@
 //! Files by their names.
 
-ghost use Rattle.std.specs.Prelude.{◌≡◌, ◌+◌, ◌<◌, ◌^◌, ◌↔◌, ℕ, IfOk, IsTrue, List, None, Option};
+ghost use Rattle.std.specs.Prelude.{◌≡◌, ◌+◌, ◌<◌, ◌^◌, ◌↔◌, ℕ, IfOk, IsTrue, List, None, OnErr, Option, length};
 ghost use Rattle.std.specs.Io.KnownBytes.{Keeps};
+ghost use denote.Param.Send.{IsSync};
 ghost use Rattle.drvhost_devices.specs.Device.{Closed, IsSuppliedAs, Supply, Unknown};
 ghost use Rattle.drvhost_files.specs.Files.{blank, contents_given, contents_of, failures_of, supply_of, Stores};
+ghost use Rattle.drvhost_files.specs.Reading.{AreHeld, Opens};
 
+use crate::reading::{Held, Way, count_reads, read_files};
 use crate::standard::{Opened, STANDARD_INPUT, open};
 use drvhost_devices::device::{Failed, Reader, Sink, Source, Writer};
 use drvhost_found::find::{Found, alone, find};
 use drvhost_found::sought::Sought;
 use std::alloc::AllocError;
-use std::fs::{self, File};
-use std::io::{Input, Write};
+use std::fs::File;
+use std::io::{StdinLock, Write};
+use std::thread::Threads;
 
 /// Files by their names.
 pub trait Files {
@@ -71,6 +75,31 @@ pub trait Files {
         ensures unwritten { unwritten self.new ≡ unwritten self.old }
         ensures supply { supply self.new ≡ supply self.old };
 
+    /// Reads the files of these names, each whole, by so many jobs at once: what was read of each, in
+    /// order, is what one job would have read of it.
+    ///
+    /// # Errors
+    ///
+    /// When memory runs out before one is opened.
+    fn read_each<'n, T: Threads + Sync>(
+        &mut self,
+        rt: &T,
+        way: Way,
+        names: &'n [String],
+    ) -> Result<Vec<Held<'n>>, AllocError>
+        requires shared { IsSync T.row }
+        requires room { opened self.old + length names.now < 2 ^ 64 }
+        requires few { failures self.old + length names.now < 2 ^ 64 }
+        ensures read { Opens (length names.now) (opened self.old) (opened self.new)
+            (failures self.old) (failures self.new)
+            (λ opened reads. IfOk result (λ held.
+            AreHeld way.is_told (supply self.old) names.now opened reads held.items)) }
+        ensures unopened { OnErr result (opened self.new ≡ opened self.old) }
+        ensures unread { OnErr result (failures self.new ≡ failures self.old) }
+        ensures created { created self.new ≡ created self.old }
+        ensures unwritten { unwritten self.new ≡ unwritten self.old }
+        ensures supply { supply self.new ≡ supply self.old };
+
     /// Opens the file of a name, to write it from its start: what it had is gone. Each write to one
     /// that can't be opened fails.
     fn create(&self, name: &str) -> Self::Target
@@ -93,21 +122,21 @@ pub trait Files {
 /// The files of a system. Where one is to be read, the name `-` is that of its standard input, which
 /// is read from where it stands: once it is at its end, there is nothing more to read.
 #[derive(Drop)]
-pub struct Disk<'r, R> {
-    system: &'r R,
+pub struct Disk<'r> {
+    system: &'r HostRuntime,
     opened: u64,
     failures: u64,
     created: u64,
     unwritten: u64,
 }
 
-impl<'r, R: fs::Files + Input + AllocGlobal + Clone + Drop> Disk<'r, R> {
+impl<'r> Disk<'r> {
     /// The files of a system, of which none was opened.
-    pub fn new(system: &'r R) -> Disk<'r, R>
-        ensures opened { ⟦<Disk<'r, R> as Files>⟧.opened result ≡ 0 }
-        ensures failures { ⟦<Disk<'r, R> as Files>⟧.failures result ≡ 0 }
-        ensures created { ⟦<Disk<'r, R> as Files>⟧.created result ≡ 0 }
-        ensures unwritten { ⟦<Disk<'r, R> as Files>⟧.unwritten result ≡ 0 }
+    pub fn new(system: &'r HostRuntime) -> Disk<'r>
+        ensures opened { ⟦<Disk<'r> as Files>⟧.opened result ≡ 0 }
+        ensures failures { ⟦<Disk<'r> as Files>⟧.failures result ≡ 0 }
+        ensures created { ⟦<Disk<'r> as Files>⟧.created result ≡ 0 }
+        ensures unwritten { ⟦<Disk<'r> as Files>⟧.unwritten result ≡ 0 }
     {
         Disk {
             system,
@@ -120,25 +149,25 @@ impl<'r, R: fs::Files + Input + AllocGlobal + Clone + Drop> Disk<'r, R> {
 
     /// How many were opened to be read and handed back so far.
     pub fn opened(&self) -> u64
-        ensures { result ≡ ⟦<Disk<'r, R> as Files>⟧.opened self.now }
+        ensures { result ≡ ⟦<Disk<'r> as Files>⟧.opened self.now }
     {
         self.opened
     }
 
     /// How many reads of these failed.
     pub fn failures(&self) -> u64
-        ensures { result ≡ ⟦<Disk<'r, R> as Files>⟧.failures self.now }
+        ensures { result ≡ ⟦<Disk<'r> as Files>⟧.failures self.now }
     {
         self.failures
     }
 }
 
-impl<R: fs::Files + Input + AllocGlobal + Clone + Drop> Files for Disk<'_, R> {
+impl Files for Disk<'_> {
     ghost use Rattle.drvhost_found.specs.Found.{IsFound};
 
-    type File = Reader<Opened<R::File, R::Reader>>;
+    type File = Reader<Opened<File, StdinLock<'static>>>;
 
-    type Target = Output<R::File>;
+    type Target = Output<File>;
 
     ghost supply = { λ _ _. Unknown };
 
@@ -159,24 +188,36 @@ impl<R: fs::Files + Input + AllocGlobal + Clone + Drop> Files for Disk<'_, R> {
         find(self.system, sought, path)
     }
 
-    fn open(&self, name: &str) -> Reader<Opened<R::File, R::Reader>> {
+    fn open(&self, name: &str) -> Reader<Opened<File, StdinLock<'static>>> {
         Reader::new(open(self.system, name))
     }
 
-    fn is_closed(&self, file: &Reader<Opened<R::File, R::Reader>>) -> bool {
+    fn is_closed(&self, file: &Reader<Opened<File, StdinLock<'static>>>) -> bool {
         file.is_closed()
     }
 
-    fn close(&mut self, file: Reader<Opened<R::File, R::Reader>>) {
+    fn close(&mut self, file: Reader<Opened<File, StdinLock<'static>>>) {
         self.opened += 1;
         self.failures += file.failures();
     }
 
-    fn create(&self, name: &str) -> Output<R::File> {
+    fn read_each<'n, T: Threads + Sync>(
+        &mut self,
+        rt: &T,
+        way: Way,
+        names: &'n [String],
+    ) -> Result<Vec<Held<'n>>, AllocError> {
+        let held = read_files(rt, self.system, way, names)?;
+        self.opened += names.len() as u64;
+        self.failures += count_reads(held.as_slice());
+        Ok(held)
+    }
+
+    fn create(&self, name: &str) -> Output<File> {
         Output::new(File::create(self.system, name).ok())
     }
 
-    fn keep(&mut self, _name: &str, target: Output<R::File>) {
+    fn keep(&mut self, _name: &str, target: Output<File>) {
         self.created += 1;
         self.unwritten += target.failures();
     }

@@ -3,4 +3,5 @@
 #![tactic(auto)]
 
 pub mod files;
+pub mod reading;
 pub mod standard;

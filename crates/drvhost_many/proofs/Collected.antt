@@ -1,10 +1,9 @@
 -- What was written in memory, where nothing failed there, is the answer for a file.
-use Rattle.std.proofs.Common.{◌≡◌, ◌≢◌, ◌∙◌, ℕ, List, [], Option, Some, IfOk, Result, Ok, Err, arith, codes, inl, inr, refl, subst, sym}
+use Rattle.std.proofs.Common.{◌≡◌, ◌≢◌, ◌∙◌, ℕ, List, [], Option, Some, IfOk, Result, Ok, Err, arith, inl, inr, subst, sym}
 use Rattle.std.specs.Io.KnownBytes.{Appends}
 use Rattle.drvhost_devices.specs.Answer.{Answer}
 use Rattle.drvhost_devices.specs.Device.{Bytes, Closed, IsSuppliedAs, MayBeClosed, Says, Supply, Unknown}
 use Rattle.drvhost_devices.specs.Ends.{Answers, Ends, OutOfMemory, ReadFailed, Rightly, WriteFailed}
-use Rattle.drvhost_devices.proofs.Writing.{appends_none}
 use Rattle.drvhost_files.proofs.Known.{holds_known}
 use Rattle.drvhost_commands.specs.declared.job.Judging.{Judging}
 use Rattle.drvhost_commands.specs.declared.job.Judging.TheVariants.{Check, CheckJson, Explain, ExplainJson}

@@ -1,5 +1,5 @@
 -- Answers in colour, of what was collected in memory.
-use Rattle.std.proofs.Common.{◌≡◌, ◌∙◌, ◌+◌, ◌≤◌, ℕ, List, [], Bool, true, false, Option, Some, IfOk, Result, Ok, Err, ap, arith, codes, if◌then◌else◌, nat_lt, refl, suc, subst, sym, zero}
+use Rattle.std.proofs.Common.{◌≡◌, ◌∙◌, ◌+◌, ◌≤◌, ℕ, List, [], Bool, true, false, Option, Some, IfOk, Result, Ok, Err, arith, codes, if◌then◌else◌, nat_lt, refl, suc, subst, sym, zero}
 use Rattle.std.proofs.lemmas.Bool.Decides.{nat_tests}
 use Rattle.std.specs.Io.KnownBytes.{Appends}
 use Rattle.drvhost_colors.specs.Painted.{IsPainted}

@@ -1,25 +1,24 @@
 -- How the judging of several files comes to its end.
-use Rattle.std.proofs.Common.{◌≡◌, ◌≢◌, ◌∙◌, ◌+◌, ◌≤◌, ◌<◌, ℕ, List, [], ◌∷◌, ◌++◌, Bool, true, false, Option, Result, Ok, Err, String, ap, append-nil, append_assoc, arith, codes, drop, get_or, inl, inr, length, max, refl, rules, string_bytes, subst, sym, take}
-use Rattle.std.proofs.lemmas.List.{length-append, length-take-le, take-append-drop, take_all}
+use Rattle.std.proofs.Common.{◌≡◌, ◌∙◌, ◌+◌, ◌≤◌, ◌<◌, ℕ, List, [], ◌∷◌, ◌++◌, Bool, true, false, Option, Result, Ok, Err, String, ap, append-nil, append_assoc, arith, codes, get_or, inl, length, max, refl, string_bytes, subst, sym}
+use Rattle.std.proofs.lemmas.List.{length-append}
 use Rattle.std.proofs.Math.Dec.{eqb-suc-zero}
 use Rattle.std.specs.Bool.{◌==◌}
 use Rattle.std.specs.Global.{Global}
 use Rattle.std.specs.Io.KnownBytes.{Appends, Keeps}
-use Rattle.std.specs.List.{AllZip, sum_by}
 use Rattle.drvhost_devices.specs.Answer.{Answer}
 use Rattle.drvhost_devices.specs.Device.{Says, SaysBehind, Supply, TakesBeginning}
 use Rattle.drvhost_devices.proofs.Writing.{appends_more, appends_none, behind_more, keeps_same, writes_behind}
 use Rattle.drvhost_commands.specs.declared.job.Judging.{Judging}
 use Rattle.drvhost_commands.specs.declared.job.Judging.TheVariants.{Check, CheckJson, Explain, ExplainJson}
-use Rattle.drvhost_many.specs.declared.held.Ahead.{Ahead}
-use Rattle.drvhost_many.specs.declared.held.Held.{Held}
+use Rattle.drvhost_files.specs.declared.reading.Held.{Held}
+use Rattle.drvhost_files.specs.Reading.{AreHeld, Opens, held_reads}
 use Rattle.drvhost_many.specs.declared.many.Halt.{Halt}
 use Rattle.drvhost_many.specs.declared.many.Halt.TheVariants.{Memory, Write}
-use Rattle.drvhost_many.specs.All.{Answered, AreOf, Counted, EachEnds, EachGoes, IsAt, OutOfMemory, WriteFailed, end_status, joined, nothing}
-use Rattle.drvhost_many.specs.Held.{AreToldOf, DeliversEach, HoldsSome, IsAmong, IsHeld, IsToldOf, ReadsEach, held_reads}
-use Rattle.drvhost_many.specs.Marked.{gap, marked, named_answer, noted}
-use Rattle.drvhost_many.specs.One.{Delivers, halt_status}
-use Rattle.drvhost_many.proofs.Reading.{bounds, of_all, of_held, placed, split_at}
+use Rattle.drvhost_many.specs.All.{Answered, AreOf, Counted, EachEnds, EachGoes, IsAt, IsNext, NoRoom, OutOfMemory, WriteFailed, end_status, joined, nothing}
+use Rattle.drvhost_many.specs.Held.{DeliversEach, IsAmong, IsToldOf, TellsLost}
+use Rattle.drvhost_many.specs.Marked.{gap, marked, noted}
+use Rattle.drvhost_many.specs.One.{Delivers, halt_status, is_in_json}
+use Rattle.drvhost_many.proofs.Reading.{of_all, of_held, placed}
 use Rattle.drvhost_many.proofs.Joining.{of_append, of_few}
 
 -- the answers for some files have gone out
@@ -52,11 +51,6 @@ so_far_none judging supply b failures e p =
       appended = appends_none b b (keeps_same b);
       tells = behind_none failures e p;
     }
-
-opened_one : (is_whole : Bool) (count all opened reads : ℕ)
-    → HoldsSome is_whole count all opened reads → 0 < all → 1 ≤ opened
-opened_one true count all opened reads h least = omega (arith, h.1, least)
-opened_one false count all opened reads h least = omega (arith, h.1)
 
 -- none is left
 pub none_left : {A : Type 0} (xs : List A) → (length xs == 0) ≡ true → xs ≡ []
@@ -106,24 +100,31 @@ delivers_none judging files one first failures e f h w x b n p q t name among sa
       behind_more failures e f h p q t first.told text tells said,
     )
 
+-- it is told that memory ran out for the first of some files
+pub tells_lost : (judging : Judging) (names : List (String Global)) (one : String Global)
+    (name : List ℕ) (Tells : List ℕ → Type 0) → 0 < length names → one ≡ get_or names 0 one
+    → name ≡ string_bytes one → Tells (noted judging name (codes "out of memory\n"))
+    → TellsLost judging names Tells
+tells_lost judging [] one name Tells less is same tells =
+    let no : ⊥ = omega (arith, less) in absurd no
+tells_lost judging (first ∷ names) one name Tells less is same tells =
+    let P : List ℕ → Type 0 = λ m. Tells (noted judging m (codes "out of memory\n")) in
+    subst P (same ∙ ap string_bytes is) tells
+
 -- some files are answered at once
 module _ (judging : Judging) (width : ℕ) (supply : List ℕ → Supply) (names : List (String Global))
-    (ahead : Ahead) (o p r s w x : ℕ) (b n : Option (List ℕ))
-    (read : ReadsEach judging supply names o p r s ahead) (few : length names ≤ width) where
+    (held : List Held) (o p r s w x : ℕ) (b n : Option (List ℕ))
+    (read : Opens (length names) o p r s
+    (λ opened reads. AreHeld (is_in_json judging) supply names opened reads held))
+    (few : length names ≤ width) where
   -- all of them
-  pub window_answered : (Tells : List ℕ → Type 0) (status : ℕ)
-      → DeliversEach judging ahead.held.items w x b n Tells (Ok status) → ahead.is_whole ≡ true
+  window_answered : (Tells : List ℕ → Type 0) (status : ℕ)
+      → DeliversEach judging held w x b n Tells (Ok status)
       → Counted (EachGoes judging width supply names (Ok status)) o p r s w x b n Tells status
-  window_answered Tells status (whole, are, is, wrote, out, tells) all =
-      let files = ahead.held.items in
-      let some = subst (λ h. HoldsSome h (length files) (length names) read.opened read.reads) all read.some in
-      let held : AllZip (IsHeld judging supply) names files =
-      subst (λ l. AllZip (IsHeld judging supply) l files)
-      (take_all (length files) names (omega (arith, some.0))) read.held in
-      let sum : sum_by held_reads files + read.reads ≡ sum_by held_reads files = omega (arith, some.2) in
+  window_answered Tells status (whole, are, is, wrote, out, tells) =
       record {
         opened = read.opened;
-        reads = sum_by held_reads files + read.reads;
+        reads = read.reads;
         writes = 0;
         told = whole.told;
         opened_are = read.opened_are;
@@ -132,25 +133,22 @@ module _ (judging : Judging) (width : ℕ) (supply : List ℕ → Supply) (names
         tells = tells;
         ends =
             Answered whole
-            (subst (λ k. AreOf judging supply names k whole) (sym sum)
-            (of_all judging supply names files whole held are))
-            some.1 refl refl is refl out;
+            (subst (λ k. AreOf judging supply names k whole) (sym read.so.reads_are)
+            (of_all judging supply names held whole read.so.are are))
+            read.so.opened_are refl refl is refl out;
       }
 
   -- something keeps from going on
-  pub window_halts : (Tells : List ℕ → Type 0) (halt : Halt)
-      → DeliversEach judging ahead.held.items w x b n Tells (Err halt)
+  window_halts : (Tells : List ℕ → Type 0) (halt : Halt)
+      → DeliversEach judging held w x b n Tells (Err halt)
       → Counted (EachGoes judging width supply names (Err halt)) o p r s w x b n Tells
       (halt_status halt)
   window_halts Tells Write (one, first, told, among, is, wrote, takes, tells) =
-      let files = ahead.held.items in
-      let at =
-      placed judging width supply names files ahead.is_whole read.opened read.reads read.held read.some
-      few one first among in
+      let at = placed judging width supply names held read.so.are few one first among in
       let answer = of_held judging supply at.name one told at.held is in
       record {
         opened = read.opened;
-        reads = sum_by held_reads files + read.reads;
+        reads = read.reads;
         writes = 1;
         told = first.told ++ codes "write failed\n";
         opened_are = read.opened_are;
@@ -158,19 +156,18 @@ module _ (judging : Judging) (width : ℕ) (supply : List ℕ → Supply) (names
         writes_are = wrote;
         tells = tells;
         ends =
-            WriteFailed (string_bytes at.name) at.others (held_reads one) first answer.0 at.at answer.1
-            at.sum refl refl refl refl
+            WriteFailed (string_bytes at.name) at.others (held_reads one) first answer.0
+            (subst (λ k. IsAt judging width supply names k (string_bytes at.name) at.others first)
+            (sym read.so.opened_are) at.at)
+            answer.1 (read.so.reads_are ∙ at.sum) refl refl refl refl
             (subst (λ a. TakesBeginning b n (first.output ++ a)) (ap (λ a. a.output) answer.2) takes);
       }
   window_halts Tells Memory (one, first, among, wrote, out, tells) =
-      let files = ahead.held.items in
-      let at =
-      placed judging width supply names files ahead.is_whole read.opened read.reads read.held read.some
-      few one first among in
+      let at = placed judging width supply names held read.so.are few one first among in
       let text = codes "out of memory\n" in
       record {
         opened = read.opened;
-        reads = sum_by held_reads files + read.reads;
+        reads = read.reads;
         writes = 0;
         told = first.told ++ noted judging one.name.now text;
         opened_are = read.opened_are;
@@ -178,91 +175,93 @@ module _ (judging : Judging) (width : ℕ) (supply : List ℕ → Supply) (names
         writes_are = omega (arith, wrote);
         tells = tells;
         ends =
-            OutOfMemory (string_bytes at.name) at.others (held_reads one) first at.at at.sum refl refl refl
+            OutOfMemory (string_bytes at.name) at.others (held_reads one) first
+            (subst (λ k. IsAt judging width supply names k (string_bytes at.name) at.others first)
+            (sym read.so.opened_are) at.at)
+            (read.so.reads_are ∙ at.sum) refl refl refl
             (ap (λ m. first.told ++ noted judging m text) at.held.name_is) out;
       }
 
-  -- memory ran out before the files were all read, and those that were are answered
-  pub window_lost : (status : ℕ) (one : String Global) (name : List ℕ)
-      (failures e f h : ℕ) (t u v : Option (List ℕ))
-      → DeliversEach judging ahead.held.items w x b n (SaysBehind failures e f t u) (Ok status)
-      → ahead.is_whole ≡ false → one ≡ get_or names (length ahead.held.items) one
-      → name ≡ string_bytes one
-      → SaysBehind failures f h u v (noted judging name (codes "out of memory\n"))
-      → Counted (EachGoes judging width supply names (Err Memory)) o p r s w x b n
-      (SaysBehind failures e h t v) (halt_status Memory)
-  window_lost status one name failures e f h t u v (whole, are, is, wrote, out, tells) lost at same more =
-      let files = ahead.held.items in
-      let count = length files in
-      let text = noted judging name (codes "out of memory\n") in
-      let some = subst (λ h. HoldsSome h count (length names) read.opened read.reads) lost read.some in
-      let long = length-take-le count names (omega (arith, some.0)) in
-      record {
-        opened = read.opened;
-        reads = sum_by held_reads files + read.reads;
-        writes = 0;
-        told = whole.told ++ text;
-        opened_are = read.opened_are;
-        reads_are = read.reads_are;
-        writes_are = omega (arith, wrote);
-        tells = behind_more failures e f h t u v whole.told text tells more;
-        ends =
-            OutOfMemory name (sum_by held_reads files) read.reads whole
-            (record {
-              before = take count names;
-              one = one;
-              behind = drop (count + 1) names;
-              some = sum_by held_reads files;
-              ahead = 0;
-              split = split_at names count one some.0 at;
-              name_is = same;
-              answers = of_all judging supply (take count names) files whole read.held are;
-              reads_are = omega arith;
-              opened_some = omega (arith, long, some.1);
-              opened_few = omega (arith, long, some.0, some.1, few);
-              opened_most = omega (arith, some.0, some.1);
-            })
-            refl refl refl refl refl out;
-      }
+  -- either, by how the answers went out
+  pub window_goes : (Tells : List ℕ → Type 0) (end : Result ℕ Halt)
+      → DeliversEach judging held w x b n Tells end
+      → Counted (EachGoes judging width supply names end) o p r s w x b n Tells (end_status end)
+  window_goes Tells (Ok status) delivered = window_answered Tells status delivered
+  window_goes Tells (Err halt) delivered = window_halts Tells halt delivered
 
-  -- memory ran out before one was judged
-  pub window_unjudged : (Tells : List ℕ → Type 0) (one : String Global) (name : List ℕ)
-      → 0 < length names
-      → one ≡ get_or names 0 one → name ≡ string_bytes one
-      → Tells (noted judging name (codes "out of memory\n")) → x ≡ w → Keeps b n
-      → Counted (EachGoes judging width supply names (Err Memory)) o p r s w x b n Tells
-      (halt_status Memory)
-  window_unjudged Tells one name least at same tells wrote keep =
-      let files = ahead.held.items in
-      let some = bounds ahead.is_whole (length files) (length names) read.opened read.reads read.some in
-      let first = opened_one ahead.is_whole (length files) (length names) read.opened read.reads read.some least in
-      record {
-        opened = read.opened;
-        reads = sum_by held_reads files + read.reads;
-        writes = 0;
-        told = noted judging name (codes "out of memory\n");
-        opened_are = read.opened_are;
-        reads_are = read.reads_are;
-        writes_are = omega (arith, wrote);
-        tells = tells;
-        ends =
-            OutOfMemory name 0 (sum_by held_reads files + read.reads) nothing
-            (record {
-              before = [];
-              one = one;
-              behind = drop 1 names;
-              some = 0;
-              ahead = 0;
-              split = split_at names 0 one least at;
-              name_is = same;
-              answers = (refl, refl);
-              reads_are = refl;
-              opened_some = omega (arith, first);
-              opened_few = omega (arith, some.1, few);
-              opened_most = some.1;
-            })
-            (omega arith) refl refl refl refl (appends_none b n keep);
-      }
+-- memory ran out before some files that were read were judged
+pub window_lost : (judging : Judging) (width : ℕ) (is_told : Bool) (supply : List ℕ → Supply)
+    (names : List (String Global)) (held : List Held) (o p r s w x : ℕ) (b n : Option (List ℕ))
+    (Tells : List ℕ → Type 0)
+    → Opens (length names) o p r s
+    (λ opened reads. AreHeld is_told supply names opened reads held) → length names ≤ width
+    → TellsLost judging names Tells → x ≡ w → Keeps b n
+    → Counted (EachGoes judging width supply names (Err Memory)) o p r s w x b n Tells
+    (halt_status Memory)
+window_lost judging width is_told supply [] held o p r s w x b n Tells read few tells wrote keep =
+    absurd tells
+window_lost judging width is_told supply (one ∷ names) held o p r s w x b n Tells read few tells wrote keep =
+    let text = noted judging (string_bytes one) (codes "out of memory\n") in
+    let all = read.so.opened_are in
+    record {
+      opened = read.opened;
+      reads = read.reads;
+      writes = 0;
+      told = text;
+      opened_are = read.opened_are;
+      reads_are = read.reads_are;
+      writes_are = omega (arith, wrote);
+      tells = tells;
+      ends =
+          OutOfMemory (string_bytes one) 0 read.reads nothing
+          (record {
+            before = [];
+            one = one;
+            behind = names;
+            some = 0;
+            ahead = 0;
+            split = refl;
+            name_is = refl;
+            answers = (refl, refl);
+            reads_are = refl;
+            opened_some = omega (arith, all);
+            opened_few = omega (arith, read.within, few);
+            opened_most = read.within;
+          })
+          (omega arith) refl refl refl refl (appends_none b n keep);
+    }
+
+-- memory ran out before one of some files was opened
+pub window_unopened : (judging : Judging) (width : ℕ) (supply : List ℕ → Supply)
+    (names : List (String Global)) (o p r s w x : ℕ) (b n : Option (List ℕ))
+    (Tells : List ℕ → Type 0) → p ≡ o → s ≡ r → TellsLost judging names Tells → x ≡ w → Keeps b n
+    → Counted (EachGoes judging width supply names (Err Memory)) o p r s w x b n Tells
+    (halt_status Memory)
+window_unopened judging width supply [] o p r s w x b n Tells opened read tells wrote keep =
+    absurd tells
+window_unopened judging width supply (one ∷ names) o p r s w x b n Tells opened read tells wrote keep =
+    record {
+      opened = 0;
+      reads = 0;
+      writes = 0;
+      told = noted judging (string_bytes one) (codes "out of memory\n");
+      opened_are = omega (arith, opened);
+      reads_are = omega (arith, read);
+      writes_are = omega (arith, wrote);
+      tells = tells;
+      ends =
+          NoRoom (string_bytes one) nothing
+          (record {
+            before = [];
+            one = one;
+            behind = names;
+            split = refl;
+            name_is = refl;
+            answers = (refl, refl);
+            opened_are = refl;
+          })
+          refl refl refl refl (appends_none b n keep);
+    }
 
 -- files that are answered, and some more behind them
 module _ (judging : Judging) (width : ℕ) (supply : List ℕ → Supply)
@@ -305,11 +304,22 @@ module _ (judging : Judging) (width : ℕ) (supply : List ℕ → Supply)
           absurd (ok_never answered Write end)
       more (OutOfMemory name some one first at reads wrote end ended told out) =
           absurd (ok_never answered Memory end)
+      more (NoRoom name first next wrote end ended told out) =
+          absurd (ok_never answered Memory end)
 
   module _ (names behind : List (String Global)) (o reads_start w_start : ℕ)
       (split : names ≡ done ++ (window ++ behind)) (same : failures ≡ e)
       (opened : o_mid ≡ o + length done) (start : reads_mid ≡ reads_start + r)
       (writes : w ≡ w_start) where
+    split_behind : (first : List (String Global)) (one : String Global)
+        (others : List (String Global)) → window ≡ first ++ one ∷ others
+        → names ≡ (done ++ first) ++ one ∷ (others ++ behind)
+    split_behind first one others at =
+        split
+        ∙ ap (λ l. done ++ (l ++ behind)) at
+        ∙ ap (λ l. done ++ l) (append_assoc first (one ∷ others) behind)
+        ∙ sym (append_assoc done first (one ∷ (others ++ behind)))
+
     -- where one of these stands among all
     at_behind : (name : List ℕ) (count some : ℕ) (first : Answer)
         → IsAt judging width supply window count name some first
@@ -328,11 +338,7 @@ module _ (judging : Judging) (width : ℕ) (supply : List ℕ → Supply)
           behind = at.behind ++ behind;
           some = r + at.some;
           ahead = at.ahead;
-          split =
-              split
-              ∙ ap (λ l. done ++ (l ++ behind)) at.split
-              ∙ ap (λ l. done ++ l) (append_assoc at.before (at.one ∷ at.behind) behind)
-              ∙ sym (append_assoc done at.before (at.one ∷ (at.behind ++ behind)));
+          split = split_behind at.before at.one at.behind at.split;
           name_is = at.name_is;
           answers =
               of_append judging supply done at.before r at.some so.answer first so.are at.answers;
@@ -340,6 +346,23 @@ module _ (judging : Judging) (width : ℕ) (supply : List ℕ → Supply)
           opened_some = omega (arith, early, at.opened_some);
           opened_few = omega (arith, early, at.opened_few);
           opened_most = omega (arith, long, at.opened_most);
+        }
+
+    -- where the next one stands among all
+    next_behind : (name : List ℕ) (count some : ℕ) (first : Answer)
+        → IsNext judging supply window count name some first
+        → IsNext judging supply names (length done + count) name (r + some) (joined so.answer first)
+    next_behind name count some first next =
+        let early = length-append done next.before in
+        record {
+          before = done ++ next.before;
+          one = next.one;
+          behind = next.behind ++ behind;
+          split = split_behind next.before next.one next.behind next.split;
+          name_is = next.name_is;
+          answers =
+              of_append judging supply done next.before r some so.answer first so.are next.answers;
+          opened_are = omega (arith, early, next.opened_are);
         }
 
     -- something keeps from going on
@@ -381,6 +404,12 @@ module _ (judging : Judging) (width : ℕ) (supply : List ℕ → Supply)
         more (OutOfMemory name some one first at reads wrote end ended told out) =
             OutOfMemory name (r + some) one (joined so.answer first)
             (at_behind name c.opened some first at) (omega (arith, reads)) wrote end ended
+            (ap (λ l. so.answer.told ++ l) told
+            ∙ sym (append_assoc so.answer.told first.told (noted judging name (codes "out of memory\n"))))
+            (appends_more b m n so.answer.output first.output so.appended out)
+        more (NoRoom name first next wrote end ended told out) =
+            NoRoom name (joined so.answer first) (next_behind name c.opened c.reads first next) wrote end
+            ended
             (ap (λ l. so.answer.told ++ l) told
             ∙ sym (append_assoc so.answer.told first.told (noted judging name (codes "out of memory\n"))))
             (appends_more b m n so.answer.output first.output so.appended out)

@@ -1,5 +1,5 @@
 -- The answers for files, one after the other.
-use Rattle.std.proofs.Common.{◌≡◌, ◌∙◌, ◌+◌, ◌≤◌, ℕ, List, [], ◌∷◌, ◌++◌, String, ap, append-nil, append_assoc, arith, inl, inr, length, max, refl, string_bytes, subst, sym}
+use Rattle.std.proofs.Common.{◌≡◌, ◌∙◌, ◌+◌, ◌≤◌, ℕ, List, [], ◌∷◌, ◌++◌, String, ap, append-nil, append_assoc, arith, inl, inr, length, max, string_bytes, subst, sym}
 use Rattle.std.specs.Global.{Global}
 use Rattle.drvhost_devices.specs.Answer.{Answer}
 use Rattle.drvhost_devices.specs.Device.{Supply}

@@ -1,5 +1,5 @@
 -- Files that were read, and the answers for them.
-use Rattle.std.proofs.Common.{◌≡◌, ◌∙◌, ◌+◌, ◌≤◌, ℕ, zero, suc, List, [], ◌∷◌, ◌++◌, ◌<◌, Bool, true, false, String, ap, append_assoc, arith, drop, get_or, inl, inr, length, refl, string_bytes, subst, sym, take}
+use Rattle.std.proofs.Common.{◌≡◌, ◌∙◌, ◌+◌, ◌≤◌, ℕ, zero, suc, List, [], ◌∷◌, ◌++◌, ◌<◌, String, ap, arith, drop, get_or, inl, inr, length, refl, string_bytes, subst, sym, take}
 use Rattle.std.specs.Global.{Global}
 use Rattle.std.specs.List.{AllZip, sum_by}
 use Rattle.std.proofs.lemmas.List.{drop_more, length-append, take-append-drop, take_more}
@@ -8,13 +8,14 @@ use Rattle.std.proofs.lemmas.Slice.Zip.{AllZip-long}
 use Rattle.drvhost_commands.specs.declared.job.Judging.{Judging}
 use Rattle.drvhost_devices.specs.Answer.{Answer}
 use Rattle.drvhost_devices.specs.Device.{Bytes, Closed, Holds, IsSuppliedAs, Supply, Unknown}
-use Rattle.drvhost_many.specs.declared.held.Contents.{Contents}
-use Rattle.drvhost_many.specs.declared.held.Contents.TheVariants.{Whole, Unread, Unopened}
-use Rattle.drvhost_many.specs.declared.held.Held.{Held}
+use Rattle.drvhost_files.specs.declared.reading.Contents.{Contents}
+use Rattle.drvhost_files.specs.declared.reading.Contents.TheVariants.{Whole, Unread, Unopened, Lacking}
+use Rattle.drvhost_files.specs.declared.reading.Held.{Held}
+use Rattle.drvhost_files.specs.Reading.{IsHeld, IsReadOf, held_reads, reads_of}
 use Rattle.drvhost_many.specs.All.{AreOf, IsAt, joined, nothing}
-use Rattle.drvhost_many.specs.Held.{AreToldOf, HoldsSome, IsAmong, IsAnswerTo, IsHeld, IsReadOf, IsToldOf, held_reads, reads_of}
+use Rattle.drvhost_many.specs.Held.{AreJoined, AreToldOf, IsAmong, IsAnswerTo, IsToldOf}
 use Rattle.drvhost_many.specs.Marked.{named_answer}
-use Rattle.drvhost_many.specs.One.{IsOfOne}
+use Rattle.drvhost_many.specs.One.{IsOfOne, is_in_json}
 use Rattle.drvhost_many.proofs.Collected.{judged_known}
 use Rattle.drvhost_many.proofs.Joining.{joined_assoc, joined_none}
 use Rattle.drvhost_many.proofs.Judged.{unopened_in_json}
@@ -54,7 +55,7 @@ held_known Closed bytes h = absurd h
 held_known (Bytes held) bytes h = ap (λ b. Bytes b) h
 
 of_contents : (judging : Judging) (name : List ℕ) (supply : Supply) (contents : Contents)
-    (answer : Answer) → IsReadOf judging supply contents → IsAnswerTo judging name contents answer
+    (answer : Answer) → IsReadOf (is_in_json judging) supply contents → IsAnswerTo judging name contents answer
     → IsOfOne judging name supply (reads_of contents) answer
 of_contents judging name supply (Whole bytes) answer holds is =
     inl (
@@ -65,10 +66,11 @@ of_contents judging name supply (Whole bytes) answer holds is =
 of_contents judging name supply Unread answer h is = inr (refl, is)
 of_contents judging name supply Unopened answer (closed, json) is =
     inl (refl, inr (closed, unopened_in_json judging name answer json is))
+of_contents judging name supply Lacking answer h is = absurd is
 
 -- what is answered for what was read of a file is answered for the file
 pub of_held : (judging : Judging) (supply : List ℕ → Supply) (name : String Global) (held : Held)
-    (told : Answer) → IsHeld judging supply name held → IsToldOf judging held told
+    (told : Answer) → IsHeld (is_in_json judging) supply name held → IsToldOf judging held told
     → (answer : Answer)
     × IsOfOne judging (string_bytes name) (supply (string_bytes name)) (held_reads held) answer
     × (told ≡ named_answer judging (string_bytes name) answer)
@@ -81,7 +83,7 @@ of_held judging supply name held told h (answer, is, same) = (
 
 -- for several
 pub of_all : (judging : Judging) (supply : List ℕ → Supply) (names : List (String Global))
-    (files : List Held) (whole : Answer) → AllZip (IsHeld judging supply) names files
+    (files : List Held) (whole : Answer) → AllZip (IsHeld (is_in_json judging) supply) names files
     → AreToldOf judging files whole → AreOf judging supply names (sum_by held_reads files) whole
 of_all judging supply [] [] whole h is = (refl, is)
 of_all judging supply [] (file ∷ files) whole h is = absurd h
@@ -99,28 +101,29 @@ of_all judging supply (name ∷ names) (file ∷ files) whole (here, h) (told, r
     )
 
 -- for one more
-pub told_more : (judging : Judging) (files : List Held) (file : Held) (first told : Answer)
-    → AreToldOf judging files first → IsToldOf judging file told
-    → AreToldOf judging (files ++ file ∷ []) (joined first told)
-told_more judging [] file first told none is =
+joined_more : (Is : Held → Answer → Type 0) (files : List Held) (file : Held) (first told : Answer)
+    → AreJoined Is files first → Is file told
+    → AreJoined Is (files ++ file ∷ []) (joined first told)
+joined_more Is [] file first told none is =
     (told, nothing, is, refl, ap (λ a. joined a told) none ∙ joined_none told)
-told_more judging (one ∷ files) file first told (early, rest, here, more, whole) is = (
+joined_more Is (one ∷ files) file first told (early, rest, here, more, whole) is = (
   early,
   joined rest told,
   here,
-  told_more judging files file rest told more is,
+  joined_more Is files file rest told more is,
   ap (λ a. joined a told) whole ∙ joined_assoc early rest told,
 )
 
 -- those up to an index are answered, and the one there
-pub told_next : (judging : Judging) (files : List Held) (i : ℕ) (one : Held) (first told : Answer)
-    → i < length files → one ≡ get_or files i one → AreToldOf judging (take i files) first
-    → IsToldOf judging one told → AreToldOf judging (take (i + 1) files) (joined first told)
-told_next judging files i one first told h at are is =
+pub joined_next : (Is : Held → Answer → Type 0) (files : List Held) (i : ℕ) (one : Held)
+    (first told : Answer) → i < length files → one ≡ get_or files i one
+    → AreJoined Is (take i files) first → Is one told
+    → AreJoined Is (take (i + 1) files) (joined first told)
+joined_next Is files i one first told h at are is =
     let next : take i files ++ one ∷ [] ≡ take (i + 1) files =
     ap (λ x. take i files ++ x ∷ []) at ∙ sym (take_more files i one h) in
-    subst (λ l. AreToldOf judging l (joined first told)) next
-    (told_more judging (take i files) one first told are is)
+    subst (λ l. AreJoined Is l (joined first told)) next
+    (joined_more Is (take i files) one first told are is)
 
 -- a list up to an element, that, and what is behind it
 pub split_at : {A : Type 0} (xs : List A) (i : ℕ) (x : A) → i < length xs → x ≡ get_or xs i x
@@ -145,6 +148,7 @@ pub reads_few : (contents : Contents) → reads_of contents ≤ 1
 reads_few (Whole bytes) = omega arith
 reads_few Unread = omega arith
 reads_few Unopened = omega arith
+reads_few Lacking = omega arith
 
 pub sum_few : (files : List Held) → sum_by held_reads files ≤ length files
 sum_few [] = omega arith
@@ -154,68 +158,56 @@ sum_few (file ∷ files) =
     let more = sum_few files in
     omega (arith, sum, one, more)
 
--- at least those that are held were opened, and at most all
-pub bounds : (is_whole : Bool) (count all opened reads : ℕ)
-    → HoldsSome is_whole count all opened reads → (count + reads ≤ opened) × (opened ≤ all)
-bounds true count all opened reads h = (omega (arith, h.0, h.1, h.2), omega (arith, h.1))
-bounds false count all opened reads h = (omega (arith, h.1, h.2), omega (arith, h.0, h.1))
-
 -- one of the files that were read, by its name, and where it stands among those that were named
 pub record Placed (judging : Judging) (width : ℕ) (supply : List ℕ → Supply)
-    (names : List (String Global)) (files : List Held) (opened reads : ℕ) (one : Held)
-    (first : Answer) : Type 0 where
+    (names : List (String Global)) (files : List Held) (one : Held) (first : Answer) : Type 0 where
   pub name : String Global
   pub others : ℕ
-  pub held : IsHeld judging supply name one
-  pub at : IsAt judging width supply names opened (string_bytes name) others first
-  pub sum : sum_by held_reads files + reads ≡ others + held_reads one
+  pub held : IsHeld (is_in_json judging) supply name one
+  pub at : IsAt judging width supply names (length names) (string_bytes name) others first
+  pub sum : sum_by held_reads files ≡ others + held_reads one
 
 module _ (judging : Judging) (width : ℕ) (supply : List ℕ → Supply) (names : List (String Global))
-    (files : List Held) (is_whole : Bool) (opened reads : ℕ)
-    (held : AllZip (IsHeld judging supply) (take (length files) names) files)
-    (some : HoldsSome is_whole (length files) (length names) opened reads)
+    (files : List Held) (held : AllZip (IsHeld (is_in_json judging) supply) names files)
     (few : length names ≤ width) where
   pub placed : (one : Held) (first : Answer) → IsAmong judging files one first
-      → Placed judging width supply names files opened reads one first
+      → Placed judging width supply names files one first
   placed one first among =
-      let R = IsHeld judging supply in
-      let count = length files in
+      let R = IsHeld (is_in_json judging) supply in
       let p =
-      zip_split R (take count names) among.before one among.behind
-      (subst (λ f. AllZip R (take count names) f) among.split held) in
+      zip_split R names among.before one among.behind
+      (subst (λ f. AllZip R names f) among.split held) in
       let early = sum_by held_reads among.before in
       let later = sum_by held_reads among.behind in
       let whole : sum_by held_reads files ≡ early + (held_reads one + later) =
       ap (λ f. sum_by held_reads f) among.split
       ∙ sum_by-append held_reads among.before (one ∷ among.behind)
       ∙ ap (λ n. early + n) (sum_by-cons held_reads one among.behind) in
-      let long : count ≡ length among.before + (length among.behind + 1) =
+      let long : length files ≡ length among.before + (length among.behind + 1) =
       let all = ap (λ f. length f) among.split in
       let parts = length-append among.before (one ∷ among.behind) in
       omega (arith, all, parts) in
+      let count = AllZip-long R names files held in
       let same = AllZip-long R p.0 among.before p.4 in
       let least = sum_few among.behind in
-      let b = bounds is_whole count (length names) opened reads some in
       record {
         name = p.1;
-        others = early + (later + reads);
+        others = early + later;
         held = p.5;
         at =
             record {
               before = p.0;
               one = p.1;
-              behind = p.2 ++ drop count names;
+              behind = p.2;
               some = early;
-              ahead = later + reads;
-              split =
-                  sym (take-append-drop count names) ∙ ap (λ l. l ++ drop count names) p.3
-                  ∙ append_assoc p.0 (p.1 ∷ p.2) (drop count names);
+              ahead = later;
+              split = p.3;
               name_is = refl;
               answers = of_all judging supply p.0 among.before first p.4 among.answers;
               reads_are = refl;
-              opened_some = omega (arith, same, least, long, b.0);
-              opened_few = omega (arith, b.1, few);
-              opened_most = b.1;
+              opened_some = omega (arith, same, least, long, count);
+              opened_few = omega (arith, few);
+              opened_most = omega arith;
             };
         sum = omega (arith, whole);
       }

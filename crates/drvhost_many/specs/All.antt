@@ -51,7 +51,7 @@ AreOf judging supply (name ∷ names) reads whole =
 
 -- how many files are in hand at once, where so many jobs share them
 abbrev pub width_of : ℕ → ℕ
-width_of jobs = if nat_lt jobs 2 then 1 else 16 * jobs
+width_of jobs = if nat_lt jobs 2 then 1 else 128 * jobs
 
 -- one of several files, with those before it, and their answers; of those behind it some may have
 -- been opened, within so many, and some reads of these may have failed
@@ -70,6 +70,17 @@ pub record IsAt (judging : Judging) (width : ℕ) (supply : List ℕ → Supply)
   pub opened_some : length before + 1 + ahead ≤ opened
   pub opened_few : opened ≤ length before + width
   pub opened_most : opened ≤ length names
+
+-- one of several files, with those before it, and their answers: these were opened, and no other
+pub record IsNext (judging : Judging) (supply : List ℕ → Supply) (names : List (String Global))
+    (opened : ℕ) (name : List ℕ) (reads : ℕ) (answer : Answer) : Type 0 where
+  pub before : List (String Global)
+  pub one : String Global
+  pub behind : List (String Global)
+  pub split : names ≡ before ++ one ∷ behind
+  pub name_is : name ≡ string_bytes one
+  pub answers : AreOf judging supply before reads answer
+  pub opened_are : opened ≡ length before
 
 -- how the judging of several files comes to its end, or is kept from it: by how many files were
 -- opened, and reads and writes failed, what went out, the exit status, and what is told
@@ -92,6 +103,12 @@ pub data EachGoes (judging : Judging) (width : ℕ) (supply : List ℕ → Suppl
   -- memory ran out for one of them
   OutOfMemory : (name : List ℕ) (some one : ℕ) (first : Answer)
       → IsAt judging width supply names opened name some first → reads ≡ some + one
+      → writes ≡ 0 → end ≡ Err Memory → status ≡ 3
+      → told ≡ first.told ++ noted judging name (codes "out of memory\n")
+      → Appends before after first.output
+      → EachGoes judging width supply names end opened reads writes before after status told
+  -- memory ran out before the next of them was opened
+  NoRoom : (name : List ℕ) (first : Answer) → IsNext judging supply names opened name reads first
       → writes ≡ 0 → end ≡ Err Memory → status ≡ 3
       → told ≡ first.told ++ noted judging name (codes "out of memory\n")
       → Appends before after first.output

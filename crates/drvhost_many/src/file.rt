@@ -8,12 +8,12 @@ ghost use Rattle.drvhost_formats.specs.Told.{IsUnopenedJson};
 ghost use Rattle.drvhost_many.specs.Held.{IsAnswerTo, IsToldOf};
 ghost use Rattle.drvhost_many.specs.One.{IsJudged, is_in_json};
 
-use crate::held::{Contents, Held};
 use crate::named::{One, with_name};
 use crate::painting::{Explaining, explain_shown};
 use crate::told::{Told, collected};
 use drvhost_commands::job::Judging;
 use drvhost_devices::device::{Reader, Sink, Source, Writer};
+use drvhost_files::reading::{Contents, Held};
 use drvhost_formats::check::check_json;
 use drvhost_formats::explain::explain_json;
 use drvhost_formats::unopened::unopened_json;
@@ -41,6 +41,7 @@ fn answer_alone(alloc: Global, judging: Judging, held: &Held<'_>) -> Result<Told
         Contents::Whole(bytes) => judge_bytes(alloc, judging, held.name, bytes.as_slice()),
         Contents::Unread => tell_unread(alloc),
         Contents::Unopened => tell_unopened(alloc, held.name),
+        Contents::Lacking => Err(AllocError),
     }
 }
 

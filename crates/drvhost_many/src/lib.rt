@@ -3,7 +3,6 @@
 #![tactic(auto)]
 
 pub mod file;
-mod held;
 pub mod many;
 pub mod named;
 pub mod painting;

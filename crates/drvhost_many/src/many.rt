@@ -4,11 +4,10 @@ ghost use Rattle.std.specs.Prelude.{◌≡◌, ◌+◌, ◌≤◌, ◌<◌, ◌^
 ghost use Rattle.std.specs.List.{AllZip};
 ghost use Rattle.drvhost_devices.specs.Device.{CanCount, Says, SaysBehind};
 ghost use Rattle.drvhost_many.specs.All.{AnswersEach, Counted, EachGoes, end_status, width_of};
-ghost use Rattle.drvhost_many.specs.Held.{DeliversEach, IsToldOf};
+ghost use Rattle.drvhost_many.specs.Held.{DeliversEach, IsToldOf, TellsLost};
 ghost use Rattle.drvhost_many.specs.One.{Delivers, halt_status};
 
-use crate::file::answer_held;
-use crate::held::{Held, read_each};
+use crate::file::{answer_held, is_in_json};
 use crate::named::{One, tell_no_memory};
 use crate::told::Told;
 use drvhost_commands::job::Judging;
@@ -16,6 +15,7 @@ use drvhost_devices::device::{Failed, Sink};
 use drvhost_devices::transfer::write_whole;
 use drvhost_devices::unopened::say_behind;
 use drvhost_files::files::Files;
+use drvhost_files::reading::{FILES_LEAST, Held, Way};
 use rayon::prelude::*;
 use report::fault::WRITE_FAILED;
 use report_progress::progress::{Progress, Reached};
@@ -23,7 +23,7 @@ use std::alloc::{AllocError, Global};
 use std::thread::Threads;
 
 /// How many files a job is handed at once.
-const FILES_EACH: usize = 16;
+const FILES_EACH: usize = 128;
 
 /// The driver sets of several files, and how they are judged.
 #[derive(Clone, Copy)]
@@ -47,13 +47,18 @@ impl<'n> Sets<'n> {
         }
         FILES_EACH * self.jobs as usize
     }
+
+    /// How many of so many files a thread takes at least.
+    fn share(self, count: usize) -> usize {
+        (count / (self.jobs as usize).max(1)).max(FILES_LEAST)
+    }
 }
 
 /// Judges the set of each of these files, by so many jobs at once, and tells the answers in order,
 /// each with the name of its file: before each line of a verdict, in a line of JSON, or in a line
 /// above an explanation. With one job what is answered for a file goes out before the next is
-/// opened. For several 16 files each are read, one after another, and then judged. The answer is the
-/// greatest exit status. A file that can't be read, or is faulty, doesn't keep from the others; a
+/// opened. For several 128 files each are read at once, and then judged. The answer is the greatest
+/// exit status. A file that can't be read, or is faulty, doesn't keep from the others; a
 /// write that fails does, and want of memory. How many of the files are done is told meanwhile.
 pub fn answer_each<R: Threads + Sync + Progress, F: Files, O: Sink, E: Sink>(
     rt: &R,
@@ -169,41 +174,59 @@ fn answer_window<R: Threads + Sync + Progress, F: Files, O: Sink, E: Sink>(
     ensures created { F.created files.new ≡ F.created files.old }
     ensures unwritten { F.unwritten files.new ≡ F.unwritten files.old }
 {
-    let judging = window.sets.judging;
-    let ahead = read_each(window.sets.alloc, judging, window.names, files);
-    let told = judge_each(rt, window.sets.alloc, judging, ahead.held.as_slice());
+    let sets = window.sets;
+    let way = Way {
+        alloc: sets.alloc,
+        is_told: is_in_json(sets.judging),
+        jobs: sets.jobs,
+    };
+    let Ok(held) = files.read_each(rt, way, window.names) else {
+        return Err(lose(rt, window, err));
+    };
+    let Ok(told) = judge_each(rt, sets, held.as_slice()) else {
+        return Err(lose(rt, window, err));
+    };
     rt.clear();
-    let Ok(told) = told else {
-        let one = One::of(judging, window.names[0].as_str());
-        tell_no_memory(one, window.failures, err);
-        return Err(Halt::Memory);
-    };
-    let held = ahead.held.as_slice();
-    let status = match deliver_each(judging, held, told.as_slice(), out, window.failures, err) {
-        Ok(status) => status,
-        Err(halt) => return Err(halt),
-    };
-    if ahead.is_whole {
-        return Ok(status);
-    }
-    let one = One::of(judging, window.names[held.len()].as_str());
+    let failures = window.failures;
+    deliver_each(
+        sets.judging,
+        held.as_slice(),
+        told.as_slice(),
+        out,
+        failures,
+        err,
+    )
+}
+
+/// Tells that memory ran out for the first of some files.
+fn lose<P: Progress, E: Sink>(progress: &P, window: &Window<'_>, err: &mut E) -> Halt
+    requires some { 0 < length window.now.names.now }
+    requires failures { CanCount window.now.failures }
+    ensures memory { result ≡ Halt.Memory }
+    ensures told { TellsLost window.now.sets.judging window.now.names.now
+        (SaysBehind window.now.failures (E.failures err.old) (E.failures err.new)
+        (E.contents err.old) (E.contents err.new)) }
+{
+    progress.clear();
+    let one = One::of(window.sets.judging, window.names[0].as_str());
     tell_no_memory(one, window.failures, err);
-    Err(Halt::Memory)
+    Halt::Memory
 }
 
 /// Judges files that were read, in threads: what is answered for each, in order, where there was
 /// memory for it.
 fn judge_each<R: Threads + Sync>(
     rt: &R,
-    alloc: Global,
-    judging: Judging,
+    sets: Sets<'_>,
     held: &[Held<'_>],
 ) -> Result<Vec<Result<Told, AllocError>>, AllocError>
-    ensures { IfOk result (λ told.
-        AllZip (λ one answer. IfOk answer (IsToldOf judging one)) held.now told.items) }
+    ensures { IfOk result (λ told. AllZip
+        (λ one answer. IfOk answer (IsToldOf sets.entry.judging one)) held.now told.items) }
 {
+    let alloc = sets.alloc;
+    let judging = sets.judging;
     held.par_iter()
-        .with_min_len(FILES_EACH)
+        .with_min_len(sets.share(held.len()))
         .map(
             |one: &Held<'_>| -> Result<Told, AllocError>
                 ensures { IfOk result (IsToldOf judging one.now) }

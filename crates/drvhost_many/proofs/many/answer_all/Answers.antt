@@ -1,6 +1,5 @@
-use Rattle.std.proofs.Common.{◌≡◌, ◌∙◌, ◌+◌, ◌++◌, Err, Ok, [], List, String, ap, append_assoc, arith, drop, length, subst, sym, take}
+use Rattle.std.proofs.Common.{◌≡◌, ◌∙◌, ◌+◌, ◌++◌, Err, Ok, List, ap, append_assoc, arith, drop, subst, sym}
 use Rattle.std.proofs.lemmas.List.{length-append, take-append-drop}
-use Rattle.std.specs.Global.{Global}
 use Rattle.drvhost_devices.specs.Device.{SaysBehind}
 use Rattle.drvhost_many.specs.All.{Counted, EachGoes, width_of}
 use Rattle.drvhost_many.specs.One.{halt_status}

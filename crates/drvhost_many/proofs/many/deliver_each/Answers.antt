@@ -1,4 +1,4 @@
-use Rattle.std.proofs.Common.{◌≡◌, ◌∙◌, Err, IfOk, ap, arith, get_or, max, subst, sym}
+use Rattle.std.proofs.Common.{◌∙◌, Err, IfOk, ap, arith, get_or, max, subst, sym}
 use Rattle.std.proofs.lemmas.Slice.Zip.{AllZip-long}
 use Rattle.drvhost_devices.specs.Device.{SaysBehind}
 use Rattle.drvhost_devices.proofs.Writing.{appends_more, behind_more}
@@ -6,7 +6,7 @@ use Rattle.drvhost_many.specs.All.{joined}
 use Rattle.drvhost_many.specs.Held.{IsToldOf}
 use Rattle.drvhost_many.specs.One.{Delivers}
 use Rattle.drvhost_many.proofs.Ending.{delivers_halt, delivers_none}
-use Rattle.drvhost_many.proofs.Reading.{among_at, told_next, zip_at}
+use Rattle.drvhost_many.proofs.Reading.{among_at, joined_next, zip_at}
 use Rattle.drvhost_many.proofs.many.deliver_each.Goals as goal
 
 pub bounds-told-i : goal.bounds-told-i
@@ -74,7 +74,7 @@ loop-i-preserved g c =
       came.1 ∙ fine,
       (
         joined so.0 answer,
-        told_next judging held i one so.0 answer c.loop-i-test.true c.index-held-i.is so.1 is,
+        joined_next (IsToldOf judging) held i one so.0 answer c.loop-i-test.true c.index-held-i.is so.1 is,
         c.greater-status.ensures
             ∙ ap (λ s. max s c.in-Ok-deliver.answered) so.2
             ∙ ap (λ s. max so.0.status s) came.0,

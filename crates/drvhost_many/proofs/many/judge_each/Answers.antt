@@ -10,7 +10,7 @@ returns g c =
     let slice =
     ap (λ it. it.base.slice.now) c.map.ensures.base
     ∙ ap (λ it. it.slice.now) c.with_min_len.ensures.base ∙ c.par_iter.ensures in
-    let same : c.map.result.f.1.now ≡ c.args.judging =
+    let same : c.map.result.f.1.now ≡ c.args.sets.judging =
     ap (λ f. f.1.now) c.map.ensures.f in
     IfOk-then c.collect.result _ _ c.collect.ensures (λ v h.
     let chain = h.1 in

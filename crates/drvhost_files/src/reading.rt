@@ -1,0 +1,148 @@
+//! Files that are read whole, by several jobs at once.
+
+ghost use Rattle.std.specs.Prelude.{◌≡◌, ◌≤◌, ◌<◌, ◌↔◌, IfOk, IsTrue, length};
+ghost use Rattle.std.specs.List.{AllZip, sum_by};
+ghost use Rattle.drvhost_devices.specs.Device.{CanCount, Closed, Unknown};
+ghost use Rattle.drvhost_files.specs.Reading.{IsHeld, IsNamed, IsReadOf, held_reads, reads_of};
+
+use crate::standard::{STANDARD_INPUT, open};
+use drvhost_devices::device::{Reader, Source};
+use drvhost_devices::fault::Fault;
+use drvhost_devices::transfer::read_whole;
+use std::alloc::{AllocError, Global};
+use std::thread::{self, Threads};
+
+/// How few files are worth a thread of their own.
+pub const FILES_LEAST: usize = 16;
+
+/// What was read of a file.
+#[derive(Drop)]
+pub enum Contents {
+    /// All its bytes.
+    Whole(Vec<u8>),
+    /// A read failed.
+    Unread,
+    /// It can't be opened, which is told.
+    Unopened,
+    /// Memory ran out.
+    Lacking,
+}
+
+impl Contents {
+    /// How many reads of it failed.
+    fn reads(&self) -> u64
+        ensures { result ≡ reads_of self.now }
+    {
+        match self {
+            Contents::Unread => 1,
+            Contents::Whole(_) | Contents::Unopened | Contents::Lacking => 0,
+        }
+    }
+}
+
+/// A file that was read: its name, and what was read of it.
+#[derive(Drop)]
+pub struct Held<'n> {
+    pub name: &'n str,
+    pub contents: Contents,
+}
+
+/// How files are read.
+#[derive(Clone, Copy)]
+pub struct Way {
+    pub alloc: Global,
+    /// Whether one that can't be opened isn't read, since that is told.
+    pub is_told: bool,
+    /// How many jobs share them, at most.
+    pub jobs: u8,
+}
+
+/// Reads the files of these names, by so many jobs at once.
+///
+/// # Errors
+///
+/// When memory runs out before one is opened.
+pub(crate) fn read_files<'n, T: Threads + Sync>(
+    rt: &T,
+    system: &HostRuntime,
+    way: Way,
+    names: &'n [String],
+) -> Result<Vec<Held<'n>>, AllocError>
+    ensures { IfOk result (λ held.
+        AllZip (IsHeld way.is_told (λ _. Unknown)) names.now held.items) }
+{
+    let mut held = hold_names(way.alloc, names)?;
+    let threads = thread_count(way, names);
+    thread::for_each_mut(
+        rt,
+        held.as_mut_slice(),
+        threads,
+        &|_, one: &mut Held<'_>| {
+            read_held(system, way, one);
+        },
+    );
+    Ok(held)
+}
+
+/// Files of these names, of which nothing was read so far.
+fn hold_names<'n>(alloc: Global, names: &'n [String]) -> Result<Vec<Held<'n>>, AllocError>
+    ensures { IfOk result (λ held. AllZip IsNamed names.now held.items) }
+{
+    let mut held = Vec::new(alloc);
+    for name in names {
+        held.push(Held {
+            name: name.as_str(),
+            contents: Contents::Unread,
+        })?;
+    }
+    Ok(held)
+}
+
+/// How many threads are to read the files of these names. The standard input may stand among them
+/// more than once: who reads it first decides what is left of it, so one thread reads them all.
+fn thread_count(way: Way, names: &[String]) -> usize
+    ensures { 0 < result }
+{
+    if names.iter().any(|name| name.as_str() == STANDARD_INPUT) {
+        return 1;
+    }
+    (names.len() / FILES_LEAST).min(way.jobs as usize).max(1)
+}
+
+/// Reads a file by its name.
+fn read_held(system: &HostRuntime, way: Way, one: &mut Held<'_>)
+    ensures name { one.new.name ≡ one.old.name }
+    ensures read { IsReadOf way.is_told Unknown one.new.contents }
+{
+    let mut file = Reader::new(open(system, one.name));
+    let is_closed = file.is_closed();
+    one.contents = read_source(way, is_closed, &mut file);
+}
+
+/// What is read of a source, by whether it is closed.
+fn read_source<S: Source>(way: Way, is_closed: bool, source: &mut S) -> Contents
+    requires count { CanCount (S.failures source.old) }
+    requires closed { IsTrue is_closed ↔ (S.supply source.old ≡ Closed) }
+    ensures { IsReadOf way.is_told (S.supply source.old) result }
+{
+    if way.is_told && is_closed {
+        return Contents::Unopened;
+    }
+    match read_whole(way.alloc, source) {
+        Ok(bytes) => Contents::Whole(bytes),
+        Err(Fault::Read) => Contents::Unread,
+        Err(_) => Contents::Lacking,
+    }
+}
+
+/// How many reads of files failed.
+pub(crate) fn count_reads(held: &[Held<'_>]) -> u64
+    ensures sum { result ≡ sum_by held_reads held.now }
+    ensures few { result ≤ length held.now }
+{
+    let mut count = 0;
+    for one in held {
+        count += one.contents.reads();
+    }
+    count
+}
