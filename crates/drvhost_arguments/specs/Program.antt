@@ -118,12 +118,13 @@ hunt_command =
     ∷ any_number_option (codes "argument")
     ∷ flag (codes "stuck") ∷ flag (codes "exact") ∷ flag (codes "scenario") ∷ [])
 
--- `host FILE SCRIPT --workers N [--format FORMAT]`
+-- `host FILE SCRIPT --workers N [--format FORMAT] [--history OUT]`: JSON goes with no history
 abbrev pub host_command : App
 host_command =
     set_command (codes "host")
     (file_argument (codes "SCRIPT")
-    ∷ required (number_option (codes "workers") MAX_THREADS) ∷ format_option ∷ [])
+    ∷ required (number_option (codes "workers") MAX_THREADS) ∷ format_option
+    ∷ value_option (codes "OUT") (codes "history") AnyText ∷ [])
 
 -- `mend FILE [--tries N] [--apply] [--nth K]`
 abbrev pub mend_command : App
@@ -132,12 +133,12 @@ mend_command =
     (number_option (codes "tries") MAX_TRIES ∷ flag (codes "apply")
     ∷ number_option (codes "nth") MAX_OFFERS ∷ [])
 
--- `test FILE SCENARIO.. [--unchecked] [--format FORMAT] [--verbose]`
+-- `test FILE SCENARIO.. [--unchecked] [--format FORMAT] [--verbose] [--jobs N]`
 abbrev pub test_command : App
 test_command =
     set_command (codes "test")
     (required (values_argument (codes "SCENARIO")) ∷ flag (codes "unchecked") ∷ format_option
-    ∷ flag (codes "verbose") ∷ [])
+    ∷ flag (codes "verbose") ∷ jobs_option ∷ [])
 
 -- all commands, in the order of the texts of help
 abbrev pub commands : List App

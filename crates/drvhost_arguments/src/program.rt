@@ -196,6 +196,7 @@ const COMMANDS: [Entry<'static>; 13] = [
                 "verbose",
                 "Tells the run of each test that fails up to there",
             ),
+            JOBS,
         ],
     },
     Entry {
@@ -268,6 +269,12 @@ const COMMANDS: [Entry<'static>; 13] = [
                 "How many workers serve it, 1 to 64",
             ),
             FORMAT,
+            Argument::Value(
+                "OUT",
+                "history",
+                ValueParser::String,
+                "Writes what the workers did to this file, as a schedule",
+            ),
         ],
     },
     Entry {

@@ -16,8 +16,10 @@ use Rattle.drvhost_options.specs.declared.manner.Detail.TheVariants.{Usual}
 use Rattle.drvhost_commands.specs.Choices.{IsReach, answer_format_of, coloring_of, command_named, extent_of, figure_of, form_of, jobs_of, manner_of, passes_of, report_of, tries_of, verbosity_of, verdict_format_of, verification_of, wanted_of}
 use Rattle.drvhost_commands.specs.declared.choices.Format.{Format}
 use Rattle.drvhost_commands.specs.declared.choices.Format.TheVariants.{Text as AsText, Json, Sarif}
+use Rattle.drvhost_commands.specs.declared.job.FileNames.{FileNames}
+use Rattle.drvhost_commands.specs.declared.job.Form.TheVariants.{Lines as InLines}
 use Rattle.drvhost_commands.specs.declared.job.Job.{Job}
-use Rattle.drvhost_commands.specs.declared.job.Job.TheVariants.{Page as OfPage, OnPaths, Log, Test, Rewrite, Apply, OnSet, OnRun, Host}
+use Rattle.drvhost_commands.specs.declared.job.Job.TheVariants.{Page as OfPage, OnPaths, Log, Test, Rewrite, Apply, OnSet, OnRun, Host, Keep}
 use Rattle.drvhost_commands.specs.declared.job.Judging.{Judging}
 use Rattle.drvhost_commands.specs.declared.job.Judging.TheVariants.{Check, CheckJson, Explain, ExplainJson}
 use Rattle.drvhost_commands.specs.declared.job.Page.{Page}
@@ -43,6 +45,15 @@ Has argument rows value = first_of argument rows ≡ Some value
 -- its values are these
 abbrev pub HasAll : Text → List Row → List (Bor (List ℕ)) → Type 0
 HasAll argument rows values = all_of argument rows ≡ Some (map (λ value. value.now) values)
+
+-- those of two files are these: that of a set, and that of an argument, by which it is run
+abbrev pub HasBoth : Text → List Row → FileNames → Type 0
+HasBoth input rows names = Has (codes "FILE") rows names.set.now × Has input rows names.input.now
+
+-- and the number of workers is this
+abbrev pub HasWorkers : List Row → ℕ → Type 0
+HasWorkers rows workers =
+    option_and_then (number_within 1 MAX_THREADS) (first_of (codes "workers") rows) ≡ Some workers
 
 -- the page of the word behind `--rule`: that of a rule, by its number or its name, or of the warning
 -- on the order of locks
@@ -70,9 +81,10 @@ IsJudgedAs judgement (Some Json) judging = judging ≡ judgement.json
 IsJudgedAs judgement _ judging = ⊥
 
 abbrev pub NamesJudged : Judgement → List Row → Job → Type 0
-NamesJudged judgement rows (OnPaths paths judging jobs) =
-    HasAll (codes "PATH") rows paths.items × IsJudgedAs judgement (verdict_format_of rows) judging
-    × (jobs_of rows ≡ Some jobs)
+NamesJudged judgement rows (OnPaths judged) =
+    HasAll (codes "PATH") rows judged.paths.items
+    × IsJudgedAs judgement (verdict_format_of rows) judged.judging
+    × (jobs_of rows ≡ Some judged.jobs)
 NamesJudged judgement rows (Log paths logging) =
     HasAll (codes "PATH") rows paths.items × (verdict_format_of rows ≡ Some Sarif)
     × (logging ≡ record { account = judgement.log; passes = passes_of rows })
@@ -109,28 +121,28 @@ NamesOf ToMend rows (OnSet set (Mend tries)) =
 NamesOf ToMend rows (Apply set tries wanted) =
     Has (codes "FILE") rows set.now × (tries_of rows ≡ Some tries)
     × (wanted_of rows ≡ Some (Some wanted))
-NamesOf ToTrace rows (OnRun set input way) =
-    Has (codes "FILE") rows set.now × Has (codes "SCHEDULE") rows input.now
+NamesOf ToTrace rows (OnRun names way) =
+    HasBoth (codes "SCHEDULE") rows names
     × IsTrace (answer_format_of rows) (verification_of rows) way
-NamesOf ToTell rows (OnRun set input (Tell verification manner coloring)) =
-    Has (codes "FILE") rows set.now × Has (codes "SCHEDULE") rows input.now
+NamesOf ToTell rows (OnRun names (Tell verification manner coloring)) =
+    HasBoth (codes "SCHEDULE") rows names
     × (verification ≡ verification_of rows) × (manner_of rows ≡ Some manner)
     × (answer_format_of rows ≡ Some AsText) × (coloring_of rows ≡ Some coloring)
-NamesOf ToTell rows (OnRun set input (TellJson verification strictness)) =
-    Has (codes "FILE") rows set.now × Has (codes "SCHEDULE") rows input.now
+NamesOf ToTell rows (OnRun names (TellJson verification strictness)) =
+    HasBoth (codes "SCHEDULE") rows names
     × (verification ≡ verification_of rows)
     × (manner_of rows ≡ Some (record { detail = Usual; strictness = strictness }))
     × (answer_format_of rows ≡ Some Json) × IsSome (coloring_of rows)
-NamesOf ToDraw rows (OnRun set input (Draw verification figure)) =
-    Has (codes "FILE") rows set.now × Has (codes "SCHEDULE") rows input.now
+NamesOf ToDraw rows (OnRun names (Draw verification figure)) =
+    HasBoth (codes "SCHEDULE") rows names
     × (verification ≡ verification_of rows) × (figure_of rows ≡ Some figure)
-NamesOf ToTest rows (Test set scenarios verification report verbosity) =
-    Has (codes "FILE") rows set.now × HasAll (codes "SCENARIO") rows scenarios.items
-    × (verification ≡ verification_of rows) × (report_of rows ≡ Some report)
-    × (verbosity ≡ verbosity_of rows)
-NamesOf ToSchedule rows (OnRun set input (Schedule verification)) =
-    Has (codes "FILE") rows set.now × Has (codes "SCENARIO") rows input.now
-    × (verification ≡ verification_of rows)
+NamesOf ToTest rows (Test testing) =
+    Has (codes "FILE") rows testing.set.now
+    × HasAll (codes "SCENARIO") rows testing.scenarios.items
+    × (testing.verification ≡ verification_of rows) × (report_of rows ≡ Some testing.report)
+    × (testing.verbosity ≡ verbosity_of rows) × (jobs_of rows ≡ Some testing.jobs)
+NamesOf ToSchedule rows (OnRun names (Schedule verification)) =
+    HasBoth (codes "SCENARIO") rows names × (verification ≡ verification_of rows)
 NamesOf ToHunt rows (OnSet set (Hunt reach)) =
     Has (codes "FILE") rows set.now × IsReach rows reach × (is_given (codes "exact") rows ≡ false)
     × (is_given (codes "scenario") rows ≡ false)
@@ -143,11 +155,12 @@ NamesOf ToHunt rows (OnSet set (Find reach)) =
 NamesOf ToHunt rows (OnSet set (FindExactly reach)) =
     Has (codes "FILE") rows set.now × IsReach rows reach × (is_given (codes "exact") rows ≡ true)
     × (is_given (codes "stuck") rows ≡ false) × (is_given (codes "scenario") rows ≡ true)
-NamesOf ToHost rows (Host set script workers form) =
-    Has (codes "FILE") rows set.now × Has (codes "SCRIPT") rows script.now
-    × (option_and_then (number_within 1 MAX_THREADS) (first_of (codes "workers") rows)
-    ≡ Some workers)
-    × (form_of rows ≡ Some form)
+NamesOf ToHost rows (Host serving) =
+    HasBoth (codes "SCRIPT") rows serving.names × HasWorkers rows serving.workers
+    × (form_of rows ≡ Some serving.form) × (first_of (codes "OUT") rows ≡ None)
+NamesOf ToHost rows (Keep keeping) =
+    HasBoth (codes "SCRIPT") rows keeping.names × HasWorkers rows keeping.workers
+    × (form_of rows ≡ Some InLines) × Has (codes "OUT") rows keeping.output.now
 NamesOf ToList rows (OnSet set Listing) = Has (codes "FILE") rows set.now
 NamesOf ToRewrite rows (Rewrite set output) =
     Has (codes "FILE") rows set.now × Has (codes "OUT") rows output.now

@@ -36,28 +36,17 @@ use thiserror::Error;
 pub enum Job<'a> {
     /// A page that stands in the program.
     Page(Page),
-    /// The driver sets that paths stand for are judged, with `--jobs N` by so many jobs at once, and
-    /// else by one for each processor.
-    OnPaths {
-        paths: Vec<&'a str>,
-        judging: Judging,
-        jobs: Option<u64>,
-    },
+    /// Driver sets are judged, with `--jobs N` by so many jobs at once, and else by one for each
+    /// processor.
+    OnPaths(Judged<'a>),
     /// `check PATH.. --format sarif [--pass]`, or `explain PATH.. [--all] --format sarif [--pass]`:
     /// one log of the driver sets that paths stand for
     Log {
         paths: Vec<&'a str>,
         logging: Logging,
     },
-    /// `test FILE SCENARIO.. [--unchecked] [--format tap|junit] [--verbose]`: a set is tested by the
-    /// scenarios that paths stand for
-    Test {
-        set: &'a str,
-        scenarios: Vec<&'a str>,
-        verification: Verification,
-        report: Report,
-        verbosity: Verbosity,
-    },
+    /// `test FILE SCENARIO.. [--unchecked] [--format tap|junit] [--verbose] [--jobs N]`
+    Test(Testing<'a>),
     /// `rewrite FILE OUT`
     Rewrite {
         set: &'a str,
@@ -76,17 +65,58 @@ pub enum Job<'a> {
     },
     /// A run of the driver set of a file by the input of another one.
     OnRun {
-        set: &'a str,
-        input: &'a str,
+        names: FileNames<'a>,
         way: Way,
     },
     /// `host FILE SCRIPT --workers N [--format json]`
-    Host {
-        set: &'a str,
-        script: &'a str,
-        workers: Workers,
-        form: Form,
-    },
+    Host(Serving<'a>),
+    /// `host FILE SCRIPT --workers N --history OUT`
+    Keep(Keeping<'a>),
+}
+
+/// Driver sets that are judged: those that paths stand for.
+#[derive(Drop)]
+pub struct Judged<'a> {
+    pub paths: Vec<&'a str>,
+    pub judging: Judging,
+    /// How many jobs are to share them, or none where nothing is said of it.
+    pub jobs: Option<u64>,
+}
+
+/// A driver set that is tested by the scenarios that paths stand for.
+#[derive(Drop)]
+pub struct Testing<'a> {
+    pub set: &'a str,
+    pub scenarios: Vec<&'a str>,
+    pub verification: Verification,
+    pub report: Report,
+    pub verbosity: Verbosity,
+    /// How many jobs are to share them, or none where nothing is said of it.
+    pub jobs: Option<u64>,
+}
+
+/// The names of two files: that of a driver set, and that of what it is run by.
+#[derive(Clone, Copy)]
+pub struct FileNames<'a> {
+    pub set: &'a str,
+    pub input: &'a str,
+}
+
+/// Workers that serve the script of a file on the set of another one, and how what comes of it is
+/// written.
+#[derive(Clone, Copy)]
+pub struct Serving<'a> {
+    pub names: FileNames<'a>,
+    pub workers: Workers,
+    pub form: Form,
+}
+
+/// Such workers, and the name of the file for their history.
+#[derive(Clone, Copy)]
+pub struct Keeping<'a> {
+    pub names: FileNames<'a>,
+    pub workers: Workers,
+    pub output: &'a str,
 }
 
 /// A page that stands in the program.

@@ -4,13 +4,16 @@ ghost use Rattle.std.specs.Prelude.{◌≡◌, codes, map, option_map, IfNone, I
 ghost use Rattle.clap.specs.Words.{all_of, first_of, subcommand_rows_of};
 ghost use Rattle.drvhost_arguments.specs.Given.{given_by};
 ghost use Rattle.drvhost_commands.specs.declared.job.Job.TheVariants.{OnPaths};
-ghost use Rattle.drvhost_commands.specs.CommandLine.{IsNamed, IsPageOf, Names, NamesJudged, NamesOf};
+ghost use Rattle.drvhost_commands.specs.declared.job.FileNames.{FileNames};
+ghost use Rattle.drvhost_commands.specs.CommandLine.{HasBoth, IsNamed, IsPageOf, Names, NamesJudged, NamesOf};
 
 use crate::choices::{
     Format, answer_format, coloring, extent, figure, form, jobs, manner, passes, reach, report,
     tries, verbosity, verdict_format, verification, wanted,
 };
-use crate::job::{Job, Judging, Page, Task, Way, Workers};
+use crate::job::{
+    FileNames, Form, Job, Judged, Judging, Keeping, Page, Serving, Task, Testing, Way, Workers,
+};
 use crate::subcommand::Subcommand;
 use clap::ArgMatches;
 use drvhost_arguments::matches::{argument, arguments, is_given};
@@ -180,14 +183,15 @@ fn sets_by_jobs<'a>(
     judging: Judging,
     jobs: Option<Option<u64>>,
 ) -> Option<Job<'a>>
-    ensures { result ≡ option_map (λ count. OnPaths paths.entry judging count) jobs }
+    ensures { result ≡ option_map (λ count.
+        OnPaths (record { paths = paths.entry; judging = judging; jobs = count })) jobs }
 {
     let jobs = jobs?;
-    Some(Job::OnPaths {
+    Some(Job::OnPaths(Judged {
         paths,
         judging,
         jobs,
-    })
+    }))
 }
 
 /// The values of an argument, in a list of their own.
@@ -222,25 +226,34 @@ fn mend_named<'a>(matches: &ArgMatches<'a>) -> Option<Job<'a>>
     }
 }
 
+/// The names of the file of a set, and of that of an argument, by which it is run.
+fn files_named<'a>(matches: &ArgMatches<'a>, input: &str) -> Option<FileNames<'a>>
+    ensures some { IfSome result (HasBoth input.now (given_by matches.now)) }
+    ensures none { IfNone result ((names : FileNames)
+        → HasBoth input.now (given_by matches.now) names → ⊥) }
+{
+    let set = argument(matches, "FILE")?;
+    let input = argument(matches, input)?;
+    Some(FileNames { set, input })
+}
+
 fn trace_named<'a>(matches: &ArgMatches<'a>) -> Option<Job<'a>>
     ensures { IsNamed result (NamesOf Subcommand.Trace (given_by matches.now)) }
 {
-    let set = argument(matches, "FILE")?;
-    let input = argument(matches, "SCHEDULE")?;
+    let names = files_named(matches, "SCHEDULE")?;
     let verification = verification(matches);
     let way = match answer_format(matches)? {
         Format::Text => Way::Trace(verification),
         Format::Json => Way::TraceJson(verification),
         Format::Sarif => return None,
     };
-    Some(Job::OnRun { set, input, way })
+    Some(Job::OnRun { names, way })
 }
 
 fn tell_named<'a>(matches: &ArgMatches<'a>) -> Option<Job<'a>>
     ensures { IsNamed result (NamesOf Subcommand.Tell (given_by matches.now)) }
 {
-    let set = argument(matches, "FILE")?;
-    let input = argument(matches, "SCHEDULE")?;
+    let names = files_named(matches, "SCHEDULE")?;
     let manner = manner(matches)?;
     let coloring = coloring(matches)?;
     let verification = verification(matches);
@@ -249,26 +262,24 @@ fn tell_named<'a>(matches: &ArgMatches<'a>) -> Option<Job<'a>>
         (Format::Json, Detail::Usual) => Way::TellJson(verification, manner.strictness),
         _ => return None,
     };
-    Some(Job::OnRun { set, input, way })
+    Some(Job::OnRun { names, way })
 }
 
 fn draw_named<'a>(matches: &ArgMatches<'a>) -> Option<Job<'a>>
     ensures { IsNamed result (NamesOf Subcommand.Draw (given_by matches.now)) }
 {
-    let set = argument(matches, "FILE")?;
-    let input = argument(matches, "SCHEDULE")?;
+    let names = files_named(matches, "SCHEDULE")?;
     let figure = figure(matches)?;
     let way = Way::Draw(verification(matches), figure);
-    Some(Job::OnRun { set, input, way })
+    Some(Job::OnRun { names, way })
 }
 
 fn schedule_named<'a>(matches: &ArgMatches<'a>) -> Option<Job<'a>>
     ensures { IsNamed result (NamesOf Subcommand.Schedule (given_by matches.now)) }
 {
-    let set = argument(matches, "FILE")?;
-    let input = argument(matches, "SCENARIO")?;
+    let names = files_named(matches, "SCENARIO")?;
     let way = Way::Schedule(verification(matches));
-    Some(Job::OnRun { set, input, way })
+    Some(Job::OnRun { names, way })
 }
 
 /// A set is tested by scenarios.
@@ -279,19 +290,20 @@ fn test_named<'a>(alloc: Global, matches: &ArgMatches<'a>) -> Result<Option<Job<
     let Some(set) = argument(matches, "FILE") else {
         return Ok(None);
     };
-    let Some(report) = report(matches) else {
+    let (Some(report), Some(jobs)) = (report(matches), jobs(matches)) else {
         return Ok(None);
     };
     let Some(scenarios) = values(alloc, matches, "SCENARIO")? else {
         return Ok(None);
     };
-    Ok(Some(Job::Test {
+    Ok(Some(Job::Test(Testing {
         set,
         scenarios,
         verification: verification(matches),
         report,
         verbosity: verbosity(matches),
-    }))
+        jobs,
+    })))
 }
 
 fn hunt_named<'a>(matches: &ArgMatches<'a>) -> Option<Job<'a>>
@@ -313,19 +325,25 @@ fn hunt_named<'a>(matches: &ArgMatches<'a>) -> Option<Job<'a>>
     Some(Job::OnSet { set, task })
 }
 
+/// A script is served, and where a file is named for it, the history is written besides.
 fn host_named<'a>(matches: &ArgMatches<'a>) -> Option<Job<'a>>
     ensures { IsNamed result (NamesOf Subcommand.Host (given_by matches.now)) }
 {
-    let set = argument(matches, "FILE")?;
-    let script = argument(matches, "SCRIPT")?;
+    let names = files_named(matches, "SCRIPT")?;
     let workers = Workers::of(argument(matches, "workers")?)?;
-    let form = form(matches)?;
-    Some(Job::Host {
-        set,
-        script,
-        workers,
-        form,
-    })
+    match (form(matches)?, argument(matches, "OUT")) {
+        (form, None) => Some(Job::Host(Serving {
+            names,
+            workers,
+            form,
+        })),
+        (Form::Lines, Some(output)) => Some(Job::Keep(Keeping {
+            names,
+            workers,
+            output,
+        })),
+        (Form::Json, Some(_)) => None,
+    }
 }
 
 fn list_named<'a>(matches: &ArgMatches<'a>) -> Option<Job<'a>>

@@ -1,6 +1,7 @@
 //! What is told of words that the command line takes, and that name no job.
 
 use crate::choices::{answer_format, coloring, form, verdict_format};
+use crate::job::Form;
 use clap::ArgMatches;
 use drvhost_arguments::matches::{argument, is_given};
 use drvhost_arguments::program::EXPLAIN_USAGE;
@@ -53,6 +54,7 @@ pub(crate) fn unnamed(alloc: Global, matches: &ArgMatches<'_>) -> Result<String,
         Some(("host", inner)) if form(inner).is_none() => {
             unwritten(alloc, inner, ANSWERS, HOST_USAGE)
         }
+        Some(("host", inner)) if argument(inner, "OUT").is_some() => unkept(alloc, inner),
         Some(("check", inner)) => unwritten(alloc, inner, VERDICTS, CHECK_USAGE),
         Some(("trace", inner)) => unwritten(alloc, inner, ANSWERS, TRACE_USAGE),
         Some(("draw", inner)) => unwritten(alloc, inner, FIGURES, DRAW_USAGE),
@@ -97,6 +99,15 @@ fn untold(alloc: Global, matches: &ArgMatches<'_>) -> Result<String, AllocError>
         (true, true) => conflicting(alloc, "--quiet", "--every", TELL_USAGE),
         (true, false) => conflicting(alloc, "--quiet", "--format json", TELL_USAGE),
         (false, _) => conflicting(alloc, "--every", "--format json", TELL_USAGE),
+    }
+}
+
+/// What is told where `host` is asked for the history, and names no job: in JSON, or where the number
+/// of workers has a sign.
+fn unkept(alloc: Global, matches: &ArgMatches<'_>) -> Result<String, AllocError> {
+    match form(matches) {
+        Some(Form::Json) => conflicting(alloc, "--history <OUT>", "--format json", HOST_USAGE),
+        _ => unnumbered(alloc),
     }
 }
 

@@ -1,8 +1,9 @@
 -- What is answered for scenarios, one after another, and for a set's.
-use Rattle.std.proofs.Common.{◌≡◌, ◌∙◌, ◌+◌, ◌<◌, ◌≤◌, ◌++◌, ◌⊎◌, ℕ, List, [], ◌∷◌, Option, Some, None, Result, Ok, Err, ap, arith, codes, get_or, inl, inr, length, refl, subst, sym, take}
+use Rattle.std.proofs.Common.{◌≡◌, ◌∙◌, ◌+◌, ◌≤◌, ◌++◌, ◌⊎◌, ℕ, List, [], ◌∷◌, false, Option, Some, None, Result, Ok, Err, String, ap, arith, codes, inl, inr, length, refl, string_bytes, subst, sym}
 use Rattle.std.specs.Prelude.{◌≢◌, IfOk}
-use Rattle.std.proofs.lemmas.List.{take_all, take_more}
-use Rattle.std.specs.Borrow.{Bor}
+use Rattle.std.specs.Global.{Global}
+use Rattle.std.specs.List.{AllZip, sum_by}
+use Rattle.std.proofs.lemmas.List.Sums.{sum_by-cons}
 use Rattle.std.specs.Io.KnownBytes.{Appends}
 use Rattle.asm.specs.declared.fault.AsmFault.{AsmFault}
 use Rattle.image.specs.declared.fault.ImageFault.{ImageFault}
@@ -25,71 +26,58 @@ use Rattle.drvhost_devices.specs.Fault.{ReadsSet, failed_reads}
 use Rattle.drvhost_devices.specs.Device.{Bytes, Closed, Holds, IsSuppliedAs, Says, Supply, TakesBeginning, Unknown}
 use Rattle.drvhost_devices.specs.Ends.{Answers, Ends, OutOfMemory, Rightly, WriteFailed}
 use Rattle.drvhost_devices.proofs.Writing.{keeps_same}
-use Rattle.drvhost_many.specs.All.{Counted, joined, nothing}
+use Rattle.drvhost_files.specs.declared.reading.Contents.{Contents}
+use Rattle.drvhost_files.specs.declared.reading.Contents.TheVariants.{Whole, Unread, Unopened, Lacking}
+use Rattle.drvhost_files.specs.declared.reading.Held.{Held}
+use Rattle.drvhost_files.specs.Reading.{AreHeld, IsHeld, IsReadOf, Opens, held_reads, reads_of}
+use Rattle.drvhost_many.specs.All.{Counted, joined}
+use Rattle.drvhost_many.specs.Held.{AreJoined}
 use Rattle.drvhost_many.proofs.Judged.{ends_rightly}
-use Rattle.drvhost_many.proofs.Joining.{joined_assoc, joined_none}
-use Rattle.drvhost_scenarios.specs.Scenarios.{IsOfScenario, IsOutcome, IsTested, play_of}
+use Rattle.drvhost_scenarios.specs.Scenarios.{IsOfScenario, IsOutcome, IsTested}
 use Rattle.drvhost_tests.specs.Reports.{framed, reported}
-use Rattle.drvhost_tests.specs.Tests.{AreJudgedBy, ArePlayed, AreTestsOf, Asked, Gathers, IsFaultOf, IsScenarioTold, IsTestOf, marked}
+use Rattle.drvhost_tests.specs.Tests.{AreJudgedBy, ArePlayed, AreTestsOf, Asked, Gathers, IsContentsTold, IsEntry, IsFaultOf, IsHeldTold, IsScenarioTold, IsTestOf, marked}
 
--- the answers for one scenario more
-tests_more : (asked : Asked) (bytes : List ℕ) (set : Set) (supply : List ℕ → Supply)
-    (names : List (Bor (List ℕ))) (name : Bor (List ℕ)) (r s : ℕ) (first last : Answer)
-    → AreTestsOf asked bytes set supply names r first
-    → IsTestOf asked.verbosity bytes set name.now (supply name.now) s last
-    → AreTestsOf asked bytes set supply (names ++ name ∷ []) (r + s)
-    (joined first (reported asked.report name.now last))
-tests_more asked bytes set supply [] name r s first last (none, empty) is =
-    let told = reported asked.report name.now last in (
-      s,
-      0,
-      last,
-      nothing,
-      is,
-      (refl, refl),
-      omega (arith, none),
-      ap (λ (a : Answer). joined a told) empty ∙ joined_none told,
-    )
-tests_more asked bytes set supply (one ∷ names) name r s first last (failed, others, answer, rest, here, more, sum, whole) is =
-    let told = reported asked.report name.now last in (
-      failed,
-      others + s,
-      answer,
-      joined rest told,
-      here,
-      tests_more asked bytes set supply names name others s rest last more is,
-      omega (arith, sum),
-      ap (λ (a : Answer). joined a told) whole
-          ∙ joined_assoc (reported asked.report one.now answer) rest told,
-    )
+-- what is told of a scenario that was read is told of its file
+contents_tested : (asked : Asked) (bytes : List ℕ) (set : Set) (name : List ℕ) (supply : Supply)
+    (contents : Contents) (answer : Answer) → IsReadOf false supply contents
+    → IsContentsTold asked bytes set name contents answer
+    → IsTestOf asked.verbosity bytes set name supply (reads_of contents) answer
+contents_tested asked bytes set name supply (Whole text) answer holds told =
+    inl (refl, (text.items, holds, told))
+contents_tested asked bytes set name supply Unread answer h is = inr (refl, is)
+contents_tested asked bytes set name supply Unopened answer (closed, never) is = cc
+contents_tested asked bytes set name supply Lacking answer h told = absurd told
 
--- those up to an index and the next
-pub tests_next : (asked : Asked) (bytes : List ℕ) (set : Set) (supply known : List ℕ → Supply)
-    (names : List (Bor (List ℕ))) (i : ℕ) (d : Bor (List ℕ)) (r s : ℕ) (first last all : Answer)
-    → i < length names → known ≡ supply
-    → AreTestsOf asked bytes set supply (take i names) r first
-    → IsTestOf asked.verbosity bytes set (get_or names i d).now (known (get_or names i d).now) s last
-    → all ≡ joined first (reported asked.report (get_or names i d).now last)
-    → AreTestsOf asked bytes set supply (take (i + 1) names) (r + s) all
-tests_next asked bytes set supply known names i d r s first last all h same so here whole =
-    let name = (get_or names i d).now in
-    let said : IsTestOf asked.verbosity bytes set name (supply name) s last =
-    subst (λ (k : List ℕ → Supply). IsTestOf asked.verbosity bytes set name (k name) s last) same here in
-    let more =
-    tests_more asked bytes set supply (take i names) (get_or names i d) r s first last so said in
-    subst (λ (a : Answer). AreTestsOf asked bytes set supply (take (i + 1) names) (r + s) a)
-    (sym whole)
-    (subst (λ (l : List (Bor (List ℕ))). AreTestsOf asked bytes set supply l (r + s)
-    (joined first (reported asked.report name last))) (sym (take_more names i d h)) more)
+held_tested : (asked : Asked) (bytes : List ℕ) (set : Set) (supply : List ℕ → Supply)
+    (name : String Global) (held : Held) (answer : Answer) → IsHeld false supply name held
+    → IsHeldTold asked bytes set held answer
+    → IsTestOf asked.verbosity bytes set (string_bytes name) (supply (string_bytes name))
+    (held_reads held) answer
+held_tested asked bytes set supply name held answer h told =
+    contents_tested asked bytes set (string_bytes name) (supply (string_bytes name)) held.contents
+    answer h.read
+    (subst (λ (n : List ℕ). IsContentsTold asked bytes set n held.contents answer) h.name_is told)
 
--- all of them
-tests_all : (asked : Asked) (bytes : List ℕ) (set : Set) (supply : List ℕ → Supply)
-    (names : List (Bor (List ℕ))) (i reads : ℕ) (whole : Answer) → length names ≤ i
-    → AreTestsOf asked bytes set supply (take i names) reads whole
-    → AreTestsOf asked bytes set supply names reads whole
-tests_all asked bytes set supply names i reads whole h so =
-    subst (λ (l : List (Bor (List ℕ))). AreTestsOf asked bytes set supply l reads whole)
-    (take_all i names h) so
+-- for several
+pub all_tested : (asked : Asked) (bytes : List ℕ) (set : Set) (supply : List ℕ → Supply)
+    (names : List (String Global)) (files : List Held) (whole : Answer)
+    → AllZip (IsHeld false supply) names files → AreJoined (IsEntry asked bytes set) files whole
+    → AreTestsOf asked bytes set supply names (sum_by held_reads files) whole
+all_tested asked bytes set supply [] [] whole h is = (refl, is)
+all_tested asked bytes set supply [] (file ∷ files) whole h is = absurd h
+all_tested asked bytes set supply (name ∷ names) [] whole h is = absurd h
+all_tested asked bytes set supply (name ∷ names) (file ∷ files) whole (here, h) (entry, rest, (answer, told, same), more, is) = (
+  held_reads file,
+  sum_by held_reads files,
+  answer,
+  rest,
+  held_tested asked bytes set supply name file answer here told,
+  all_tested asked bytes set supply names files rest h more,
+  sum_by-cons held_reads file files,
+  is
+      ∙ ap (λ (a : Answer). joined a rest)
+      (same ∙ ap (λ (n : List ℕ). reported asked.report n answer) here.name_is),
+)
 
 -- a scenario that plays is not faulty
 plays_on : (name line : List ℕ) (failed : Option Step) → IsOutcome name failed (faulty line) → ⊥
@@ -102,8 +90,8 @@ plays_on name line (Some step) (words, e) =
 pub scenario_faulty : (name : List ℕ) (set : Set) (said : Result Listed ScheduleFault)
     (line words : List ℕ) (told : Answer) → told ≡ faulty (marked name (line ++ words))
     → IsOfScenario (IsTested name) set said (faulty line) → IsScenarioTold name set said told
-scenario_faulty name set (Ok scenario) line words told is h =
-    absurd (plays_on name line (play_of set scenario).failed h)
+scenario_faulty name set (Ok scenario) line words told is (play, so, h) =
+    absurd (plays_on name line play.failed h)
 scenario_faulty name set (Err fault) line words told is h =
     let same : line ≡ schedule_fault_line fault = ap (λ (a : Answer). a.told) h in (
       words,
@@ -182,54 +170,42 @@ gathers_more R Q o m p r k s result one none on h =
       right = ok_on result (on h.opened h.reads) h.right;
     }
 
--- where one is, and nothing else
-pub gathers_one : {E : Type 0} (P : Answer → Type 0) (Q : ℕ → ℕ → Answer → Type 0) (o m r k j : ℕ)
-    (result : Result Answer E) → m ≡ o + 1 → k ≡ r + j → j ≤ 1 → ((a : Answer) → P a → Q 1 j a)
-    → IfOk result P → Gathers Q o m r k result
-gathers_one P Q o m r k j result one read few on h =
+-- memory runs out behind files that were read
+pub gathers_lost : {E : Type 0} (R : ℕ → ℕ → Answer → Type 0) (most o p r s : ℕ)
+    (So : ℕ → ℕ → Type 0) (e : E) → Opens most o p r s So → Gathers R o p r s (Err e)
+gathers_lost R most o p r s So e read =
     record {
-      opened = 1;
-      reads = j;
-      opened_are = one;
-      reads_are = read;
-      few = few;
-      right = ok_on result on h;
-    }
-
--- memory runs out behind the file of an index
-pub gathers_broken : {E : Type 0} (R : ℕ → ℕ → Answer → Type 0) (i r n s o m p x y z : ℕ) (e : E)
-    → m ≡ o + i → y ≡ x + r → r ≤ i → p ≡ m + n → z ≡ y + s → s ≤ n → Gathers R o p x z (Err e)
-gathers_broken R i r n s o m p x y z e opened read few more again fewer =
-    record {
-      opened = i + n;
-      reads = r + s;
-      opened_are = omega (arith, opened, more);
-      reads_are = omega (arith, read, again);
-      few = omega (arith, few, fewer);
+      opened = read.opened;
+      reads = read.reads;
+      opened_are = read.opened_are;
+      reads_are = read.reads_are;
+      few = read.few;
       right = tt;
     }
 
--- all are played, and framed
-pub all_framed : {E : Type 0} (asked : Asked) (supply : List ℕ → Supply) (bytes : List ℕ)
-    (set : Set) (i reads o m x y count : ℕ) (all : Answer) (result : Result Answer E)
-    → length asked.names ≤ i → i ≤ length asked.names → m ≡ o + i → y ≡ x + reads → reads ≤ i
-    → AreTestsOf asked bytes set supply (take i asked.names) reads all
-    → count ≡ length asked.names
+-- all are read, played, and framed
+pub all_framed : {E : Type 0} (asked : Asked) (names : List (String Global))
+    (supply : List ℕ → Supply) (bytes : List ℕ) (set : Set) (held : List Held) (o p r s count : ℕ)
+    (all : Answer) (result : Result Answer E)
+    → Opens (length names) o p r s (λ opened reads. AreHeld false supply names opened reads held)
+    → AreJoined (IsEntry asked bytes set) held all → count ≡ length names
     → IfOk result (λ whole. whole ≡ framed asked.report asked.set count all)
-    → Gathers (ArePlayed asked supply bytes set) o m x y result
-all_framed asked supply bytes set i reads o m x y count all result past up opened read few so same ok =
+    → Gathers (ArePlayed asked names supply bytes set) o p r s result
+all_framed asked names supply bytes set held o p r s count all result read so same ok =
     record {
-      opened = length asked.names;
-      reads = reads;
-      opened_are = omega (arith, opened, past, up);
-      reads_are = read;
-      few = omega (arith, few, up);
+      opened = read.opened;
+      reads = read.reads;
+      opened_are = read.opened_are;
+      reads_are = read.reads_are;
+      few = read.few;
       right =
           ok_on result (λ whole is. (
-            refl,
+            read.so.opened_are,
             (
               all,
-              tests_all asked bytes set supply asked.names i reads all past so,
+              subst (λ (k : ℕ). AreTestsOf asked bytes set supply names k all)
+                  (sym read.so.reads_are)
+                  (all_tested asked bytes set supply names held all read.so.are so),
               is ∙ ap (λ (k : ℕ). framed asked.report asked.set k all) same,
             ),
           )) ok;
@@ -363,12 +339,12 @@ tests_unmade R o p r s w e f b t u exit result all is says =
     }
 
 -- the scenarios of a set that is accepted
-pub accepted_played : (asked : Asked) (supply : List ℕ → Supply) (bytes : List ℕ)
+pub accepted_played : (asked : Asked) (names : List (String Global)) (supply : List ℕ → Supply) (bytes : List ℕ)
     (set accepted : Set) (opened reads : ℕ) (answer : Answer) → accepted ≡ set → IsTypable set
-    → ArePlayed asked supply bytes accepted opened reads answer
-    → AreJudgedBy Required asked supply bytes set opened reads answer
-accepted_played asked supply bytes set accepted opened reads answer same typable right =
+    → ArePlayed asked names supply bytes accepted opened reads answer
+    → AreJudgedBy Required asked names supply bytes set opened reads answer
+accepted_played asked names supply bytes set accepted opened reads answer same typable right =
     inl (
       typable,
-      subst (λ (s : Set). ArePlayed asked supply bytes s opened reads answer) same right,
+      subst (λ (s : Set). ArePlayed asked names supply bytes s opened reads answer) same right,
     )

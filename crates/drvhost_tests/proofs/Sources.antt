@@ -1,5 +1,5 @@
 -- What two sources in memory were asked for, where neither failed.
-use Rattle.std.proofs.Common.{◌≡◌, ◌+◌, ℕ, List, [], Option, Some, IfOk, Result, arith, subst, sym}
+use Rattle.std.proofs.Common.{◌≡◌, ◌+◌, ℕ, List, [], Option, Some, IfOk, Result, arith, subst}
 use Rattle.drvhost_devices.specs.Answer.{Answer}
 use Rattle.drvhost_devices.specs.Device.{Says}
 use Rattle.drvhost_devices.specs.Ends.{Answers}

@@ -1,5 +1,5 @@
 -- What tests of a driver set answer: a line for each scenario, in order.
-use Rattle.std.specs.Prelude.{ℕ, ◌≡◌, ◌≢◌, ◌≤◌, ◌+◌, ◌++◌, ◌⊎◌, List, [], ◌∷◌, codes, length, map, IfOk, Option, Result, Ok, Err, String, string_bytes}
+use Rattle.std.specs.Prelude.{ℕ, ◌≡◌, ◌≢◌, ◌≤◌, ◌+◌, ◌++◌, ◌⊎◌, List, [], ◌∷◌, codes, length, IfOk, Option, Result, Ok, Err, String, string_bytes}
 use Rattle.std.specs.Borrow.{Bor}
 use Rattle.std.specs.Global.{Global}
 use Rattle.drvhost_commands.specs.declared.job.Report.{Report}
@@ -8,6 +8,9 @@ use Rattle.drvhost_devices.specs.Device.{Bytes, Holds, Supply}
 use Rattle.drvhost_devices.specs.Ends.{Ends}
 use Rattle.drvhost_devices.specs.declared.verification.Verification.{Verification}
 use Rattle.drvhost_devices.specs.declared.verification.Verification.TheVariants.{Required, Skipped}
+use Rattle.drvhost_files.specs.declared.reading.Contents.{Contents}
+use Rattle.drvhost_files.specs.declared.reading.Contents.TheVariants.{Whole, Unread, Unopened, Lacking}
+use Rattle.drvhost_files.specs.declared.reading.Held.{Held}
 use Rattle.drvhost_found.specs.declared.find.Found.{Found}
 use Rattle.drvhost_found.specs.declared.sought.Sought.{Sought}
 use Rattle.drvhost_found.specs.declared.sought.Sought.TheVariants.{Scenarios}
@@ -81,32 +84,47 @@ IsTestOf verbosity bytes set name supply reads answer =
 -- how the tests are reported, and how much is told of one that fails
 pub record Asked : Type 0 where
   pub set : List ℕ
-  pub names : List (Bor (List ℕ))
+  pub paths : List (Bor (List ℕ))
   pub verification : Verification
   pub report : Report
   pub verbosity : Verbosity
 
--- and of files, in order, as they are reported
-abbrev pub AreTestsOf : Asked → List ℕ → Set → (List ℕ → Supply) → List (Bor (List ℕ)) → ℕ
+-- what is told of a scenario of which this was read, with the names of a set's bytes
+abbrev pub IsContentsTold : Asked → List ℕ → Set → List ℕ → Contents → Answer → Type 0
+IsContentsTold asked bytes set name (Whole text) answer =
+    IsScenarioShown asked.verbosity bytes name set (scenario_in (names_in bytes) text.items) answer
+IsContentsTold asked bytes set name Unread answer = answer ≡ unread name
+IsContentsTold asked bytes set name Unopened answer = answer ≡ unread name
+IsContentsTold asked bytes set name Lacking answer = ⊥
+
+abbrev pub IsHeldTold : Asked → List ℕ → Set → Held → Answer → Type 0
+IsHeldTold asked bytes set held answer =
+    IsContentsTold asked bytes set held.name.now held.contents answer
+
+-- the same, as it is reported
+abbrev pub IsEntry : Asked → List ℕ → Set → Held → Answer → Type 0
+IsEntry asked bytes set held entry =
+    (answer : Answer) × IsHeldTold asked bytes set held answer
+    × (entry ≡ reported asked.report held.name.now answer)
+
+-- and of files of these names, in order
+abbrev pub AreTestsOf : Asked → List ℕ → Set → (List ℕ → Supply) → List (String Global) → ℕ
     → Answer → Type 0
 AreTestsOf asked bytes set supply [] reads whole = (reads ≡ 0) × (whole ≡ nothing)
 AreTestsOf asked bytes set supply (name ∷ names) reads whole =
     (failed others : ℕ) × (answer rest : Answer)
-    × IsTestOf asked.verbosity bytes set name.now (supply name.now) failed answer
+    × IsTestOf asked.verbosity bytes set (string_bytes name) (supply (string_bytes name)) failed answer
     × AreTestsOf asked bytes set supply names others rest × (reads ≡ failed + others)
-    × (whole ≡ joined (reported asked.report name.now answer) rest)
+    × (whole ≡ joined (reported asked.report (string_bytes name) answer) rest)
 
--- what is right where so many files are opened, of which so many reads fail: for one file; for all
--- scenarios, which are played; and where none is
-abbrev pub IsOne : Verbosity → List ℕ → Set → List ℕ → Supply → ℕ → ℕ → Answer → Type 0
-IsOne verbosity bytes set name supply opened reads answer =
-    (opened ≡ 1) × IsTestOf verbosity bytes set name supply reads answer
-
-abbrev pub ArePlayed : Asked → (List ℕ → Supply) → List ℕ → Set → ℕ → ℕ → Answer → Type 0
-ArePlayed asked supply bytes set opened reads answer =
-    (opened ≡ length asked.names) × ((whole : Answer)
-    × AreTestsOf asked bytes set supply asked.names reads whole
-    × (answer ≡ framed asked.report asked.set (length asked.names) whole))
+-- what is right where so many files are opened, of which so many reads fail: for all scenarios,
+-- which are played; and where none is
+abbrev pub ArePlayed : Asked → List (String Global) → (List ℕ → Supply) → List ℕ → Set → ℕ → ℕ
+    → Answer → Type 0
+ArePlayed asked names supply bytes set opened reads answer =
+    (opened ≡ length names) × ((whole : Answer)
+    × AreTestsOf asked bytes set supply names reads whole
+    × (answer ≡ framed asked.report asked.set (length names) whole))
 
 abbrev pub IsUnplayed : Asked → (Answer → Type 0) → ℕ → ℕ → Answer → Type 0
 IsUnplayed asked Right opened reads answer =
@@ -114,13 +132,13 @@ IsUnplayed asked Right opened reads answer =
     × (answer ≡ alone asked.report asked.set whole))
 
 -- a set that has to be accepted, and isn't, is not run
-abbrev pub AreJudgedBy : Verification → Asked → (List ℕ → Supply) → List ℕ → Set → ℕ → ℕ → Answer
-    → Type 0
-AreJudgedBy Required asked supply bytes set opened reads answer =
-    (IsTypable set × ArePlayed asked supply bytes set opened reads answer)
+abbrev pub AreJudgedBy : Verification → Asked → List (String Global) → (List ℕ → Supply) → List ℕ
+    → Set → ℕ → ℕ → Answer → Type 0
+AreJudgedBy Required asked names supply bytes set opened reads answer =
+    (IsTypable set × ArePlayed asked names supply bytes set opened reads answer)
     ⊎ IsUnplayed asked (IsRefused set) opened reads answer
-AreJudgedBy Skipped asked supply bytes set opened reads answer =
-    ArePlayed asked supply bytes set opened reads answer
+AreJudgedBy Skipped asked names supply bytes set opened reads answer =
+    ArePlayed asked names supply bytes set opened reads answer
 
 -- the first fault of the file of a name that names no set
 abbrev pub IsFaultOf : List ℕ → List ℕ → Answer → Type 0
@@ -128,35 +146,26 @@ IsFaultOf name bytes answer =
     (line : List ℕ) × FileSays bytes (Err line) × (answer ≡ faulty (marked name line))
 
 -- for the set that the bytes of its file are
-abbrev pub AreOfBytes : Asked → (List ℕ → Supply) → List ℕ → ℕ → ℕ → Answer → Type 0
-AreOfBytes asked supply bytes opened reads answer =
+abbrev pub AreOfBytes : Asked → List (String Global) → (List ℕ → Supply) → List ℕ → ℕ → ℕ → Answer
+    → Type 0
+AreOfBytes asked names supply bytes opened reads answer =
     ((set : Set) × FileSays bytes (Ok set)
-    × AreJudgedBy asked.verification asked supply bytes set opened reads answer)
+    × AreJudgedBy asked.verification asked names supply bytes set opened reads answer)
     ⊎ IsUnplayed asked (IsFaultOf asked.set bytes) opened reads answer
 
 -- for that of its file
-abbrev pub AreOfFile : Asked → (List ℕ → Supply) → ℕ → ℕ → Answer → Type 0
-AreOfFile asked supply opened reads answer =
+abbrev pub AreOfFile : Asked → List (String Global) → (List ℕ → Supply) → ℕ → ℕ → Answer → Type 0
+AreOfFile asked names supply opened reads answer =
     ((others : ℕ) × (opened ≡ 1 + others) × ((bytes : List ℕ) × Holds (supply asked.set) bytes
-    × AreOfBytes asked supply bytes others reads answer))
+    × AreOfBytes asked names supply bytes others reads answer))
     ⊎ ((opened ≡ 1) × (reads ≡ 1) × (answer ≡ alone asked.report asked.set (unread asked.set)))
 
--- these are the texts of names
-abbrev pub AreTexts : List (String Global) → List (Bor (List ℕ)) → Type 0
-AreTexts names texts = map (λ (text : Bor (List ℕ)). text.now) texts ≡ map string_bytes names
-
--- for scenarios of files of these names
-abbrev pub AreNamed : Asked → List (String Global) → (List ℕ → Supply) → ℕ → ℕ → Answer → Type 0
-AreNamed asked names supply opened reads answer =
-    (texts : List (Bor (List ℕ))) × AreTexts names texts
-    × AreOfFile (record asked { names = texts }) supply opened reads answer
-
--- for those that paths stand for
+-- for scenarios that paths stand for
 abbrev pub AreOfPaths : Asked → (Sought → List ℕ → Found → Type 0) → (List ℕ → Supply) → ℕ → ℕ
     → Answer → Type 0
 AreOfPaths asked stands supply opened reads answer =
-    (names : List (String Global)) × AreFound (λ path. stands Scenarios path.now) asked.names names
-    × AreNamed asked names supply opened reads answer
+    (names : List (String Global)) × AreFound (λ path. stands Scenarios path.now) asked.paths names
+    × AreOfFile asked names supply opened reads answer
 
 -- how tests end: by how many files were opened, how many reads and writes failed, what the output
 -- held before and after, the exit status, and what is told

@@ -6,7 +6,7 @@ abbrev pub asked_of : Tests → Asked
 asked_of tests =
     record {
       set = tests.set.now;
-      names = tests.scenarios.now;
+      paths = tests.scenarios.now;
       verification = tests.verification;
       report = tests.report;
       verbosity = tests.verbosity;

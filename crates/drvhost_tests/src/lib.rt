@@ -1,5 +1,5 @@
-//! What the program answers to tests of a driver set: the scenarios of files by name, played one
-//! after another.
+//! What the program answers to tests of a driver set: the scenarios of files by name, played by
+//! several jobs at once.
 #![tactic(auto)]
 
 mod reporting;
@@ -8,4 +8,3 @@ mod scenario;
 mod set;
 mod telling;
 pub mod test;
-mod texts;

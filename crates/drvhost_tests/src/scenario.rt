@@ -1,67 +1,114 @@
-//! The test of the scenario of a file.
+//! The tests of scenarios that were read.
 
-ghost use Rattle.std.specs.Prelude.{◌≡◌, ◌+◌, ◌<◌, ◌^◌, IfOk};
-ghost use Rattle.drvhost_devices.specs.Device.{CanCount};
+ghost use Rattle.std.specs.Prelude.{◌≡◌, IfOk};
+ghost use Rattle.std.specs.List.{AllZip};
+ghost use Rattle.drvhost_many.specs.Held.{AreJoined};
 ghost use Rattle.drvhost_scenarios.specs.Scenarios.{names_in};
-ghost use Rattle.drvhost_tests.specs.Tests.{Gathers, IsOne, IsScenarioShown, IsScenarioTold};
+ghost use Rattle.drvhost_tests.specs.Tests.{IsEntry, IsHeldTold, IsScenarioShown, IsScenarioTold};
+ghost use Rattle.drvhost_tests.specs.Told.{asked_of};
 ghost use Rattle.scenario_text.specs.Listing.{scenario_in};
 
+use crate::reporting::add_entry;
 use crate::running::with_run;
 use crate::telling::{answer_of, tell_schedule_fault, tell_unread};
+use crate::test::Suite;
 use drvhost_devices::fault::Fault;
-use drvhost_devices::transfer::read_whole;
-use drvhost_files::files::Files;
+use drvhost_files::reading::{Contents, Held};
 use drvhost_many::told::Told;
-use drvhost_options::verbosity::Verbosity;
 use drvhost_scenarios::telling::{Asked, names_in, tell_text};
 use image::DriverSet;
+use rayon::prelude::*;
 use scenario_faults::fault_words;
 use std::alloc::{AllocError, Global};
+use std::thread::Threads;
 
-/// What is answered for the scenario of the file of a name, played over a set, whose file has these
-/// bytes.
-pub(crate) fn test_scenario<F: Files>(
-    alloc: Global,
-    verbosity: Verbosity,
-    bytes: &[u8],
-    set: &DriverSet,
-    name: &str,
-    files: &mut F,
-) -> Result<Told, AllocError>
-    requires opened { F.opened files.old + 1 < 2 ^ 64 }
-    requires files { CanCount (F.failures files.old) }
-    ensures gathers { Gathers
-        (IsOne verbosity bytes.now set.now name.now (F.supply files.old name.now))
-        (F.opened files.old) (F.opened files.new) (F.failures files.old) (F.failures files.new)
-        result }
-    ensures supply { F.supply files.new ≡ F.supply files.old }
-    ensures created { F.created files.new ≡ F.created files.old }
-    ensures unwritten { F.unwritten files.new ≡ F.unwritten files.old }
+/// What is tested: a driver set, and the bytes of its file.
+#[derive(Clone, Copy)]
+pub(crate) struct Subject<'s> {
+    pub bytes: &'s [u8],
+    pub set: &'s DriverSet,
+}
+
+/// What is answered for scenarios that were read, each played over a set, by so many jobs at once: in
+/// order, where there was memory for it.
+pub(crate) fn test_each<R: Threads + Sync>(
+    rt: &R,
+    suite: Suite<'_>,
+    subject: Subject<'_>,
+    held: &[Held<'_>],
+) -> Result<Vec<Result<Told, AllocError>>, AllocError>
+    ensures { IfOk result (λ told. AllZip
+        (λ one answer. IfOk answer (IsHeldTold (asked_of suite.entry.tests)
+        subject.entry.bytes.now subject.entry.set.now one)) held.now told.items) }
 {
-    let mut file = files.open(name);
-    let read = read_whole(alloc, &mut file);
-    files.close(file);
-    match read {
-        Ok(text) => test_text(alloc, verbosity, bytes, set, name, text.as_slice()),
-        Err(fault) => tell_unread(alloc, name, fault),
+    held.par_iter()
+        .with_min_len(share(held.len(), suite.tests.jobs))
+        .map(
+            |one: &Held<'_>| -> Result<Told, AllocError>
+                ensures { IfOk result (IsHeldTold (asked_of suite.entry.tests)
+                    subject.entry.bytes.now subject.entry.set.now one.now) }
+            { test_held(suite, subject, one) },
+        )
+        .collect::<Vec<_>>(rt, suite.alloc)
+}
+
+/// How many of so many scenarios a job takes at least.
+fn share(count: usize, jobs: u8) -> usize {
+    count.div_ceil((jobs as usize).max(1)).max(1)
+}
+
+/// What is answered for a scenario that was read, played over a set.
+fn test_held(suite: Suite<'_>, subject: Subject<'_>, held: &Held<'_>) -> Result<Told, AllocError>
+    ensures { IfOk result (IsHeldTold (asked_of suite.entry.tests) subject.entry.bytes.now
+        subject.entry.set.now held.now) }
+{
+    match &held.contents {
+        Contents::Whole(text) => test_text(suite, subject, held.name, text.as_slice()),
+        Contents::Unread | Contents::Unopened => tell_unread(suite.alloc, held.name),
+        Contents::Lacking => Err(AllocError),
     }
 }
 
-/// What is answered for the scenario that a text lists, with its run where it fails and that is
-/// wanted.
+/// What is answered for the scenario of this name that a text lists, with its run where it fails and
+/// that is wanted.
 fn test_text(
-    alloc: Global,
-    verbosity: Verbosity,
-    bytes: &[u8],
-    set: &DriverSet,
+    suite: Suite<'_>,
+    subject: Subject<'_>,
     name: &str,
     text: &[u8],
 ) -> Result<Told, AllocError>
-    ensures { IfOk result (IsScenarioShown verbosity bytes.now name.now set.now
-        (scenario_in (names_in bytes.now) text.now)) }
+    ensures { IfOk result (IsScenarioShown suite.entry.tests.verbosity subject.entry.bytes.now
+        name.now subject.entry.set.now
+        (scenario_in (names_in subject.entry.bytes.now) text.now)) }
 {
+    let alloc = suite.alloc;
+    let Subject { bytes, set } = subject;
     let told = test_alone(alloc, bytes, set, name, text)?;
-    with_run(alloc, verbosity, bytes, set, text, told)
+    with_run(alloc, suite.tests.verbosity, bytes, set, text, told)
+}
+
+/// The answers for scenarios that were read, as they are reported, behind one another.
+pub(crate) fn report_each(
+    suite: Suite<'_>,
+    subject: Subject<'_>,
+    held: &[Held<'_>],
+    told: &[Result<Told, AllocError>],
+) -> Result<Told, AllocError>
+    requires told { AllZip
+        (λ one answer. IfOk answer (IsHeldTold (asked_of suite.tests) subject.bytes.now
+        subject.set.now one)) held.now told.now }
+    ensures { IfOk result (AreJoined (IsEntry (asked_of suite.entry.tests)
+        subject.entry.bytes.now subject.entry.set.now) held.now) }
+{
+    let alloc = suite.alloc;
+    let mut all = Told::of(0, Vec::new(alloc), Vec::new(alloc));
+    for i in 0..held.len() {
+        let Ok(answer) = &told[i] else {
+            return Err(AllocError);
+        };
+        add_entry(alloc, suite.tests.report, held[i].name, answer, &mut all)?;
+    }
+    Ok(all)
 }
 
 /// What is answered for the scenario that a text lists.

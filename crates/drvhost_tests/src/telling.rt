@@ -27,17 +27,14 @@ pub(crate) fn answer_of(alloc: Global, told: telling::Told) -> Told
     Told::of(told.end.status(), told.text, Vec::new(alloc))
 }
 
-/// That the file of a name can't be read, where that is the fault; any other is want of memory.
-pub(crate) fn tell_unread(alloc: Global, name: &str, fault: Fault) -> Result<Told, AllocError>
-    ensures { IfOk result (λ told. (fault ≡ Fault.Read) × (told ≡ unread name.now)) }
+/// That the file of a name can't be read.
+pub(crate) fn tell_unread(alloc: Global, name: &str) -> Result<Told, AllocError>
+    ensures { IfOk result (λ told. told ≡ unread name.now) }
 {
-    match fault {
-        Fault::Read => tell_faulty(alloc, name, READ_FAILED.as_bytes(), &[]),
-        _ => Err(AllocError),
-    }
+    tell_faulty(alloc, name, READ_FAILED.as_bytes(), &[])
 }
 
-/// That the file of the set can't be read, likewise.
+/// That the file of the set can't be read, where that is the fault; any other is want of memory.
 pub(crate) fn tell_unread_set(
     alloc: Global,
     tests: Tests<'_>,
@@ -46,8 +43,13 @@ pub(crate) fn tell_unread_set(
     ensures { IfOk result (λ told. (fault ≡ Fault.Read)
         × (told ≡ alone tests.entry.report tests.entry.set.now (unread tests.entry.set.now))) }
 {
-    let told = tell_unread(alloc, tests.set, fault)?;
-    alone(alloc, tests.report, tests.set, &told)
+    match fault {
+        Fault::Read => {
+            let told = tell_unread(alloc, tests.set)?;
+            alone(alloc, tests.report, tests.set, &told)
+        }
+        _ => Err(AllocError),
+    }
 }
 
 /// That its text is faulty.

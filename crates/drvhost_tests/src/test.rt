@@ -4,11 +4,10 @@ ghost use Rattle.std.specs.Prelude.{◌≡◌, ◌<◌, ◌^◌, ℕ};
 ghost use Rattle.drvhost_devices.specs.Device.{CanCount, Says};
 ghost use Rattle.drvhost_devices.specs.Ends.{Answers};
 ghost use Rattle.drvhost_many.specs.All.{Counted};
-ghost use Rattle.drvhost_tests.specs.Tests.{AreNamed, AreOfPaths, Gathers, TestsEnd};
+ghost use Rattle.drvhost_tests.specs.Tests.{AreOfPaths, Gathers, TestsEnd};
 ghost use Rattle.drvhost_tests.specs.Told.{asked_of};
 
 use crate::set::test_set;
-use crate::texts::texts_of;
 use drvhost_commands::job::Report;
 use drvhost_devices::device::{Failed, Sink};
 use drvhost_devices::fault::{no_memory, say};
@@ -21,10 +20,11 @@ use drvhost_many::told::Told;
 use drvhost_options::verbosity::Verbosity;
 use report::fault::WRITE_FAILED;
 use std::alloc::{AllocError, Global};
+use std::thread::Threads;
 
 /// Tests of a driver set: the file of the set, the paths that stand for those of the scenarios,
-/// whether the set has to be accepted, how the tests are reported, and how much is told of one that
-/// fails.
+/// whether the set has to be accepted, how the tests are reported, how much is told of one that
+/// fails, and how many jobs share them, at most.
 #[derive(Clone, Copy)]
 pub struct Tests<'n> {
     pub set: &'n str,
@@ -32,16 +32,18 @@ pub struct Tests<'n> {
     pub verification: Verification,
     pub report: Report,
     pub verbosity: Verbosity,
+    pub jobs: u8,
 }
 
-/// Plays scenarios over a driver set, one after another, and writes a line for each: that all that it
-/// expects holds, or the first step that fails, with what is there instead, and if it is wanted the
-/// run up to there. A folder stands for the scenarios in and below it, in the order of their paths.
-/// Where verification is required, a refused set isn't run, and what is written is the line of its
-/// refusal. The answer is the exit status, the greatest of those of the scenarios: 0 where all holds,
-/// 1 where a step fails or the set is refused, 2 where a file is faulty or can't be read, which is
-/// told with its name; 2 where a write failed, and 3 where memory ran out.
-pub fn test<F: Files, O: Sink, E: Sink>(
+/// Plays scenarios over a driver set, by several jobs at once, and writes a line for each, in order:
+/// that all that it expects holds, or the first step that fails, with what is there instead, and if
+/// it is wanted the run up to there. A folder stands for the scenarios in and below it, in the order
+/// of their paths. Where verification is required, a refused set isn't run, and what is written is
+/// the line of its refusal. The answer is the exit status, the greatest of those of the scenarios: 0
+/// where all holds, 1 where a step fails or the set is refused, 2 where a file is faulty or can't be
+/// read, which is told with its name; 2 where a write failed, and 3 where memory ran out.
+pub fn test<R: Threads + Sync, F: Files, O: Sink, E: Sink>(
+    rt: &R,
     alloc: Global,
     tests: Tests<'_>,
     files: &mut F,
@@ -62,14 +64,19 @@ pub fn test<F: Files, O: Sink, E: Sink>(
     ensures created { F.created files.new ≡ F.created files.old }
     ensures unwritten { F.unwritten files.new ≡ F.unwritten files.old }
 {
-    match test_paths(alloc, tests, files) {
+    match test_paths(rt, alloc, tests, files) {
         Ok(told) => deliver(&told, out, err),
         Err(AllocError) => no_memory(err),
     }
 }
 
 /// What is answered for the scenarios that paths stand for, played over a set.
-fn test_paths<F: Files>(alloc: Global, tests: Tests<'_>, files: &mut F) -> Result<Told, AllocError>
+fn test_paths<R: Threads + Sync, F: Files>(
+    rt: &R,
+    alloc: Global,
+    tests: Tests<'_>,
+    files: &mut F,
+) -> Result<Told, AllocError>
     requires opened { F.opened files.old < 2 ^ 63 }
     requires files { F.failures files.old < 2 ^ 63 }
     ensures gathers { Gathers
@@ -81,34 +88,24 @@ fn test_paths<F: Files>(alloc: Global, tests: Tests<'_>, files: &mut F) -> Resul
     ensures unwritten { F.unwritten files.new ≡ F.unwritten files.old }
 {
     match find_all(alloc, Sought::Scenarios, tests.scenarios, files) {
-        Ok(names) => test_found(alloc, tests, names.as_slice(), files),
+        Ok(names) => {
+            let suite = Suite {
+                alloc,
+                tests,
+                names: names.as_slice(),
+            };
+            test_set(rt, suite, files)
+        }
         Err(AllocError) => Err(AllocError),
     }
 }
 
-/// What is answered for those of files of these names.
-fn test_found<F: Files>(
-    alloc: Global,
-    tests: Tests<'_>,
-    names: &[String],
-    files: &mut F,
-) -> Result<Told, AllocError>
-    requires opened { F.opened files.old < 2 ^ 63 }
-    requires files { F.failures files.old < 2 ^ 63 }
-    ensures gathers { Gathers (AreNamed (asked_of tests.entry) names.now (F.supply files.old))
-        (F.opened files.old) (F.opened files.new) (F.failures files.old) (F.failures files.new)
-        result }
-    ensures supply { F.supply files.new ≡ F.supply files.old }
-    ensures created { F.created files.new ≡ F.created files.old }
-    ensures unwritten { F.unwritten files.new ≡ F.unwritten files.old }
-{
-    match texts_of(alloc, names) {
-        Ok(texts) => {
-            let scenarios = texts.as_slice();
-            test_set(alloc, Tests { scenarios, ..tests }, files)
-        }
-        Err(AllocError) => Err(AllocError),
-    }
+/// Tests of which the scenarios were found: the names of their files.
+#[derive(Clone, Copy)]
+pub(crate) struct Suite<'n> {
+    pub alloc: Global,
+    pub tests: Tests<'n>,
+    pub names: &'n [String],
 }
 
 /// Writes an answer to its writers.

@@ -1,10 +1,10 @@
 -- What is right for files is right for what is known of them, and how words are answered.
-use Rattle.std.proofs.Common.{◌≡◌, ◌≢◌, ◌∙◌, ◌⊎◌, ap, ℕ, ◌+◌, List, [], ◌++◌, ◌∷◌, Option, None, true, string_bytes, append-nil, arith, inl, inr, refl, subst, sym}
+use Rattle.std.proofs.Common.{◌≡◌, ◌≢◌, ◌∙◌, ◌⊎◌, ap, ℕ, ◌+◌, List, [], ◌++◌, ◌∷◌, Option, None, Some, true, string_bytes, append-nil, arith, inl, inr, refl, subst, sym}
 use Rattle.std.specs.Borrow.{Bor}
 use Rattle.std.proofs.KnownBytes.{Appends-nil, Keeps-refl}
 use Rattle.clap.specs.Words.{Text, subcommand_of, takes}
 use Rattle.drvhost_devices.specs.Answer.{Answer}
-use Rattle.drvhost_devices.specs.Device.{Bytes, Closed, Holds, IsSuppliedAs, MayBeClosed, Says, Supply, Unknown}
+use Rattle.drvhost_devices.specs.Device.{IsSuppliedAs, Says, Supply}
 use Rattle.drvhost_devices.specs.Ends.{Answers, Ends, HoldsRun, IsCheckOf, IsRewriteOf, OutOfMemory, ReadFailed, Rightly, WriteFailed}
 use Rattle.drvhost_runs.specs.Readiness.{SaysWarned}
 use Rattle.drvhost_devices.specs.declared.verification.Verification.{Verification}
@@ -23,8 +23,8 @@ use Rattle.drvhost_files.specs.Files.{supply_of}
 use Rattle.drvhost_files.proofs.Known.{holds_known}
 use Rattle.drvhost_many.specs.All.{Counted}
 use Rattle.drvhost_many.proofs.Collected.{judged_known}
-use Rattle.drvhost_many.proofs.Judged.{ends_rightly}
-use Rattle.drvhost_words.specs.Program.{AreWarningsBy, EndsAtOnce, IsDoneOf, IsQuietly, IsRunBy, IsServedBy, IsTaskOf, IsUsage}
+use Rattle.drvhost_words.specs.Program.{AreWarningsBy, EndsAtOnce, IsDoneOf, IsQuietly, IsRunBy, IsServedBy, IsTaskOf, IsUsage, OpensToTrace}
+use Rattle.drvhost_words.specs.Returned.{count_of}
 use Rattle.drvhost_words.specs.declared.work.Work.{Work}
 use Rattle.drvhost_words.specs.declared.work.Work.TheVariants.{Do, Judge}
 use Rattle.drvhost_words.specs.Unread.{IsNamedUnread, SaysAround, SaysMore, SaysUnread}
@@ -235,6 +235,16 @@ pub run_known : {A : Type 0} (v : Verification) (known supply : Supply)
 run_known v known supply h (inl a) never = absurd (never a)
 run_known v known supply h (inr (bytes, holds, right)) never =
     (bytes, holds_known known supply bytes h holds, right)
+
+-- how many files are opened to be read, where the second one is opened for a run alone
+pub opens_for_run : {A B : Type 0} (v : Verification) (known supply : Supply)
+    → IsSuppliedAs known supply → A ⊎ HoldsRun v supply → (file : Option B) → (A → file ≡ None)
+    → (old new : ℕ) → new ≡ old + 1 + count_of file
+    → (count : ℕ) × OpensToTrace v known count × (new ≡ old + count)
+opens_for_run v known supply h run None never old new are = (1, inl refl, omega (arith, are))
+opens_for_run {A} v known supply h run (Some file) never old new are =
+    let none : A → ⊥ = λ same. let gone : Some file ≡ None = never same in cc in
+    (2, inr (refl, run_known v known supply h run none), omega (arith, are))
 
 -- a file that wasn't opened yet has what its name is known to have
 pub unopened : {A N M : Type 0} (f : A → Supply) (k : N → M → Supply) (a c : N) (b d : M)

@@ -3,3 +3,4 @@ pub mod Rewritten
 pub mod Behind
 pub mod Ending
 pub mod Mended
+pub mod Kept

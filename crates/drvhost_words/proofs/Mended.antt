@@ -10,7 +10,7 @@ use Rattle.drvhost_files.proofs.Known.{holds_known}
 use Rattle.drvhost_many.proofs.Judged.{ends_rightly}
 use Rattle.drvhost_mends.specs.declared.apply.Asked.{Asked}
 use Rattle.drvhost_mends.specs.Apply.{IsApplyOf, IsApplyWith, LeavesFor, TakesMade}
-use Rattle.drvhost_words.specs.Program.{LeavesFiles, MendsFile, WritesMend}
+use Rattle.drvhost_words.specs.Program.{MendsFile, WritesMend}
 use Rattle.drvhost_words.proofs.Rewritten.{appends_as, has_part}
 
 -- where more answers are right, and as many reads and writes failed by other counts
@@ -61,7 +61,7 @@ module _ (asked : Asked) (known supply : Supply) (h : IsSuppliedAs known supply)
       inr (inr (answer, with_known None answer right, is))
 
 -- nothing was written to a file that wasn't opened
-written_none : (before other after : Supply) (part : List ℕ)
+pub written_none : (before other after : Supply) (part : List ℕ)
     → Appends (blank before) (blank other) part → after ≡ before
     → IsWritten before after (Some part)
 written_none Unknown other after part a same = inl tt

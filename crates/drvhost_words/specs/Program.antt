@@ -21,19 +21,21 @@ use Rattle.drvhost_mends.specs.Apply.{IsApplyOf, IsApplyWith}
 use Rattle.drvhost_mends.specs.Mend.{IsMendOf}
 use Rattle.drvhost_scenarios.specs.Scenarios.{IsScheduleOf}
 use Rattle.drvhost_sets.specs.Explained.{IsLockOrderExplained}
+use Rattle.drvhost_runs.specs.Keeping.{IsKeptOf, IsKeptWith}
 use Rattle.drvhost_runs.specs.Readiness.{AreWarningsOf}
 use Rattle.drvhost_runs.specs.Served.{IsHostOf}
 use Rattle.drvhost_views.specs.Told.{IsDrawOf, IsTellOf}
 use Rattle.drvhost_commands.specs.declared.job.Form.{Form}
 use Rattle.drvhost_commands.specs.declared.job.Form.TheVariants.{Lines, Json}
 use Rattle.drvhost_commands.specs.declared.job.Job.{Job}
-use Rattle.drvhost_commands.specs.declared.job.Job.TheVariants.{Page as OfPage, OnPaths, Log, Test, Rewrite, Apply, OnSet, OnRun, Host}
+use Rattle.drvhost_commands.specs.declared.job.Job.TheVariants.{Page as OfPage, OnPaths, Log, Test, Rewrite, Apply, OnSet, OnRun, Host, Keep}
 use Rattle.drvhost_commands.specs.declared.job.Page.{Page}
 use Rattle.drvhost_commands.specs.declared.job.Page.TheVariants.{Rule, LockOrder, Version}
 use Rattle.drvhost_commands.specs.declared.job.Task.{Task}
 use Rattle.drvhost_commands.specs.declared.job.Task.TheVariants.{Mend, List as Listing, Hunt, HuntExactly, Find, FindExactly}
 use Rattle.drvhost_commands.specs.declared.job.Judging.{Judging}
 use Rattle.drvhost_commands.specs.declared.job.Judging.TheVariants.{Check, CheckJson, Explain, ExplainJson}
+use Rattle.drvhost_commands.specs.declared.job.Testing.{Testing}
 use Rattle.drvhost_commands.specs.declared.job.Way.{Way}
 use Rattle.drvhost_commands.specs.declared.job.Way.TheVariants.{Trace, TraceJson, Tell, TellJson, Draw, Schedule}
 use Rattle.drvhost_commands.specs.CommandLine.{Names, NamesJob, program, usage}
@@ -50,7 +52,7 @@ use Rattle.drvhost_options.specs.declared.jobs.TheConstants.{MAX_JOBS}
 use Rattle.drvhost_options.specs.declared.surroundings.Surroundings.{Surroundings}
 use Rattle.drvhost_options.specs.Painting.{is_painted}
 use Rattle.drvhost_sarif.specs.Log.{PathsEnd as LogEnds}
-use Rattle.drvhost_tests.specs.Tests.{TestsEnd}
+use Rattle.drvhost_tests.specs.Tests.{Asked as Tested, TestsEnd}
 use Rattle.drvhost_told.specs.Served.{IsHostJsonOf}
 use Rattle.drvhost_told.specs.Tell.{IsTellJsonOf}
 use Rattle.drvhost_words.specs.declared.work.Work.{Work}
@@ -256,6 +258,17 @@ RunEnds way supply set input opened reads writes before after status told =
     × EndsTelling (IsNamedUnread (IsOneOf set.now input.now) 0 reads)
     (IsRunBy way set input (supply set.now) (supply input.now)) reads writes before after status told
 
+-- what is asked of tests
+abbrev pub asked_by : Testing → Tested
+asked_by testing =
+    record {
+      set = testing.set.now;
+      paths = testing.scenarios.items;
+      verification = testing.verification;
+      report = testing.report;
+      verbosity = testing.verbosity;
+    }
+
 -- how a job ends, for what the program finds around it, where paths stand for such files, and the
 -- files of names have this to give: by the number of files that it opens, that of reads and of writes
 -- that fail, what went out, its exit status, and all that it tells
@@ -263,22 +276,14 @@ abbrev pub JobEnds : Surroundings → (Sought → List ℕ → Found → Type 0)
     → Option (List ℕ) → Option (List ℕ) → ℕ → List ℕ → Type 0
 JobEnds surroundings stands supply (OfPage page) opened reads writes before after status told =
     (opened ≡ 0) × Ends (IsPage page) reads writes before after status told
-JobEnds surroundings stands supply (OnPaths paths judging jobs) opened reads writes before after status told =
-    PathsEnd stands supply paths.items (settled_judging surroundings judging) jobs opened reads writes
-    before after status told
+JobEnds surroundings stands supply (OnPaths judged) opened reads writes before after status told =
+    PathsEnd stands supply judged.paths.items (settled_judging surroundings judged.judging)
+    judged.jobs opened reads writes before after status told
 JobEnds surroundings stands supply (Log paths logging) opened reads writes before after status told =
     LogEnds logging (λ path. stands Sets path.now) supply paths.items opened reads writes before after
     status told
-JobEnds surroundings stands supply (Test set scenarios verification report verbosity) opened reads writes before after status told =
-    TestsEnd
-    (record {
-      set = set.now;
-      names = scenarios.items;
-      verification = verification;
-      report = report;
-      verbosity = verbosity;
-    })
-    stands supply opened reads writes before after status told
+JobEnds surroundings stands supply (Test testing) opened reads writes before after status told =
+    TestsEnd (asked_by testing) stands supply opened reads writes before after status told
 JobEnds surroundings stands supply (Rewrite set output) opened reads writes before after status told =
     (opened ≡ 1)
     × Ends (IsQuietly (IsRewriteOf (supply set.now))) reads writes before after status told
@@ -289,14 +294,24 @@ JobEnds surroundings stands supply (Apply set tries wanted) opened reads writes 
     status told
 JobEnds surroundings stands supply (OnSet set task) opened reads writes before after status told =
     WorkEnds (Do task) supply set.now opened reads writes before after status told
-JobEnds surroundings stands supply (OnRun set input way) opened reads writes before after status told =
-    RunEnds (settled_way surroundings way) supply set input opened reads writes before after status told
-JobEnds surroundings stands supply (Host set script workers form) opened reads writes before after status told =
-    OpensToTrace Required (supply set.now) opened
-    × EndsWarned (AreWarningsBy form (supply set.now) status)
-    (IsNamedUnread (IsOneOf set.now script.now) 0 reads)
-    (IsServedBy form workers set.now script.now (supply set.now) (supply script.now)) reads writes
+JobEnds surroundings stands supply (OnRun names way) opened reads writes before after status told =
+    RunEnds (settled_way surroundings way) supply names.set names.input opened reads writes before
+    after status told
+JobEnds surroundings stands supply (Host serving) opened reads writes before after status told =
+    let set = serving.names.set.now in
+    let script = serving.names.input.now in
+    OpensToTrace Required (supply set) opened
+    × EndsWarned (AreWarningsBy serving.form (supply set) status)
+    (IsNamedUnread (IsOneOf set script) 0 reads)
+    (IsServedBy serving.form serving.workers set script (supply set) (supply script)) reads writes
     before after status told
+JobEnds surroundings stands supply (Keep keeping) opened reads writes before after status told =
+    let set = keeping.names.set.now in
+    let script = keeping.names.input.now in
+    OpensToTrace Required (supply set) opened
+    × EndsWarned (AreWarningsOf (supply set) status)
+    (IsNamedUnread (IsOneOf set script) 0 reads)
+    (IsKeptOf keeping.workers (supply set) (supply script)) reads writes before after status told
 
 -- how words are answered that name no job, where these answers are right: nothing is read
 abbrev pub EndsAtOnce : (Answer → Type 0) → ℕ → ℕ → ℕ → Option (List ℕ) → Option (List ℕ) → ℕ
@@ -374,12 +389,40 @@ MendsFile asked name before after old new status =
     ⊎ ((answer : Answer) × IsApplyWith asked (before name) None answer × (status ≡ answer.status))))
     ⊎ WritesMend asked name before after old new status
 
+-- one was written, which is opened for the history alone of commands that were served, if its text
+-- has any bytes: it has that text, or a beginning of it where a write failed; and the others have
+-- what they had
+pub record WritesHistory (workers : ℕ) (set script : Supply) (name : List ℕ)
+    (before after : List ℕ → Supply) (old new : ℕ) (status : ℕ) : Type 0 where
+  pub one : (new ≡ old) ⊎ (new ≡ old + 1)
+  pub answer : Answer
+  pub text : List ℕ
+  pub right : IsKeptWith workers set script (Some text) answer
+  pub part : List ℕ
+  pub rest : List ℕ
+  pub split : text ≡ part ++ rest
+  pub has : IsWritten (before name) (after name) (Some part)
+  pub others : (other : List ℕ) → other ≢ name → after other ≡ before other
+  pub status_is : ((status ≡ answer.status) × (rest ≡ [])) ⊎ (status ≡ 2)
+
+-- what `host` does to the file of a name that is for the history: it is left by a fault, or where
+-- nothing is served; else it has the history
+abbrev pub KeepsHistory : ℕ → Supply → Supply → List ℕ → (List ℕ → Supply) → (List ℕ → Supply) → ℕ
+    → ℕ → ℕ → Type 0
+KeepsHistory workers set script name before after old new status =
+    (LeavesFiles before after old new × ((status ≡ 2) ⊎ (status ≡ 3)
+    ⊎ ((answer : Answer) × IsKeptWith workers set script None answer × (status ≡ answer.status))))
+    ⊎ WritesHistory workers set script name before after old new status
+
 -- what a job does to the files
 abbrev pub JobStores : Job → (List ℕ → Supply) → (List ℕ → Supply) → ℕ → ℕ → ℕ → Type 0
 JobStores (Rewrite set output) before after old new status =
     RewritesFile (before set.now) output.now before after old new status
 JobStores (Apply set tries wanted) before after old new status =
     MendsFile (record { tries = tries; wanted = wanted }) set.now before after old new status
+JobStores (Keep keeping) before after old new status =
+    KeepsHistory keeping.workers (before keeping.names.set.now) (before keeping.names.input.now)
+    keeping.output.now before after old new status
 JobStores job before after old new status = LeavesFiles before after old new
 
 -- what the program does to the files for these words: nothing where it names no job, and then it

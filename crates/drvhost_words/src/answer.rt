@@ -1,19 +1,23 @@
 //! What the program answers.
 
 ghost use Rattle.std.specs.Prelude.{◌≡◌, ◌+◌, ◌<◌, ◌^◌, ◌⊎◌, ℕ, List, Option, drop, map, string_bytes, true};
-ghost use Rattle.drvhost_words.specs.Program.{FileEnds, IsAnswerToLost, IsDoneOf, IsOfApply, IsOfWork, IsPage, IsRunBy, IsJobCount, IsTaskOf, IsUnopenedBy, OpensToTrace, IsQuietly, EndsAtOnce, JobEnds, JobStores, MendsFile, PathsEnd, ProgramEnds, ProgramStores, RewritesFile, WordsEnd, WordsStore, is_in_json, verification_of};
+ghost use Rattle.drvhost_words.specs.Program.{FileEnds, IsAnswerToLost, IsDoneOf, IsOfApply, IsOfWork, IsPage, IsRunBy, IsJobCount, IsTaskOf, IsUnopenedBy, OpensToTrace, asked_by, IsQuietly, EndsAtOnce, JobEnds, JobStores, MendsFile, PathsEnd, ProgramEnds, ProgramStores, RewritesFile, WordsEnd, WordsStore, is_in_json, settled_judging, verification_of};
 ghost use Rattle.drvhost_many.specs.All.{Counted};
+ghost use Rattle.drvhost_tests.specs.Told.{asked_of};
 ghost use Rattle.drvhost_words.specs.Unread.{IsNamedUnread, IsOneOf, SaysMore};
 ghost use Rattle.drvhost_devices.specs.Device.{CanCount, Says};
 ghost use Rattle.drvhost_devices.specs.Ends.{Answers, HoldsRun, IsCheckOf, IsRewriteOf};
 
 use crate::coloring::{settled_judging, settled_way};
-use crate::serving::{Serving, host_files};
+use crate::keeping::keep_files;
+use crate::returned::close_both;
+use crate::serving::host_files;
 use crate::telling::{Shown, tell_shown};
-use crate::unread::{Names, tell_if_unread, tell_which_unread};
+use crate::unread::{tell_if_unread, tell_which_unread};
 use crate::work::Work;
 use drvhost_commands::job::{
-    Job, JobFault, Judging, Page, Task, Way, refuse_unknown_words, refuse_words,
+    FileNames, Job, JobFault, Judged, Judging, Page, Task, Testing, Way, refuse_unknown_words,
+    refuse_words,
 };
 use drvhost_devices::device::{Sink, Source};
 use drvhost_devices::fault::no_memory;
@@ -177,37 +181,13 @@ fn perform<F: Files, O: Sink, E: Sink, R: Threads + Wait + Sync + Progress>(
     let alloc = setting.alloc;
     match job {
         Job::Page(page) => write_page(alloc, *page, out, err),
-        Job::OnPaths {
-            paths,
-            judging,
-            jobs,
-        } => {
-            let paths = Paths {
-                setting,
-                judging: settled_judging(setting.surroundings, *judging),
-                jobs: *jobs,
-                paths: paths.as_slice(),
-            };
-            judge_paths(rt, paths, files, out, err)
-        }
+        Job::OnPaths(judged) => judge_paths(rt, setting, judged, files, out, err),
         Job::Log { paths, logging } => {
             log_paths(alloc, *logging, paths.as_slice(), files, out, err)
         }
-        Job::Test {
-            set,
-            scenarios,
-            verification,
-            report,
-            verbosity,
-        } => {
-            let tests = Tests {
-                set,
-                scenarios: scenarios.as_slice(),
-                verification: *verification,
-                report: *report,
-                verbosity: *verbosity,
-            };
-            test(alloc, tests, files, out, err)
+        Job::Test(testing) => {
+            let jobs = job_count(testing.jobs, setting.surroundings.processors);
+            test(rt, alloc, tests_of(testing, jobs), files, out, err)
         }
         Job::Rewrite { set, output } => rewrite_file(alloc, set, output, files, err),
         Job::Apply { set, tries, wanted } => {
@@ -224,25 +204,27 @@ fn perform<F: Files, O: Sink, E: Sink, R: Threads + Wait + Sync + Progress>(
             };
             work_file(&beside, Work::Do(*task), set, files, out, err)
         }
-        Job::OnRun { set, input, way } => {
-            let names = Names::of(set, input);
+        Job::OnRun { names, way } => {
+            let names = *names;
             let way = settled_way(setting.surroundings, *way);
             run_files(alloc, Running { names, way }, files, out, err)
         }
-        Job::Host {
-            set,
-            script,
-            workers,
-            form,
-        } => {
-            let names = Names::of(set, script);
-            let serving = Serving {
-                names,
-                workers: *workers,
-                form: *form,
-            };
-            host_files(rt, alloc, serving, files, out, err)
-        }
+        Job::Host(serving) => host_files(rt, alloc, serving, files, out, err),
+        Job::Keep(keeping) => keep_files(rt, alloc, keeping, files, out, err),
+    }
+}
+
+/// What is asked of tests, which so many jobs share.
+fn tests_of<'n>(testing: &'n Testing<'n>, jobs: u8) -> Tests<'n>
+    ensures { asked_of result ≡ asked_by testing.entry.now }
+{
+    Tests {
+        set: testing.set,
+        scenarios: testing.scenarios.as_slice(),
+        verification: testing.verification,
+        report: testing.report,
+        verbosity: testing.verbosity,
+        jobs,
     }
 }
 
@@ -263,21 +245,12 @@ fn write_page<O: Sink, E: Sink>(alloc: Global, page: Page, out: &mut O, err: &mu
     }
 }
 
-/// Paths of which the driver sets are judged.
-#[derive(Clone, Copy)]
-struct Paths<'p> {
-    setting: Setting,
-    judging: Judging,
-    /// How many jobs are to share them, or none where nothing is said of it.
-    jobs: Option<u64>,
-    paths: &'p [&'p str],
-}
-
 /// Judges the sets that paths stand for: that of one file alone as it is, and others each told with
 /// its name.
 fn judge_paths<R: Threads + Sync + Progress, F: Files, O: Sink, E: Sink>(
     rt: &R,
-    asked: Paths<'_>,
+    setting: Setting,
+    judged: &Judged<'_>,
     files: &mut F,
     out: &mut O,
     err: &mut E,
@@ -287,8 +260,8 @@ fn judge_paths<R: Threads + Sync + Progress, F: Files, O: Sink, E: Sink>(
     requires out { CanCount (O.failures out.old) }
     requires err { CanCount (E.failures err.old) }
     ensures answers { Counted
-        (PathsEnd (F.stands files.old) (F.supply files.old) asked.entry.paths.now
-        asked.entry.judging asked.entry.jobs)
+        (PathsEnd (F.stands files.old) (F.supply files.old) judged.now.paths.items
+        (settled_judging setting.surroundings judged.now.judging) judged.now.jobs)
         (F.opened files.old) (F.opened files.new) (F.failures files.old) (F.failures files.new)
         (O.failures out.old) (O.failures out.new) (O.contents out.old) (O.contents out.new)
         (Says (E.failures err.old) (E.failures err.new) (E.contents err.old) (E.contents err.new))
@@ -297,15 +270,17 @@ fn judge_paths<R: Threads + Sync + Progress, F: Files, O: Sink, E: Sink>(
     ensures created { F.created files.new ≡ F.created files.old }
     ensures unwritten { F.unwritten files.new ≡ F.unwritten files.old }
 {
-    let alloc = asked.setting.alloc;
-    match find_all(alloc, Sought::Sets, asked.paths, files) {
-        Ok(names) => match alone(asked.paths, names.as_slice()) {
-            Some(path) => judge_file(alloc, asked.judging, path, files, out, err),
+    let alloc = setting.alloc;
+    let judging = settled_judging(setting.surroundings, judged.judging);
+    let paths = judged.paths.as_slice();
+    match find_all(alloc, Sought::Sets, paths, files) {
+        Ok(names) => match alone(paths, names.as_slice()) {
+            Some(path) => judge_file(alloc, judging, path, files, out, err),
             None => {
                 let sets = Sets {
                     alloc,
-                    judging: asked.judging,
-                    jobs: job_count(asked.jobs, asked.setting.surroundings.processors),
+                    judging,
+                    jobs: job_count(judged.jobs, setting.surroundings.processors),
                     names: names.as_slice(),
                 };
                 answer_each(rt, sets, files, out, err)
@@ -610,7 +585,7 @@ fn mend_file<F: Files, O: Sink, E: Sink>(
 /// A set that is run by the input of another file.
 #[derive(Clone, Copy)]
 struct Running<'n> {
-    names: Names<'n>,
+    names: FileNames<'n>,
     way: Way,
 }
 
@@ -651,11 +626,8 @@ fn run_files<F: Files, O: Sink, E: Sink>(
     let mut later = Later::new(files, names.input);
     let status = run(alloc, running, &mut file, &mut later, out, err);
     tell_which_unread(names, &file, &later, failures, err);
-    let inputs = later.into_file();
-    files.close(file);
-    if let Some(inputs) = inputs {
-        files.close(inputs);
-    }
+    let input = later.into_file();
+    close_both(files, file, input);
     status
 }
 

@@ -4,6 +4,8 @@
 
 pub mod answer;
 mod coloring;
+mod keeping;
+mod returned;
 mod serving;
 mod telling;
 mod unread;

@@ -6,10 +6,10 @@ ghost use Rattle.drvhost_devices.specs.Ends.{Answers, HoldsRun};
 ghost use Rattle.drvhost_runs.specs.Readiness.{SaysWarned};
 ghost use Rattle.drvhost_words.specs.Program.{AreWarningsBy, IsServedBy, OpensToTrace};
 ghost use Rattle.drvhost_words.specs.Unread.{IsNamedUnread, IsOneOf, SaysAround};
-ghost use Rattle.model.specs.declared.limits.TheConstants.{MAX_THREADS};
 
-use crate::unread::{Names, tell_which_unread};
-use drvhost_commands::job::{Form, Workers};
+use crate::returned::close_both;
+use crate::unread::tell_which_unread;
+use drvhost_commands::job::{Form, Serving, Workers};
 use drvhost_devices::device::{Sink, Source};
 use drvhost_devices::verification::Verification;
 use drvhost_files::files::{Files, Later};
@@ -22,7 +22,7 @@ use workers::Gate;
 
 /// A gate that is always open.
 #[derive(Drop)]
-struct Open;
+pub(crate) struct Open;
 
 impl Gate for Open {
     fn before(&self, _worker: u32, _count: u64) -> bool
@@ -38,18 +38,14 @@ impl Gate for Open {
     }
 }
 
-/// Workers that serve the script of a file on the set of another one.
-#[derive(Clone, Copy)]
-pub(crate) struct Serving<'n> {
-    pub(crate) names: Names<'n>,
-    pub(crate) workers: Workers,
-    pub(crate) form: Form,
-}
-
-/// A script that is to be served, and how what comes of it is written.
+/// A script that is to be served: of which files, by how many workers of a runtime, and how what
+/// comes of it is written.
 #[derive(Drop)]
 struct Orders<'a, R> {
-    asked: Asked<'a, R, Open>,
+    runtime: &'a R,
+    set: &'a str,
+    script: &'a str,
+    workers: Workers,
     form: Form,
 }
 
@@ -58,7 +54,7 @@ struct Orders<'a, R> {
 pub(crate) fn host_files<F: Files, O: Sink, E: Sink, R: Threads + Wait + Sync>(
     rt: &R,
     alloc: Global,
-    serving: Serving<'_>,
+    serving: &Serving<'_>,
     files: &mut F,
     out: &mut O,
     err: &mut E,
@@ -67,38 +63,32 @@ pub(crate) fn host_files<F: Files, O: Sink, E: Sink, R: Threads + Wait + Sync>(
     requires files { CanCount (F.failures files.old) }
     requires out { CanCount (O.failures out.old) }
     requires err { CanCount (E.failures err.old) }
-    ensures answers { Answers (IsServedBy serving.entry.form serving.entry.workers
-        serving.entry.names.set.now serving.entry.names.input.now
-        (F.supply files.old serving.entry.names.set.now)
-        (F.supply files.old serving.entry.names.input.now))
+    ensures answers { Answers (IsServedBy serving.now.form serving.now.workers
+        serving.now.names.set.now serving.now.names.input.now
+        (F.supply files.old serving.now.names.set.now)
+        (F.supply files.old serving.now.names.input.now))
         (F.failures files.old) (F.failures files.new) (O.failures out.old) (O.failures out.new)
         (O.contents out.old) (O.contents out.new)
-        (SaysAround (AreWarningsBy serving.entry.form
-        (F.supply files.old serving.entry.names.set.now) result)
-        (IsNamedUnread (IsOneOf serving.entry.names.set.now serving.entry.names.input.now)
+        (SaysAround (AreWarningsBy serving.now.form
+        (F.supply files.old serving.now.names.set.now) result)
+        (IsNamedUnread (IsOneOf serving.now.names.set.now serving.now.names.input.now)
         (F.failures files.old) (F.failures files.new))
         (E.failures err.old) (E.failures err.new) (E.contents err.old) (E.contents err.new))
         result }
     ensures opened { (count : ℕ)
         × OpensToTrace Verification.Required
-        (F.supply files.old serving.entry.names.set.now) count
+        (F.supply files.old serving.now.names.set.now) count
         × (F.opened files.new ≡ F.opened files.old + count) }
     ensures supply { F.supply files.new ≡ F.supply files.old }
     ensures created { F.created files.new ≡ F.created files.old }
     ensures unwritten { F.unwritten files.new ≡ F.unwritten files.old }
 {
     let names = serving.names;
-    let count = serving.workers.count();
     let orders = Orders {
-        asked: Asked {
-            set: names.set,
-            script: names.input,
-            hosting: Hosting {
-                runtime: rt,
-                workers: count,
-                gate: &Open,
-            },
-        },
+        runtime: rt,
+        set: names.set,
+        script: names.input,
+        workers: serving.workers,
         form: serving.form,
     };
     let failures = err.failures();
@@ -107,10 +97,7 @@ pub(crate) fn host_files<F: Files, O: Sink, E: Sink, R: Threads + Wait + Sync>(
     let status = serve(alloc, &orders, &mut file, &mut later, out, err);
     tell_which_unread(names, &file, &later, failures, err);
     let commands = later.into_file();
-    files.close(file);
-    if let Some(commands) = commands {
-        files.close(commands);
-    }
+    close_both(files, file, commands);
     status
 }
 
@@ -123,8 +110,6 @@ fn serve<S: Source, P: Source, O: Sink, E: Sink, R: Threads + Wait + Sync>(
     out: &mut O,
     err: &mut E,
 ) -> u8
-    requires some { 1 ≤ orders.now.asked.hosting.workers }
-    requires few { orders.now.asked.hosting.workers ≤ MAX_THREADS }
     requires set { CanCount (S.failures set.old) }
     requires script { CanCount (P.failures script.old) }
     requires out { CanCount (O.failures out.old) }
@@ -132,8 +117,8 @@ fn serve<S: Source, P: Source, O: Sink, E: Sink, R: Threads + Wait + Sync>(
     ensures unread { (script.new ≡ script.old)
         ⊎ HoldsRun Verification.Required (S.supply set.old) }
     ensures answers { Answers
-        (IsServedBy orders.now.form orders.now.asked.hosting.workers
-        orders.now.asked.set.now orders.now.asked.script.now
+        (IsServedBy orders.now.form orders.now.workers
+        orders.now.set.now orders.now.script.now
         (S.supply set.old) (P.supply script.old))
         (S.failures set.old + P.failures script.old) (S.failures set.new + P.failures script.new)
         (O.failures out.old) (O.failures out.new) (O.contents out.old) (O.contents out.new)
@@ -141,8 +126,20 @@ fn serve<S: Source, P: Source, O: Sink, E: Sink, R: Threads + Wait + Sync>(
         (E.failures err.old) (E.failures err.new) (E.contents err.old) (E.contents err.new))
         result }
 {
+    let hosting = Hosting {
+        runtime: orders.runtime,
+        workers: orders.workers.count(),
+        gate: &Open,
+    };
     match orders.form {
-        Form::Lines => host(alloc, set, script, &orders.asked.hosting, out, err),
-        Form::Json => host_json(alloc, &orders.asked, set, script, out, err),
+        Form::Lines => host(alloc, set, script, &hosting, out, err),
+        Form::Json => {
+            let asked = Asked {
+                set: orders.set,
+                script: orders.script,
+                hosting,
+            };
+            host_json(alloc, &asked, set, script, out, err)
+        }
     }
 }

@@ -4,25 +4,9 @@ ghost use Rattle.std.specs.Prelude.{◌≡◌, ◌+◌};
 ghost use Rattle.drvhost_devices.specs.Device.{CanCount};
 ghost use Rattle.drvhost_words.specs.Unread.{IsOneOf, SaysUnread};
 
+use drvhost_commands::job::FileNames;
 use drvhost_devices::device::{Sink, Source};
 use drvhost_devices::unopened::tell_unread;
-
-/// The names of two files: that of a set, and that of what it is run by.
-#[derive(Clone, Copy)]
-pub(crate) struct Names<'n> {
-    pub(crate) set: &'n str,
-    pub(crate) input: &'n str,
-}
-
-impl<'n> Names<'n> {
-    /// The names of a set, and of what it is run by.
-    pub(crate) fn of(set: &'n str, input: &'n str) -> Names<'n>
-        ensures set { result.set ≡ set.entry }
-        ensures input { result.input ≡ input.entry }
-    {
-        Names { set, input }
-    }
-}
 
 /// Tells the name of a file, if a read of it failed, behind what an error writer was told since it
 /// had failed so often.
@@ -40,7 +24,7 @@ pub(crate) fn tell_if_unread<S: Source, E: Sink>(name: &str, file: &S, failures:
 
 /// Tells the name of that of two files of which a read failed, if one did.
 pub(crate) fn tell_which_unread<S: Source, P: Source, E: Sink>(
-    names: Names<'_>,
+    names: FileNames<'_>,
     set: &S,
     input: &P,
     failures: u64,

@@ -1,6 +1,8 @@
 //! What the words of a command line name.
 
-use drvhost_commands::job::{Job, JobFault, Judging, Page, Task, Way, refuse_words};
+use drvhost_commands::job::{
+    FileNames, Job, JobFault, Judged, Judging, Keeping, Page, Task, Testing, Way, refuse_words,
+};
 use drvhost_devices::device::Writer;
 use drvhost_devices::verification::Verification;
 use drvhost_options::coloring::Coloring;
@@ -62,8 +64,10 @@ fn traces(rt: HostRuntime) -> Result<(), Fail> {
         matches!(
             job,
             Job::OnRun {
-                set: "a.set",
-                input: "b.schedule",
+                names: FileNames {
+                    set: "a.set",
+                    input: "b.schedule"
+                },
                 way: Way::Trace(Verification::Required)
             }
         )
@@ -77,8 +81,10 @@ fn traces(rt: HostRuntime) -> Result<(), Fail> {
             matches!(
                 job,
                 Job::OnRun {
-                    set: "a",
-                    input: "b",
+                    names: FileNames {
+                        set: "a",
+                        input: "b"
+                    },
                     way: Way::Trace(Verification::Skipped)
                 }
             )
@@ -244,10 +250,12 @@ fn colored(word: &str) -> Option<Coloring> {
 /// What is said of colour where an answer may have it.
 fn coloring_of(job: &Job<'_>) -> Option<Coloring> {
     match *job {
-        Job::OnPaths {
-            judging: Judging::Explain(_extent, coloring),
-            ..
-        } => Some(coloring),
+        Job::OnPaths(
+            Judged {
+                judging: Judging::Explain(_extent, coloring),
+                ..
+            },
+        ) => Some(coloring),
         Job::OnRun {
             way: Way::Tell(_verification, _manner, coloring),
             ..
@@ -268,8 +276,7 @@ fn leniently(detail: Detail) -> Manner {
 fn is_to_tell(job: &Job<'_>, run: Verification, told: Manner) -> bool {
     match *job {
         Job::OnRun {
-            set,
-            input,
+            names: FileNames { set, input },
             way: Way::Tell(verification, manner, coloring),
         } => {
             set == "a"
@@ -285,13 +292,16 @@ fn is_to_tell(job: &Job<'_>, run: Verification, told: Manner) -> bool {
 /// Whether a job is to test a set by these scenarios so.
 fn is_to_test(job: &Job<'_>, wanted: &str, by: &[&str], run: Verification) -> bool {
     match job {
-        Job::Test {
-            set,
-            scenarios,
-            verification,
-            report: _,
-            verbosity: _,
-        } => *set == wanted && are(scenarios.as_slice(), by) && *verification == run,
+        Job::Test(
+            Testing {
+                set,
+                scenarios,
+                verification,
+                report: _,
+                verbosity: _,
+                jobs: _,
+            },
+        ) => *set == wanted && are(scenarios.as_slice(), by) && *verification == run,
         _ => false,
     }
 }
@@ -301,8 +311,7 @@ fn is_to_test(job: &Job<'_>, wanted: &str, by: &[&str], run: Verification) -> bo
 fn is_to_draw(job: &Job<'_>, run: Verification, figure: Figure) -> bool {
     match *job {
         Job::OnRun {
-            set,
-            input,
+            names: FileNames { set, input },
             way: Way::Draw(verification, drawn),
         } => set == "a" && input == "b" && verification == run && drawn == figure,
         _ => false,
@@ -317,11 +326,13 @@ fn are(paths: &[&str], wanted: &[&str]) -> bool {
 /// Whether a job is to check the sets of these paths, and to answer in text.
 fn is_to_check(job: &Job<'_>, wanted: &[&str]) -> bool {
     match job {
-        Job::OnPaths {
-            paths,
-            judging: Judging::Check,
-            jobs: _,
-        } => are(paths.as_slice(), wanted),
+        Job::OnPaths(
+            Judged {
+                paths,
+                judging: Judging::Check,
+                jobs: _,
+            },
+        ) => are(paths.as_slice(), wanted),
         _ => false,
     }
 }
@@ -329,11 +340,13 @@ fn is_to_check(job: &Job<'_>, wanted: &[&str]) -> bool {
 /// Whether a job is to check the sets of these paths, and to answer in JSON.
 fn is_to_check_in_json(job: &Job<'_>, wanted: &[&str]) -> bool {
     match job {
-        Job::OnPaths {
-            paths,
-            judging: Judging::CheckJson,
-            jobs: _,
-        } => are(paths.as_slice(), wanted),
+        Job::OnPaths(
+            Judged {
+                paths,
+                judging: Judging::CheckJson,
+                jobs: _,
+            },
+        ) => are(paths.as_slice(), wanted),
         _ => false,
     }
 }
@@ -341,11 +354,13 @@ fn is_to_check_in_json(job: &Job<'_>, wanted: &[&str]) -> bool {
 /// Whether a job is to explain the sets of these paths so.
 fn is_to_explain(job: &Job<'_>, wanted: &[&str], all: Extent) -> bool {
     match job {
-        Job::OnPaths {
-            paths,
-            judging: Judging::Explain(extent, _coloring),
-            jobs: _,
-        } => are(paths.as_slice(), wanted) && *extent == all,
+        Job::OnPaths(
+            Judged {
+                paths,
+                judging: Judging::Explain(extent, _coloring),
+                jobs: _,
+            },
+        ) => are(paths.as_slice(), wanted) && *extent == all,
         _ => false,
     }
 }
@@ -437,6 +452,28 @@ fn wrong_words(rt: HostRuntime) {
     assert!(rt; is_refused(alloc, &["trace", "a", "b", "c"]));
     assert!(rt; is_refused(alloc, &["trace", "a", "b", "--checked"]));
     assert!(rt; is_refused(alloc, &["trace", "a", "b", "--unchecked", "--unchecked"]));
+}
+
+#[test]
+fn histories(rt: HostRuntime) -> Result<(), Fail> {
+    let alloc = rt.alloc();
+    let words = ["host", "a.set", "b", "--workers=2", "--history", "c"];
+    let job = Job::of(alloc, &words)?;
+    assert!(rt;
+        matches!(
+            job,
+            Job::Keep(Keeping {
+                names: FileNames { input: "b", .. },
+                output: "c",
+                ..
+            })
+        )
+    );
+    for option in ["--format=json", "--history=d", "--format=xml", "--history"] {
+        let words = ["host", "a", "b", "--workers=2", "--history=c", option];
+        assert!(rt; is_refused(alloc, &words), "{option}");
+    }
+    Ok(())
 }
 
 #[test]

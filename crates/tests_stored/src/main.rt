@@ -12,8 +12,8 @@ use drvhost_options::surroundings::PLAIN;
 use drvhost_words::answer::{Setting, answer};
 use report_progress::progress::Silent;
 use std::alloc::{AllocError, Global};
-use std::fs::{self, Files};
-use std::io::{self, Input, Write};
+use std::fs;
+use std::io::{self, Write};
 use std::sync::Wait;
 use std::thread::Threads;
 use texts::unpack;
@@ -36,19 +36,22 @@ fn main(rt: HostRuntime) -> io::Result<()> {
         out.write_all(line.as_bytes())?;
         out.write_all(b"\n")?;
         if let Some(words) = line.strip_prefix(PROMPT) {
-            write_answer(&rt, rt.alloc(), words, &mut out)?;
+            write_answer(&rt, &rt, rt.alloc(), words, &mut out)?;
         }
     }
     Ok(())
 }
 
-/// Writes what the program answers to these words.
-fn write_answer<R, W: Write>(rt: &R, alloc: Global, words: &str, out: &mut W) -> io::Result<()>
-where
-    R: Files + Input + AllocGlobal + Clone + Drop + Threads + Wait + Sync,
-{
+/// Writes what the program answers to these words, over the files of a system.
+fn write_answer<R: Threads + Wait + Sync, W: Write>(
+    rt: &R,
+    system: &HostRuntime,
+    alloc: Global,
+    words: &str,
+    out: &mut W,
+) -> io::Result<()> {
     let words = command_line_of(alloc, words)?;
-    let mut files = Disk::new(rt);
+    let mut files = Disk::new(system);
     let mut lines = Writer::new(Vec::<u8>::new(alloc));
     let mut told = Writer::new(Vec::<u8>::new(alloc));
     let setting = Setting {

@@ -11,9 +11,10 @@ pub returns-in-Ok-clause-gathers : goal.returns-in-Ok-clause-gathers
 returns-in-Ok-clause-gathers g c =
     let supply = g.F.Files.supply c.args.files.now in
     let bytes = c.args.bytes.now in
-    let asked = asked_of c.args.tests in
-    gathers_rightly (AreJudgedBy asked.verification asked supply bytes c.in-Ok.set)
-    (AreOfBytes asked supply bytes) _ _ _ _ c.test_judged.result
+    let asked = asked_of c.args.suite.tests in
+    let names = c.args.suite.names.now in
+    gathers_rightly (AreJudgedBy asked.verification asked names supply bytes c.in-Ok.set)
+    (AreOfBytes asked names supply bytes) _ _ _ _ c.test_judged.result
     (λ n k a right. inl (c.in-Ok.set, set_named bytes c.in-Ok.set c.in-Ok.ensures.set, right))
     c.test_judged.ensures.gathers
 
@@ -21,10 +22,11 @@ pub returns-in-Err-Text-clause-gathers : goal.returns-in-Err-Text-clause-gathers
 returns-in-Err-Text-clause-gathers g c =
     let supply = g.F.Files.supply c.args.files.now in
     let bytes = c.args.bytes.now in
-    let asked = asked_of c.args.tests in
+    let asked = asked_of c.args.suite.tests in
+    let names = c.args.suite.names.now in
     let fault = c.in-Err-Text.fault in
     let line = faulty (marked asked.set (text_fault_line fault)) in
-    gathers_none (λ told. told ≡ alone asked.report asked.set line) (AreOfBytes asked supply bytes) _ _
+    gathers_none (λ told. told ≡ alone asked.report asked.set line) (AreOfBytes asked names supply bytes) _ _
     c.tell_text_fault.result
     (λ a is. inr (
       refl,
@@ -41,10 +43,11 @@ pub returns-in-Err-Image-clause-gathers : goal.returns-in-Err-Image-clause-gathe
 returns-in-Err-Image-clause-gathers g c =
     let supply = g.F.Files.supply c.args.files.now in
     let bytes = c.args.bytes.now in
-    let asked = asked_of c.args.tests in
+    let asked = asked_of c.args.suite.tests in
+    let names = c.args.suite.names.now in
     let fault = c.in-Err-Image.fault in
     let line = faulty (marked asked.set (image_fault_line fault)) in
-    gathers_none (λ told. told ≡ alone asked.report asked.set line) (AreOfBytes asked supply bytes) _ _
+    gathers_none (λ told. told ≡ alone asked.report asked.set line) (AreOfBytes asked names supply bytes) _ _
     c.tell_image_fault.result
     (λ a is. inr (
       refl,

@@ -8,13 +8,14 @@ use Rattle.drvhost_tests.proofs.set.test_set.Goals as goal
 pub returns-in-Ok-clause-gathers : goal.returns-in-Ok-clause-gathers
 returns-in-Ok-clause-gathers g c =
     let supply = g.F.Files.supply c.args.files.now in
-    let asked = asked_of c.args.tests in
+    let asked = asked_of c.args.suite.tests in
+    let names = c.args.suite.names.now in
     let bytes = c.in-Ok.bytes.items in
     let holds =
     held_as (supply asked.set) _ bytes c.open-file.ensures.supply
     (rw c.in-Ok.is at c.read_whole-read.ensures.bytes) in
     let reads = rw c.in-Ok.is at c.read_whole-read.ensures.reads in
-    gathers_more (AreOfBytes asked supply bytes) (AreOfFile asked supply) _ _ _ _ _ _
+    gathers_more (AreOfBytes asked names supply bytes) (AreOfFile asked names supply) _ _ _ _ _ _
     c.test_bytes.result c.close.ensures.opened
     (omega (arith, c.close.ensures.failures, reads, c.open-file.ensures.unread))
     (λ n j a right. inl (n, refl, (bytes, holds, right)))
@@ -23,10 +24,11 @@ returns-in-Ok-clause-gathers g c =
 pub returns-in-Err-clause-gathers : goal.returns-in-Err-clause-gathers
 returns-in-Err-clause-gathers g c =
     let supply = g.F.Files.supply c.args.files.now in
-    let asked = asked_of c.args.tests in
+    let asked = asked_of c.args.suite.tests in
+    let names = c.args.suite.names.now in
     let reads = rw c.in-Err.is at c.read_whole-read.ensures.reads in
     gathers_unread (λ told. told ≡ alone asked.report asked.set (unread asked.set))
-    (AreOfFile asked supply) _ _ _ _ c.in-Err.fault c.tell_unread_set.result
+    (AreOfFile asked names supply) _ _ _ _ c.in-Err.fault c.tell_unread_set.result
     c.close.ensures.opened
     (omega (arith, c.close.ensures.failures, reads, c.open-file.ensures.unread))
     (λ a is. inr (refl, refl, is)) c.tell_unread_set.ensures

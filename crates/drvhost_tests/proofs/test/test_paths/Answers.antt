@@ -1,4 +1,4 @@
-use Rattle.drvhost_tests.specs.Tests.{AreNamed, AreOfPaths}
+use Rattle.drvhost_tests.specs.Tests.{AreOfFile, AreOfPaths}
 use Rattle.drvhost_tests.specs.Told.{asked_of}
 use Rattle.drvhost_tests.proofs.Gathering.{gathers_none, gathers_rightly}
 use Rattle.drvhost_tests.proofs.test.test_paths.Goals as goal
@@ -9,9 +9,9 @@ returns-in-Ok-clause-gathers g c =
     let supply = g.F.Files.supply c.args.files.now in
     let stands = g.F.Files.stands c.args.files.now in
     let names = c.in-Ok.names.items in
-    gathers_rightly (AreNamed asked names supply) (AreOfPaths asked stands supply) _ _ _ _
-    c.test_found.result (λ n k a right. (names, c.in-Ok.ensures, right))
-    (rw c.as_slice.ensures.value at c.test_found.ensures.gathers)
+    gathers_rightly (AreOfFile asked names supply) (AreOfPaths asked stands supply) _ _ _ _
+    c.test_set.result (λ n k a right. (names, c.in-Ok.ensures, right))
+    (rw c.as_slice.ensures.value at c.test_set.ensures.gathers)
 
 pub returns-in-Err-clause-gathers : goal.returns-in-Err-clause-gathers
 returns-in-Err-clause-gathers g c =

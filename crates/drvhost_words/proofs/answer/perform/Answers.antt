@@ -16,8 +16,7 @@ pub returns-in-OnPaths-clause-answers : goal.returns-in-OnPaths-clause-answers
 returns-in-OnPaths-clause-answers g c =
     rw c.in-OnPaths.is
     (counted_beside _ _ _ _ _ _ _ _ _ _ _ _ _
-    (rw (c.as_slice.ensures.value, c.settled_judging.ensures) at c.judge_paths.ensures.answers)
-    c.judge_paths.ensures.unwritten)
+    c.judge_paths.ensures.answers c.judge_paths.ensures.unwritten)
 
 pub returns-in-OnPaths-clause-stores : goal.returns-in-OnPaths-clause-stores
 returns-in-OnPaths-clause-stores g c =
@@ -28,7 +27,7 @@ pub returns-in-Log-clause-answers : goal.returns-in-Log-clause-answers
 returns-in-Log-clause-answers g c =
     rw c.in-Log.is
     (counted_beside _ _ _ _ _ _ _ _ _ _ _ _ _
-    (rw c.as_slice-in-Log.ensures.value at c.log_paths.ensures.answers)
+    (rw c.as_slice.ensures.value at c.log_paths.ensures.answers)
     c.log_paths.ensures.unwritten)
 
 pub returns-in-Log-clause-stores : goal.returns-in-Log-clause-stores
@@ -40,7 +39,7 @@ pub returns-in-Test-clause-answers : goal.returns-in-Test-clause-answers
 returns-in-Test-clause-answers g c =
     rw c.in-Test.is
     (counted_beside _ _ _ _ _ _ _ _ _ _ _ _ _
-    (rw c.as_slice-in-Test.ensures.value at c.test.ensures.answers)
+    (rw c.tests_of.ensures at c.test.ensures.answers)
     c.test.ensures.unwritten)
 
 pub returns-in-Test-clause-stores : goal.returns-in-Test-clause-stores
@@ -81,12 +80,11 @@ returns-in-OnSet-clause-stores g c =
 
 pub returns-in-OnRun-clause-answers : goal.returns-in-OnRun-clause-answers
 returns-in-OnRun-clause-answers g c =
-    let opened = rw (c.of-names.ensures.set, c.settled_way-way.ensures) at c.run_files.ensures.opened in
+    let opened = rw c.settled_way-way.ensures at c.run_files.ensures.opened in
     rw c.in-OnRun.is
     (counted_beside _ _ _ _ _ _ _ _ _ _ _ _ _
     (counted_telling _ _ _ opened.0 _ _ _ _ _ _ _ _ _ _ _ _ _ opened.1 opened.2
-    (rw (c.of-names.ensures.set, c.of-names.ensures.input, c.settled_way-way.ensures)
-    at c.run_files.ensures.answers))
+    (rw c.settled_way-way.ensures at c.run_files.ensures.answers))
     c.run_files.ensures.unwritten)
 
 pub returns-in-OnRun-clause-stores : goal.returns-in-OnRun-clause-stores
@@ -96,15 +94,24 @@ returns-in-OnRun-clause-stores g c =
 
 pub returns-in-Host-clause-answers : goal.returns-in-Host-clause-answers
 returns-in-Host-clause-answers g c =
-    let opened = rw c.of-names-in-Host.ensures.set at c.host_files.ensures.opened in
+    let opened = c.host_files.ensures.opened in
     rw c.in-Host.is
     (counted_beside _ _ _ _ _ _ _ _ _ _ _ _ _
     (counted_warned _ _ _ _ opened.0 _ _ _ _ _ _ _ _ _ _ _ _ _ opened.1 opened.2
-    (rw (c.of-names-in-Host.ensures.set, c.of-names-in-Host.ensures.input)
-    at c.host_files.ensures.answers))
+    c.host_files.ensures.answers)
     c.host_files.ensures.unwritten)
 
 pub returns-in-Host-clause-stores : goal.returns-in-Host-clause-stores
 returns-in-Host-clause-stores g c =
     rw c.in-Host.is
     (record { supply = c.host_files.ensures.supply; none = c.host_files.ensures.created })
+
+pub returns-in-Keep-clause-answers : goal.returns-in-Keep-clause-answers
+returns-in-Keep-clause-answers g c =
+    let opened = c.keep_files.ensures.opened in
+    rw c.in-Keep.is
+    (counted_warned _ _ _ _ opened.0 _ _ _ _ _ _ _ _ _ _ _ _ _ opened.1 opened.2
+    c.keep_files.ensures.answers)
+
+pub returns-in-Keep-clause-stores : goal.returns-in-Keep-clause-stores
+returns-in-Keep-clause-stores g c = rw c.in-Keep.is c.keep_files.ensures.stores
