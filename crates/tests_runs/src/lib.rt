@@ -1,11 +1,7 @@
-//! The tests of verdicts, lists, images and runs over devices that fail, and of sets and schedules
-//! that are computed. Their vectors come from outside, and no clause of a contract says them.
+//! The tests of verdicts, lists, images and runs over devices that fail. Their vectors come from
+//! outside, and no clause of a contract says them.
 #![tactic(auto)]
 
-#[cfg(test)]
-mod beginnings;
-#[cfg(test)]
-mod case;
 #[cfg(test)]
 mod devices;
 #[cfg(test)]
@@ -13,10 +9,6 @@ mod failures;
 #[cfg(test)]
 mod histories;
 #[cfg(test)]
-mod limits;
-#[cfg(test)]
 mod readers;
 #[cfg(test)]
 mod rule_pages;
-#[cfg(test)]
-mod sizes;
