@@ -1,10 +1,11 @@
 #!/usr/bin/env python3
 """tools/try scripts [--scripts N] [--seed N] [--sets FOLDER] PROGRAM OTHER: random scripts, served by `host` on the accepted sets among examples, the mended
 drivers of gallery and the sets `*.set` of folders. With one worker both programs have to write the same;
-with 2, 4, 8 and 64 workers the program's own answer has to tell of each command once, in order, and its history has to agree.
-A run of several workers that doesn't end in five seconds is stopped, and counted by itself: an accepted driver may take two
-locks in one order here and in the other there, and its threads then wait for each other. It prints what is otherwise; the
-last line counts."""
+with 2, 4, 8 and 64 workers the program's own answer has to tell of each command once, in order, its history has to agree,
+and `trace` of the history that it writes has to top out the same packets with the same status and information.
+An accepted driver may take two locks in one order here and in the other there: then it is warned of a cycle, and where its
+threads wait for each other, that is told of each and the exit status is 1. These runs are counted, and those that don't
+end in two minutes are wrong. It prints what is otherwise; the last line counts."""
 import argparse, concurrent.futures, glob, os, random, re, subprocess, tempfile, sys
 
 TOP = os.path.dirname(os.path.dirname(os.path.dirname(os.path.abspath(__file__))))
@@ -39,39 +40,53 @@ def script(devices, dice):
             lines.append('interrupt %d' % dice.randrange(devices))
     return lines
 
-def faults(answer, count):
+CYCLE = re.compile(r'driver \w+ takes its locks in a cycle .*: workers may wait for each other for ever')
+WAITING = re.compile(r'.*thread \d+ .*waits? .*')
+
+def topped_out(text):
+    """The packets that topped out by the lines of an answer, with status and information."""
+    return sorted(re.findall(r'^\d+ topped (.*)$', text, re.MULTILINE))
+
+def faults(given, name, answer, count, history):
     """What is wrong with the answer to so many commands, or None."""
+    if answer is None:
+        return 'it does not end'
     status, out, err = answer
-    lines = out.decode().splitlines()
-    if status != 0 or err:
+    lines, told = out.decode().splitlines(), err.decode().splitlines()
+    in_ring = [line for line in told if not CYCLE.fullmatch(line)]
+    if status != bool(in_ring) or not all(WAITING.fullmatch(line) for line in in_ring):
         return 'status %d, %r' % (status, err)
     if not lines or not re.fullmatch(r'history \d+ agrees', lines[-1]):
         return 'no history that agrees'
     if [line.split()[0] for line in lines[:-1]] != [str(number) for number in range(count)]:
         return 'not a line for each command'
+    played = run([given.program, 'trace', name, history])
+    if played is None or topped_out(played[1].decode()) != topped_out(out.decode()):
+        return 'its history tops out otherwise'
     return None
 
 def try_set(given, name, number, folder):
-    """How many runs of one script on one set were made and didn't end, and what was otherwise."""
+    """How many runs of one script on one set were made and ended in a ring, and what was otherwise."""
     dice = random.Random('%d %d' % (given.seed, number))
     lines = script(devices_of(name), dice)
     path = os.path.join(folder, '%d.script' % number)
     with open(path, 'w') as out:
         out.write('\n'.join(lines) + '\n')
     words = ['host', name, path, '--workers']
-    wrong, runs, unended = [], 2, 0
+    history = os.path.join(folder, '%d.sched' % number)
+    wrong, runs, rings = [], 2, 0
     one, other = run([given.program] + words + ['1']), run([given.other] + words + ['1'])
     if one is None or one != other:
         wrong.append((name, 'one worker', lines, one, other))
     for workers in '2', '4', '8', '64':
         runs += 1
-        answer = run([given.program] + words + [workers], 5)
-        unended += answer is None
-        fault = answer and faults(answer, len(lines))
+        answer = run([given.program] + words + [workers, '--history', history])
+        rings += answer is not None and answer[0] == 1
+        fault = faults(given, name, answer, len(lines), history)
         if fault:
             wrong.append((name, workers + ' workers', lines, fault))
     os.remove(path)
-    return runs, unended, wrong
+    return runs, rings, wrong
 
 def main():
     parser = argparse.ArgumentParser(description=__doc__)
@@ -86,14 +101,14 @@ def main():
     with tempfile.TemporaryDirectory() as folder, concurrent.futures.ThreadPoolExecutor(os.cpu_count()) as pool:
         kept = [name for name, good in zip(names, pool.map(lambda name: is_accepted(given.program, name), names)) if good]
         jobs = [(kept[number % len(kept)], number) for number in range(given.scripts)]
-        runs, wrong, unended = 0, 0, 0
+        runs, wrong, rings = 0, 0, 0
         for made, waiting, bad in pool.map(lambda job: try_set(given, job[0], job[1], folder), jobs):
             runs += made
-            unended += waiting
+            rings += waiting
             wrong += len(bad)
             for one in bad:
                 print('otherwise:', *one, sep='\n')
-    print('%d scripts on %d accepted sets, %d runs, %d of them unended, %d otherwise' % (given.scripts, len(kept), runs, unended, wrong))
+    print('%d scripts on %d accepted sets, %d runs, %d of them ended in a ring, %d otherwise' % (given.scripts, len(kept), runs, rings, wrong))
     sys.exit(wrong > 0)
 
 if __name__ == '__main__':
