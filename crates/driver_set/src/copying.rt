@@ -35,7 +35,12 @@ fn copied(alloc: Global, set: &DriverSet) -> Result<DriverSet, AllocError>
     }
 }
 
-fn copied_drivers(alloc: Global, drivers: &[Driver]) -> Result<Vec<Driver>, AllocError>
+/// The same drivers, in memory of their own.
+///
+/// # Errors
+///
+/// When memory runs out.
+pub fn copied_drivers(alloc: Global, drivers: &[Driver]) -> Result<Vec<Driver>, AllocError>
     ensures { IfOk result (λ copies. copies.items ≡ drivers.now) }
 {
     let mut copies = Vec::new(alloc);
@@ -45,7 +50,12 @@ fn copied_drivers(alloc: Global, drivers: &[Driver]) -> Result<Vec<Driver>, Allo
     Ok(copies)
 }
 
-fn copied_driver(alloc: Global, driver: &Driver) -> Result<Driver, AllocError>
+/// The same driver, likewise.
+///
+/// # Errors
+///
+/// When memory runs out.
+pub fn copied_driver(alloc: Global, driver: &Driver) -> Result<Driver, AllocError>
     ensures { IfOk result (λ copy. copy ≡ driver.now) }
 {
     let routines = copied_routines(alloc, driver.routines.as_slice())?;
@@ -62,7 +72,12 @@ fn copied_driver(alloc: Global, driver: &Driver) -> Result<Driver, AllocError>
     })
 }
 
-fn copied_routines(alloc: Global, routines: &[Routine]) -> Result<Vec<Routine>, AllocError>
+/// The same routines, likewise.
+///
+/// # Errors
+///
+/// When memory runs out.
+pub fn copied_routines(alloc: Global, routines: &[Routine]) -> Result<Vec<Routine>, AllocError>
     ensures { IfOk result (λ copies. copies.items ≡ routines.now) }
 {
     let mut copies = Vec::new(alloc);

@@ -1,7 +1,7 @@
 //! Driver sets, as every layer above holds them.
 #![tactic(auto)]
 
-mod copying;
+pub mod copying;
 mod edition;
 pub mod set;
 mod sound;

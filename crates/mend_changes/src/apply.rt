@@ -6,8 +6,8 @@ ghost use Rattle.mend_changes.specs.Edited.{driver_edited, edited, edited_by, ed
 ghost use Rattle.mend_changes.specs.Edited.{with_cancel, with_device, with_queue};
 
 use crate::code::edit_code;
-use crate::copying::{copied_driver, copied_drivers, copied_routines};
 use crate::edit::{Change, Edit};
+use driver_set::copying::{copied_driver, copied_drivers, copied_routines};
 use driver_set::{Device, Driver, DriverSet, Items, Queue, QueueName, Routine};
 use std::alloc::{AllocError, Global};
 

@@ -3,7 +3,6 @@
 
 pub mod apply;
 pub mod code;
-mod copying;
 pub mod edit;
 pub mod shift;
 
