@@ -11,7 +11,8 @@ NAMES = 'crates/model/src/words.rt'
 DOCUMENT = 'docs/RULES.md'
 WARNING = 'LockOrder'
 PAGE = re.compile(r'^const (\w+): Page = Page \{\n(.*?)^\};', re.M | re.S)
-TEXT = re.compile(r'\b(says|source|refused|mend|mended): "((?:[^"\\]|\\.)*)"', re.S)
+TEXT = re.compile(r'\b(says|source|text|mend): "((?:[^"\\]|\\.)*)"', re.S)
+SIDES = ('refused', '-', '+'), ('mended', '+', '-')
 SHOWN = re.compile(r'\bshown_by: Some\((?:"(.*?)"|(FIRST_TEXT))\)')
 FIRST = re.compile(r'^const FIRST_TEXT: &str = "(.*)";', re.M)
 
@@ -23,10 +24,21 @@ def meant(literal):
     """What a string of the source says: a backslash takes the end of its line and the blanks after it away."""
     return re.sub(r'\\\n\s*', '', literal).replace('\\"', '"').replace('\\n', '\n')
 
+def side(text, own, other):
+    """One of the two texts of an example, which has the lines behind one sign and not those behind the other."""
+    lines = (line for line in text.splitlines() if not line.startswith(other))
+    return ''.join(line.removeprefix(own) + '\n' for line in lines)
+
+def fields(body):
+    """The texts of a page, with those of its example apart."""
+    found = {field: meant(text) for field, text in TEXT.findall(body)}
+    text = found.pop('text', None)
+    return {**found, **({} if text is None else {name: side(text, own, other) for name, own, other in SIDES})}
+
 def pages():
     """The texts of each rule's page, by the name of the rule, and of the warning's."""
     source = read(PAGES)
-    constants = {name: {field: meant(text) for field, text in TEXT.findall(body)} for name, body in PAGE.findall(source)}
+    constants = {name: fields(body) for name, body in PAGE.findall(source)}
     for name, body in PAGE.findall(source):
         for other, first in SHOWN.findall(body):
             constants[name]['shown by'] = other or FIRST.search(source)[1]

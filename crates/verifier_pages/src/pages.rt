@@ -4,12 +4,36 @@
 use model::abs::Rule;
 use std::alloc::{AllocError, Global};
 
-/// A short text that a rule refuses, and how it is mended.
+/// A short text that a rule refuses, and the same one mended: lines behind `-` stand in the first
+/// alone, and lines behind `+` in the second alone.
 #[derive(Clone, Copy)]
 struct Example {
-    refused: &'static str,
+    text: &'static str,
     mend: &'static str,
-    mended: &'static str,
+}
+
+/// One of the two texts of an example.
+#[derive(Clone, Copy)]
+enum Side {
+    Refused,
+    Mended,
+}
+
+impl Side {
+    /// What this text has of a line of the example, if it has it.
+    fn shown(self, line: &str) -> Option<&str> {
+        let (own, other) = match self {
+            Side::Refused => ("-", "+"),
+            Side::Mended => ("+", "-"),
+        };
+        if line.starts_with(other) {
+            return None;
+        }
+        match line.strip_prefix(own) {
+            Some(rest) => Some(rest),
+            None => Some(line),
+        }
+    }
 }
 
 /// What a rule says, where that is written, an example of it, where a text can be one, and what a
@@ -96,25 +120,27 @@ fn page_words(alloc: Global, page: Page, titles: Titles) -> Result<String, Alloc
     } = page;
     let mut prose = String::new(alloc);
     write!(prose, "\n{says}\nsee: {source}\n")?;
-    if let Some(
-        Example {
-            refused,
-            mend,
-            mended,
-        },
-    ) = example
-    {
-        let Titles {
-            refused: wrong,
-            mended: right,
-        } = titles;
-        write!(prose, "\n{wrong}:\n\n{refused}")?;
-        write!(prose, "\nmend it: {mend}\n{right}:\n\n{mended}")?;
+    if let Some(Example { text, mend }) = example {
+        write!(prose, "\n{}:\n\n", titles.refused)?;
+        add_side(&mut prose, text, Side::Refused)?;
+        write!(prose, "\nmend it: {mend}\n{}:\n\n", titles.mended)?;
+        add_side(&mut prose, text, Side::Mended)?;
     }
     if let Some(hunted) = shown_by {
         write!(prose, "\nshow it: drvhost hunt {hunted}\n")?;
     }
     Ok(prose)
+}
+
+/// Adds one of the two texts of an example.
+fn add_side(prose: &mut String, text: &str, side: Side) -> Result<(), AllocError> {
+    for line in text.lines() {
+        if let Some(shown) = side.shown(line) {
+            prose.push_str(shown)?;
+            prose.push('\n')?;
+        }
+    }
+    Ok(())
 }
 
 const MALFORMED: Page = Page {
@@ -123,24 +149,16 @@ leads forward, and not into or out of a loop's body; each `loop` has its `end`, 
 at most four are nested.",
     source: "nothing of the Kit: it is what makes a certificate possible",
     example: Some(Example {
-        refused: "driver d
+        text: "driver d
 dpc f
 routine f dpc
 const r0 0
++ret void
 endr
 endd
 device v d 1
 ",
         mend: "end it with a `ret`",
-        mended: "driver d
-dpc f
-routine f dpc
-const r0 0
-ret void
-endr
-endd
-device v d 1
-",
     }),
     shown_by: Some(FIRST_TEXT),
 };
@@ -149,22 +167,15 @@ const UNREACHABLE: Page = Page {
     says: "A path leads to each instruction.",
     source: "nothing of the Kit: what no path reaches was meant for a path that is not there",
     example: Some(Example {
-        refused: "driver d
+        text: "driver d
 routine f dpc
-ret void
+-ret void
 ret void
 endr
 endd
 device v d 1
 ",
         mend: "take it out, or jump there",
-        mended: "driver d
-routine f dpc
-ret void
-endr
-endd
-device v d 1
-",
     }),
     shown_by: None,
 };
@@ -175,28 +186,18 @@ registers, the same locks, the same that is still owed. At an `end` the same is 
 as at its `loop`.",
     source: "nothing of the Kit. A packet that is completed on one of two paths alone is told so",
     example: Some(Example {
-        refused: "driver d
+        text: "driver d
 routine f dpc
 load r0 c0
 jz r0 on
 const r1 1
++clear r1
 on: ret void
 endr
 endd
 device v d 1
 ",
         mend: "clear `r1` before the paths meet, or set it on both of them",
-        mended: "driver d
-routine f dpc
-load r0 c0
-jz r0 on
-const r1 1
-clear r1
-on: ret void
-endr
-endd
-device v d 1
-",
     }),
     shown_by: None,
 };
@@ -208,9 +209,10 @@ driver's status. A register whose packet was completed or given away is blank.",
         check 0x0A for a packet that topped out, and `wrong` for a register that has no such \
         thing",
     example: Some(Example {
-        refused: "driver d
+        text: "driver d
 dpc f
 routine f dpc
++const r0 1
 store c0 r0
 ret void
 endr
@@ -218,16 +220,6 @@ endd
 device v d 1
 ",
         mend: "set the register first",
-        mended: "driver d
-dpc f
-routine f dpc
-const r0 1
-store c0 r0
-ret void
-endr
-endd
-device v d 1
-",
     }),
     shown_by: Some(FIRST_TEXT),
 };
@@ -236,10 +228,10 @@ const DOUBLE_COMPLETION: Page = Page {
     says: "What is completed is a packet, and not one that was completed or given away already.",
     source: "Static Driver Verifier, DoubleCompletion; IoCompleteRequest; bug check 0x44",
     example: Some(Example {
-        refused: "driver d
+        text: "driver d
 dispatch READ f
 routine f dispatch
-complete r0 SUCCESS
+-complete r0 SUCCESS
 complete r0 SUCCESS
 ret SUCCESS
 endr
@@ -247,15 +239,6 @@ endd
 device v d 1
 ",
         mend: "complete it once",
-        mended: "driver d
-dispatch READ f
-routine f dispatch
-complete r0 SUCCESS
-ret SUCCESS
-endr
-endd
-device v d 1
-",
     }),
     shown_by: Some(FIRST_TEXT),
 };
@@ -269,9 +252,10 @@ same location was not, nor is one marked twice.",
     source: "Static Driver Verifier, MarkIrpPending; the Driver Kit, IoMarkIrpPending and \"Returning \
         STATUS_PENDING\"",
     example: Some(Example {
-        refused: "driver d
+        text: "driver d
 dispatch READ f
 routine f dispatch
++mark r0
 complete r0 SUCCESS
 ret PENDING
 endr
@@ -279,16 +263,6 @@ endd
 device v d 1
 ",
         mend: "mark it before it is completed, or return the status",
-        mended: "driver d
-dispatch READ f
-routine f dispatch
-mark r0
-complete r0 SUCCESS
-ret PENDING
-endr
-endd
-device v d 1
-",
     }),
     shown_by: Some(FIRST_TEXT),
 };
@@ -300,9 +274,10 @@ and releases it.",
     source: "Static Driver Verifier, CancelSpinLock; IoAcquireCancelSpinLock, IoReleaseCancelSpinLock; \
         bug checks 0x0F and 0x10",
     example: Some(Example {
-        refused: "driver d
+        text: "driver d
 dpc f
 routine f dpc
++acqc
 relc
 ret void
 endr
@@ -310,16 +285,6 @@ endd
 device v d 1
 ",
         mend: "acquire it first, or leave it alone",
-        mended: "driver d
-dpc f
-routine f dpc
-acqc
-relc
-ret void
-endr
-endd
-device v d 1
-",
     }),
     shown_by: Some(FIRST_TEXT),
 };
@@ -330,26 +295,17 @@ and not kept at a return.",
     source: "Static Driver Verifier, SpinLock; KeAcquireSpinLock, KeReleaseSpinLock; bug checks 0x0F \
         and 0x10",
     example: Some(Example {
-        refused: "driver d
+        text: "driver d
 dpc f
 routine f dpc
 acquire l0
++release l0
 ret void
 endr
 endd
 device v d 1
 ",
         mend: "release it on each path",
-        mended: "driver d
-dpc f
-routine f dpc
-acquire l0
-release l0
-ret void
-endr
-endd
-device v d 1
-",
     }),
     shown_by: Some(FIRST_TEXT),
 };
@@ -359,27 +315,18 @@ const LOCK_HELD: Page = Page {
     source: "the Driver Kit on IoCompleteRequest and on spin locks: completion routines of the drivers \
         above, or the lower driver, may come back to the lock",
     example: Some(Example {
-        refused: "driver d
+        text: "driver d
 routine f dispatch
 acquire l0
++release l0
 complete r0 SUCCESS
-release l0
+-release l0
 ret SUCCESS
 endr
 endd
 device v d 1
 ",
         mend: "release the lock first",
-        mended: "driver d
-routine f dispatch
-acquire l0
-release l0
-complete r0 SUCCESS
-ret SUCCESS
-endr
-endd
-device v d 1
-",
     }),
     shown_by: None,
 };
@@ -389,25 +336,17 @@ const LEVEL: Page = Page {
 no lock. All others may run at DISPATCH_LEVEL.",
     source: "the Driver Kit on IRQL; bug check 0x0A",
     example: Some(Example {
-        refused: "driver d
+        text: "driver d
 dpc f
 routine f dpc
-loadp r0 p0
+-loadp r0 p0
++load r0 c0
 ret void
 endr
 endd
 device v d 1
 ",
         mend: "use a cell that is not paged, or touch it in a dispatch routine before the lock",
-        mended: "driver d
-dpc f
-routine f dpc
-load r0 c0
-ret void
-endr
-endd
-device v d 1
-",
     }),
     shown_by: Some(FIRST_TEXT),
 };
@@ -420,29 +359,19 @@ packet that may still be cancelled behind its back: one that is listed, or taken
 and not disarmed, or one that is being cancelled and stands in the device queue.",
     source: "the Driver Kit on driver-managed IRP queues and their spin locks",
     example: Some(Example {
-        refused: "driver d
+        text: "driver d
 queue q l0
 routine f dispatch
 mark r0
++acquire l0
 insert r0 q
++release l0
 ret PENDING
 endr
 endd
 device v d 1
 ",
         mend: "acquire the lock round it",
-        mended: "driver d
-queue q l0
-routine f dispatch
-mark r0
-acquire l0
-insert r0 q
-release l0
-ret PENDING
-endr
-endd
-device v d 1
-",
     }),
     shown_by: Some("examples/guide/step-5-wrong.drv"),
 };
@@ -456,10 +385,13 @@ not taken while a register names it.",
     source: "the Driver Kit on IoSetCancelRoutine and on cancel routines: who gets NULL leaves the \
         packet to the cancel routine; bug checks 0x44, 0x48 and 0x0A",
     example: Some(Example {
-        refused: "driver d
+        text: "driver d
 queue q l0 f
 routine f cancel
 relc
++acquire l0
++unlink r0 q
++release l0
 complete r0 CANCELLED
 ret void
 endr
@@ -467,19 +399,6 @@ endd
 device v d 1
 ",
         mend: "let the cancel routine take its packet off the queue, under the queue's lock",
-        mended: "driver d
-queue q l0 f
-routine f cancel
-relc
-acquire l0
-unlink r0 q
-release l0
-complete r0 CANCELLED
-ret void
-endr
-endd
-device v d 1
-",
     }),
     shown_by: Some("examples/race.drv"),
 };
@@ -489,24 +408,16 @@ const DROPPED: Page = Page {
     source: "the Driver Kit on dispatch routines: a packet is completed, passed on, or marked pending \
         and kept",
     example: Some(Example {
-        refused: "driver d
+        text: "driver d
 dispatch READ f
 routine f dispatch
++complete r0 SUCCESS
 ret SUCCESS
 endr
 endd
 device v d 1
 ",
         mend: "complete it",
-        mended: "driver d
-dispatch READ f
-routine f dispatch
-complete r0 SUCCESS
-ret SUCCESS
-endr
-endd
-device v d 1
-",
     }),
     shown_by: Some(FIRST_TEXT),
 };
@@ -519,8 +430,9 @@ one.",
     source: "IoStartPacket, IoStartNextPacket and StartIo routines: a device that is left busy starts \
         no packet any more",
     example: Some(Example {
-        refused: "driver d
+        text: "driver d
 routine f startio
++next
 complete r0 SUCCESS
 ret void
 endr
@@ -528,15 +440,6 @@ endd
 device v d 1
 ",
         mend: "start the `next` packet, before the completion or after it",
-        mended: "driver d
-routine f startio
-next
-complete r0 SUCCESS
-ret void
-endr
-endd
-device v d 1
-",
     }),
     shown_by: Some("--stuck examples/stuck.drv"),
 };
@@ -550,25 +453,17 @@ queue has a cancel routine. Each cancel routine is that of exactly one queue or
 `startio` line; another one is told at its first position.",
     source: "the Driver Kit on each sort of routine",
     example: Some(Example {
-        refused: "driver d
+        text: "driver d
 dispatch READ f
 routine f dispatch
 complete r0 SUCCESS
-ret void
+-ret void
++ret SUCCESS
 endr
 endd
 device v d 1
 ",
         mend: "return as the sort does",
-        mended: "driver d
-dispatch READ f
-routine f dispatch
-complete r0 SUCCESS
-ret SUCCESS
-endr
-endd
-device v d 1
-",
     }),
     shown_by: Some(FIRST_TEXT),
 };
@@ -582,24 +477,17 @@ not marked is not sent down with a `hold` routine.",
     source: "the Driver Kit on IoCompletion routines, IoMarkIrpPending and \
         STATUS_MORE_PROCESSING_REQUIRED",
     example: Some(Example {
-        refused: "driver d
+        text: "driver d
 routine f propagate
++ifpending r0 set
++ret continue
++set: mark r0
 ret continue
 endr
 endd
 device v d 1
 ",
         mend: "carry the mark up",
-        mended: "driver d
-routine f propagate
-ifpending r0 set
-ret continue
-set: mark r0
-ret continue
-endr
-endd
-device v d 1
-",
     }),
     shown_by: Some("examples/forgets.drv"),
 };
@@ -609,7 +497,7 @@ const STACK_TOO_SMALL: Page = Page {
 more than the device under it; where it passes on (`pass`), at least as many.",
     source: "the Driver Kit on I/O stack locations and StackSize; bug check 0x35",
     example: Some(Example {
-        refused: "driver disk
+        text: "driver disk
 endd
 driver filter
 dispatch READ f
@@ -619,21 +507,10 @@ ret lower r0
 endr
 endd
 device low disk 1
-device up filter 1 low
+-device up filter 1 low
++device up filter 2 low
 ",
         mend: "give the device one location for itself and those of the lower one",
-        mended: "driver disk
-endd
-driver filter
-dispatch READ f
-routine f dispatch
-call r0
-ret lower r0
-endr
-endd
-device low disk 1
-device up filter 2 low
-",
     }),
     shown_by: Some(FIRST_TEXT),
 };
@@ -642,28 +519,21 @@ const NO_LOWER: Page = Page {
     says: "Where a driver passes on or calls, each of its devices stands over another one.",
     source: "the Driver Kit on IoCallDriver; a run stops there with `wrong`",
     example: Some(Example {
-        refused: "driver d
+        text: "-driver d
++driver disk
++endd
++driver filter
 dispatch READ f
 routine f dispatch
 pass r0
 ret lower r0
 endr
 endd
-device v d 1
+-device v d 1
++device low disk 1
++device up filter 1 low
 ",
         mend: "name the lower device, which has a driver of its own",
-        mended: "driver disk
-endd
-driver filter
-dispatch READ f
-routine f dispatch
-pass r0
-ret lower r0
-endr
-endd
-device low disk 1
-device up filter 1 low
-",
     }),
     shown_by: Some(FIRST_TEXT),
 };
@@ -674,10 +544,11 @@ const TOO_LONG: Page = Page {
 multiplied. What is told is the position at which the sum passes that.",
     source: "nothing of the Kit by number: what takes long belongs to several activations",
     example: Some(Example {
-        refused: "driver d
+        text: "driver d
 routine f dpc
 loop 1000
-loop 1000
+-loop 1000
++loop 100
 end
 end
 ret void
@@ -686,17 +557,6 @@ endd
 device v d 1
 ",
         mend: "take fewer turns",
-        mended: "driver d
-routine f dpc
-loop 1000
-loop 100
-end
-end
-ret void
-endr
-endd
-device v d 1
-",
     }),
     shown_by: None,
 };
@@ -718,7 +578,7 @@ accepted all the same, since a cycle needn't ever be a ring of threads.",
     source: "the Driver Kit on preventing deadlocks while using spin locks; Driver Verifier, Deadlock \
         Detection; bug check 0xC4",
     example: Some(Example {
-        refused: "driver d
+        text: "driver d
 dispatch READ f
 dispatch WRITE g
 routine f dispatch
@@ -730,10 +590,12 @@ complete r0 SUCCESS
 ret SUCCESS
 endr
 routine g dispatch
++acquire l0
 acquire l1
-acquire l0
+-acquire l0
++release l1
 release l0
-release l1
+-release l1
 complete r0 SUCCESS
 ret SUCCESS
 endr
@@ -741,28 +603,6 @@ endd
 device v d 1
 ",
         mend: "acquire them in one order in both routines",
-        mended: "driver d
-dispatch READ f
-dispatch WRITE g
-routine f dispatch
-acquire l0
-acquire l1
-release l1
-release l0
-complete r0 SUCCESS
-ret SUCCESS
-endr
-routine g dispatch
-acquire l0
-acquire l1
-release l1
-release l0
-complete r0 SUCCESS
-ret SUCCESS
-endr
-endd
-device v d 1
-",
     }),
     shown_by: Some(FIRST_TEXT),
 };
