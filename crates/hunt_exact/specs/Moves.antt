@@ -3,8 +3,9 @@
 -- asked for, at DISPATCH_LEVEL.
 use Rattle.std.specs.Prelude.{ℕ, ◌++◌, zero, suc, Bool, true, false, List, [], ◌∷◌, map}
 use Rattle.hunt_facts.specs.declared.requests.Request.{Request}
+use Rattle.hunt_facts.specs.Requests.{request_on}
 use Rattle.model.specs.declared.event.Event.{Event}
-use Rattle.model.specs.declared.event.Event.TheVariants.{Issue, Cancel, Interrupt, Dpc, StartIo, Step}
+use Rattle.model.specs.declared.event.Event.TheVariants.{Cancel, Interrupt, Dpc, StartIo, Step}
 
 -- a step of each of so many threads, and an interrupt of each of so many devices
 abbrev pub steps : ℕ → List Event
@@ -30,9 +31,6 @@ cancels_on t raised zero = []
 cancels_on t raised (suc n) = cancels_on t raised n ++ cancels_of t raised n
 
 -- each request of a list
-abbrev pub request_on : ℕ → Request → Event
-request_on t r = Issue t r.device r.major r.argument
-
 abbrev pub requests_on : ℕ → List Request → List Event
 requests_on t requests = map (request_on t) requests
 

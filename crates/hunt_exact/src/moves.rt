@@ -52,12 +52,7 @@ fn add_requests(moves: &mut Vec<Event>, thread: u8, requests: &[Request]) -> Res
     ensures { OnOk result (moves.new.items ≡ moves.old.items ++ requests_on thread requests.now) }
 {
     for request in requests {
-        moves.push(Event::Issue {
-            thread,
-            device: request.device,
-            major: request.major,
-            argument: request.argument,
-        })?;
+        moves.push(request.on(thread))?;
     }
     Ok(())
 }

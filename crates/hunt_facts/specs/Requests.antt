@@ -5,6 +5,8 @@ use Rattle.std.specs.List.{list_any}
 use Rattle.hunt_facts.specs.declared.arguments.Asking.{Asking}
 use Rattle.hunt_facts.specs.declared.arguments.TheConstants.{MAX_ARGUMENTS}
 use Rattle.hunt_facts.specs.declared.requests.Request.{Request}
+use Rattle.model.specs.declared.event.Event.{Event}
+use Rattle.model.specs.declared.event.Event.TheVariants.{Issue}
 use Rattle.model.specs.declared.instr.Instr.{Instr}
 use Rattle.model.specs.declared.instr.Instr.TheVariants.{Const}
 use Rattle.model.specs.declared.set.Driver.{Driver}
@@ -13,6 +15,10 @@ use Rattle.model.specs.declared.status.Major.{Major}
 use Rattle.model.specs.declared.status.Major.TheVariants.{Read, Write, Control}
 use Rattle.model.specs.Set.{Set, handler_of}
 use Rattle.model.specs.Status.{major_code}
+
+-- the arrival of a request on a thread
+abbrev pub request_on : ℕ → Request → Event
+request_on t r = Issue t r.device r.major r.argument
 
 -- arguments, and one more unless it is among them
 abbrev pub with_argument : List ℕ → ℕ → List ℕ

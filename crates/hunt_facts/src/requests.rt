@@ -3,10 +3,12 @@
 
 ghost use Rattle.std.specs.Prelude.{◌≡◌, ◌++◌, IfOk, OnOk, length};
 ghost use Rattle.std.specs.List.{list_any};
-ghost use Rattle.hunt_facts.specs.Requests.{requests_below, requests_by, requests_with, served_major, served_majors, serves};
+ghost use Rattle.hunt_facts.specs.Requests.{request_on, requests_below, requests_by, requests_with};
+ghost use Rattle.hunt_facts.specs.Requests.{served_major, served_majors, serves};
 
 use crate::arguments::Arguments;
 use driver_set::DriverSet;
+use model::event::Event;
 use model::set::Driver;
 use model::status::Major;
 use std::alloc::{AllocError, Global};
@@ -20,6 +22,20 @@ pub struct Request {
     pub device: u8,
     pub major: Major,
     pub argument: u64,
+}
+
+impl Request {
+    /// Its arrival on a thread.
+    pub fn on(self, thread: u8) -> Event
+        ensures { result ≡ request_on thread self }
+    {
+        Event::Issue {
+            thread,
+            device: self.device,
+            major: self.major,
+            argument: self.argument,
+        }
+    }
 }
 
 /// The requests to each device of a set, with these arguments.

@@ -103,12 +103,7 @@ fn add_due(moves: &mut Vec<Event>, machine: &Checked, thread: u8) -> Result<(), 
 /// Each request that is tried.
 fn add_issues(moves: &mut Vec<Event>, facts: &Facts, thread: u8) -> Result<(), AllocError> {
     for request in facts.requests.as_slice() {
-        moves.push(Event::Issue {
-            thread,
-            device: request.device,
-            major: request.major,
-            argument: request.argument,
-        })?;
+        moves.push(request.on(thread))?;
     }
     Ok(())
 }

@@ -58,8 +58,8 @@ fn add_own(
 ) -> Result<(), AllocError> {
     match instr {
         Instr::Const(r, _) | Instr::Move(r, _) | Instr::Clear(r) => add_register(words, r, after),
-        Instr::Add(r, s) => add_sum(words, r, s, after),
-        Instr::Subtract(r, s) => add_difference(words, r, s, after),
+        Instr::Add(r, s) => add_computed(words, r, Sign::Plus, s, after),
+        Instr::Subtract(r, s) => add_computed(words, r, Sign::Minus, s, after),
         Instr::JumpIfZero(r, label) => {
             add_looked_at(words, r, after)?;
             add_jump(words, book, after, number_at(r, after) == 0, label)
@@ -108,53 +108,52 @@ fn add_looked_at(words: &mut String, r: Register, after: &Activation) -> Result<
     add_number(words, number_at(r, after))
 }
 
-/// Adds a sum, of which the first number was the sum without the second one; where the second stood
-/// in the same register, the sum alone.
-fn add_sum(
-    words: &mut String,
-    r: Register,
-    s: Register,
-    after: &Activation,
-) -> Result<(), AllocError> {
-    if r.index() == s.index() {
-        return add_register(words, r, after);
-    }
-    let second = number_at(s, after);
-    let first = number_at(r, after).wrapping_sub(second);
-    add_computed(words, r, first, " + ", second, after)
+/// How two numbers make a third one.
+#[derive(Clone, Copy)]
+enum Sign {
+    Plus,
+    Minus,
 }
 
-/// Adds a difference, in the same way.
-fn add_difference(
-    words: &mut String,
-    r: Register,
-    s: Register,
-    after: &Activation,
-) -> Result<(), AllocError> {
-    if r.index() == s.index() {
-        return add_register(words, r, after);
+impl Sign {
+    /// The first number, of which and of a second one this was made.
+    fn first_of(self, made: u64, second: u64) -> u64 {
+        match self {
+            Sign::Plus => made.wrapping_sub(second),
+            Sign::Minus => made.wrapping_add(second),
+        }
     }
-    let second = number_at(s, after);
-    let first = number_at(r, after).wrapping_add(second);
-    add_computed(words, r, first, " - ", second, after)
+
+    /// The sign in words.
+    fn as_str(self) -> &'static str {
+        match self {
+            Sign::Plus => " + ",
+            Sign::Minus => " - ",
+        }
+    }
 }
 
-/// Adds of what a register was computed, and what it has become.
+/// Adds of what two numbers a register was computed, and what it has become; where the second stood
+/// in the same register, what it has become alone.
 fn add_computed(
     words: &mut String,
     r: Register,
-    first: u64,
-    sign: &str,
-    second: u64,
+    sign: Sign,
+    s: Register,
     after: &Activation,
 ) -> Result<(), AllocError> {
+    if r.index() == s.index() {
+        return add_register(words, r, after);
+    }
+    let made = number_at(r, after);
+    let second = number_at(s, after);
     words.push_str(register_name(r))?;
     words.push_str(" = ")?;
-    add_number(words, first)?;
-    words.push_str(sign)?;
+    add_number(words, sign.first_of(made, second))?;
+    words.push_str(sign.as_str())?;
     add_number(words, second)?;
     words.push_str(" = ")?;
-    add_number(words, number_at(r, after))
+    add_number(words, made)
 }
 
 /// Adds whether a routine jumps to a label.

@@ -1,13 +1,25 @@
-//! The rows: sets, what happens to them, and what is told of it. The traces come from outside.
+//! The rows: sets, what happens to them, and what is answered. The replies come from outside.
 
 use crate::sets::{CALLS, COMPLETES, HOLDS, LOOPS, PROPAGATES, QUEUES, STACKS, STARTS, SUBTRACTS};
+use model::event::Reply;
+use model::status::Status;
 
 /// A run of an accepted set.
 pub(crate) struct Row {
     pub(crate) name: &'static str,
     pub(crate) set: &'static [u8],
     pub(crate) schedule: &'static [u8],
-    pub(crate) trace: &'static [u8],
+    /// The replies, each with how often it follows on itself.
+    pub(crate) replies: &'static [(usize, Reply)],
+}
+
+/// A packet that topped out.
+const fn topped(packet: u64, status: Status, info: u64) -> Reply {
+    Reply::Topped {
+        packet,
+        status,
+        info,
+    }
 }
 
 pub(crate) static ROWS: [Row; 12] = [
@@ -17,11 +29,13 @@ pub(crate) static ROWS: [Row; 12] = [
         schedule: b"threads 1\n\
             issue 0 0 READ 7\n\
             step 0 4\n",
-        trace: b"0 started 0\n\
-            1 stepped\n\
-            2 topped 0 0x00000000 0\n\
-            3 finished\n\
-            4 idle\n",
+        replies: &[
+            (1, Reply::Started(0)),
+            (1, Reply::Stepped),
+            (1, topped(0, Status::Success, 0)),
+            (1, Reply::Finished),
+            (1, Reply::Idle),
+        ],
     },
     Row {
         name: "a later packet has a number of its own",
@@ -31,12 +45,14 @@ pub(crate) static ROWS: [Row; 12] = [
             step 0 3\n\
             issue 0 0 READ 0\n\
             cancel 1 0 0\n",
-        trace: b"0 started 0\n\
-            1 stepped\n\
-            2 topped 0 0x00000000 0\n\
-            3 finished\n\
-            4 started 1\n\
-            5 finished\n",
+        replies: &[
+            (1, Reply::Started(0)),
+            (1, Reply::Stepped),
+            (1, topped(0, Status::Success, 0)),
+            (1, Reply::Finished),
+            (1, Reply::Started(1)),
+            (1, Reply::Finished),
+        ],
     },
     Row {
         name: "a cancel before the completion routine runs",
@@ -47,14 +63,15 @@ pub(crate) static ROWS: [Row; 12] = [
             step 0 3\n\
             issue 0 0 READ 0\n\
             step 1 2\n",
-        trace: b"0 started 0\n\
-            1 started 0\n\
-            2 stepped\n\
-            3 topped 0 0x00000000 0\n\
-            4 finished\n\
-            5 started 1\n\
-            6 stepped\n\
-            7 finished\n",
+        replies: &[
+            (2, Reply::Started(0)),
+            (1, Reply::Stepped),
+            (1, topped(0, Status::Success, 0)),
+            (1, Reply::Finished),
+            (1, Reply::Started(1)),
+            (1, Reply::Stepped),
+            (1, Reply::Finished),
+        ],
     },
     Row {
         name: "a packet goes down a stack, is queued, and completes by a DPC",
@@ -66,25 +83,14 @@ pub(crate) static ROWS: [Row; 12] = [
             dpc 1 0\n\
             step 1 7\n\
             step 0 3\n",
-        trace: b"0 started 0\n\
-            1 stepped\n\
-            2 stepped\n\
-            3 stepped\n\
-            4 stepped\n\
-            5 stepped\n\
-            6 stepped\n\
-            7 stepped\n\
-            8 stepped\n\
-            9 stepped\n\
-            10 stepped\n\
-            11 stepped\n\
-            12 stepped\n\
-            13 stepped\n\
-            14 topped 0 0x00000000 0\n\
-            15 finished\n\
-            16 stepped\n\
-            17 stepped\n\
-            18 finished\n",
+        replies: &[
+            (1, Reply::Started(0)),
+            (13, Reply::Stepped),
+            (1, topped(0, Status::Success, 0)),
+            (1, Reply::Finished),
+            (2, Reply::Stepped),
+            (1, Reply::Finished),
+        ],
     },
     Row {
         name: "a cancel meets a packet in its queue",
@@ -99,27 +105,18 @@ pub(crate) static ROWS: [Row; 12] = [
             step 1 3\n\
             step 2\n\
             step 1 4\n",
-        trace: b"0 started 0\n\
-            1 stepped\n\
-            2 stepped\n\
-            3 stepped\n\
-            4 stepped\n\
-            5 stepped\n\
-            6 stepped\n\
-            7 finished\n\
-            8 stepped\n\
-            9 stepped\n\
-            10 started 0\n\
-            11 stepped\n\
-            12 stepped\n\
-            13 stepped\n\
-            14 stepped\n\
-            15 stepped\n\
-            16 finished\n\
-            17 stepped\n\
-            18 stepped\n\
-            19 topped 0 0x00000000 0\n\
-            20 finished\n",
+        replies: &[
+            (1, Reply::Started(0)),
+            (6, Reply::Stepped),
+            (1, Reply::Finished),
+            (2, Reply::Stepped),
+            (1, Reply::Started(0)),
+            (5, Reply::Stepped),
+            (1, Reply::Finished),
+            (2, Reply::Stepped),
+            (1, topped(0, Status::Success, 0)),
+            (1, Reply::Finished),
+        ],
     },
     Row {
         name: "a cancel wins against the DPC",
@@ -137,33 +134,20 @@ pub(crate) static ROWS: [Row; 12] = [
             step 2 2\n\
             step 1 2\n\
             step 2 6\n",
-        trace: b"0 started 0\n\
-            1 stepped\n\
-            2 stepped\n\
-            3 stepped\n\
-            4 stepped\n\
-            5 stepped\n\
-            6 stepped\n\
-            7 finished\n\
-            8 stepped\n\
-            9 stepped\n\
-            10 started 0\n\
-            11 stepped\n\
-            12 stepped\n\
-            13 stepped\n\
-            14 stepped\n\
-            15 stepped\n\
-            16 stepped\n\
-            17 stepped\n\
-            18 waited\n\
-            19 stepped\n\
-            20 finished\n\
-            21 stepped\n\
-            22 stepped\n\
-            23 stepped\n\
-            24 stepped\n\
-            25 topped 0 0xC0000120 0\n\
-            26 finished\n",
+        replies: &[
+            (1, Reply::Started(0)),
+            (6, Reply::Stepped),
+            (1, Reply::Finished),
+            (2, Reply::Stepped),
+            (1, Reply::Started(0)),
+            (7, Reply::Stepped),
+            (1, Reply::Waited),
+            (1, Reply::Stepped),
+            (1, Reply::Finished),
+            (4, Reply::Stepped),
+            (1, topped(0, Status::Cancelled, 0)),
+            (1, Reply::Finished),
+        ],
     },
     Row {
         name: "a packet is held above and completed by the DPC",
@@ -175,26 +159,14 @@ pub(crate) static ROWS: [Row; 12] = [
             dpc 1 1\n\
             step 1 6\n\
             step 0 3\n",
-        trace: b"0 started 0\n\
-            1 stepped\n\
-            2 stepped\n\
-            3 stepped\n\
-            4 stepped\n\
-            5 stepped\n\
-            6 stepped\n\
-            7 stepped\n\
-            8 stepped\n\
-            9 stepped\n\
-            10 stepped\n\
-            11 stepped\n\
-            12 stepped\n\
-            13 stepped\n\
-            14 stepped\n\
-            15 topped 0 0x00000000 0\n\
-            16 finished\n\
-            17 stepped\n\
-            18 stepped\n\
-            19 finished\n",
+        replies: &[
+            (1, Reply::Started(0)),
+            (14, Reply::Stepped),
+            (1, topped(0, Status::Success, 0)),
+            (1, Reply::Finished),
+            (2, Reply::Stepped),
+            (1, Reply::Finished),
+        ],
     },
     Row {
         name: "a loop",
@@ -202,15 +174,12 @@ pub(crate) static ROWS: [Row; 12] = [
         schedule: b"threads 1\n\
             issue 0 0 READ 0\n\
             step 0 8\n",
-        trace: b"0 started 0\n\
-            1 stepped\n\
-            2 stepped\n\
-            3 stepped\n\
-            4 stepped\n\
-            5 stepped\n\
-            6 stepped\n\
-            7 topped 0 0x00000000 0\n\
-            8 finished\n",
+        replies: &[
+            (1, Reply::Started(0)),
+            (6, Reply::Stepped),
+            (1, topped(0, Status::Success, 0)),
+            (1, Reply::Finished),
+        ],
     },
     Row {
         name: "a number below zero",
@@ -218,14 +187,12 @@ pub(crate) static ROWS: [Row; 12] = [
         schedule: b"threads 1\n\
             issue 0 0 READ 0\n\
             step 0 7\n",
-        trace: b"0 started 0\n\
-            1 stepped\n\
-            2 stepped\n\
-            3 stepped\n\
-            4 stepped\n\
-            5 stepped\n\
-            6 topped 0 0x00000000 18446744073709551615\n\
-            7 finished\n",
+        replies: &[
+            (1, Reply::Started(0)),
+            (5, Reply::Stepped),
+            (1, topped(0, Status::Success, u64::MAX)),
+            (1, Reply::Finished),
+        ],
     },
     Row {
         name: "a packet that a lower driver marked",
@@ -233,14 +200,13 @@ pub(crate) static ROWS: [Row; 12] = [
         schedule: b"threads 1\n\
             issue 0 1 READ 0\n\
             step 0 7\n",
-        trace: b"0 started 0\n\
-            1 stepped\n\
-            2 stepped\n\
-            3 stepped\n\
-            4 stepped\n\
-            5 topped 0 0x00000000 0\n\
-            6 stepped\n\
-            7 finished\n",
+        replies: &[
+            (1, Reply::Started(0)),
+            (4, Reply::Stepped),
+            (1, topped(0, Status::Success, 0)),
+            (1, Reply::Stepped),
+            (1, Reply::Finished),
+        ],
     },
     Row {
         name: "a mark that a completion routine hands on",
@@ -248,17 +214,13 @@ pub(crate) static ROWS: [Row; 12] = [
         schedule: b"threads 1\n\
             issue 0 1 READ 0\n\
             step 0 10\n",
-        trace: b"0 started 0\n\
-            1 stepped\n\
-            2 stepped\n\
-            3 stepped\n\
-            4 stepped\n\
-            5 stepped\n\
-            6 stepped\n\
-            7 stepped\n\
-            8 topped 0 0x00000000 0\n\
-            9 stepped\n\
-            10 finished\n",
+        replies: &[
+            (1, Reply::Started(0)),
+            (7, Reply::Stepped),
+            (1, topped(0, Status::Success, 0)),
+            (1, Reply::Stepped),
+            (1, Reply::Finished),
+        ],
     },
     Row {
         name: "StartIo begins packets one by one",
@@ -276,26 +238,23 @@ pub(crate) static ROWS: [Row; 12] = [
             step 0 5\n\
             startio 0 0\n\
             dpc 0 0\n",
-        trace: b"0 started 0\n\
-            1 stepped\n\
-            2 stepped\n\
-            3 finished\n\
-            4 started 1\n\
-            5 stepped\n\
-            6 stepped\n\
-            7 finished\n\
-            8 started 0\n\
-            9 stepped\n\
-            10 finished\n\
-            11 stepped\n\
-            12 idle\n\
-            13 stepped\n\
-            14 stepped\n\
-            15 stepped\n\
-            16 stepped\n\
-            17 topped 0 0x00000000 0\n\
-            18 finished\n\
-            19 started 1\n\
-            20 refused\n",
+        replies: &[
+            (1, Reply::Started(0)),
+            (2, Reply::Stepped),
+            (1, Reply::Finished),
+            (1, Reply::Started(1)),
+            (2, Reply::Stepped),
+            (1, Reply::Finished),
+            (1, Reply::Started(0)),
+            (1, Reply::Stepped),
+            (1, Reply::Finished),
+            (1, Reply::Stepped),
+            (1, Reply::Idle),
+            (4, Reply::Stepped),
+            (1, topped(0, Status::Success, 0)),
+            (1, Reply::Finished),
+            (1, Reply::Started(1)),
+            (1, Reply::Refused),
+        ],
     },
 ];

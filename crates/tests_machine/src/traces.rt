@@ -1,4 +1,4 @@
-//! Each row by the machine of accepted sets, and the lines of its replies.
+//! Each row by the machine of accepted sets, by the lines of its replies.
 
 use crate::rows::{ROWS, Row};
 use asm::assemble;
@@ -30,8 +30,10 @@ fn accepted_sets_run(rt: HostRuntime) -> Result<(), Fail> {
         let name = row.name;
         for pace in [Pace::EventByEvent, Pace::StepsAtOnce] {
             let replies = replies_of(&rt, alloc, row, pace)?;
-            let lines = lines_of(alloc, replies.as_slice())?;
-            assert!(rt; lines.bytes() == row.trace, "{name}");
+            let expected = expected_of(alloc, row)?;
+            let told = lines_of(alloc, replies.as_slice())?;
+            let said = lines_of(alloc, expected.as_slice())?;
+            assert!(rt; told.bytes() == said.bytes(), "{name}");
         }
     }
     Ok(())
@@ -118,6 +120,15 @@ fn push_often(replies: &mut Vec<Reply>, reply: Reply, count: usize) -> Result<()
         replies.push(reply)?;
     }
     Ok(())
+}
+
+/// What a row expects, reply by reply.
+fn expected_of(alloc: Global, row: &Row) -> Result<Vec<Reply>, AllocError> {
+    let mut expected = Vec::new(alloc);
+    for (count, reply) in row.replies.iter() {
+        push_often(&mut expected, *reply, *count)?;
+    }
+    Ok(expected)
 }
 
 /// The lines of these replies, as far as one block holds them.
