@@ -22,7 +22,7 @@ HEADINGS = {'### Cited by contracts of outer crates': 'outer', '### Cited by con
 # crates whose contracts are there for the proofs of other crates: nothing of them is called from outside
 INNER = ('laws_slots laws_words machine_parts machine_frames machine_world checked_frames checked_parts irp devqueue iomgr irql_locks absstate '
          'asm_line asm_usual asm_names asm_listing text tell_lines').split()
-TESTS = 'tests_commands tests_answers tests_runs tests_scripts tests_sets tests_host tests_machine tests_exact'.split()
+TESTS = 'tests_answers tests_runs tests_scripts tests_sets tests_host tests_machine tests_exact'.split()
 # what a type keeps for itself, which its callers can't see
 PRIVATE = 'view invariant inverse also_owns'.split()
 NAME = re.compile(r"(?<![\w'])[^\W\d][\w']*")

@@ -1,7 +1,6 @@
 //! What is told of words that the command line takes, and that name no job.
 
 use crate::choices::{answer_format, coloring, form, verdict_format};
-use crate::job::Form;
 use clap::ArgMatches;
 use drvhost_arguments::matches::{argument, is_given};
 use drvhost_arguments::program::EXPLAIN_USAGE;
@@ -27,44 +26,89 @@ const DRAW_USAGE: &str = "drvhost draw [OPTIONS] <FILE> <SCHEDULE>";
 
 const HOST_USAGE: &str = "drvhost host [OPTIONS] --workers <workers> <FILE> <SCRIPT>";
 
-/// The formats of verdicts and explanations, those of other answers, and those of drawn runs.
+/// How `test` is used.
+const TEST_USAGE: &str = "drvhost test [OPTIONS] <FILE> <SCENARIO>...";
+
+/// The formats of verdicts and explanations, those of other answers, those of drawn runs, and those
+/// in which tests are reported.
 const VERDICTS: &str = "text, json or sarif";
 
 const ANSWERS: &str = "text or json";
 
 const FIGURES: &str = "svg or perfetto";
 
+const REPORTS: &str = "text, tap or junit";
+
 /// What may be said of colour.
 const COLORS: &str = "auto, always or never";
 
+/// The options with a number.
+const NUMBERED: [&str; 9] = [
+    "threads", "packets", "states", "events", "argument", "tries", "nth", "workers", "jobs",
+];
+
 /// What is told of words that the command line takes, and that name no job.
 pub(crate) fn unnamed(alloc: Global, matches: &ArgMatches<'_>) -> Result<String, AllocError> {
-    match matches.subcommand() {
-        Some(("explain", inner)) if coloring(inner).is_none() => {
-            unpainted(alloc, inner, EXPLAIN_USAGE)
-        }
-        Some(("explain", inner)) if verdict_format(inner).is_some() => unexplained(alloc, inner),
-        Some(("explain", inner)) => unwritten(alloc, inner, VERDICTS, EXPLAIN_USAGE),
-        Some(("tell", inner)) if coloring(inner).is_none() => unpainted(alloc, inner, TELL_USAGE),
-        Some(("tell", inner)) if answer_format(inner).is_some() => untold(alloc, inner),
-        Some(("tell", inner)) => unwritten(alloc, inner, ANSWERS, TELL_USAGE),
-        Some(("hunt", inner)) if is_given(inner, "exact") && is_given(inner, "stuck") => {
-            conflicting(alloc, "--exact", "--stuck", HUNT_USAGE)
-        }
-        Some(("host", inner)) if form(inner).is_none() => {
-            unwritten(alloc, inner, ANSWERS, HOST_USAGE)
-        }
-        Some(("host", inner)) if argument(inner, "OUT").is_some() => unkept(alloc, inner),
-        Some(("check", inner)) => unwritten(alloc, inner, VERDICTS, CHECK_USAGE),
-        Some(("trace", inner)) => unwritten(alloc, inner, ANSWERS, TRACE_USAGE),
-        Some(("draw", inner)) => unwritten(alloc, inner, FIGURES, DRAW_USAGE),
-        _ => unnumbered(alloc),
+    let Some((subcommand, inner)) = matches.subcommand() else {
+        return plain(alloc);
+    };
+    match signed(inner) {
+        Some((option, word)) => unnumbered(alloc, option, word),
+        None => unfitting(alloc, subcommand, inner),
     }
 }
 
-/// What is told where a number has a sign, which the command line takes and no job does.
-fn unnumbered(alloc: Global) -> Result<String, AllocError> {
+/// What is told of words of a subcommand in which each number is good.
+fn unfitting(
+    alloc: Global,
+    subcommand: &str,
+    inner: &ArgMatches<'_>,
+) -> Result<String, AllocError> {
+    match subcommand {
+        "explain" if coloring(inner).is_none() => unpainted(alloc, inner, EXPLAIN_USAGE),
+        "explain" if verdict_format(inner).is_some() => unexplained(alloc, inner),
+        "explain" => unwritten(alloc, inner, VERDICTS, EXPLAIN_USAGE),
+        "tell" if coloring(inner).is_none() => unpainted(alloc, inner, TELL_USAGE),
+        "tell" if answer_format(inner).is_some() => untold(alloc, inner),
+        "tell" => unwritten(alloc, inner, ANSWERS, TELL_USAGE),
+        "hunt" if is_given(inner, "exact") && is_given(inner, "stuck") => {
+            conflicting(alloc, "--exact", "--stuck", HUNT_USAGE)
+        }
+        "host" if form(inner).is_none() => unwritten(alloc, inner, ANSWERS, HOST_USAGE),
+        "host" if argument(inner, "OUT").is_some() => {
+            conflicting(alloc, "--history <OUT>", "--format json", HOST_USAGE)
+        }
+        "check" => unwritten(alloc, inner, VERDICTS, CHECK_USAGE),
+        "trace" => unwritten(alloc, inner, ANSWERS, TRACE_USAGE),
+        "draw" => unwritten(alloc, inner, FIGURES, DRAW_USAGE),
+        "test" => unwritten(alloc, inner, REPORTS, TEST_USAGE),
+        _ => plain(alloc),
+    }
+}
+
+/// How the program is used.
+fn plain(alloc: Global) -> Result<String, AllocError> {
     format!(in alloc; "{USAGE}\n\nFor more information, try '--help'.\n")
+}
+
+/// The first option whose number has a sign, and that number: the command line takes it, and no job
+/// does.
+fn signed<'a>(matches: &ArgMatches<'a>) -> Option<(&'static str, &'a str)> {
+    for option in NUMBERED {
+        match argument(matches, option) {
+            Some(word) if word.starts_with("+") => return Some((option, word)),
+            _ => {}
+        }
+    }
+    None
+}
+
+/// What is told of it.
+fn unnumbered(alloc: Global, option: &str, word: &str) -> Result<String, AllocError> {
+    format!(in alloc;
+        "error: invalid value '{word}' for '--{option} <{option}>': a number has no sign\n\n\
+        For more information, try '--help'.\n"
+    )
 }
 
 /// What is told where `explain` isn't told what to explain.
@@ -99,15 +143,6 @@ fn untold(alloc: Global, matches: &ArgMatches<'_>) -> Result<String, AllocError>
         (true, true) => conflicting(alloc, "--quiet", "--every", TELL_USAGE),
         (true, false) => conflicting(alloc, "--quiet", "--format json", TELL_USAGE),
         (false, _) => conflicting(alloc, "--every", "--format json", TELL_USAGE),
-    }
-}
-
-/// What is told where `host` is asked for the history, and names no job: in JSON, or where the number
-/// of workers has a sign.
-fn unkept(alloc: Global, matches: &ArgMatches<'_>) -> Result<String, AllocError> {
-    match form(matches) {
-        Some(Form::Json) => conflicting(alloc, "--history <OUT>", "--format json", HOST_USAGE),
-        _ => unnumbered(alloc),
     }
 }
 
