@@ -13,14 +13,26 @@ pub(crate) struct Row {
     pub(crate) replies: &'static [(usize, Reply)],
 }
 
-/// A packet that topped out.
-const fn topped(packet: u64, status: Status, info: u64) -> Reply {
-    Reply::Topped {
-        packet,
-        status,
-        info,
-    }
-}
+/// The first packet has topped out.
+const TOPPED: Reply = Reply::Topped {
+    packet: 0,
+    status: Status::Success,
+    info: 0,
+};
+
+/// It was cancelled.
+const CANCELLED: Reply = Reply::Topped {
+    packet: 0,
+    status: Status::Cancelled,
+    info: 0,
+};
+
+/// It was answered with one less than zero.
+const BELOW_ZERO: Reply = Reply::Topped {
+    packet: 0,
+    status: Status::Success,
+    info: u64::MAX,
+};
 
 pub(crate) static ROWS: [Row; 12] = [
     Row {
@@ -32,7 +44,7 @@ pub(crate) static ROWS: [Row; 12] = [
         replies: &[
             (1, Reply::Started(0)),
             (1, Reply::Stepped),
-            (1, topped(0, Status::Success, 0)),
+            (1, TOPPED),
             (1, Reply::Finished),
             (1, Reply::Idle),
         ],
@@ -48,7 +60,7 @@ pub(crate) static ROWS: [Row; 12] = [
         replies: &[
             (1, Reply::Started(0)),
             (1, Reply::Stepped),
-            (1, topped(0, Status::Success, 0)),
+            (1, TOPPED),
             (1, Reply::Finished),
             (1, Reply::Started(1)),
             (1, Reply::Finished),
@@ -66,7 +78,7 @@ pub(crate) static ROWS: [Row; 12] = [
         replies: &[
             (2, Reply::Started(0)),
             (1, Reply::Stepped),
-            (1, topped(0, Status::Success, 0)),
+            (1, TOPPED),
             (1, Reply::Finished),
             (1, Reply::Started(1)),
             (1, Reply::Stepped),
@@ -86,7 +98,7 @@ pub(crate) static ROWS: [Row; 12] = [
         replies: &[
             (1, Reply::Started(0)),
             (13, Reply::Stepped),
-            (1, topped(0, Status::Success, 0)),
+            (1, TOPPED),
             (1, Reply::Finished),
             (2, Reply::Stepped),
             (1, Reply::Finished),
@@ -114,7 +126,7 @@ pub(crate) static ROWS: [Row; 12] = [
             (5, Reply::Stepped),
             (1, Reply::Finished),
             (2, Reply::Stepped),
-            (1, topped(0, Status::Success, 0)),
+            (1, TOPPED),
             (1, Reply::Finished),
         ],
     },
@@ -145,7 +157,7 @@ pub(crate) static ROWS: [Row; 12] = [
             (1, Reply::Stepped),
             (1, Reply::Finished),
             (4, Reply::Stepped),
-            (1, topped(0, Status::Cancelled, 0)),
+            (1, CANCELLED),
             (1, Reply::Finished),
         ],
     },
@@ -162,7 +174,7 @@ pub(crate) static ROWS: [Row; 12] = [
         replies: &[
             (1, Reply::Started(0)),
             (14, Reply::Stepped),
-            (1, topped(0, Status::Success, 0)),
+            (1, TOPPED),
             (1, Reply::Finished),
             (2, Reply::Stepped),
             (1, Reply::Finished),
@@ -177,7 +189,7 @@ pub(crate) static ROWS: [Row; 12] = [
         replies: &[
             (1, Reply::Started(0)),
             (6, Reply::Stepped),
-            (1, topped(0, Status::Success, 0)),
+            (1, TOPPED),
             (1, Reply::Finished),
         ],
     },
@@ -190,7 +202,7 @@ pub(crate) static ROWS: [Row; 12] = [
         replies: &[
             (1, Reply::Started(0)),
             (5, Reply::Stepped),
-            (1, topped(0, Status::Success, u64::MAX)),
+            (1, BELOW_ZERO),
             (1, Reply::Finished),
         ],
     },
@@ -203,7 +215,7 @@ pub(crate) static ROWS: [Row; 12] = [
         replies: &[
             (1, Reply::Started(0)),
             (4, Reply::Stepped),
-            (1, topped(0, Status::Success, 0)),
+            (1, TOPPED),
             (1, Reply::Stepped),
             (1, Reply::Finished),
         ],
@@ -217,7 +229,7 @@ pub(crate) static ROWS: [Row; 12] = [
         replies: &[
             (1, Reply::Started(0)),
             (7, Reply::Stepped),
-            (1, topped(0, Status::Success, 0)),
+            (1, TOPPED),
             (1, Reply::Stepped),
             (1, Reply::Finished),
         ],
@@ -251,7 +263,7 @@ pub(crate) static ROWS: [Row; 12] = [
             (1, Reply::Stepped),
             (1, Reply::Idle),
             (4, Reply::Stepped),
-            (1, topped(0, Status::Success, 0)),
+            (1, TOPPED),
             (1, Reply::Finished),
             (1, Reply::Started(1)),
             (1, Reply::Refused),
