@@ -15,6 +15,9 @@ use std::thread::{self, Threads};
 /// How few files are worth a thread of their own.
 pub const FILES_LEAST: usize = 16;
 
+/// How large a block is asked for, and given back, before files are read.
+const BLOCK_KEPT: usize = 1 << 20;
+
 /// What was read of a file.
 #[derive(Drop)]
 pub enum Contents {
@@ -72,6 +75,7 @@ pub(crate) fn read_files<'n, T: Threads + Sync>(
         AllZip (IsHeld way.is_told (λ _. Unknown)) names.now held.items) }
 {
     let mut held = hold_names(way.alloc, names)?;
+    keep_memory(way.alloc);
     let threads = thread_count(way, names);
     thread::for_each_mut(
         rt,
@@ -82,6 +86,13 @@ pub(crate) fn read_files<'n, T: Threads + Sync>(
         },
     );
     Ok(held)
+}
+
+/// Has the C library keep memory that is given back to it: of what is free for a thread it keeps
+/// twice the largest block that it ever took from the system and gave back, and only 128 KiB before.
+/// So memory would go back to the system at each file, and be touched anew for the next.
+fn keep_memory(alloc: Global) {
+    let _block = Vec::<u8>::with_capacity(alloc, BLOCK_KEPT);
 }
 
 /// Files of these names, of which nothing was read so far.
