@@ -11,7 +11,7 @@ use crate::reading::{Held, Way, count_reads, read_files};
 use crate::standard::{Opened, STANDARD_INPUT, open};
 use drvhost_devices::device::{Failed, Reader, Sink, Source, Writer};
 use drvhost_found::find::{Found, alone, find};
-use drvhost_found::sought::Sought;
+use drvhost_found::sought::Search;
 use std::alloc::AllocError;
 use std::fs::File;
 use std::io::{StdinLock, Write};
@@ -52,8 +52,14 @@ pub trait Files {
     /// # Errors
     ///
     /// When memory runs out.
-    fn find(&self, sought: Sought, path: &str) -> Result<Found, AllocError>
-        ensures { IfOk result (stands self.now sought path.now) };
+    fn find<T: Threads + Sync>(
+        &self,
+        rt: &T,
+        search: Search,
+        path: &str,
+    ) -> Result<Found, AllocError>
+        requires shared { IsSync T.row }
+        ensures { IfOk result (stands self.now search.sought path.now) };
 
     /// Opens the file of a name, to read it from its start. One that can't be opened is a source
     /// that is closed.
@@ -181,11 +187,16 @@ impl Files for Disk<'_> {
 
     ghost unwritten = { λ disk. disk.unwritten };
 
-    fn find(&self, sought: Sought, path: &str) -> Result<Found, AllocError> {
+    fn find<T: Threads + Sync>(
+        &self,
+        rt: &T,
+        search: Search,
+        path: &str,
+    ) -> Result<Found, AllocError> {
         if path == STANDARD_INPUT {
             return alone(self.system.alloc(), path);
         }
-        find(self.system, sought, path)
+        find(rt, self.system, search, path)
     }
 
     fn open(&self, name: &str) -> Reader<Opened<File, StdinLock<'static>>> {

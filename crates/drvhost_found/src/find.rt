@@ -7,9 +7,9 @@ ghost use Rattle.drvhost_found.specs.Found.{AreNamed, IsAlone, IsFound};
 ghost use Rattle.drvhost_found.specs.Below.{AreBelow, Knows, Lists, file_of, files_of, folder_of, folders_of};
 
 use crate::folders::{Entry, Folders, Kind, Listing, System};
-use crate::sought::{Sought, is_name_of};
+use crate::sought::{Search, Sought, is_name_of};
 use std::alloc::{AllocError, Global};
-use std::rt::Files;
+use std::thread::Threads;
 
 /// What was found for a path.
 #[derive(Drop)]
@@ -39,14 +39,16 @@ pub(crate) struct Gathered {
 /// # Errors
 ///
 /// When memory runs out.
-pub fn find<R: Files + AllocGlobal + Clone + Drop>(
-    rt: &R,
-    sought: Sought,
+pub fn find<T: Threads + Sync>(
+    rt: &T,
+    system: &HostRuntime,
+    search: Search,
     path: &str,
 ) -> Result<Found, AllocError>
-    ensures { IfOk result (IsFound sought path.now) }
+    ensures { IfOk result (IsFound search.sought path.now) }
 {
-    find_in(rt.alloc(), &System::new(rt), sought, path)
+    let folders = System::new(system, search.jobs);
+    find_in(rt, system.alloc(), &folders, search.sought, path)
 }
 
 /// The files that a path stands for, by what folders have.
@@ -54,7 +56,8 @@ pub fn find<R: Files + AllocGlobal + Clone + Drop>(
 /// # Errors
 ///
 /// When memory runs out.
-pub fn find_in<D: Folders>(
+pub fn find_in<T: Threads + Sync, D: Folders>(
+    rt: &T,
     alloc: Global,
     folders: &D,
     sought: Sought,
@@ -64,7 +67,7 @@ pub fn find_in<D: Folders>(
     ensures below { IfOk result (λ found. (has : List ℕ → Option Listing)
         → Lists (D.lists folders.now) has → AreBelow sought has path.now found.files.items) }
 {
-    let Some(listing) = folders.list(alloc, path)? else {
+    let Some(listing) = folders.list(rt, alloc, path)? else {
         return alone(alloc, path);
     };
     let mut gathered = Gathered {
@@ -73,7 +76,7 @@ pub fn find_in<D: Folders>(
         unread: Vec::new(alloc),
     };
     keep_all(alloc, listing, sought, path, &mut gathered)?;
-    look_below(alloc, folders, sought, &mut gathered)?;
+    look_below(rt, alloc, folders, sought, &mut gathered)?;
     gathered.files.sort()?;
     gathered.unread.sort()?;
     Ok(Found {
@@ -102,7 +105,8 @@ pub fn alone(alloc: Global, path: &str) -> Result<Found, AllocError>
 }
 
 /// Looks into each folder that waits, and into those below it.
-fn look_below<D: Folders>(
+fn look_below<T: Threads + Sync, D: Folders>(
+    rt: &T,
     alloc: Global,
     folders: &D,
     sought: Sought,
@@ -119,14 +123,15 @@ fn look_below<D: Folders>(
         let Some(folder) = gathered.waiting.pop() else {
             return Ok(());
         };
-        look_into(alloc, folders, sought, folder, gathered)?;
+        look_into(rt, alloc, folders, sought, folder, gathered)?;
     }
     // So many folders have no memory.
     Err(AllocError)
 }
 
 /// Looks into a folder that waited.
-fn look_into<D: Folders>(
+fn look_into<T: Threads + Sync, D: Folders>(
+    rt: &T,
     alloc: Global,
     folders: &D,
     sought: Sought,
@@ -140,7 +145,7 @@ fn look_into<D: Folders>(
         → Knows sought has root (gathered.old.waiting.items ++ folder ∷ []) gathered.old.files.items
         → Knows sought has root gathered.new.waiting.items gathered.new.files.items) }
 {
-    let Some(listing) = folders.list(alloc, folder.as_str())? else {
+    let Some(listing) = folders.list(rt, alloc, folder.as_str())? else {
         gathered.unread.push(folder)?;
         return Ok(());
     };

@@ -12,6 +12,13 @@ pub enum Sought {
     Scenarios,
 }
 
+/// A search: what is sought, and by how many jobs at once, at most.
+#[derive(Clone, Copy)]
+pub struct Search {
+    pub sought: Sought,
+    pub jobs: u8,
+}
+
 /// Whether a path ends as that of a file which is sought.
 pub fn is_name_of(sought: Sought, path: &str) -> bool
     ensures { result ≡ is_name_of sought path.now }

@@ -51,7 +51,7 @@ AreOf judging supply (name ∷ names) reads whole =
 
 -- how many files are in hand at once, where so many jobs share them
 abbrev pub width_of : ℕ → ℕ
-width_of jobs = if nat_lt jobs 2 then 1 else 128 * jobs
+width_of jobs = if nat_lt jobs 2 then 1 else 256 * jobs
 
 -- one of several files, with those before it, and their answers; of those behind it some may have
 -- been opened, within so many, and some reads of these may have failed

@@ -23,7 +23,7 @@ use std::alloc::{AllocError, Global};
 use std::thread::Threads;
 
 /// How many files a job is handed at once.
-const FILES_EACH: usize = 128;
+const FILES_EACH: usize = 256;
 
 /// The driver sets of several files, and how they are judged.
 #[derive(Clone, Copy)]
@@ -57,7 +57,7 @@ impl<'n> Sets<'n> {
 /// Judges the set of each of these files, by so many jobs at once, and tells the answers in order,
 /// each with the name of its file: before each line of a verdict, in a line of JSON, or in a line
 /// above an explanation. With one job what is answered for a file goes out before the next is
-/// opened. For several 128 files each are read at once, and then judged. The answer is the greatest
+/// opened. For several 256 files each are read at once, and then judged. The answer is the greatest
 /// exit status. A file that can't be read, or is faulty, doesn't keep from the others; a
 /// write that fails does, and want of memory. How many of the files are done is told meanwhile.
 pub fn answer_each<R: Threads + Sync + Progress, F: Files, O: Sink, E: Sink>(

@@ -4,23 +4,25 @@ ghost use Rattle.std.specs.Prelude.{ℕ, IfNone, IfOk, IfSome, List};
 ghost use Rattle.drvhost_many.specs.All.{AreFound, IsAlone};
 
 use drvhost_files::files::Files;
-use drvhost_found::sought::Sought;
+use drvhost_found::sought::Search;
 use std::alloc::{AllocError, Global};
+use std::thread::Threads;
 
 /// The names of the files that are sought for which paths stand, path by path. Behind those of each
 /// stand what can't be looked at in and below it: as a file it can't be read, and is told so.
-pub fn find_all<F: Files>(
+pub fn find_all<T: Threads + Sync, F: Files>(
+    rt: &T,
     alloc: Global,
-    sought: Sought,
+    search: Search,
     paths: &[&str],
     files: &F,
 ) -> Result<Vec<String>, AllocError>
     ensures { IfOk result (λ names.
-        AreFound (λ path. F.stands files.now sought path.now) paths.now names.items) }
+        AreFound (λ path. F.stands files.now search.sought path.now) paths.now names.items) }
 {
     let mut names = Vec::new(alloc);
     for path in paths {
-        let mut found = files.find(sought, path)?;
+        let mut found = files.find(rt, search, path)?;
         names.append(&mut found.files)?;
         names.append(&mut found.unread)?;
     }

@@ -13,11 +13,20 @@ use drvhost_devices::device::{Failed, Sink};
 use drvhost_devices::fault::{no_memory, say};
 use drvhost_devices::transfer::write_whole;
 use drvhost_files::files::Files;
-use drvhost_found::sought::Sought;
+use drvhost_found::sought::{Search, Sought};
 use drvhost_many::paths::find_all;
 use drvhost_options::logging::Logging;
 use report::fault::WRITE_FAILED;
 use std::alloc::{AllocError, Global};
+use std::thread::Threads;
+
+/// A log: what is told in it, and the paths that stand for its files.
+#[derive(Clone, Copy)]
+pub struct Log<'n> {
+    pub alloc: Global,
+    pub logging: Logging,
+    pub paths: &'n [&'n str],
+}
 
 /// Looks at the driver set of each file that one of these paths stands for, and writes what is
 /// found, in order, as one log of SARIF: the first fault of a refused set, or that of each routine,
@@ -26,10 +35,9 @@ use std::alloc::{AllocError, Global};
 /// exit status: the greatest of those of the files, which is 0 for an accepted set, 1 for a refused
 /// one, and 2 for a file that is faulty or can't be read; 2 where a write failed, and 3 where memory
 /// ran out, which is told on the error writer.
-pub fn log_paths<F: Files, O: Sink, E: Sink>(
-    alloc: Global,
-    logging: Logging,
-    paths: &[&str],
+pub fn log_paths<T: Threads + Sync, F: Files, O: Sink, E: Sink>(
+    rt: &T,
+    log: Log<'_>,
     files: &mut F,
     out: &mut O,
     err: &mut E,
@@ -38,8 +46,9 @@ pub fn log_paths<F: Files, O: Sink, E: Sink>(
     requires files { F.failures files.old < 2 ^ 63 }
     requires out { CanCount (O.failures out.old) }
     requires err { CanCount (E.failures err.old) }
-    ensures answers { Counted (PathsEnd logging (λ path. F.stands files.old Sought.Sets path.now)
-        (F.supply files.old) paths.now) (F.opened files.old) (F.opened files.new)
+    ensures answers { Counted
+        (PathsEnd log.entry.logging (λ path. F.stands files.old Sought.Sets path.now)
+        (F.supply files.old) log.entry.paths.now) (F.opened files.old) (F.opened files.new)
         (F.failures files.old) (F.failures files.new) (O.failures out.old) (O.failures out.new)
         (O.contents out.old) (O.contents out.new)
         (Says (E.failures err.old) (E.failures err.new) (E.contents err.old) (E.contents err.new))
@@ -48,8 +57,13 @@ pub fn log_paths<F: Files, O: Sink, E: Sink>(
     ensures created { F.created files.new ≡ F.created files.old }
     ensures unwritten { F.unwritten files.new ≡ F.unwritten files.old }
 {
-    match find_all(alloc, Sought::Sets, paths, files) {
-        Ok(names) => log_files(alloc, logging, names.as_slice(), files, out, err),
+    let search = Search {
+        sought: Sought::Sets,
+        jobs: 1,
+    };
+    let alloc = log.alloc;
+    match find_all(rt, alloc, search, log.paths, files) {
+        Ok(names) => log_files(alloc, log.logging, names.as_slice(), files, out, err),
         Err(AllocError) => no_memory(err),
     }
 }

@@ -14,7 +14,7 @@ use drvhost_devices::fault::{no_memory, say};
 use drvhost_devices::transfer::write_whole;
 use drvhost_devices::verification::Verification;
 use drvhost_files::files::Files;
-use drvhost_found::sought::Sought;
+use drvhost_found::sought::{Search, Sought};
 use drvhost_many::paths::find_all;
 use drvhost_many::told::Told;
 use drvhost_options::verbosity::Verbosity;
@@ -87,7 +87,11 @@ fn test_paths<R: Threads + Sync, F: Files>(
     ensures created { F.created files.new ≡ F.created files.old }
     ensures unwritten { F.unwritten files.new ≡ F.unwritten files.old }
 {
-    match find_all(alloc, Sought::Scenarios, tests.scenarios, files) {
+    let search = Search {
+        sought: Sought::Scenarios,
+        jobs: tests.jobs,
+    };
+    match find_all(rt, alloc, search, tests.scenarios, files) {
         Ok(names) => {
             let suite = Suite {
                 alloc,

@@ -26,7 +26,7 @@ use drvhost_files::files::{Files, Later, Pending};
 use drvhost_finds::find::{find_exactly, find_telling};
 use drvhost_formats::trace::{Asked, trace_json};
 use drvhost_formats::unopened::unopened_json;
-use drvhost_found::sought::Sought;
+use drvhost_found::sought::{Search, Sought};
 use drvhost_hunts::exact::hunt_exactly;
 use drvhost_hunts::hunt::hunt_telling;
 use drvhost_many::file::{self, judge};
@@ -37,7 +37,7 @@ use drvhost_mends::mend::{self, mend};
 use drvhost_options::jobs::MAX_JOBS;
 use drvhost_options::surroundings::Surroundings;
 use drvhost_runs::trace::trace;
-use drvhost_sarif::logging::log_paths;
+use drvhost_sarif::logging::{Log, log_paths};
 use drvhost_scenarios::schedule::schedule;
 use drvhost_sets::check::check;
 use drvhost_sets::list::list;
@@ -183,7 +183,12 @@ fn perform<F: Files, O: Sink, E: Sink, R: Threads + Wait + Sync + Progress>(
         Job::Page(page) => write_page(alloc, *page, out, err),
         Job::OnPaths(judged) => judge_paths(rt, setting, judged, files, out, err),
         Job::Log { paths, logging } => {
-            log_paths(alloc, *logging, paths.as_slice(), files, out, err)
+            let log = Log {
+                alloc,
+                logging: *logging,
+                paths: paths.as_slice(),
+            };
+            log_paths(rt, log, files, out, err)
         }
         Job::Test(testing) => {
             let jobs = job_count(testing.jobs, setting.surroundings.processors);
@@ -273,14 +278,18 @@ fn judge_paths<R: Threads + Sync + Progress, F: Files, O: Sink, E: Sink>(
     let alloc = setting.alloc;
     let judging = settled_judging(setting.surroundings, judged.judging);
     let paths = judged.paths.as_slice();
-    match find_all(alloc, Sought::Sets, paths, files) {
+    let search = Search {
+        sought: Sought::Sets,
+        jobs: job_count(judged.jobs, setting.surroundings.processors),
+    };
+    match find_all(rt, alloc, search, paths, files) {
         Ok(names) => match alone(paths, names.as_slice()) {
             Some(path) => judge_file(alloc, judging, path, files, out, err),
             None => {
                 let sets = Sets {
                     alloc,
                     judging,
-                    jobs: job_count(judged.jobs, setting.surroundings.processors),
+                    jobs: search.jobs,
                     names: names.as_slice(),
                 };
                 answer_each(rt, sets, files, out, err)
