@@ -11,16 +11,14 @@ use Rattle.drvhost_devices.specs.declared.fault.End.{End}
 use Rattle.drvhost_devices.specs.declared.fault.End.TheVariants.{Stopped}
 use Rattle.drvhost_devices.specs.declared.fault.Fault.{Fault}
 use Rattle.drvhost_devices.specs.declared.fault.Fault.TheVariants.{Read, Write, Memory, Text, Image, Schedule as OfSchedule, Script as OfScript}
-use Rattle.drvhost_devices.specs.Answer.{Answer, end_status, ended}
+use Rattle.drvhost_devices.specs.Answer.{Answer, end_status}
 use Rattle.drvhost_devices.specs.Device.{Adds, Supply, TakesBeginning}
-use Rattle.drvhost_devices.specs.Fault.{Goes, fault_status}
+use Rattle.drvhost_devices.specs.Fault.{Goes, fault_status, status_of}
 use Rattle.drvhost_devices.proofs.Jobs.{goes_rightly}
-use Rattle.drvhost_devices.proofs.Writing.{adds_all}
-use Rattle.drvhost_runs.specs.declared.page.Page.{Page}
-use Rattle.drvhost_runs.specs.declared.ready.Ready.{Ready}
+use Rattle.drvhost_runs.specs.Hosted.{IsServedBy}
 use Rattle.drvhost_runs.specs.Hosting.{GoesTold, ended_with}
 use Rattle.drvhost_runs.specs.Keeping.{IsHistory, IsKeptOf, IsKeptWith, IsServedWith, LeavesFor, TakesWith, Touches, WithText, listed_as, listed_end}
-use Rattle.drvhost_runs.specs.Readiness.{IsReady, IsUnserved}
+use Rattle.drvhost_runs.specs.Readiness.{IsUnserved}
 use Rattle.drvhost_runs.specs.Served.{IsUnhosted, TellsOfRing, rings_in, served_as}
 use Rattle.drvhost_runs.proofs.Serving.{ringed_there, served_there}
 
@@ -177,26 +175,27 @@ module _ (set : Set) (workers : ℕ) (commands : List Command) (hosted : Hosted)
       let P : List ℕ → Type 0 = λ t. IsServedWith workers set commands t answer in
       subst P (sym is) (kept_right answer e)
 
--- what is served for what was read is right for the sources
-pub served_kept : (set script : Supply) (page : Page) (ready : Ready) (workers : ℕ)
-    → IsReady set script page (Ok (Some ready)) → (text : Option (List ℕ)) (answer : Answer)
-    → WithText (IsServedWith workers ready.accepted ready.commands.items) text answer
+-- what was served is right for the sources
+pub served_kept : (set script : Supply) (workers : ℕ) (hosted : Hosted)
+    (by : IsServedBy workers set script hosted) (text : Option (List ℕ)) (answer : Answer)
+    → WithText (IsServedWith workers by.accepted by.commands.items) text answer
     → IsKeptWith workers set script text answer
-served_kept set script page ready workers is None answer right = absurd right
-served_kept set script page ready workers (read, typable, of, blank) (Some text) answer right =
-    let commands = of.commands in (
+served_kept set script workers hosted by None answer right = absurd right
+served_kept set script workers hosted by (Some text) answer right =
+    let read = by.read in
+    let scripted = by.scripted in (
       read.0,
       read.1,
       (
-        ready.accepted,
+        by.accepted,
         read.2,
         (
-          typable,
+          by.typable,
           record {
-            bytes = commands.0;
-            holds = commands.1;
-            commands = ready.commands.items;
-            says = commands.2;
+            bytes = scripted.0;
+            holds = scripted.1;
+            commands = by.commands.items;
+            says = scripted.2;
             right = right;
           },
         ),
@@ -211,14 +210,9 @@ unserved_kept set script workers b l end goes =
     goes_rightly (IsUnhosted set script) (IsKeptOf workers set script) b b [] l end
     (λ answer right. (None, right)) (goes b)
 
-pub unserved_leaves : (set script : Supply) (workers : ℕ) (b n : Option (List ℕ)) (l : List ℕ)
-    → IsUnserved set script l (Ok Stopped) → Appends b n l
-    → LeavesFor (IsKeptWith workers set script None) b n (end_status Stopped)
-unserved_leaves set script workers b n l goes written =
-    let h = goes b in
-    inr (inr (
-      ended Stopped h.0,
-      h.1,
-      refl,
-      all_out b n h.0 (adds_all b b n [] l h.0 h.2 written),
-    ))
+-- a sink is left as it was where a job ends so that only shows what it answers
+pub told_leaves : (R : Answer → Type 0) (words : List ℕ) (b n : Option (List ℕ))
+    (end : Result End Fault) → GoesTold R words b n [] [] end → LeavesFor R b n (status_of end)
+told_leaves R words b n (Ok end) h =
+    inr (inr (ended_with end h.0 words, h.1, refl, all_out b n h.0 h.2))
+told_leaves R words b n (Err fault) h = fault_leaves R b n fault

@@ -2,6 +2,7 @@ pub mod Serving
 pub mod Repeating
 pub mod Following
 pub mod Observing
+pub mod Together
 pub mod Lining
 pub mod RingsTold
 pub mod Readying

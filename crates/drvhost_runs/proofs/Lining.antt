@@ -32,49 +32,6 @@ pub up_told : (r : Replies) → (is_last r.last ≡ true → r.times ≡ 1) → 
 up_told r once =
     up_behind r.stepped (replicate r.times r.last) (up_same r.times r.last once)
 
--- the lines of what is told together
-pub lines_told : (number : ℕ) (r : Replies) → reply_lines number (told_by r)
-    ≡ reply_lines number (replicate r.stepped Stepped)
-    ++ reply_lines (number + r.stepped) (replicate r.times r.last)
-lines_told number r =
-    lines_on number (replicate r.stepped Stepped) (replicate r.times r.last)
-    ∙ ap (λ k. reply_lines number (replicate r.stepped Stepped)
-    ++ reply_lines (number + k) (replicate r.times r.last))
-    (length-replicate r.stepped Stepped)
-
-pub told_added : (number next : ℕ) (r : Replies) (b m n : Option (List ℕ)) (g l k : List ℕ)
-    → next ≡ number + r.stepped
-    → Adds b m g l (reply_lines number (replicate r.stepped Stepped))
-    → Adds m n l k (reply_lines next (replicate r.times r.last))
-    → Adds b n g k (reply_lines number (told_by r))
-told_added number next r b m n g l k is first second =
-    rw (lines_told number r, sym is) (adds_more _ _ _ _ _ _ _ _ first second)
-
-pub told_breaks : (number next : ℕ) (r : Replies) (b m n : Option (List ℕ)) (g l : List ℕ)
-    → next ≡ number + r.stepped
-    → Adds b m g l (reply_lines number (replicate r.stepped Stepped))
-    → TakesBeginning m n (l ++ reply_lines next (replicate r.times r.last))
-    → TakesBeginning b n (g ++ reply_lines number (told_by r))
-told_breaks number next r b m n g l is first second =
-    let steps = reply_lines number (replicate r.stepped Stepped) in
-    let others = reply_lines next (replicate r.times r.last) in
-    let gathered : Gathered (steps ++ others) others b m g l =
-    record { text = steps; whole = refl; adds = first } in
-    rw (lines_told number r, sym is)
-    (gathered_part _ _ others [] _ _ _ _ _ gathered (sym (append-nil others)) second)
-
-pub steps_break : (number : ℕ) (r : Replies) (b n : Option (List ℕ)) (g : List ℕ)
-    → TakesBeginning b n (g ++ reply_lines number (replicate r.stepped Stepped))
-    → TakesBeginning b n (g ++ reply_lines number (told_by r))
-steps_break number r b n g p =
-    rw (
-      lines_told number r,
-      sym (append_assoc g
-          (reply_lines number (replicate r.stepped Stepped))
-          (reply_lines (number + r.stepped) (replicate r.times r.last))),
-    )
-    (breaks_before _ _ _ _ p)
-
 -- what is told together was taken of an event
 pub takes_told : {M : Type 0} (set_of : M → Set) (ShowsRun : M → ℕ → List Event → Type 0)
     (m n : M) (e : Event) (r : Replies) → RepeatsBy set_of ShowsRun m e n (told_by r)

@@ -18,6 +18,8 @@ use Rattle.drvhost_devices.proofs.Jobs.{goes_refused, goes_rightly, right_on, se
 use Rattle.drvhost_devices.proofs.Writing.{keeps_same, writes_behind}
 use Rattle.drvhost_runs.specs.declared.page.Page.{Page}
 use Rattle.drvhost_runs.specs.declared.ready.Ready.{Ready}
+use Rattle.workers_script.specs.declared.hosted.Hosted.{Hosted}
+use Rattle.drvhost_runs.specs.Hosted.{IsServedBy}
 use Rattle.drvhost_runs.specs.Readiness.{AreWarningsOf, IsReady, IsServing, IsUnserved, warnings_in}
 use Rattle.drvhost_runs.specs.Served.{IsHostOf, IsServed, IsServedOf, IsUnhosted, IsUnservedOf}
 
@@ -93,20 +95,20 @@ unserved_host set script workers b l end goes =
     goes_rightly (IsUnhosted set script) (IsHostOf workers set script) b b [] l end
     (unhosted_right set script workers) (goes b)
 
--- what is served for what was read is right for the sources
-pub served_host : (set script : Supply) (page : Page) (ready : Ready) (workers : ℕ)
-    → IsReady set script page (Ok (Some ready)) → (answer : Answer)
-    → IsServed workers ready.accepted (Ok ready.commands.items) answer
+-- what was served is right for the sources
+pub served_host : (set script : Supply) (workers : ℕ) (hosted : Hosted)
+    (by : IsServedBy workers set script hosted) (answer : Answer)
+    → IsServed workers by.accepted (Ok by.commands.items) answer
     → IsHostOf workers set script answer
-served_host set script page ready workers (read, typable, of, blank) answer right =
-    let commands = of.commands in
-    right_on (IsIfAccepted (IsServedOf workers script)) set ready.accepted read answer
+served_host set script workers hosted by answer right =
+    let scripted = by.scripted in
+    right_on (IsIfAccepted (IsServedOf workers script)) set by.accepted by.read answer
     (inl (
-      typable,
+      by.typable,
       (
-        commands.0,
-        commands.1,
-        subst (λ r. IsServed workers ready.accepted r answer) (sym commands.2) right,
+        scripted.0,
+        scripted.1,
+        subst (λ r. IsServed workers by.accepted r answer) (sym scripted.2) right,
       ),
     ))
 

@@ -82,7 +82,7 @@ module _ (hosted : Hosted) (ringed words : List ℕ) where
       )
 
 -- the threads that wait in a ring after a history, by what stands
-rings_after : (set : Set) (workers : ℕ) (history : List Entry) (standing : Option Machine)
+pub rings_after : (set : Set) (workers : ℕ) (history : List Entry) (standing : Option Machine)
     → IsStanding set workers history standing
     → rings_in standing ≡ ringed_after set workers history
 rings_after set workers history None idle =

@@ -1,11 +1,16 @@
--- How a job goes whose answer tells of a ring.
-use Rattle.std.specs.Prelude.{ℕ, ◌≡◌, List, [], Option, Result, Ok, Err}
+-- With how many workers a job is done whose answer tells of a ring, and how it goes.
+use Rattle.std.specs.Prelude.{ℕ, ◌≡◌, ◌≤◌, List, [], Option, Result, Ok, Err}
+use Rattle.model.specs.declared.limits.TheConstants.{MAX_THREADS}
 use Rattle.drvhost_devices.specs.declared.fault.End.{End}
 use Rattle.drvhost_devices.specs.declared.fault.Fault.{Fault}
 use Rattle.drvhost_devices.specs.Answer.{Answer, end_status}
 use Rattle.drvhost_devices.specs.Device.{Adds}
 use Rattle.drvhost_devices.specs.Fault.{Goes, fault_told}
 use Rattle.drvhost_runs.specs.declared.page.Page.{Page}
+
+-- so many workers can serve: one at least, and as many as a world has threads at most
+abbrev pub AreWorkers : ℕ → Type 0
+AreWorkers count = (1 ≤ count) × (count ≤ MAX_THREADS)
 
 -- nothing has gathered on a page
 pub record IsBlank (page : Page) : Type 0 where

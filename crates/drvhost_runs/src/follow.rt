@@ -1,6 +1,7 @@
 //! Runs that are followed to their end, and the lines of their replies.
 
-ghost use Rattle.std.specs.Prelude.{◌≡◌, ◌+◌, ◌++◌, ◌∷◌, ◌<◌, ◌≤◌, ◌^◌, List, [], IfErr, IfSome, MatchOption, Ok, OnErr, OnOk, replicate};
+ghost use Rattle.std.specs.Prelude.{◌≡◌, ◌+◌, ◌++◌, ◌∷◌, ◌<◌, ◌≤◌, ◌^◌, List, [], IfErr, IfSome};
+ghost use Rattle.std.specs.Prelude.{MatchOption, Ok, OnErr, OnOk, replicate};
 ghost use Rattle.interleave.specs.Listing.{IsWithinLimits};
 ghost use Rattle.model.specs.declared.event.Event.{Event};
 ghost use Rattle.report.specs.Word.{word_lines};

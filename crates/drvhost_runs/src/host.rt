@@ -1,15 +1,22 @@
 //! What comes of a script of commands that workers serve over one locked core.
 
-ghost use Rattle.std.specs.Prelude.{◌≡◌, ◌+◌, ◌++◌, ◌≤◌, ◌⊎◌, [], IfErr, IfOk, IfSome, Ok, OnErr, OnOk};
+ghost use Rattle.std.specs.Prelude.{◌≡◌, ◌≢◌, ◌≤◌, ◌+◌, ◌++◌, ◌⊎◌, [], ℕ, IfErr, IfOk, IfSome, Ok};
+ghost use Rattle.std.specs.Prelude.{OnErr, OnOk};
+ghost use Rattle.workers_script.specs.Told.{Hosts};
 ghost use Rattle.model.specs.declared.limits.TheConstants.{MAX_THREADS};
 ghost use Rattle.report.specs.Host.{agrees_line};
 ghost use Rattle.report.specs.Lines.{HasRoom};
-ghost use Rattle.drvhost_devices.specs.Device.{Adds, CanCount, Says, SaysBehind, Supply, TakesBeginning};
-ghost use Rattle.drvhost_devices.specs.Ends.{Answers, HoldsRun};
+ghost use Rattle.drvhost_devices.specs.Device.{Adds, CanCount, Says, SaysBehind, Supply};
+ghost use Rattle.drvhost_devices.specs.Device.{TakesBeginning};
+ghost use Rattle.drvhost_devices.specs.Ends.{HoldsRun};
+ghost use Rattle.drvhost_sets.specs.Devices.{AnswersBy};
 ghost use Rattle.drvhost_devices.specs.Fault.{reads_failed, status_of, writes_failed};
-ghost use Rattle.drvhost_runs.specs.Hosting.{GoesTold, IsBlank, told_behind};
-ghost use Rattle.drvhost_runs.specs.Readiness.{AreWarningsOf, IsReady, IsServing, SaysWarned};
-ghost use Rattle.drvhost_runs.specs.Served.{IsHostOf, IsServed, command_line, command_lines, served_as, served_end};
+ghost use Rattle.drvhost_runs.specs.Hosted.{HasServed, IsHosted, IsNoted};
+ghost use Rattle.drvhost_runs.specs.Hosting.{AreWorkers, GoesTold, IsBlank, told_behind};
+ghost use Rattle.drvhost_runs.specs.Readiness.{AreWarningsOf, IsReady, IsServing, IsUnserved};
+ghost use Rattle.drvhost_runs.specs.Readiness.{SaysWarned};
+ghost use Rattle.drvhost_runs.specs.Served.{IsHostOf, IsUnhosted, command_line, command_lines};
+ghost use Rattle.drvhost_runs.specs.Served.{served_as, served_end};
 
 use crate::page::Page;
 use crate::ready::{Ready, get_ready, warn};
@@ -42,12 +49,12 @@ pub struct Hosting<'a, R, G> {
 /// Has the commands of a script served by so many workers, 1 to 64, over one locked core of an
 /// accepted driver set, and writes a line for each command: how its request's packet topped out, or
 /// else the reply to it, or that it was left. The last line says of how many entries the history
-/// is, each of which has the reply that the run of its events makes there. Before each turn a worker
-/// asks the gate. Before the workers start, a line for each driver that takes its locks in a cycle
-/// stands on the error writer. Where threads wait for each other in a ring, their workers end; a
-/// line for each of these threads then stands there too. The answer is the exit status: 0 where all
-/// went well, 1 where threads wait in a ring or where the set is refused, 2 where an input is faulty
-/// or a read or a write failed, 3 where memory ran out. Faults are told on the
+/// is, each of which has the reply that the run of its events makes there. Before each turn a
+/// worker asks the gate. Before the workers start, a line for each driver that takes its locks in a
+/// cycle stands on the error writer. Where threads wait for each other in a ring, their workers
+/// end; a line for each of these threads then stands there too. The answer is the exit status: 0
+/// where all went well, 1 where threads wait in a ring or where the set is refused, 2 where an
+/// input is faulty or a read or a write failed, 3 where memory ran out. Faults are told on the
 /// error writer: those of the set before a refusal, and a refusal before those of the script, which
 /// is read for an accepted set alone.
 pub fn host<S: Source, P: Source, G: Gate + Sync, O: Sink, E: Sink, R: Threads + Wait + Sync>(
@@ -66,73 +73,64 @@ pub fn host<S: Source, P: Source, G: Gate + Sync, O: Sink, E: Sink, R: Threads +
     requires err { CanCount (E.failures err.old) }
     ensures unread { (script.new ≡ script.old)
         ⊎ HoldsRun Verification.Required (S.supply set.old) }
-    ensures answers { Answers
+    ensures answers { AnswersBy O.Sink E.Sink
+        (SaysWarned (AreWarningsOf (S.supply set.old) result))
         (IsHostOf hosting.now.workers (S.supply set.old) (P.supply script.old))
         (S.failures set.old + P.failures script.old) (S.failures set.new + P.failures script.new)
-        (O.failures out.old) (O.failures out.new) (O.contents out.old) (O.contents out.new)
-        (SaysWarned (AreWarningsOf (S.supply set.old) result)
-        (E.failures err.old) (E.failures err.new) (E.contents err.old) (E.contents err.new))
-        result }
+        out.old out.new err.old err.new result }
 {
     match Page::new(alloc) {
         Ok(mut page) => {
             let ready = get_ready(alloc, set, script, &mut page);
             let failures = err.failures();
             warn(&ready, err);
-            let end = serve_ready(alloc, ready, hosting, &mut page, out);
+            let served = serve_ready(alloc, ready, hosting, &mut page);
+            let end = tell_served(served, &mut page, out);
             finish_page(end, &mut page, failures, err)
         }
         Err(AllocError) => no_memory(err),
     }
 }
 
-/// Has what is ready served, and writes the lines that gather.
-fn serve_ready<G: Gate + Sync, O: Sink, R: Threads + Wait + Sync>(
+/// Has what is ready served, and notes what is told of the threads that wait in a ring then.
+pub(crate) fn serve_ready<G: Gate + Sync, R: Threads + Wait + Sync>(
     alloc: Global,
     ready: Result<Option<Ready>, Fault>,
     hosting: &Hosting<'_, R, G>,
     page: &mut Page,
-    out: &mut O,
-) -> Result<End, Fault>
-    requires some { 1 ≤ hosting.now.workers }
-    requires few { hosting.now.workers ≤ MAX_THREADS }
-    requires out { CanCount (O.failures out.old) }
+) -> Result<Option<Hosted>, Fault>
+    requires workers { AreWorkers hosting.now.workers }
     requires writes { writes_failed ready ≡ 0 }
     requires blank { IfOk ready (λ ready. IfSome ready (λ _. IsBlank page.old)) }
-    ensures goes { (set script : Supply) → IsReady set script page.old ready
-        → GoesTold (IsHostOf hosting.now.workers set script)
-        page.new.words.items (O.contents out.old) (O.contents out.new) [] [] result }
-    ensures served { status_of result ≡ 0 → IsServing ready }
+    ensures hosted { (set script : Supply) → IsReady set script page.old ready
+        → IsHosted hosting.now.workers set script page.new result }
+    ensures empty { IfOk result (λ hosted. IfSome hosted (λ _. page.new.lines ≡ [])) }
+    ensures served { HasServed result → IsServing ready }
     ensures reads { reads_failed result ≡ reads_failed ready }
-    ensures writes { O.failures out.new ≡ O.failures out.old + writes_failed result }
+    ensures writes { writes_failed result ≡ 0 }
 {
     match ready {
-        Ok(Some(ready)) => serve(alloc, ready, hosting, page, out),
-        Ok(None) => {
-            write_lines(&mut page.lines, out)?;
-            Ok(End::Stopped)
-        }
+        Ok(Some(ready)) => Ok(Some(serve(alloc, ready, hosting, page)?)),
+        Ok(None) => Ok(None),
         Err(fault) => Err(fault),
     }
 }
 
-/// Has a script served over an accepted set, and writes the lines of what came of its commands.
-fn serve<G: Gate + Sync, O: Sink, R: Threads + Wait + Sync>(
+/// Has a script served over an accepted set, and notes what is told of the threads that wait in a
+/// ring then.
+fn serve<G: Gate + Sync, R: Threads + Wait + Sync>(
     alloc: Global,
     ready: Ready,
     hosting: &Hosting<'_, R, G>,
     page: &mut Page,
-    out: &mut O,
-) -> Result<End, Fault>
-    requires some { 1 ≤ hosting.now.workers }
-    requires few { hosting.now.workers ≤ MAX_THREADS }
-    requires out { CanCount (O.failures out.old) }
+) -> Result<Hosted, Fault>
+    requires workers { AreWorkers hosting.now.workers }
     requires blank { IsBlank page.old }
-    ensures goes { GoesTold
-        (IsServed hosting.now.workers ready.accepted (Ok ready.commands.items))
-        page.new.words.items (O.contents out.old) (O.contents out.new) [] [] result }
-    ensures reads { reads_failed result ≡ 0 }
-    ensures writes { O.failures out.new ≡ O.failures out.old + writes_failed result }
+    ensures hosts { IfOk result
+        (Hosts ready.accepted hosting.now.workers ready.commands.items) }
+    ensures noted { IfOk result (IsNoted page.new) }
+    ensures lines { page.new.lines ≡ [] }
+    ensures fault { IfErr result (λ fault. fault ≡ Fault.Memory) }
 {
     let Ready {
         accepted,
@@ -147,10 +145,49 @@ fn serve<G: Gate + Sync, O: Sink, R: Threads + Wait + Sync>(
     match serve_script(runtime, alloc, accepted, workers, commands.as_slice(), gate) {
         Ok(hosted) => {
             page.note_standing(alloc, &hosted.standing)?;
-            tell_hosted(&hosted, page, out)
+            Ok(hosted)
         }
         Err(OutOfMemory) => Err(Fault::Memory),
     }
+}
+
+/// Writes the lines of what came of what was read.
+fn tell_served<O: Sink>(
+    served: Result<Option<Hosted>, Fault>,
+    page: &mut Page,
+    out: &mut O,
+) -> Result<End, Fault>
+    requires out { CanCount (O.failures out.old) }
+    requires writes { writes_failed served ≡ 0 }
+    requires empty { IfOk served (λ hosted. IfSome hosted (λ _. page.old.lines ≡ [])) }
+    ensures goes { (workers : ℕ) (set script : Supply)
+        → IsHosted workers set script page.old served
+        → GoesTold (IsHostOf workers set script)
+        page.new.words.items (O.contents out.old) (O.contents out.new) [] [] result }
+    ensures served { status_of result ≡ 0 → HasServed served }
+    ensures reads { reads_failed result ≡ reads_failed served }
+    ensures writes { O.failures out.new ≡ O.failures out.old + writes_failed result }
+{
+    match served {
+        Ok(Some(hosted)) => tell_hosted(&hosted, page, out),
+        Ok(None) => tell_refusal(page, out),
+        Err(fault) => Err(fault),
+    }
+}
+
+/// Writes the line of a refusal, which has gathered.
+pub(crate) fn tell_refusal<O: Sink>(page: &mut Page, out: &mut O) -> Result<End, Fault>
+    requires { CanCount (O.failures out.old) }
+    ensures goes { (set script : Supply) → IsUnserved set script page.old.lines (Ok End.Stopped)
+        → page.old.words.items ≡ []
+        → GoesTold (IsUnhosted set script)
+        page.new.words.items (O.contents out.old) (O.contents out.new) [] [] result }
+    ensures status { status_of result ≢ 0 }
+    ensures reads { reads_failed result ≡ 0 }
+    ensures writes { O.failures out.new ≡ O.failures out.old + writes_failed result }
+{
+    write_lines(&mut page.lines, out)?;
+    Ok(End::Stopped)
 }
 
 /// Ends the job, as [`finish`] does, behind what the error writer was told since it had failed so

@@ -4,30 +4,32 @@ ghost use Rattle.std.specs.Prelude.{◌≡◌, ◌+◌, ◌≤◌, ◌⊎◌, []
 ghost use Rattle.drvhost_devices.specs.Device.{CanCount, Supply};
 ghost use Rattle.drvhost_devices.specs.Ends.{Answers, HoldsRun};
 ghost use Rattle.drvhost_devices.specs.Fault.{reads_failed, status_of, writes_failed};
-ghost use Rattle.drvhost_runs.specs.Hosting.{GoesTold, IsBlank};
-ghost use Rattle.drvhost_runs.specs.Keeping.{IsHistory, IsKeptOf, IsKeptWith, IsServedWith, Touches, WithText, listed_as, listed_end, unlisted_line};
-ghost use Rattle.drvhost_runs.specs.Readiness.{AreWarningsOf, IsReady, IsServing, SaysWarned};
+ghost use Rattle.drvhost_runs.specs.Hosted.{HasServed, IsHosted, IsNoted};
+ghost use Rattle.drvhost_runs.specs.Hosting.{GoesTold};
+ghost use Rattle.drvhost_runs.specs.Keeping.{IsHistory, IsKeptOf, IsKeptWith, IsServedWith};
+ghost use Rattle.drvhost_runs.specs.Keeping.{Touches, WithText, listed_as, listed_end};
+ghost use Rattle.drvhost_runs.specs.Keeping.{unlisted_line};
+ghost use Rattle.drvhost_runs.specs.Readiness.{AreWarningsOf, SaysWarned};
 ghost use Rattle.drvhost_runs.specs.Served.{served_as};
 ghost use Rattle.model.specs.declared.history.Command.{Command};
 ghost use Rattle.model.specs.declared.limits.TheConstants.{MAX_THREADS};
 ghost use Rattle.model.specs.Set.{Set};
 ghost use Rattle.workers_script.specs.Told.{Hosts};
 
-use crate::host::{Hosting, finish_page, tell_hosted};
+use crate::host::{Hosting, finish_page, serve_ready, tell_hosted, tell_refusal};
 use crate::page::Page;
-use crate::ready::{Ready, get_ready, warn};
+use crate::ready::{get_ready, warn};
 use drvhost_devices::device::{Sink, Source};
 use drvhost_devices::fault::{End, Fault, no_memory};
-use drvhost_devices::transfer::{write_bytes, write_lines};
+use drvhost_devices::transfer::write_bytes;
 use drvhost_devices::verification::Verification;
 use interleave_lines::appending::add;
 use interleave_lines::listing::listing;
-use model::memory::OutOfMemory;
 use std::alloc::{AllocError, Global};
 use std::sync::Wait;
 use std::thread::Threads;
 use workers::Gate;
-use workers_script::{Hosted, serve_script};
+use workers_script::Hosted;
 
 /// What a script is served with whose history is kept: memory besides.
 #[derive(Drop)]
@@ -86,92 +88,45 @@ pub fn host_keeping<
             let ready = get_ready(alloc, set, script, &mut page);
             let failures = err.failures();
             warn(&ready, err);
-            let end = keep_ready(alloc, ready, &keeping.hosting, &mut page, out, target);
+            let workers = keeping.hosting.workers;
+            let served = serve_ready(alloc, ready, &keeping.hosting, &mut page);
+            let end = keep_served(alloc, workers, served, &mut page, out, target);
             finish_page(end, &mut page, failures, err)
         }
         Err(AllocError) => no_memory(err),
     }
 }
 
-/// Has what is ready served, and writes the lines that gather, and the history.
-fn keep_ready<G: Gate + Sync, O: Sink, W: Sink, R: Threads + Wait + Sync>(
+/// Writes the lines of what so many workers made of what was read, and the history.
+fn keep_served<O: Sink, W: Sink>(
     alloc: Global,
-    ready: Result<Option<Ready>, Fault>,
-    hosting: &Hosting<'_, R, G>,
+    workers: u8,
+    served: Result<Option<Hosted>, Fault>,
     page: &mut Page,
     out: &mut O,
     target: &mut W,
 ) -> Result<End, Fault>
-    requires some { 1 ≤ hosting.now.workers }
-    requires few { hosting.now.workers ≤ MAX_THREADS }
     requires out { CanCount (O.failures out.old) }
     requires target { CanCount (W.failures target.old) }
-    requires writes { writes_failed ready ≡ 0 }
-    requires blank { IfOk ready (λ ready. IfSome ready (λ _. IsBlank page.old)) }
-    ensures goes { (set script : Supply) → IsReady set script page.old ready
-        → GoesTold (IsKeptOf hosting.now.workers set script)
+    requires writes { writes_failed served ≡ 0 }
+    requires empty { IfOk served (λ hosted. IfSome hosted (λ _. page.old.lines ≡ [])) }
+    ensures goes { (set script : Supply) → IsHosted workers set script page.old served
+        → GoesTold (IsKeptOf workers set script)
         page.new.words.items (O.contents out.old) (O.contents out.new) [] [] result }
-    ensures touched { (set script : Supply) → IsReady set script page.old ready
-        → Touches (target.new ≡ target.old) (IsKeptWith hosting.now.workers set script)
+    ensures touched { (set script : Supply) → IsHosted workers set script page.old served
+        → Touches (target.new ≡ target.old) (IsKeptWith workers set script)
         (O.contents out.old) (O.contents out.new) (W.contents target.old) (W.contents target.new)
         (status_of result) }
-    ensures served { status_of result ≡ 0 → IsServing ready }
-    ensures reads { reads_failed result ≡ reads_failed ready }
+    ensures served { status_of result ≡ 0 → HasServed served }
+    ensures reads { reads_failed result ≡ reads_failed served }
     ensures writes { W.failures target.new + O.failures out.new
         ≡ W.failures target.old + O.failures out.old + writes_failed result }
     ensures few { W.failures target.new ≤ W.failures target.old + 1 }
 {
-    match ready {
-        Ok(Some(ready)) => keep(alloc, ready, hosting, page, out, target),
-        Ok(None) => {
-            write_lines(&mut page.lines, out)?;
-            Ok(End::Stopped)
-        }
+    match served {
+        Ok(Some(hosted)) => tell_kept(alloc, workers, &hosted, page, out, target),
+        Ok(None) => tell_refusal(page, out),
         Err(fault) => Err(fault),
-    }
-}
-
-/// Has a script served over an accepted set, and writes the lines of what came of its commands, and
-/// the history.
-fn keep<G: Gate + Sync, O: Sink, W: Sink, R: Threads + Wait + Sync>(
-    alloc: Global,
-    ready: Ready,
-    hosting: &Hosting<'_, R, G>,
-    page: &mut Page,
-    out: &mut O,
-    target: &mut W,
-) -> Result<End, Fault>
-    requires some { 1 ≤ hosting.now.workers }
-    requires few { hosting.now.workers ≤ MAX_THREADS }
-    requires out { CanCount (O.failures out.old) }
-    requires target { CanCount (W.failures target.old) }
-    requires blank { IsBlank page.old }
-    ensures goes { GoesTold
-        (λ answer. (text : List ℕ)
-        × IsServedWith hosting.now.workers ready.accepted ready.commands.items text answer)
-        page.new.words.items (O.contents out.old) (O.contents out.new) [] [] result }
-    ensures touched { Touches (target.new ≡ target.old)
-        (WithText (IsServedWith hosting.now.workers ready.accepted ready.commands.items))
-        (O.contents out.old) (O.contents out.new) (W.contents target.old) (W.contents target.new)
-        (status_of result) }
-    ensures reads { reads_failed result ≡ 0 }
-    ensures writes { W.failures target.new + O.failures out.new
-        ≡ W.failures target.old + O.failures out.old + writes_failed result }
-    ensures few { W.failures target.new ≤ W.failures target.old + 1 }
-{
-    let Ready {
-        accepted,
-        commands,
-        warnings: _,
-    } = ready;
-    let Hosting {
-        runtime,
-        workers,
-        gate,
-    } = *hosting;
-    match serve_script(runtime, alloc, accepted, workers, commands.as_slice(), gate) {
-        Ok(hosted) => tell_kept(alloc, workers, &hosted, page, out, target),
-        Err(OutOfMemory) => Err(Fault::Memory),
     }
 }
 
@@ -186,12 +141,14 @@ fn tell_kept<O: Sink, W: Sink>(
 ) -> Result<End, Fault>
     requires out { CanCount (O.failures out.old) }
     requires target { CanCount (W.failures target.old) }
-    requires blank { IsBlank page.old }
+    requires empty { page.old.lines ≡ [] }
     ensures goes { (set : Set) (commands : List Command) → Hosts set workers commands hosted.now
+        → IsNoted page.old hosted.now
         → GoesTold
         (λ answer. (text : List ℕ) × IsServedWith workers set commands text answer)
         page.new.words.items (O.contents out.old) (O.contents out.new) [] [] result }
     ensures touched { (set : Set) (commands : List Command) → Hosts set workers commands hosted.now
+        → IsNoted page.old hosted.now
         → Touches (target.new ≡ target.old) (WithText (IsServedWith workers set commands))
         (O.contents out.old) (O.contents out.new) (W.contents target.old) (W.contents target.new)
         (status_of result) }
@@ -200,7 +157,6 @@ fn tell_kept<O: Sink, W: Sink>(
         ≡ W.failures target.old + O.failures out.old + writes_failed result }
     ensures few { W.failures target.new ≤ W.failures target.old + 1 }
 {
-    page.note_standing(alloc, &hosted.standing)?;
     let history = history_of(alloc, workers, hosted)?;
     put(hosted, &history, page, out, target)
 }

@@ -1,6 +1,6 @@
 //! What the program does that runs a driver set, over any devices: the loop over the events of a
-//! schedule, for whoever watches it, the trace of a run, and what comes of a script of commands that
-//! workers serve.
+//! schedule, for whoever watches it, the trace of a run, and what comes of a script of commands
+//! that workers serve.
 #![tactic(auto)]
 
 pub mod follow;

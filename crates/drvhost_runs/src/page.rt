@@ -71,7 +71,8 @@ impl Page {
         Ok(lock_warnings(alloc, self.bytes.as_slice(), accepted)?)
     }
 
-    /// Notes which threads wait in a ring in what stands after a history, with what is told of them.
+    /// Notes which threads wait in a ring in what stands after a history, with what is told of
+    /// them.
     pub(crate) fn note_standing(
         &mut self,
         alloc: Global,

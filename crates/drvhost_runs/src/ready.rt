@@ -29,8 +29,8 @@ pub(crate) struct Ready {
     pub(crate) warnings: Vec<u8>,
 }
 
-/// Reads a set and, where it is accepted, a script, and makes the warnings of the set. The line of a
-/// refusal gathers.
+/// Reads a set and, where it is accepted, a script, and makes the warnings of the set. The line of
+/// a refusal gathers.
 pub(crate) fn get_ready<S: Source, P: Source>(
     alloc: Global,
     set: &mut S,

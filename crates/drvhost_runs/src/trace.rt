@@ -2,9 +2,10 @@
 
 ghost use Rattle.std.specs.Prelude.{◌≡◌, ◌+◌, ◌⊎◌, [], IfOk};
 ghost use Rattle.interleave.specs.Listing.{IsWithinLimits};
-ghost use Rattle.drvhost_devices.specs.Device.{CanCount, Says};
-ghost use Rattle.drvhost_devices.specs.Ends.{Answers, HoldsRun, IsRunOf, IsTraceOf};
+ghost use Rattle.drvhost_devices.specs.Device.{CanCount};
+ghost use Rattle.drvhost_devices.specs.Ends.{HoldsRun, IsRunOf, IsTraceOf};
 ghost use Rattle.drvhost_devices.specs.Fault.{Goes, ReadsSchedule, reads_failed, writes_failed};
+ghost use Rattle.drvhost_sets.specs.Devices.{AnswersOver};
 
 use crate::follow::follow;
 use checked::Checked;
@@ -41,12 +42,10 @@ pub fn trace<S: Source, P: Source, O: Sink, E: Sink>(
     requires out { CanCount (O.failures out.old) }
     requires err { CanCount (E.failures err.old) }
     ensures unread { (schedule.new ≡ schedule.old) ⊎ HoldsRun verification (S.supply set.old) }
-    ensures answers { Answers (IsTraceOf verification (S.supply set.old) (P.supply schedule.old))
+    ensures answers { AnswersOver O.Sink E.Sink
+        (IsTraceOf verification (S.supply set.old) (P.supply schedule.old))
         (S.failures set.old + P.failures schedule.old)
-        (S.failures set.new + P.failures schedule.new)
-        (O.failures out.old) (O.failures out.new) (O.contents out.old) (O.contents out.new)
-        (Says (E.failures err.old) (E.failures err.new) (E.contents err.old) (E.contents err.new))
-        result }
+        (S.failures set.new + P.failures schedule.new) out.old out.new err.old err.new result }
 {
     let mut job = Judged {
         running: Tracing { schedule },

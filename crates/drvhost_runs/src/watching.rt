@@ -5,7 +5,8 @@ ghost use Rattle.interleave.specs.Listing.{IsWithinLimits};
 ghost use Rattle.drvhost_devices.specs.declared.fault.Fault.{Fault};
 ghost use Rattle.model.specs.declared.event.Event.{Event};
 ghost use Rattle.model.specs.Set.{Set};
-ghost use Rattle.drvhost_runs.specs.Watching.{BreaksOff, CanTell, Observes, ShowsOf, Takes, TellsOn};
+ghost use Rattle.drvhost_runs.specs.Watching.{BreaksOff, CanTell, Observes, ShowsOf, Takes};
+ghost use Rattle.drvhost_runs.specs.Watching.{TellsOn};
 
 use crate::follow::{next_run, next_single, rest_of};
 use crate::running::Machine;

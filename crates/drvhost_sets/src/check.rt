@@ -1,13 +1,15 @@
 //! The verdict on a driver set.
 
-ghost use Rattle.std.specs.Prelude.{◌≡◌, ◌≢◌, ◌+◌, ◌++◌, [], IfErr, IfOk, OnErr, OnOk, Some, slice_get};
+ghost use Rattle.std.specs.Prelude.{◌≡◌, ◌≢◌, ◌+◌, ◌++◌, [], IfErr, IfOk, OnErr, OnOk, Some};
+ghost use Rattle.std.specs.Prelude.{slice_get};
 ghost use Rattle.model.specs.Sound.{DriverFits};
 ghost use Rattle.report.specs.Lines.{HasRoom};
 ghost use Rattle.report.specs.Verdict.{refusal_line};
 ghost use Rattle.drvhost_devices.specs.Answer.{IsVerdict, acceptance, routine_lines};
-ghost use Rattle.drvhost_devices.specs.Device.{Adds, CanCount, Says, TakesBeginning};
-ghost use Rattle.drvhost_devices.specs.Ends.{Answers, IsCheckOf};
+ghost use Rattle.drvhost_devices.specs.Device.{Adds, CanCount, TakesBeginning};
+ghost use Rattle.drvhost_devices.specs.Ends.{IsCheckOf};
 ghost use Rattle.drvhost_devices.specs.Fault.{Goes, reads_failed, writes_failed};
+ghost use Rattle.drvhost_sets.specs.Devices.{AnswersOver};
 
 use crate::job::{Job, Notes, answer};
 use drvhost_devices::device::{Sink, Source};
@@ -32,11 +34,8 @@ pub fn check<S: Source, O: Sink, E: Sink>(
     requires set { CanCount (S.failures set.old) }
     requires out { CanCount (O.failures out.old) }
     requires err { CanCount (E.failures err.old) }
-    ensures { Answers (IsCheckOf (S.supply set.old))
-        (S.failures set.old) (S.failures set.new) (O.failures out.old) (O.failures out.new)
-        (O.contents out.old) (O.contents out.new)
-        (Says (E.failures err.old) (E.failures err.new) (E.contents err.old) (E.contents err.new))
-        result }
+    ensures { AnswersOver O.Sink E.Sink (IsCheckOf (S.supply set.old))
+        (S.failures set.old) (S.failures set.new) out.old out.new err.old err.new result }
 {
     answer(&mut Judgement, alloc, set, out, err)
 }

@@ -3,13 +3,15 @@
 ghost use Rattle.std.specs.Prelude.{◌≡◌, ◌+◌, ◌++◌, ◌⊎◌, ℕ, List, [], ◌∷◌, IfOk, OnOk};
 ghost use Rattle.model.specs.Typable.{IsFirstFault, at_start};
 ghost use Rattle.drvhost_devices.specs.Device.{Bytes, CanCount, Says};
-ghost use Rattle.drvhost_devices.specs.Ends.{Answers};
 ghost use Rattle.drvhost_devices.specs.Fault.{Goes, TellsLine, reads_failed, writes_failed};
+ghost use Rattle.drvhost_sets.specs.Devices.{AnswersOver};
 ghost use Rattle.mend_offers.specs.Offers.{AreOffersOf};
 ghost use Rattle.verifier_words.specs.Faults.{refusals};
 ghost use Rattle.report.specs.Fault.{image_fault_line, text_fault_line};
 ghost use Rattle.report.specs.Verdict.{refusal_line};
-ghost use Rattle.drvhost_sets.specs.Explained.{AreWordsOf, AreWordsOn, IsAcceptanceExplained, IsBlock, IsExplained, IsExplainedOf, IsRefusalExplained};
+ghost use Rattle.drvhost_sets.specs.Explained.{AreWordsOf, AreWordsOn, IsAcceptanceExplained};
+ghost use Rattle.drvhost_sets.specs.Explained.{IsBlock, IsExplained, IsExplainedOf};
+ghost use Rattle.drvhost_sets.specs.Explained.{IsRefusalExplained};
 
 use crate::advising::Advisor;
 use crate::check::{accept, refuse};
@@ -41,8 +43,8 @@ struct Asked<'a> {
 /// on it: the names of its routines, and in which order or cycle each driver takes its locks, with
 /// what follows for threads that run them; or what leads to the place of its refusal, why the rule
 /// is broken there, and how to mend it, by a mend that was tried where one is sure; and, if asked
-/// for, the same of the first fault of each other routine. The answer is the exit status, as that of
-/// `check`: 0 accepted, 1 refused, 2 where its text or its image is faulty or a read or a write
+/// for, the same of the first fault of each other routine. The answer is the exit status, as that
+/// of `check`: 0 accepted, 1 refused, 2 where its text or its image is faulty or a read or a write
 /// failed, 3 where memory ran out. Faults are told on the error writer, those of a text and of an
 /// image with words on them behind their line.
 pub fn explain<S: Source, O: Sink, E: Sink>(
@@ -55,11 +57,8 @@ pub fn explain<S: Source, O: Sink, E: Sink>(
     requires set { CanCount (S.failures set.old) }
     requires out { CanCount (O.failures out.old) }
     requires err { CanCount (E.failures err.old) }
-    ensures { Answers (IsExplainedOf extent (S.supply set.old))
-        (S.failures set.old) (S.failures set.new) (O.failures out.old) (O.failures out.new)
-        (O.contents out.old) (O.contents out.new)
-        (Says (E.failures err.old) (E.failures err.new) (E.contents err.old) (E.contents err.new))
-        result }
+    ensures { AnswersOver O.Sink E.Sink (IsExplainedOf extent (S.supply set.old))
+        (S.failures set.old) (S.failures set.new) out.old out.new err.old err.new result }
 {
     match Lines::new(alloc) {
         Ok(mut lines) => explain_source(alloc, extent, set, &mut lines, out, err),
@@ -80,11 +79,8 @@ fn explain_source<S: Source, O: Sink, E: Sink>(
     requires out { CanCount (O.failures out.old) }
     requires err { CanCount (E.failures err.old) }
     requires empty { lines.old ≡ [] }
-    ensures { Answers (IsExplainedOf extent (S.supply set.old))
-        (S.failures set.old) (S.failures set.new) (O.failures out.old) (O.failures out.new)
-        (O.contents out.old) (O.contents out.new)
-        (Says (E.failures err.old) (E.failures err.new) (E.contents err.old) (E.contents err.new))
-        result }
+    ensures { AnswersOver O.Sink E.Sink (IsExplainedOf extent (S.supply set.old))
+        (S.failures set.old) (S.failures set.new) out.old out.new err.old err.new result }
 {
     match read_whole(alloc, set) {
         Ok(bytes) => explain_bytes(alloc, extent, bytes.as_slice(), lines, out, err),
@@ -104,11 +100,8 @@ fn explain_bytes<O: Sink, E: Sink>(
     requires out { CanCount (O.failures out.old) }
     requires err { CanCount (E.failures err.old) }
     requires empty { lines.old ≡ [] }
-    ensures { (reads : ℕ) → Answers (IsExplainedOf extent (Bytes bytes.now))
-        reads reads (O.failures out.old) (O.failures out.new) (O.contents out.old)
-        (O.contents out.new)
-        (Says (E.failures err.old) (E.failures err.new) (E.contents err.old) (E.contents err.new))
-        result }
+    ensures { (reads : ℕ) → AnswersOver O.Sink E.Sink (IsExplainedOf extent (Bytes bytes.now))
+        reads reads out.old out.new err.old err.new result }
 {
     match set_of(alloc, bytes) {
         Ok(set) => {

@@ -4,8 +4,8 @@ use image::ImageFault;
 use std::alloc::{AllocError, Global};
 use text_faults::advice::{add_expected, add_remedy, add_wrong};
 
-/// A fault of an image in words: what is at fault, and what may stand there. The fault has no place:
-/// where the image ends is told, and of the others what they can be. The fault is one that
+/// A fault of an image in words: what is at fault, and what may stand there. The fault has no
+/// place: where the image ends is told, and of the others what they can be. The fault is one that
 /// `image::decode` told of the image.
 ///
 /// # Errors

@@ -4,8 +4,9 @@ ghost use Rattle.std.specs.Prelude.{◌≡◌, ◌+◌, ◌⊎◌, ⊤, ℕ, [],
 ghost use Rattle.model.specs.Set.{Set};
 ghost use Rattle.drvhost_devices.specs.Answer.{Answer};
 ghost use Rattle.drvhost_devices.specs.Device.{CanCount, Says};
-ghost use Rattle.drvhost_devices.specs.Ends.{Answers, HoldsSet, IsOfSupply};
+ghost use Rattle.drvhost_devices.specs.Ends.{HoldsSet, IsOfSupply};
 ghost use Rattle.drvhost_devices.specs.Fault.{Goes, reads_failed, writes_failed};
+ghost use Rattle.drvhost_sets.specs.Devices.{AnswersOver};
 ghost use Rattle.drvhost_sets.specs.Worded.{TakesWords, TellsEnd};
 
 use drvhost_devices::device::{Sink, Source};
@@ -95,11 +96,9 @@ pub fn answer<J: Job, S: Source, O: Sink, E: Sink>(
     requires err { CanCount (E.failures err.old) }
     ensures keeps { J.keeps job.old job.new }
     ensures unread { J.stays job.old job.new ⊎ HoldsSet (J.needs job.old) (S.supply set.old) }
-    ensures answers { Answers (IsOfSupply (J.right job.old) (S.supply set.old))
-        (S.failures set.old + J.failures job.old) (S.failures set.new + J.failures job.new)
-        (O.failures out.old) (O.failures out.new) (O.contents out.old) (O.contents out.new)
-        (Says (E.failures err.old) (E.failures err.new) (E.contents err.old) (E.contents err.new))
-        result }
+    ensures answers { AnswersOver O.Sink E.Sink (IsOfSupply (J.right job.old) (S.supply set.old))
+        (S.failures set.old + J.failures job.old) (S.failures set.new + J.failures job.new) out.old
+        out.new err.old err.new result }
 {
     match Notes::new(alloc) {
         Ok(mut notes) => {

@@ -1,12 +1,13 @@
 //! Laws of the answers, over their definitions alone. Nothing runs here.
 
-ghost use Rattle.drvhost_sets.specs.Laws.{CheckIsOne, ListIsOne, RewriteIsOne, RewritingIsStable, TraceIsOne};
+ghost use Rattle.drvhost_sets.specs.Laws.{CheckIsOne, ListIsOne, RewriteIsOne, RewritingIsStable};
+ghost use Rattle.drvhost_sets.specs.Laws.{TraceIsOne};
 
 use image::laws::{bytes_spell_one, fault_is_one, images_are_faultless};
 use verifier::laws::first_fault_is_one;
 
-/// For the bytes of their files `check`, `trace`, `list` and `rewrite` have one right answer each at
-/// most.
+/// For the bytes of their files `check`, `trace`, `list` and `rewrite` have one right answer each
+/// at most.
 pub fn answer_is_one()
     ensures check { CheckIsOne }
     ensures trace { TraceIsOne }

@@ -2,9 +2,10 @@
 
 ghost use Rattle.std.specs.Prelude.{◌≡◌, ◌+◌, []};
 ghost use Rattle.drvhost_devices.specs.Answer.{IsListing};
-ghost use Rattle.drvhost_devices.specs.Device.{CanCount, Says};
-ghost use Rattle.drvhost_devices.specs.Ends.{Answers, IsListOf};
+ghost use Rattle.drvhost_devices.specs.Device.{CanCount};
+ghost use Rattle.drvhost_devices.specs.Ends.{IsListOf};
 ghost use Rattle.drvhost_devices.specs.Fault.{Goes, reads_failed, writes_failed};
+ghost use Rattle.drvhost_sets.specs.Devices.{AnswersOver};
 
 use crate::job::{Job, Notes, answer};
 use asm::disassemble;
@@ -21,11 +22,8 @@ pub fn list<S: Source, O: Sink, E: Sink>(alloc: Global, set: &mut S, out: &mut O
     requires set { CanCount (S.failures set.old) }
     requires out { CanCount (O.failures out.old) }
     requires err { CanCount (E.failures err.old) }
-    ensures { Answers (IsListOf (S.supply set.old))
-        (S.failures set.old) (S.failures set.new) (O.failures out.old) (O.failures out.new)
-        (O.contents out.old) (O.contents out.new)
-        (Says (E.failures err.old) (E.failures err.new) (E.contents err.old) (E.contents err.new))
-        result }
+    ensures { AnswersOver O.Sink E.Sink (IsListOf (S.supply set.old))
+        (S.failures set.old) (S.failures set.new) out.old out.new err.old err.new result }
 {
     answer(&mut Listing, alloc, set, out, err)
 }

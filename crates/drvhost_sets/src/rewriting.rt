@@ -1,9 +1,11 @@
 //! The image of a driver set, whatever its file is.
 
 ghost use Rattle.std.specs.Prelude.{◌≡◌, ◌+◌, ◌⊎◌, []};
-ghost use Rattle.drvhost_devices.specs.Device.{CanCount, Says};
-ghost use Rattle.drvhost_devices.specs.Ends.{Answers, IsRewriteOf, TakesImage};
-ghost use Rattle.drvhost_devices.specs.Fault.{Goes, ReadsImage, reads_failed, status_of, writes_failed};
+ghost use Rattle.drvhost_devices.specs.Device.{CanCount};
+ghost use Rattle.drvhost_devices.specs.Ends.{IsRewriteOf, TakesImage};
+ghost use Rattle.drvhost_devices.specs.Fault.{Goes, ReadsImage, reads_failed, status_of};
+ghost use Rattle.drvhost_devices.specs.Fault.{writes_failed};
+ghost use Rattle.drvhost_sets.specs.Devices.{AnswersOver};
 
 use drvhost_devices::device::{Sink, Source};
 use drvhost_devices::fault::{End, Fault, finish, no_memory};
@@ -15,8 +17,8 @@ use std::alloc::{AllocError, Global};
 
 /// Writes the image of a driver set, in the second edition, whether or not the set is accepted. The
 /// answer is the exit status: 0 where it was written, 2 where the set's text or its image is faulty
-/// or a read or a write failed, 3 where memory ran out. Faults are told on the error writer. Nothing
-/// is done with the writer before the whole image stands in memory.
+/// or a read or a write failed, 3 where memory ran out. Faults are told on the error writer.
+/// Nothing is done with the writer before the whole image stands in memory.
 pub fn rewrite<S: Source, O: Sink, E: Sink>(
     alloc: Global,
     set: &mut S,
@@ -26,11 +28,8 @@ pub fn rewrite<S: Source, O: Sink, E: Sink>(
     requires set { CanCount (S.failures set.old) }
     requires out { CanCount (O.failures out.old) }
     requires err { CanCount (E.failures err.old) }
-    ensures answers { Answers (IsRewriteOf (S.supply set.old))
-        (S.failures set.old) (S.failures set.new) (O.failures out.old) (O.failures out.new)
-        (O.contents out.old) (O.contents out.new)
-        (Says (E.failures err.old) (E.failures err.new) (E.contents err.old) (E.contents err.new))
-        result }
+    ensures answers { AnswersOver O.Sink E.Sink (IsRewriteOf (S.supply set.old))
+        (S.failures set.old) (S.failures set.new) out.old out.new err.old err.new result }
     ensures touched { (out.new ≡ out.old)
         ⊎ TakesImage (S.supply set.old) (O.contents out.old) (O.contents out.new) result }
 {

@@ -3,8 +3,8 @@
 ghost use Rattle.std.specs.Prelude.{◌≡◌, ◌++◌, ℕ, IfOk, List, codes, string_bytes};
 ghost use Rattle.model.specs.Words.{rule_text};
 ghost use Rattle.drvhost_devices.specs.Answer.{IsRuleExplained, ended};
-ghost use Rattle.drvhost_devices.specs.Device.{CanCount, Says};
-ghost use Rattle.drvhost_devices.specs.Ends.{Answers};
+ghost use Rattle.drvhost_devices.specs.Device.{CanCount};
+ghost use Rattle.drvhost_sets.specs.Devices.{AnswersOver};
 ghost use Rattle.drvhost_sets.specs.Explained.{IsLockOrderExplained};
 
 use drvhost_devices::device::{Failed, Sink};
@@ -21,11 +21,8 @@ use verifier_pages::{lock_order_words, rule_words};
 pub fn explain_rule<O: Sink, E: Sink>(alloc: Global, rule: Rule, out: &mut O, err: &mut E) -> u8
     requires out { CanCount (O.failures out.old) }
     requires err { CanCount (E.failures err.old) }
-    ensures { (reads : ℕ) → Answers (IsRuleExplained rule)
-        reads reads (O.failures out.old) (O.failures out.new)
-        (O.contents out.old) (O.contents out.new)
-        (Says (E.failures err.old) (E.failures err.new) (E.contents err.old) (E.contents err.new))
-        result }
+    ensures { (reads : ℕ) → AnswersOver O.Sink E.Sink (IsRuleExplained rule)
+        reads reads out.old out.new err.old err.new result }
 {
     match page_of(alloc, rule) {
         Ok(page) => write_page(page.as_str(), out, err),
@@ -33,16 +30,13 @@ pub fn explain_rule<O: Sink, E: Sink>(alloc: Global, rule: Rule, out: &mut O, er
     }
 }
 
-/// Writes the warning on the order of locks by its name, and then what it says, with an example. The
-/// answer is the exit status, likewise.
+/// Writes the warning on the order of locks by its name, and then what it says, with an example.
+/// The answer is the exit status, likewise.
 pub fn explain_lock_order<O: Sink, E: Sink>(alloc: Global, out: &mut O, err: &mut E) -> u8
     requires out { CanCount (O.failures out.old) }
     requires err { CanCount (E.failures err.old) }
-    ensures { (reads : ℕ) → Answers IsLockOrderExplained
-        reads reads (O.failures out.old) (O.failures out.new)
-        (O.contents out.old) (O.contents out.new)
-        (Says (E.failures err.old) (E.failures err.new) (E.contents err.old) (E.contents err.new))
-        result }
+    ensures { (reads : ℕ) → AnswersOver O.Sink E.Sink IsLockOrderExplained
+        reads reads out.old out.new err.old err.new result }
 {
     match lock_order_page(alloc) {
         Ok(page) => write_page(page.as_str(), out, err),
@@ -54,11 +48,9 @@ pub fn explain_lock_order<O: Sink, E: Sink>(alloc: Global, out: &mut O, err: &mu
 fn write_page<O: Sink, E: Sink>(page: &str, out: &mut O, err: &mut E) -> u8
     requires out { CanCount (O.failures out.old) }
     requires err { CanCount (E.failures err.old) }
-    ensures { (reads : ℕ) → Answers (λ answer. answer ≡ ended End.Complete page.now)
-        reads reads (O.failures out.old) (O.failures out.new)
-        (O.contents out.old) (O.contents out.new)
-        (Says (E.failures err.old) (E.failures err.new) (E.contents err.old) (E.contents err.new))
-        result }
+    ensures { (reads : ℕ) → AnswersOver O.Sink E.Sink
+        (λ answer. answer ≡ ended End.Complete page.now)
+        reads reads out.old out.new err.old err.new result }
 {
     match write_whole(out, page.as_bytes()) {
         Ok(()) => 0,

@@ -2,9 +2,9 @@
 //! shows what is wrong with it.
 
 ghost use Rattle.std.specs.Prelude.{◌≡◌, ◌+◌, IfErr};
-ghost use Rattle.drvhost_devices.specs.Device.{CanCount, Says, Writes};
-ghost use Rattle.drvhost_devices.specs.Ends.{Answers};
+ghost use Rattle.drvhost_devices.specs.Device.{CanCount, Writes};
 ghost use Rattle.drvhost_devices.specs.Fault.{writes_failed};
+ghost use Rattle.drvhost_sets.specs.Devices.{AnswersOver};
 ghost use Rattle.drvhost_sets.specs.Explained.{IsFileExplained, hunt_line};
 
 use crate::explaining::explain;
@@ -19,9 +19,9 @@ use std::alloc::Global;
 /// What stands before the name of a file whose set is refused.
 const HUNT: &str = "show it: drvhost hunt ";
 
-/// Writes the verdict on the set of a file and words on it, as [`explain`] does, and behind those on
-/// a refused one the command that looks for a run which shows what is wrong with it. The answer is
-/// the exit status, as that of `explain`.
+/// Writes the verdict on the set of a file and words on it, as [`explain`] does, and behind those
+/// on a refused one the command that looks for a run which shows what is wrong with it. The answer
+/// is the exit status, as that of `explain`.
 pub fn explain_file<S: Source, O: Sink, E: Sink>(
     alloc: Global,
     extent: Extent,
@@ -33,11 +33,8 @@ pub fn explain_file<S: Source, O: Sink, E: Sink>(
     requires set { CanCount (S.failures set.old) }
     requires out { CanCount (O.failures out.old) }
     requires err { CanCount (E.failures err.old) }
-    ensures { Answers (IsFileExplained extent name.now (S.supply set.old))
-        (S.failures set.old) (S.failures set.new) (O.failures out.old) (O.failures out.new)
-        (O.contents out.old) (O.contents out.new)
-        (Says (E.failures err.old) (E.failures err.new) (E.contents err.old) (E.contents err.new))
-        result }
+    ensures { AnswersOver O.Sink E.Sink (IsFileExplained extent name.now (S.supply set.old))
+        (S.failures set.old) (S.failures set.new) out.old out.new err.old err.new result }
 {
     let failures = err.failures();
     let status = explain(alloc, extent, set, out, err);

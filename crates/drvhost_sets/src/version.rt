@@ -2,8 +2,8 @@
 
 ghost use Rattle.std.specs.Prelude.{ℕ};
 ghost use Rattle.drvhost_devices.specs.Answer.{IsVersion};
-ghost use Rattle.drvhost_devices.specs.Device.{CanCount, Says};
-ghost use Rattle.drvhost_devices.specs.Ends.{Answers};
+ghost use Rattle.drvhost_devices.specs.Device.{CanCount};
+ghost use Rattle.drvhost_sets.specs.Devices.{AnswersOver};
 
 use drvhost_devices::device::{Failed, Sink};
 use drvhost_devices::fault::say;
@@ -18,11 +18,8 @@ const VERSION: &[u8] = b"drvhost 1.0.0\n";
 pub fn version<O: Sink, E: Sink>(out: &mut O, err: &mut E) -> u8
     requires out { CanCount (O.failures out.old) }
     requires err { CanCount (E.failures err.old) }
-    ensures { (reads : ℕ) → Answers IsVersion
-        reads reads (O.failures out.old) (O.failures out.new)
-        (O.contents out.old) (O.contents out.new)
-        (Says (E.failures err.old) (E.failures err.new) (E.contents err.old) (E.contents err.new))
-        result }
+    ensures { (reads : ℕ) → AnswersOver O.Sink E.Sink IsVersion
+        reads reads out.old out.new err.old err.new result }
 {
     match write_whole(out, VERSION) {
         Ok(()) => 0,

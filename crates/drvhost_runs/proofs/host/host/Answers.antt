@@ -16,23 +16,27 @@ returns-in-Ok-clause-answers g c =
     let script = g.P.Source.supply c.args.script.now in
     let ready = c.get_ready-ready.result in
     let is = c.get_ready-ready.ensures.ready in
-    let end = c.serve_ready-end.result in
-    let words = c.serve_ready-end.new.page.words.items in
+    let end = c.tell_served-end.result in
+    let words = c.tell_served-end.new.page.words.items in
     record {
       reads = reads_failed end;
       writes = writes_failed end;
       told = told_behind words end;
-      reads_are = rw c.serve_ready-end.ensures.reads c.get_ready-ready.ensures.reads;
-      writes_are = c.serve_ready-end.ensures.writes;
+      reads_are =
+          rw (c.tell_served-end.ensures.reads, c.serve_ready-served.ensures.reads)
+          c.get_ready-ready.ensures.reads;
+      writes_are = c.tell_served-end.ensures.writes;
       tells = (
         warnings_in ready,
         warnings_right set script _ ready _ is
-            (λ zero. c.serve_ready-end.ensures.served (sym c.finish_page.ensures.status ∙ zero)),
+            (λ zero. c.serve_ready-served.ensures.served
+            (c.tell_served-end.ensures.served (sym c.finish_page.ensures.status ∙ zero))),
         (rw c.failures-failures.ensures at c.finish_page.ensures.told) _ _ c.warn.ensures,
       );
       ends = rw c.finish_page.ensures.status
           (told_ends (IsHostOf c.args.hosting.now.workers set script) _ _ _ end
-          (c.serve_ready-end.ensures.goes set script is));
+          (c.tell_served-end.ensures.goes c.args.hosting.now.workers set script
+          (c.serve_ready-served.ensures.hosted set script is)));
     }
 
 pub returns-in-Err-clause-answers : goal.returns-in-Err-clause-answers

@@ -16,30 +16,36 @@ returns-in-Ok-clause-answers g c =
     let script = g.P.Source.supply c.args.script.now in
     let ready = c.get_ready-ready.result in
     let is = c.get_ready-ready.ensures.ready in
-    let end = c.keep_ready-end.result in
-    let words = c.keep_ready-end.new.page.words.items in
+    let end = c.keep_served-end.result in
+    let words = c.keep_served-end.new.page.words.items in
     record {
       reads = reads_failed end;
       writes = writes_failed end;
       told = told_behind words end;
-      reads_are = rw c.keep_ready-end.ensures.reads c.get_ready-ready.ensures.reads;
-      writes_are = c.keep_ready-end.ensures.writes;
+      reads_are =
+          rw (c.keep_served-end.ensures.reads, c.serve_ready-served.ensures.reads)
+          c.get_ready-ready.ensures.reads;
+      writes_are = c.keep_served-end.ensures.writes;
       tells = (
         warnings_in ready,
         warnings_right set script _ ready _ is
-            (λ zero. c.keep_ready-end.ensures.served (sym c.finish_page.ensures.status ∙ zero)),
+            (λ zero. c.serve_ready-served.ensures.served
+            (c.keep_served-end.ensures.served (sym c.finish_page.ensures.status ∙ zero))),
         (rw c.failures-failures.ensures at c.finish_page.ensures.told) _ _ c.warn.ensures,
       );
       ends = rw c.finish_page.ensures.status
           (told_ends (IsKeptOf c.args.keeping.now.hosting.workers set script) _ _ _ end
-          (c.keep_ready-end.ensures.goes set script is));
+          (c.keep_served-end.ensures.goes set script
+          (c.serve_ready-served.ensures.hosted set script is)));
     }
 
 pub returns-in-Ok-clause-touched : goal.returns-in-Ok-clause-touched
 returns-in-Ok-clause-touched g c =
     rw c.finish_page.ensures.status
-    (c.keep_ready-end.ensures.touched (g.S.Source.supply c.args.set.now)
-    (g.P.Source.supply c.args.script.now) c.get_ready-ready.ensures.ready)
+    (c.keep_served-end.ensures.touched (g.S.Source.supply c.args.set.now)
+    (g.P.Source.supply c.args.script.now)
+    (c.serve_ready-served.ensures.hosted (g.S.Source.supply c.args.set.now)
+    (g.P.Source.supply c.args.script.now) c.get_ready-ready.ensures.ready))
 
 pub returns-in-Err-clause-answers : goal.returns-in-Err-clause-answers
 returns-in-Err-clause-answers g c =
