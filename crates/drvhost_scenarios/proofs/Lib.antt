@@ -1,2 +1,3 @@
 pub mod Failing
+pub mod Judging
 pub mod Told

@@ -14,7 +14,6 @@ use Rattle.report.specs.Fault.{image_fault_line, schedule_fault_line, text_fault
 use Rattle.report.specs.Verdict.{refusal_line}
 use Rattle.scenario_run.specs.Acting.{Played}
 use Rattle.scenario_together.specs.declared.play.Failure.{Failure}
-use Rattle.scenario_together.specs.Plays.{PlaysTo}
 use Rattle.scenario_run.specs.Playing.{Playing, begun}
 use Rattle.scenario_text.specs.declared.scenario.Step.{Step}
 use Rattle.scenario_text.specs.Listing.{Listed, IsFaultOf, scenario_in}
@@ -30,7 +29,7 @@ use Rattle.drvhost_devices.specs.Fault.{Goes, ReadsSet, schedule_fault, schedule
 use Rattle.drvhost_devices.proofs.Writing.{keeps_same}
 use Rattle.drvhost_scenarios.specs.declared.telling.Asked.{Asked}
 use Rattle.drvhost_scenarios.specs.declared.telling.Told.{Told}
-use Rattle.drvhost_scenarios.specs.Scenarios.{IsOfScenario, IsPlayedOf, PlaysSo, names_in, right_of, right_of_play}
+use Rattle.drvhost_scenarios.specs.Scenarios.{IsOfScenario, IsPlayedOf, PlaysJudged, PlaysSo, names_in, right_of, right_of_play}
 use Rattle.drvhost_scenarios.specs.Telling.{Tells}
 
 -- the text is written, or a beginning of it, or there is none
@@ -211,7 +210,7 @@ tells_held Right bytes given held set result holds h =
 -- what is told where a scenario has played so, is told of it
 pub play_told : {E : Type 0} (asked : Asked) (set : Set) (scenario : Listed) (start now : Playing)
     (failure : Option Failure) (failed : Option Step) (result : Result Told E)
-    → start ≡ begun set scenario.threads → PlaysTo start scenario.steps now failure
+    → start ≡ begun set scenario.threads → PlaysJudged start scenario.steps now failure
     → failed ≡ option_map (λ (f : Failure). f.step) failure
     → IfOk result (λ told. right_of_play asked (record { now = now; failed = failed })
     (ended told.end told.text.items))
@@ -222,7 +221,7 @@ play_told asked set scenario start now failure failed (Ok told) begins plays is 
     let so : PlaysSo set scenario play =
     record {
       failure = failure;
-      plays = subst (λ (p : Playing). PlaysTo p scenario.steps now failure) begins plays;
+      plays = subst (λ (p : Playing). PlaysJudged p scenario.steps now failure) begins plays;
       step = is;
     } in
     (play, so, h)

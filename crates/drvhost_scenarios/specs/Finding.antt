@@ -1,5 +1,5 @@
--- The scenario of a run that was found: it makes the run's events happen, and fails at its last step,
--- which expects that nothing is amiss.
+-- The scenario of a run that was found: it makes the run's events happen, and fails at its last
+-- step, which expects that nothing is amiss.
 use Rattle.std.specs.Prelude.{ℕ, ◌≡◌, ◌++◌, List, [], ◌∷◌, false, Some, Ok}
 use Rattle.interleave.specs.declared.schedule.Schedule.{Schedule}
 use Rattle.interleave.specs.Listing.{Lists}
@@ -20,8 +20,8 @@ pub record IsAmiss (p : Playing) (step : Step) : Type 0 where
   pub must : step.may ≡ false
   pub fails : holds p Clean ≡ false
 
--- a scenario on so many threads makes these events happen, and fails at its last step, which expects
--- that nothing is amiss
+-- a scenario on so many threads makes these events happen, and fails at its last step, which
+-- expects that nothing is amiss
 pub record FailsAtLast (set : Set) (threads : ℕ) (events : List Event) (scenario : Listed) : Type 0
   where
     pub before : List Step

@@ -1,6 +1,7 @@
--- What is told of a scenario that is played: whether all that it expects holds, or its first line that
--- fails; and, as `schedule` answers it, the plain schedule of what it makes happen.
-use Rattle.std.specs.Prelude.{ℕ, ◌≡◌, ◌⊎◌, ◌++◌, List, Option, None, Some, option_map, Result, Ok, Err, codes, decimal, if◌then◌else◌}
+-- What is told of a scenario that is played: whether all that it expects holds, or its first line
+-- that fails; and, as `schedule` answers it, the plain schedule of what it makes happen.
+use Rattle.std.specs.Prelude.{ℕ, ◌≡◌, ◌⊎◌, ◌++◌, true, List, Option, None, Some, option_map, Result, Ok, Err, codes, decimal, if◌then◌else◌}
+use Rattle.std.specs.List.{list_any}
 use Rattle.drvhost_devices.specs.Answer.{Answer, IsOfFile, IsTraced, ended, faulty, is_image}
 use Rattle.drvhost_devices.specs.declared.fault.End.{End}
 use Rattle.drvhost_devices.specs.declared.fault.End.TheVariants.{Complete, Stopped}
@@ -8,7 +9,9 @@ use Rattle.drvhost_devices.specs.declared.verification.Verification.{Verificatio
 use Rattle.drvhost_devices.specs.Device.{Holds, Supply}
 use Rattle.interleave.specs.declared.schedule.ScheduleFault.{ScheduleFault}
 use Rattle.interleave.specs.Listing.{Lists}
+use Rattle.model.specs.declared.abs.Refusal.{Refusal}
 use Rattle.model.specs.Set.{Set}
+use Rattle.model.specs.Typable.{IsFirstFault, IsTypable}
 use Rattle.report.specs.Fault.{schedule_fault_line}
 use Rattle.scenario_run.specs.Acting.{Played, played}
 use Rattle.scenario_run.specs.Playing.{Playing, begun}
@@ -16,6 +19,7 @@ use Rattle.scenario_together.specs.declared.play.Failure.{Failure}
 use Rattle.scenario_together.specs.Plays.{PlaysTo}
 use Rattle.scenario_text.specs.declared.scenario.Scenario.{Scenario}
 use Rattle.scenario_text.specs.declared.scenario.Step.{Step}
+use Rattle.scenario_text.specs.Judging.{expects_verdict, judged}
 use Rattle.scenario_text.specs.Listing.{Listed, scenario_in}
 use Rattle.scenario_names.specs.Names.{Named, names_of, nothing}
 use Rattle.drvhost_scenarios.specs.declared.telling.Asked.{Asked}
@@ -29,11 +33,22 @@ names_in bytes = if is_image bytes then nothing else names_of bytes
 abbrev pub play_of : Set → Listed → Played
 play_of set scenario = played (begun set scenario.threads) scenario.steps
 
+-- what the verdict on a set finds: its first fault, or none
+abbrev pub IsFound : Set → Option Refusal → Type 0
+IsFound set None = IsTypable set
+IsFound set (Some refusal) = IsFirstFault set refusal
+
 -- and how it plays where its threads may run in every interleaving: to an end, or to a step that
--- fails in one of them
+-- fails in one of them; with what the verdict on the set found, where a step expects one
+pub record PlaysJudged (p : Playing) (steps : List Step) (now : Playing) (failure : Option Failure)
+    : Type 0 where
+  pub found : Option Refusal
+  pub verdict : list_any expects_verdict steps ≡ true → IsFound p.set found
+  pub plays : PlaysTo p (judged found steps) now failure
+
 pub record PlaysSo (set : Set) (scenario : Listed) (play : Played) : Type 0 where
   pub failure : Option Failure
-  pub plays : PlaysTo (begun set scenario.threads) scenario.steps play.now failure
+  pub plays : PlaysJudged (begun set scenario.threads) scenario.steps play.now failure
   pub step : play.failed ≡ option_map (λ (f : Failure). f.step) failure
 
 -- all holds in the scenario of a name
@@ -60,8 +75,8 @@ abbrev pub end_of : Option Step → End
 end_of None = Complete
 end_of (Some step) = Stopped
 
--- a text that lists what has happened, up to the first step that fails; or that what was written lists
--- something else, read back
+-- a text that lists what has happened, up to the first step that fails; or that what was written
+-- lists something else, read back
 abbrev pub unlisted_line : List ℕ
 unlisted_line = codes "; the schedule, read back, is another one\n"
 

@@ -31,10 +31,10 @@ pub(crate) struct Find<'f> {
     pub(crate) events: &'f [Event],
 }
 
-/// The scenario of a run of a set that was found, whose schedule a text lists: it makes the events of
-/// the run happen, and fails at its last line, which expects that nothing is amiss. It has the names
-/// that the bytes of the set's file give. None where the text lists no schedule, or what was written,
-/// read back, plays otherwise, as where nothing is amiss in the run.
+/// The scenario of a run of a set that was found, whose schedule a text lists: it makes the events
+/// of the run happen, and fails at its last line, which expects that nothing is amiss. It has the
+/// names that the bytes of the set's file give. None where the text lists no schedule, or what was
+/// written, read back, plays otherwise, as where nothing is amiss in the run.
 ///
 /// # Errors
 ///

@@ -5,7 +5,6 @@
 pub mod finding;
 mod listing;
 mod outcome;
-mod play;
 pub mod schedule;
 pub mod telling;
 mod words;

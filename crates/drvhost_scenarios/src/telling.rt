@@ -1,6 +1,7 @@
 //! A scenario that is played, and what is told of it.
 
-ghost use Rattle.std.specs.Prelude.{◌≡◌, ◌≢◌, ◌≤◌, ◌+◌, ◌⊎◌, IfErr, IfOk, option_map};
+ghost use Rattle.std.specs.Prelude.{◌≡◌, ◌≢◌, ◌≤◌, ◌+◌, ◌⊎◌, IfErr, IfOk, Some, option_map};
+ghost use Rattle.std.specs.List.{list_any};
 ghost use Rattle.drvhost_devices.specs.Answer.{IsIfAccepted, IsOfFile, IsTraced, ended};
 ghost use Rattle.drvhost_devices.specs.Device.{Bytes, CanCount};
 ghost use Rattle.drvhost_devices.specs.Ends.{HoldsRun};
@@ -8,8 +9,9 @@ ghost use Rattle.drvhost_devices.specs.Fault.{reads_failed, writes_failed};
 ghost use Rattle.model.specs.declared.limits.TheConstants.{MAX_THREADS};
 ghost use Rattle.model.specs.Typable.{IsTypable};
 ghost use Rattle.report.specs.Verdict.{refusal_line};
+ghost use Rattle.scenario_text.specs.Judging.{expects_verdict};
 ghost use Rattle.scenario_text.specs.Listing.{scenario_in};
-ghost use Rattle.drvhost_scenarios.specs.Scenarios.{IsOfScenario, IsPlayedOf, listed, names_in, right_of, right_of_play};
+ghost use Rattle.drvhost_scenarios.specs.Scenarios.{IsFound, IsOfScenario, IsPlayedOf, PlaysJudged, listed, names_in, right_of, right_of_play};
 ghost use Rattle.drvhost_scenarios.specs.Telling.{Tells};
 
 use crate::listing::tell_schedule;
@@ -24,9 +26,10 @@ use model::abs::{Refusal, Rule};
 use report::lines::Lines;
 use scenario_names::names::Names;
 use scenario_run::playing::Playing;
+use scenario_text::judging::{expects_verdict, judged};
 use scenario_text::parse::parse_scenario;
 use scenario_text::scenario::{Scenario, Step};
-use scenario_together::play::{Failure, play};
+use scenario_together::play::{Failure, Played, play};
 use std::alloc::{AllocError, Global};
 use verifier::verify;
 
@@ -202,9 +205,54 @@ fn tell_play(
         (ended told.end told.text.items)) }
 {
     let playing = Playing::new(alloc, set, scenario.threads)?;
-    let played = play(alloc, playing, scenario.steps.as_slice())?;
+    let played = play_judged(alloc, playing, scenario.steps.as_slice())?;
     let failed = step_of(&played.failed);
     tell_asked(alloc, asked, source, text, &played.now, failed)
+}
+
+/// How steps play, with what the verdict on the set found, where one of them expects a verdict.
+#[tactic(auto, using(crate::proofs::Judging::none_judged, crate::proofs::Judging::found_judged))]
+fn play_judged(alloc: Global, playing: Playing, steps: &[Step]) -> Result<Played, AllocError>
+    ensures { IfOk result (λ played. PlaysJudged playing steps.now played.now played.failed) }
+{
+    if !expect_verdicts(steps) {
+        return play(alloc, playing, steps);
+    }
+    let found = find_fault(alloc, playing.machine().set())?;
+    let known = judged(alloc, steps, found)?;
+    play(alloc, playing, known.as_slice())
+}
+
+/// Whether one of some steps expects a verdict.
+fn expect_verdicts(steps: &[Step]) -> bool
+    ensures { result ≡ list_any expects_verdict steps.now }
+{
+    steps.iter().any(|step| expects_verdict(step))
+}
+
+/// What the verdict on a set finds: its first fault, or none.
+#[tactic(auto, using(crate::proofs::Judging::fault_found))]
+fn find_fault(alloc: Global, set: &DriverSet) -> Result<Option<Refusal>, AllocError>
+    ensures { IfOk result (IsFound set.now) }
+{
+    let Ok(copy) = set.copy(alloc) else {
+        return Err(AllocError);
+    };
+    match verify(alloc, copy) {
+        Ok(_accepted) => Ok(None),
+        Err((_set, refusal)) => known_fault(refusal),
+    }
+}
+
+/// The fault of a refusal; one for want of memory is no verdict.
+fn known_fault(refusal: Refusal) -> Result<Option<Refusal>, AllocError>
+    ensures { IfOk result (λ found. (refusal.rule ≢ Rule.Memory) × (found ≡ Some refusal)) }
+{
+    if refusal.rule == Rule::Memory {
+        Err(AllocError)
+    } else {
+        Ok(Some(refusal))
+    }
 }
 
 /// The step that fails, if one does.

@@ -5,6 +5,7 @@ use checked::Checked;
 use hunt_ends::amiss::Amiss;
 use interleave::read::Repeated;
 use interleave::schedule::MAX_EVENTS;
+use model::abs::Refusal;
 use model::event::{Lock, Reply};
 use model::view::PacketView;
 use model::world::Activation;
@@ -25,8 +26,8 @@ use text::add_bytes;
 use text::cut::Lines;
 use text::token::Tokens;
 
-/// What is said of a step of a scenario that fails, behind the number of its line: with the names of
-/// a text that names its set.
+/// What is said of a step of a scenario that fails, behind the number of its line: with the names
+/// of a text that names its set.
 ///
 /// # Errors
 ///
@@ -66,8 +67,8 @@ pub(crate) fn failure_words(
     Ok(words)
 }
 
-/// Adds why threads that ran together failed: one isn't there, a step of an interleaving stopped the
-/// run or had no room in it, or more worlds were met than may be.
+/// Adds why threads that ran together failed: one isn't there, a step of an interleaving stopped
+/// the run or had no room in it, or more worlds were met than may be.
 fn add_joined(
     words: &mut String,
     book: &Book<'_>,
@@ -141,7 +142,10 @@ fn add_subject(
 /// What its sort is called, and how many tokens of the line name it.
 fn subject_of(expectation: &Expectation) -> (&'static str, usize) {
     match expectation {
-        Expectation::Clean | Expectation::Bug(_) => ("", 0),
+        Expectation::Clean
+        | Expectation::Bug(_)
+        | Expectation::Verdict(_)
+        | Expectation::Judged { .. } => ("", 0),
         Expectation::Packet { .. } => (" packet", 1),
         Expectation::Thread { .. } => ("", 2),
         Expectation::Device { state, .. } => match state {
@@ -182,7 +186,24 @@ fn add_found(
         },
         Expectation::Lock { lock, .. } => add_owner(words, machine, lock),
         Expectation::Listed { device, list, .. } => add_list(words, machine, device, list),
+        Expectation::Verdict(_) => words.push_str("the verdict isn't known"),
+        Expectation::Judged { found, .. } => add_verdict(words, book, &found),
     }
+}
+
+/// Adds what the verdict on the set found, as a line expects it.
+fn add_verdict(
+    words: &mut String,
+    book: &Book<'_>,
+    found: &Option<Refusal>,
+) -> Result<(), AllocError> {
+    let Some(refusal) = found else {
+        return words.push_str("the set is accepted");
+    };
+    let rule = u64::from(refusal.rule.number());
+    add_numbered(words, "the set is refused V", rule, " at ")?;
+    book.add_routine(words, refusal.driver, refusal.routine)?;
+    add_numbered(words, " ", u64::from(refusal.at), "")
 }
 
 /// Adds what else is asked of a packet, where it is live.
@@ -191,7 +212,7 @@ fn add_more(
     words: &mut String,
     book: &Book<'_>,
     playing: &Playing,
-    packet: usize,
+    packet: u16,
     state: &PacketState,
 ) -> Result<(), AllocError> {
     let Some(number) = playing.number_of(packet) else {
@@ -206,26 +227,22 @@ fn add_more(
         PacketState::Unmarked if is_marked(&view) => {
             words.push_str(", its current location is marked")
         }
-        PacketState::Held { .. } => add_holders(alloc, words, book, machine, number),
+        PacketState::Held { .. } => add_sites(alloc, words, book, machine, number, Sort::Routine),
         _ => Ok(()),
     }
 }
 
-/// Adds which routines have a packet in a register.
-fn add_holders(
-    alloc: Global,
+/// Adds the routine that has a packet in a register.
+fn add_holder(
     words: &mut String,
     book: &Book<'_>,
     machine: &Checked,
-    number: u64,
+    site: &Site,
 ) -> Result<(), AllocError> {
-    let sites = sites_of(alloc, machine, number)?;
-    for site in sites.iter() {
-        if let Site::Register { thread, frame, .. } = *site {
-            if let Some(a) = activation_at(machine, thread, frame) {
-                words.push_str(", held by ")?;
-                book.add_routine(words, a.driver, a.routine)?;
-            }
+    if let Site::Register { thread, frame, .. } = *site {
+        if let Some(a) = activation_at(machine, thread, frame) {
+            words.push_str(", held by ")?;
+            book.add_routine(words, a.driver, a.routine)?;
         }
     }
     Ok(())
@@ -341,7 +358,7 @@ fn add_packet(
     words: &mut String,
     book: &Book<'_>,
     playing: &Playing,
-    packet: usize,
+    packet: u16,
 ) -> Result<(), AllocError> {
     let Some(number) = playing.number_of(packet) else {
         return words.push_str("it wasn't issued");
@@ -352,7 +369,7 @@ fn add_packet(
         } else {
             "it is live"
         })?;
-        return add_sites(alloc, words, book, playing.machine(), number);
+        return add_sites(alloc, words, book, playing.machine(), number, Sort::List);
     }
     match playing.top_out(number) {
         Some(top) => {
@@ -364,17 +381,30 @@ fn add_packet(
     }
 }
 
-/// Adds which lists a packet stands in, and which frames have it.
+/// What is said of where a packet is named.
+#[derive(Clone, Copy)]
+enum Sort {
+    /// The lists that it stands in, and on which thread it is completed.
+    List,
+    /// The routines that have it in a register.
+    Routine,
+}
+
+/// Adds where a packet is named, of a sort.
 fn add_sites(
     alloc: Global,
     words: &mut String,
     book: &Book<'_>,
     machine: &Checked,
     number: u64,
+    sort: Sort,
 ) -> Result<(), AllocError> {
     let sites = sites_of(alloc, machine, number)?;
     for site in sites.iter() {
-        add_site(words, book, machine, site)?;
+        match sort {
+            Sort::List => add_site(words, book, machine, site)?,
+            Sort::Routine => add_holder(words, book, machine, site)?,
+        }
     }
     Ok(())
 }

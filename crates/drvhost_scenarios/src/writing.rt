@@ -8,8 +8,8 @@ use model::status::Major;
 use scenario_names::names::Names;
 use std::alloc::{AllocError, Global};
 
-/// A scenario that makes the events of a run happen, with a word before the line of the last one, and
-/// then expects that nothing is amiss.
+/// A scenario that makes the events of a run happen, with a word before the line of the last one,
+/// and then expects that nothing is amiss.
 pub(crate) fn write_scenario(
     alloc: Global,
     names: &Names<'_>,
@@ -28,8 +28,8 @@ pub(crate) fn write_scenario(
     Ok(text)
 }
 
-/// Adds the lines of events, and answers how many packets they issue. Steps of a thread that come one
-/// after another stand on one line.
+/// Adds the lines of events, and answers how many packets they issue. Steps of a thread that come
+/// one after another stand on one line.
 fn add_lines(text: &mut Vec<u8>, names: &Names<'_>, events: &[Event]) -> Result<u64, AllocError> {
     let mut times: u64 = 0;
     let mut issued: u64 = 0;

@@ -1,8 +1,12 @@
 -- What is answered for scenarios, one after another, and for a set's.
-use Rattle.std.proofs.Common.{◌≡◌, ◌∙◌, ◌+◌, ◌≤◌, ◌++◌, ◌⊎◌, ℕ, List, [], ◌∷◌, false, Option, Some, None, Result, Ok, Err, String, ap, arith, codes, inl, inr, length, refl, string_bytes, subst, sym}
+use Rattle.std.proofs.Common.{◌≡◌, ◌∙◌, ◌+◌, ◌≤◌, ◌++◌, ◌⊎◌, ℕ, Bool, true, false, List, [], ◌∷◌, Option, Some, None, Result, Ok, Err, String, ap, arith, codes, inl, inr, length, refl, string_bytes, subst, sym}
 use Rattle.std.specs.Prelude.{◌≢◌, IfOk}
 use Rattle.std.specs.Global.{Global}
-use Rattle.std.specs.List.{AllZip, sum_by}
+use Rattle.std.specs.List.{All, AllZip, list_any, sum_by}
+use Rattle.std.proofs.lemmas.Bool.{or_cases}
+use Rattle.std.proofs.lemmas.List.Elements.{All-head, All-tail}
+use Rattle.std.proofs.lemmas.Slice.Zip.{AllZip-long}
+use Rattle.verifier.proofs.FirstRules.{neither}
 use Rattle.std.proofs.lemmas.List.Sums.{sum_by-cons}
 use Rattle.std.specs.Io.KnownBytes.{Appends}
 use Rattle.asm.specs.declared.fault.AsmFault.{AsmFault}
@@ -13,10 +17,9 @@ use Rattle.model.specs.declared.abs.Rule.{Rule}
 use Rattle.model.specs.Set.{Set}
 use Rattle.model.specs.Typable.{IsFirstFault, IsTypable, at_start}
 use Rattle.report.specs.Fault.{image_fault_line, schedule_fault_line, text_fault_line}
-use Rattle.report.specs.Verdict.{refusal_line}
 use Rattle.scenario_text.specs.Listing.{Listed}
 use Rattle.scenario_text.specs.declared.scenario.Step.{Step}
-use Rattle.drvhost_devices.specs.Answer.{Answer, FileSays, IsRefused, ended, faulty}
+use Rattle.drvhost_devices.specs.Answer.{Answer, FileSays, ended, faulty}
 use Rattle.drvhost_devices.specs.declared.fault.End.{End}
 use Rattle.drvhost_devices.specs.declared.fault.End.TheVariants.{Complete, Stopped}
 use Rattle.drvhost_devices.specs.declared.fault.Fault.{Fault}
@@ -33,51 +36,139 @@ use Rattle.drvhost_files.specs.Reading.{AreHeld, IsHeld, IsReadOf, Opens, held_r
 use Rattle.drvhost_many.specs.All.{Counted, joined}
 use Rattle.drvhost_many.specs.Held.{AreJoined}
 use Rattle.drvhost_many.proofs.Judged.{ends_rightly}
-use Rattle.drvhost_scenarios.specs.Scenarios.{IsOfScenario, IsOutcome, IsTested}
+use Rattle.drvhost_scenarios.specs.Scenarios.{IsOfScenario, IsOutcome, IsTested, names_in}
 use Rattle.drvhost_tests.specs.Reports.{framed, reported}
-use Rattle.drvhost_tests.specs.Tests.{AreJudgedBy, ArePlayed, AreTestsOf, Asked, Gathers, IsContentsTold, IsEntry, IsFaultOf, IsHeldTold, IsScenarioTold, IsTestOf, marked}
+use Rattle.drvhost_tests.specs.Tests.{AreAllTold, AreEntries, AreJudgedBy, AreOthers, AreTested, AreTestsOf, AreTold, AreToldBy, AreToldIf, Asked, Gathers, IsContentsTold, IsEntry, IsFaultOf, IsHeldTold, IsKept, IsKeptSo, IsOther, IsScenarioTold, IsTestOf, IsVerdictsIn, OneHasVerdicts, Tested, is_contents_of_verdict, is_held_of_verdict, marked}
 
 -- what is told of a scenario that was read is told of its file
-contents_tested : (asked : Asked) (bytes : List ℕ) (set : Set) (name : List ℕ) (supply : Supply)
+contents_tested : (asked : Asked) (tested : Tested) (name : List ℕ) (supply : Supply)
     (contents : Contents) (answer : Answer) → IsReadOf false supply contents
-    → IsContentsTold asked bytes set name contents answer
-    → IsTestOf asked.verbosity bytes set name supply (reads_of contents) answer
-contents_tested asked bytes set name supply (Whole text) answer holds told =
+    → IsContentsTold asked tested name contents answer
+    → IsTestOf asked.verbosity tested name supply (reads_of contents) answer
+contents_tested asked tested name supply (Whole text) answer holds told =
     inl (refl, (text.items, holds, told))
-contents_tested asked bytes set name supply Unread answer h is = inr (refl, is)
-contents_tested asked bytes set name supply Unopened answer (closed, never) is = cc
-contents_tested asked bytes set name supply Lacking answer h told = absurd told
+contents_tested asked tested name supply Unread answer h is = inr (refl, is)
+contents_tested asked tested name supply Unopened answer (closed, never) is = cc
+contents_tested asked tested name supply Lacking answer h told = absurd told
 
-held_tested : (asked : Asked) (bytes : List ℕ) (set : Set) (supply : List ℕ → Supply)
-    (name : String Global) (held : Held) (answer : Answer) → IsHeld false supply name held
-    → IsHeldTold asked bytes set held answer
-    → IsTestOf asked.verbosity bytes set (string_bytes name) (supply (string_bytes name))
+held_tested : (asked : Asked) (tested : Tested) (supply : List ℕ → Supply) (name : String Global)
+    (held : Held) (answer : Answer) → IsHeld false supply name held
+    → IsHeldTold asked tested held answer
+    → IsTestOf asked.verbosity tested (string_bytes name) (supply (string_bytes name))
     (held_reads held) answer
-held_tested asked bytes set supply name held answer h told =
-    contents_tested asked bytes set (string_bytes name) (supply (string_bytes name)) held.contents
+held_tested asked tested supply name held answer h told =
+    contents_tested asked tested (string_bytes name) (supply (string_bytes name)) held.contents
     answer h.read
-    (subst (λ (n : List ℕ). IsContentsTold asked bytes set n held.contents answer) h.name_is told)
+    (subst (λ (n : List ℕ). IsContentsTold asked tested n held.contents answer) h.name_is told)
 
 -- for several
-pub all_tested : (asked : Asked) (bytes : List ℕ) (set : Set) (supply : List ℕ → Supply)
+all_tested : (asked : Asked) (tested : Tested) (supply : List ℕ → Supply)
     (names : List (String Global)) (files : List Held) (whole : Answer)
-    → AllZip (IsHeld false supply) names files → AreJoined (IsEntry asked bytes set) files whole
-    → AreTestsOf asked bytes set supply names (sum_by held_reads files) whole
-all_tested asked bytes set supply [] [] whole h is = (refl, is)
-all_tested asked bytes set supply [] (file ∷ files) whole h is = absurd h
-all_tested asked bytes set supply (name ∷ names) [] whole h is = absurd h
-all_tested asked bytes set supply (name ∷ names) (file ∷ files) whole (here, h) (entry, rest, (answer, told, same), more, is) = (
+    → AllZip (IsHeld false supply) names files → AreJoined (IsEntry asked tested) files whole
+    → AreTestsOf asked tested supply names (sum_by held_reads files) whole
+all_tested asked tested supply [] [] whole h is = (refl, is)
+all_tested asked tested supply [] (file ∷ files) whole h is = absurd h
+all_tested asked tested supply (name ∷ names) [] whole h is = absurd h
+all_tested asked tested supply (name ∷ names) (file ∷ files) whole (here, h) (entry, rest, (answer, told, same), more, is) = (
   held_reads file,
   sum_by held_reads files,
   answer,
   rest,
-  held_tested asked bytes set supply name file answer here told,
-  all_tested asked bytes set supply names files rest h more,
+  held_tested asked tested supply name file answer here told,
+  all_tested asked tested supply names files rest h more,
   sum_by-cons held_reads file files,
   is
       ∙ ap (λ (a : Answer). joined a rest)
       (same ∙ ap (λ (n : List ℕ). reported asked.report n answer) here.name_is),
 )
+
+-- a scenario that was read expects nothing but a verdict, or more
+verdicts_read : (bytes : List ℕ) (supply : Supply) (contents : Contents)
+    → IsReadOf false supply contents → is_contents_of_verdict (names_in bytes) contents ≡ true
+    → IsVerdictsIn bytes supply
+verdicts_read bytes supply (Whole text) holds yes = (text.items, holds, yes)
+verdicts_read bytes supply Unread h yes = let no : ⊥ = cc in absurd no
+verdicts_read bytes supply Unopened h yes = let no : ⊥ = cc in absurd no
+verdicts_read bytes supply Lacking h yes = let no : ⊥ = cc in absurd no
+
+one_has : (bytes : List ℕ) (supply : List ℕ → Supply) (names : List (String Global))
+    (files : List Held) → AllZip (IsHeld false supply) names files
+    → list_any (is_held_of_verdict (names_in bytes)) files ≡ true
+    → OneHasVerdicts bytes supply names
+one_has bytes supply [] [] h yes = let no : ⊥ = cc in absurd no
+one_has bytes supply [] (file ∷ files) h yes = absurd h
+one_has bytes supply (name ∷ names) [] h yes = absurd h
+one_has bytes supply (name ∷ names) (file ∷ files) (here, h) yes =
+    let all = names_in bytes in
+    elim (or_cases (is_held_of_verdict all file) (list_any (is_held_of_verdict all) files) yes) [
+      | inl this ↦ inl (verdicts_read bytes (supply (string_bytes name)) file.contents here.read this)
+      | inr other ↦ inr (one_has bytes supply names files h other)
+    ]
+
+other_read : (bytes : List ℕ) (supply : Supply) (contents : Contents)
+    → IsReadOf false supply contents → IsKeptSo contents
+    → is_contents_of_verdict (names_in bytes) contents ≡ false
+    → IsOther bytes supply (reads_of contents)
+other_read bytes supply (Whole text) holds kept no = inl (refl, (text.items, holds, no))
+other_read bytes supply Unread h kept no = inr refl
+other_read bytes supply Unopened (closed, never) kept no = cc
+other_read bytes supply Lacking h kept no = absurd kept
+
+none_has : (bytes : List ℕ) (supply : List ℕ → Supply) (names : List (String Global))
+    (files : List Held) → AllZip (IsHeld false supply) names files → All IsKept files
+    → list_any (is_held_of_verdict (names_in bytes)) files ≡ false
+    → AreOthers bytes supply names (sum_by held_reads files)
+none_has bytes supply [] [] h kept no = refl
+none_has bytes supply [] (file ∷ files) h kept no = absurd h
+none_has bytes supply (name ∷ names) [] h kept no = absurd h
+none_has bytes supply (name ∷ names) (file ∷ files) (here, h) kept no =
+    let all = names_in bytes in
+    let both = neither (is_held_of_verdict all file) (list_any (is_held_of_verdict all) files) no in (
+      held_reads file,
+      sum_by held_reads files,
+      other_read bytes (supply (string_bytes name)) file.contents here.read
+          (All-head IsKept file files kept) both.0,
+      none_has bytes supply names files h (All-tail IsKept file files kept) both.1,
+      sum_by-cons held_reads file files,
+    )
+
+-- what is told of the scenarios that were read is told of their files
+entries_told : (asked : Asked) (tested : Tested) (supply : List ℕ → Supply)
+    (names : List (String Global)) (files : List Held) (answer : Answer)
+    → AllZip (IsHeld false supply) names files → AreEntries asked tested files answer
+    → AreAllTold asked names supply tested (sum_by held_reads files) answer
+entries_told asked tested supply names files answer h (all, so, is) = (
+  all,
+  all_tested asked tested supply names files all h so,
+  is
+      ∙ ap (λ (k : ℕ). framed asked.report asked.set k all)
+      (AllZip-long (IsHeld false supply) names files h),
+)
+
+told_if : (asked : Asked) (tested : Tested) (supply : List ℕ → Supply)
+    (names : List (String Global)) (files : List Held) (refusal : Refusal) (answer : Answer)
+    (any : Bool) → list_any (is_held_of_verdict (names_in tested.bytes)) files ≡ any
+    → AllZip (IsHeld false supply) names files
+    → AreToldIf any asked tested files refusal answer
+    → AreTold (Some refusal) asked names supply tested (sum_by held_reads files) answer
+told_if asked tested supply names files refusal answer true yes h told =
+    inl (
+      one_has tested.bytes supply names files h yes,
+      entries_told asked tested supply names files answer h told,
+    )
+told_if asked tested supply names files refusal answer false no h (kept, is) =
+    inr (none_has tested.bytes supply names files h kept no, is)
+
+told_by : (refusal : Option Refusal) (asked : Asked) (tested : Tested)
+    (supply : List ℕ → Supply) (names : List (String Global)) (files : List Held)
+    (answer : Answer) → AllZip (IsHeld false supply) names files
+    → AreToldBy refusal asked tested files answer
+    → AreTold refusal asked names supply tested (sum_by held_reads files) answer
+told_by None asked tested supply names files answer h told =
+    entries_told asked tested supply names files answer h told
+told_by (Some refusal) asked tested supply names files answer h told =
+    told_if asked tested supply names files refusal answer
+    (list_any (is_held_of_verdict (names_in tested.bytes)) files) refl h told
 
 -- a scenario that plays is not faulty
 plays_on : (name line : List ℕ) (failed : Option Step) → IsOutcome name failed (faulty line) → ⊥
@@ -183,15 +274,14 @@ gathers_lost R most o p r s So e read =
       right = tt;
     }
 
--- all are read, played, and framed
-pub all_framed : {E : Type 0} (asked : Asked) (names : List (String Global))
-    (supply : List ℕ → Supply) (bytes : List ℕ) (set : Set) (held : List Held) (o p r s count : ℕ)
-    (all : Answer) (result : Result Answer E)
+-- all are read, and what is told of them is
+pub all_told : {E : Type 0} (asked : Asked) (names : List (String Global))
+    (supply : List ℕ → Supply) (tested : Tested) (held : List Held) (o p r s : ℕ)
+    (result : Result Answer E)
     → Opens (length names) o p r s (λ opened reads. AreHeld false supply names opened reads held)
-    → AreJoined (IsEntry asked bytes set) held all → count ≡ length names
-    → IfOk result (λ whole. whole ≡ framed asked.report asked.set count all)
-    → Gathers (ArePlayed asked names supply bytes set) o p r s result
-all_framed asked names supply bytes set held o p r s count all result read so same ok =
+    → IfOk result (AreToldBy tested.refusal asked tested held)
+    → Gathers (AreTested asked names supply tested) o p r s result
+all_told asked names supply tested held o p r s result read ok =
     record {
       opened = read.opened;
       reads = read.reads;
@@ -199,15 +289,11 @@ all_framed asked names supply bytes set held o p r s count all result read so sa
       reads_are = read.reads_are;
       few = read.few;
       right =
-          ok_on result (λ whole is. (
+          ok_on result (λ whole told. (
             read.so.opened_are,
-            (
-              all,
-              subst (λ (k : ℕ). AreTestsOf asked bytes set supply names k all)
-                  (sym read.so.reads_are)
-                  (all_tested asked bytes set supply names held all read.so.are so),
-              is ∙ ap (λ (k : ℕ). framed asked.report asked.set k all) same,
-            ),
+            subst (λ (k : ℕ). AreTold tested.refusal asked names supply tested k whole)
+                (sym read.so.reads_are)
+                (told_by tested.refusal asked tested supply names held whole read.so.are told),
           )) ok;
     }
 
@@ -258,12 +344,16 @@ pub set_named : (bytes : List ℕ) (set : Set) → ReadsSet (Bytes bytes) (Ok se
 set_named bytes set (other, same, says) = subst (λ (b : List ℕ). FileSays b (Ok set)) same says
 
 -- a set is refused
-pub set_refused : (set : Set) (refusal : Refusal)
+pub refused_tested : (asked : Asked) (names : List (String Global)) (supply : List ℕ → Supply)
+    (bytes : List ℕ) (set : Set) (refusal : Refusal) (opened reads : ℕ) (answer : Answer)
     → (refusal ≡ at_start Rule.Memory) ⊎ IsFirstFault set refusal → refusal.rule ≢ Rule.Memory
-    → IsRefused set (ended Stopped (refusal_line refusal))
-set_refused set refusal (inl e) some = absurd (some (ap (λ (r : Refusal). r.rule) e))
-set_refused set refusal (inr first) some =
-    record { refusal = refusal; first = first; is = refl }
+    → AreTested asked names supply
+    (record { bytes = bytes; set = set; refusal = Some refusal }) opened reads answer
+    → AreJudgedBy Required asked names supply bytes set opened reads answer
+refused_tested asked names supply bytes set refusal opened reads answer (inl e) some right =
+    absurd (some (ap (λ (r : Refusal). r.rule) e))
+refused_tested asked names supply bytes set refusal opened reads answer (inr first) some right =
+    inr (refusal, first, right)
 
 -- an answer goes out
 pub answer_written : (whole : Answer) (reads w x e f : ℕ) (b n p q : Option (List ℕ)) → x ≡ w
@@ -338,13 +428,16 @@ tests_unmade R o p r s w e f b t u exit result all is says =
       ends = OutOfMemory refl refl is refl (keeps_same b);
     }
 
--- the scenarios of a set that is accepted
-pub accepted_played : (asked : Asked) (names : List (String Global)) (supply : List ℕ → Supply) (bytes : List ℕ)
-    (set accepted : Set) (opened reads : ℕ) (answer : Answer) → accepted ≡ set → IsTypable set
-    → ArePlayed asked names supply bytes accepted opened reads answer
+-- or accepted
+pub accepted_tested : (asked : Asked) (names : List (String Global)) (supply : List ℕ → Supply)
+    (bytes : List ℕ) (set accepted : Set) (opened reads : ℕ) (answer : Answer) → accepted ≡ set
+    → IsTypable set
+    → AreTested asked names supply
+    (record { bytes = bytes; set = accepted; refusal = None }) opened reads answer
     → AreJudgedBy Required asked names supply bytes set opened reads answer
-accepted_played asked names supply bytes set accepted opened reads answer same typable right =
+accepted_tested asked names supply bytes set accepted opened reads answer same typable right =
     inl (
       typable,
-      subst (λ (s : Set). ArePlayed asked names supply bytes s opened reads answer) same right,
+      subst (λ (s : Set). AreTested asked names supply
+          (record { bytes = bytes; set = s; refusal = None }) opened reads answer) same right,
     )

@@ -9,7 +9,8 @@ use Rattle.drvhost_many.specs.Marked.{lines_named}
 abbrev pub words : Answer → List ℕ
 words answer = answer.output ++ answer.told
 
--- a test in the form of TAP: whether it went well, its name, and if not what was answered, as comments
+-- a test in the form of TAP: whether it went well, its name, and if not what was answered, as
+-- comments
 abbrev pub tap_point : List ℕ → Answer → List ℕ
 tap_point name answer =
     if nat_eq answer.status 0 then codes "ok - " ++ (name ++ codes "\n")

@@ -1,11 +1,13 @@
 -- What tests of a driver set answer: a line for each scenario, in order.
-use Rattle.std.specs.Prelude.{ℕ, ◌≡◌, ◌≢◌, ◌≤◌, ◌+◌, ◌++◌, ◌⊎◌, List, [], ◌∷◌, codes, length, IfOk, Option, Result, Ok, Err, String, string_bytes}
+use Rattle.std.specs.Prelude.{ℕ, ⊤, ◌≡◌, ◌≢◌, ◌≤◌, ◌+◌, ◌++◌, ◌⊎◌, Bool, true, false, List, [], ◌∷◌, codes, length, IfOk, Option, None, Some, Result, Ok, Err, String, string_bytes}
 use Rattle.std.specs.Borrow.{Bor}
 use Rattle.std.specs.Global.{Global}
+use Rattle.std.specs.List.{All, list_any}
 use Rattle.drvhost_commands.specs.declared.job.Report.{Report}
-use Rattle.drvhost_devices.specs.Answer.{Answer, FileSays, IsRefused, faulty}
+use Rattle.drvhost_devices.specs.Answer.{Answer, FileSays, ended, faulty}
 use Rattle.drvhost_devices.specs.Device.{Bytes, Holds, Supply}
 use Rattle.drvhost_devices.specs.Ends.{Ends}
+use Rattle.drvhost_devices.specs.declared.fault.End.TheVariants.{Stopped}
 use Rattle.drvhost_devices.specs.declared.verification.Verification.{Verification}
 use Rattle.drvhost_devices.specs.declared.verification.Verification.TheVariants.{Required, Skipped}
 use Rattle.drvhost_files.specs.declared.reading.Contents.{Contents}
@@ -15,6 +17,7 @@ use Rattle.drvhost_found.specs.declared.find.Found.{Found}
 use Rattle.drvhost_found.specs.declared.sought.Sought.{Sought}
 use Rattle.drvhost_found.specs.declared.sought.Sought.TheVariants.{Scenarios}
 use Rattle.drvhost_many.specs.All.{AreFound, joined, nothing}
+use Rattle.drvhost_many.specs.Held.{AreJoined}
 use Rattle.drvhost_options.specs.declared.manner.Detail.TheVariants.{Usual}
 use Rattle.drvhost_options.specs.declared.manner.Manner.{Manner}
 use Rattle.drvhost_options.specs.declared.manner.Strictness.TheVariants.{Lenient}
@@ -24,9 +27,13 @@ use Rattle.drvhost_scenarios.specs.Scenarios.{IsOfScenario, IsTested, names_in, 
 use Rattle.drvhost_scenarios.specs.declared.telling.Asked.TheVariants.{Schedule}
 use Rattle.drvhost_views.specs.Told.{IsTellOf}
 use Rattle.interleave.specs.declared.schedule.ScheduleFault.{ScheduleFault}
+use Rattle.model.specs.declared.abs.Refusal.{Refusal}
 use Rattle.model.specs.Set.{Set}
-use Rattle.model.specs.Typable.{IsTypable}
+use Rattle.model.specs.Typable.{IsFirstFault, IsTypable}
 use Rattle.report.specs.Fault.{schedule_fault_line}
+use Rattle.report.specs.Verdict.{refusal_line}
+use Rattle.scenario_names.specs.Names.{Named}
+use Rattle.scenario_text.specs.Judging.{expect_verdict_alone}
 use Rattle.scenario_text.specs.Listing.{Listed, scenario_in}
 use Rattle.drvhost_tests.specs.Reports.{alone, framed, reported}
 
@@ -73,15 +80,51 @@ IsScenarioShown verbosity bytes name set said answer =
     (told : Answer) × IsScenarioTold name set said told
     × IsToldWith verbosity bytes set said told answer
 
--- what is told of the file of a name, of which so many reads failed, with the names of a set's bytes
-abbrev pub IsTestOf : Verbosity → List ℕ → Set → List ℕ → Supply → ℕ → Answer → Type 0
-IsTestOf verbosity bytes set name supply reads answer =
-    ((reads ≡ 0) × ((text : List ℕ) × Holds supply text
-    × IsScenarioShown verbosity bytes name set (scenario_in (names_in bytes) text) answer))
-    ⊎ ((reads ≡ 1) × (answer ≡ unread name))
+-- that a set is refused
+abbrev pub refused : Refusal → Answer
+refused refusal = ended Stopped (refusal_line refusal)
 
--- what is asked: the file of the set, the paths of the scenarios, whether the set has to be accepted,
--- how the tests are reported, and how much is told of one that fails
+-- what is tested: the bytes of a file, the set that they name, and why it isn't run, if it isn't
+pub record Tested : Type 0 where
+  pub bytes : List ℕ
+  pub set : Set
+  pub refusal : Option Refusal
+
+-- a scenario that expects nothing but a verdict on the set
+abbrev pub is_of_verdict : Result Listed ScheduleFault → Bool
+is_of_verdict (Ok scenario) = expect_verdict_alone scenario.steps
+is_of_verdict (Err fault) = false
+
+-- what is told of a scenario: where the set isn't run, one that expects nothing but a verdict is
+-- told all the same, since nothing happens in it; of any other that the set is refused
+abbrev pub IsShownIf : Bool → (Answer → Type 0) → Refusal → Answer → Type 0
+IsShownIf true Right refusal answer = Right answer
+IsShownIf false Right refusal answer = answer ≡ refused refusal
+
+abbrev pub IsShownBy : Option Refusal → Bool → (Answer → Type 0) → Answer → Type 0
+IsShownBy None verdict Right answer = Right answer
+IsShownBy (Some refusal) verdict Right answer = IsShownIf verdict Right refusal answer
+
+abbrev pub IsShown : Verbosity → Tested → List ℕ → Result Listed ScheduleFault → Answer → Type 0
+IsShown verbosity tested name said answer =
+    IsShownBy tested.refusal (is_of_verdict said)
+    (IsScenarioShown verbosity tested.bytes name tested.set said) answer
+
+-- and of one that can't be read
+abbrev pub unread_by : Option Refusal → List ℕ → Answer
+unread_by None name = unread name
+unread_by (Some refusal) name = refused refusal
+
+-- what is told of the file of a name, of which so many reads failed, with the names of a set's
+-- bytes
+abbrev pub IsTestOf : Verbosity → Tested → List ℕ → Supply → ℕ → Answer → Type 0
+IsTestOf verbosity tested name supply reads answer =
+    ((reads ≡ 0) × ((text : List ℕ) × Holds supply text
+    × IsShown verbosity tested name (scenario_in (names_in tested.bytes) text) answer))
+    ⊎ ((reads ≡ 1) × (answer ≡ unread_by tested.refusal name))
+
+-- what is asked: the file of the set, the paths of the scenarios, whether the set has to be
+-- accepted, how the tests are reported, and how much is told of one that fails
 pub record Asked : Type 0 where
   pub set : List ℕ
   pub paths : List (Bor (List ℕ))
@@ -90,41 +133,115 @@ pub record Asked : Type 0 where
   pub verbosity : Verbosity
 
 -- what is told of a scenario of which this was read, with the names of a set's bytes
-abbrev pub IsContentsTold : Asked → List ℕ → Set → List ℕ → Contents → Answer → Type 0
-IsContentsTold asked bytes set name (Whole text) answer =
-    IsScenarioShown asked.verbosity bytes name set (scenario_in (names_in bytes) text.items) answer
-IsContentsTold asked bytes set name Unread answer = answer ≡ unread name
-IsContentsTold asked bytes set name Unopened answer = answer ≡ unread name
-IsContentsTold asked bytes set name Lacking answer = ⊥
+abbrev pub IsContentsTold : Asked → Tested → List ℕ → Contents → Answer → Type 0
+IsContentsTold asked tested name (Whole text) answer =
+    IsShown asked.verbosity tested name (scenario_in (names_in tested.bytes) text.items) answer
+IsContentsTold asked tested name Unread answer = answer ≡ unread_by tested.refusal name
+IsContentsTold asked tested name Unopened answer = answer ≡ unread_by tested.refusal name
+IsContentsTold asked tested name Lacking answer = ⊥
 
-abbrev pub IsHeldTold : Asked → List ℕ → Set → Held → Answer → Type 0
-IsHeldTold asked bytes set held answer =
-    IsContentsTold asked bytes set held.name.now held.contents answer
+abbrev pub IsHeldTold : Asked → Tested → Held → Answer → Type 0
+IsHeldTold asked tested held answer =
+    IsContentsTold asked tested held.name.now held.contents answer
 
 -- the same, as it is reported
-abbrev pub IsEntry : Asked → List ℕ → Set → Held → Answer → Type 0
-IsEntry asked bytes set held entry =
-    (answer : Answer) × IsHeldTold asked bytes set held answer
+abbrev pub IsEntry : Asked → Tested → Held → Answer → Type 0
+IsEntry asked tested held entry =
+    (answer : Answer) × IsHeldTold asked tested held answer
     × (entry ≡ reported asked.report held.name.now answer)
 
 -- and of files of these names, in order
-abbrev pub AreTestsOf : Asked → List ℕ → Set → (List ℕ → Supply) → List (String Global) → ℕ
-    → Answer → Type 0
-AreTestsOf asked bytes set supply [] reads whole = (reads ≡ 0) × (whole ≡ nothing)
-AreTestsOf asked bytes set supply (name ∷ names) reads whole =
+abbrev pub AreTestsOf : Asked → Tested → (List ℕ → Supply) → List (String Global) → ℕ → Answer
+    → Type 0
+AreTestsOf asked tested supply [] reads whole = (reads ≡ 0) × (whole ≡ nothing)
+AreTestsOf asked tested supply (name ∷ names) reads whole =
     (failed others : ℕ) × (answer rest : Answer)
-    × IsTestOf asked.verbosity bytes set (string_bytes name) (supply (string_bytes name)) failed answer
-    × AreTestsOf asked bytes set supply names others rest × (reads ≡ failed + others)
+    × IsTestOf asked.verbosity tested (string_bytes name) (supply (string_bytes name)) failed answer
+    × AreTestsOf asked tested supply names others rest × (reads ≡ failed + others)
     × (whole ≡ joined (reported asked.report (string_bytes name) answer) rest)
+
+-- a file that was read has a scenario that expects nothing but a verdict
+abbrev pub is_contents_of_verdict : Named → Contents → Bool
+is_contents_of_verdict names (Whole text) = is_of_verdict (scenario_in names text.items)
+is_contents_of_verdict names Unread = false
+is_contents_of_verdict names Unopened = false
+is_contents_of_verdict names Lacking = false
+
+abbrev pub is_held_of_verdict : Named → Held → Bool
+is_held_of_verdict names held = is_contents_of_verdict names held.contents
+
+-- there was memory for what was to be read of it
+abbrev pub IsKeptSo : Contents → Type 0
+IsKeptSo (Whole text) = ⊤
+IsKeptSo Unread = ⊤
+IsKeptSo Unopened = ⊤
+IsKeptSo Lacking = ⊥
+
+abbrev pub IsKept : Held → Type 0
+IsKept held = IsKeptSo held.contents
+
+-- one of the files of these names has one
+abbrev pub IsVerdictsIn : List ℕ → Supply → Type 0
+IsVerdictsIn bytes supply =
+    (text : List ℕ) × Holds supply text × (is_of_verdict (scenario_in (names_in bytes) text) ≡ true)
+
+abbrev pub OneHasVerdicts : List ℕ → (List ℕ → Supply) → List (String Global) → Type 0
+OneHasVerdicts bytes supply [] = ⊥
+OneHasVerdicts bytes supply (name ∷ names) =
+    IsVerdictsIn bytes (supply (string_bytes name)) ⊎ OneHasVerdicts bytes supply names
+
+-- of files of these names none has one, or it can't be read
+abbrev pub IsOther : List ℕ → Supply → ℕ → Type 0
+IsOther bytes supply reads =
+    ((reads ≡ 0) × ((text : List ℕ) × Holds supply text
+    × (is_of_verdict (scenario_in (names_in bytes) text) ≡ false)))
+    ⊎ (reads ≡ 1)
+
+abbrev pub AreOthers : List ℕ → (List ℕ → Supply) → List (String Global) → ℕ → Type 0
+AreOthers bytes supply [] reads = reads ≡ 0
+AreOthers bytes supply (name ∷ names) reads =
+    (failed others : ℕ) × IsOther bytes (supply (string_bytes name)) failed
+    × AreOthers bytes supply names others × (reads ≡ failed + others)
+
+-- what is told of all scenarios that were read: each of them; or once that the set is refused,
+-- where it isn't run and none of them expects nothing but a verdict
+abbrev pub AreEntries : Asked → Tested → List Held → Answer → Type 0
+AreEntries asked tested held answer =
+    (all : Answer) × AreJoined (IsEntry asked tested) held all
+    × (answer ≡ framed asked.report asked.set (length held) all)
+
+abbrev pub AreToldIf : Bool → Asked → Tested → List Held → Refusal → Answer → Type 0
+AreToldIf true asked tested held refusal answer = AreEntries asked tested held answer
+AreToldIf false asked tested held refusal answer =
+    All IsKept held × (answer ≡ alone asked.report asked.set (refused refusal))
+
+abbrev pub AreToldBy : Option Refusal → Asked → Tested → List Held → Answer → Type 0
+AreToldBy None asked tested held answer = AreEntries asked tested held answer
+AreToldBy (Some refusal) asked tested held answer =
+    AreToldIf (list_any (is_held_of_verdict (names_in tested.bytes)) held) asked tested held refusal
+    answer
 
 -- what is right where so many files are opened, of which so many reads fail: for all scenarios,
 -- which are played; and where none is
-abbrev pub ArePlayed : Asked → List (String Global) → (List ℕ → Supply) → List ℕ → Set → ℕ → ℕ
-    → Answer → Type 0
-ArePlayed asked names supply bytes set opened reads answer =
-    (opened ≡ length names) × ((whole : Answer)
-    × AreTestsOf asked bytes set supply names reads whole
-    × (answer ≡ framed asked.report asked.set (length names) whole))
+abbrev pub AreAllTold : Asked → List (String Global) → (List ℕ → Supply) → Tested → ℕ → Answer
+    → Type 0
+AreAllTold asked names supply tested reads answer =
+    (whole : Answer) × AreTestsOf asked tested supply names reads whole
+    × (answer ≡ framed asked.report asked.set (length names) whole)
+
+abbrev pub AreTold : Option Refusal → Asked → List (String Global) → (List ℕ → Supply) → Tested
+    → ℕ → Answer → Type 0
+AreTold None asked names supply tested reads answer =
+    AreAllTold asked names supply tested reads answer
+AreTold (Some refusal) asked names supply tested reads answer =
+    (OneHasVerdicts tested.bytes supply names × AreAllTold asked names supply tested reads answer)
+    ⊎ (AreOthers tested.bytes supply names reads
+    × (answer ≡ alone asked.report asked.set (refused refusal)))
+
+abbrev pub AreTested : Asked → List (String Global) → (List ℕ → Supply) → Tested → ℕ → ℕ → Answer
+    → Type 0
+AreTested asked names supply tested opened reads answer =
+    (opened ≡ length names) × AreTold tested.refusal asked names supply tested reads answer
 
 abbrev pub IsUnplayed : Asked → (Answer → Type 0) → ℕ → ℕ → Answer → Type 0
 IsUnplayed asked Right opened reads answer =
@@ -135,10 +252,15 @@ IsUnplayed asked Right opened reads answer =
 abbrev pub AreJudgedBy : Verification → Asked → List (String Global) → (List ℕ → Supply) → List ℕ
     → Set → ℕ → ℕ → Answer → Type 0
 AreJudgedBy Required asked names supply bytes set opened reads answer =
-    (IsTypable set × ArePlayed asked names supply bytes set opened reads answer)
-    ⊎ IsUnplayed asked (IsRefused set) opened reads answer
+    (IsTypable set
+    × AreTested asked names supply (record { bytes = bytes; set = set; refusal = None }) opened reads
+    answer)
+    ⊎ ((refusal : Refusal) × IsFirstFault set refusal
+    × AreTested asked names supply (record { bytes = bytes; set = set; refusal = Some refusal })
+    opened reads answer)
 AreJudgedBy Skipped asked names supply bytes set opened reads answer =
-    ArePlayed asked names supply bytes set opened reads answer
+    AreTested asked names supply (record { bytes = bytes; set = set; refusal = None }) opened reads
+    answer
 
 -- the first fault of the file of a name that names no set
 abbrev pub IsFaultOf : List ℕ → List ℕ → Answer → Type 0

@@ -1,6 +1,7 @@
--- What tests ask.
+-- What tests ask, and what is tested.
+use Rattle.drvhost_tests.specs.declared.scenario.Subject.{Subject}
 use Rattle.drvhost_tests.specs.declared.test.Tests.{Tests}
-use Rattle.drvhost_tests.specs.Tests.{Asked}
+use Rattle.drvhost_tests.specs.Tests.{Asked, Tested}
 
 abbrev pub asked_of : Tests → Asked
 asked_of tests =
@@ -11,3 +12,7 @@ asked_of tests =
       report = tests.report;
       verbosity = tests.verbosity;
     }
+
+abbrev pub tested_of : Subject → Tested
+tested_of subject =
+    record { bytes = subject.bytes.now; set = subject.set.now; refusal = subject.refusal }

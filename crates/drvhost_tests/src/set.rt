@@ -1,13 +1,13 @@
 //! The tests of the set of a file.
 
-ghost use Rattle.std.specs.Prelude.{◌≡◌, ◌<◌, ◌≤◌, ◌^◌, IfOk, IfErr};
+ghost use Rattle.std.specs.Prelude.{◌≡◌, ◌<◌, ◌≤◌, ◌^◌, IfOk};
 ghost use Rattle.drvhost_devices.specs.Device.{CanCount};
-ghost use Rattle.model.specs.Typable.{IsTypable};
-ghost use Rattle.drvhost_tests.specs.Tests.{AreJudgedBy, AreOfBytes, AreOfFile, ArePlayed, Gathers};
-ghost use Rattle.drvhost_tests.specs.Told.{asked_of};
+ghost use Rattle.drvhost_tests.specs.Reports.{alone};
+ghost use Rattle.drvhost_tests.specs.Tests.{AreEntries, AreJudgedBy, AreOfBytes, AreOfFile, AreTested, AreToldBy, Gathers, refused};
+ghost use Rattle.drvhost_tests.specs.Told.{asked_of, tested_of};
 
-use crate::reporting::framed;
-use crate::scenario::{Subject, report_each, test_each};
+use crate::reporting::{alone, framed};
+use crate::scenario::{Subject, any_of_verdict, are_kept, report_each, test_each};
 use crate::telling::{tell_image_fault, tell_refused, tell_text_fault, tell_unread_set};
 use crate::test::Suite;
 use drvhost_devices::fault::Fault;
@@ -15,9 +15,10 @@ use drvhost_devices::reading::set_of;
 use drvhost_devices::transfer::read_whole;
 use drvhost_devices::verification::Verification;
 use drvhost_files::files::Files;
-use drvhost_files::reading::Way;
+use drvhost_files::reading::{Held, Way};
 use drvhost_many::told::Told;
 use image::DriverSet;
+use model::abs::{Refusal, Rule};
 use std::alloc::AllocError;
 use std::thread::Threads;
 use verifier::verify;
@@ -30,7 +31,8 @@ pub(crate) fn test_set<R: Threads + Sync, F: Files>(
 ) -> Result<Told, AllocError>
     requires opened { F.opened files.old < 2 ^ 63 }
     requires files { F.failures files.old < 2 ^ 63 }
-    ensures gathers { Gathers (AreOfFile (asked_of suite.entry.tests) suite.entry.names.now (F.supply files.old))
+    ensures gathers { Gathers (AreOfFile (asked_of suite.entry.tests)
+        suite.entry.names.now (F.supply files.old))
         (F.opened files.old) (F.opened files.new) (F.failures files.old) (F.failures files.new)
         result }
     ensures supply { F.supply files.new ≡ F.supply files.old }
@@ -55,7 +57,8 @@ fn test_bytes<R: Threads + Sync, F: Files>(
 ) -> Result<Told, AllocError>
     requires opened { F.opened files.old ≤ 2 ^ 63 }
     requires files { F.failures files.old ≤ 2 ^ 63 }
-    ensures gathers { Gathers (AreOfBytes (asked_of suite.entry.tests) suite.entry.names.now (F.supply files.old)
+    ensures gathers { Gathers (AreOfBytes (asked_of suite.entry.tests)
+        suite.entry.names.now (F.supply files.old)
         bytes.now) (F.opened files.old) (F.opened files.new) (F.failures files.old)
         (F.failures files.new) result }
     ensures supply { F.supply files.new ≡ F.supply files.old }
@@ -80,7 +83,8 @@ fn test_judged<R: Threads + Sync, F: Files>(
 ) -> Result<Told, AllocError>
     requires opened { F.opened files.old ≤ 2 ^ 63 }
     requires files { F.failures files.old ≤ 2 ^ 63 }
-    ensures gathers { Gathers (AreJudgedBy suite.entry.tests.verification (asked_of suite.entry.tests) suite.entry.names.now
+    ensures gathers { Gathers (AreJudgedBy suite.entry.tests.verification
+        (asked_of suite.entry.tests) suite.entry.names.now
         (F.supply files.old) bytes.now set) (F.opened files.old) (F.opened files.new)
         (F.failures files.old) (F.failures files.new) result }
     ensures supply { F.supply files.new ≡ F.supply files.old }
@@ -89,7 +93,14 @@ fn test_judged<R: Threads + Sync, F: Files>(
 {
     match suite.tests.verification {
         Verification::Required => test_verified(rt, suite, bytes, set, files),
-        Verification::Skipped => test_all(rt, suite, Subject { bytes, set: &set }, files),
+        Verification::Skipped => {
+            let subject = Subject {
+                bytes,
+                set: &set,
+                refusal: None,
+            };
+            test_all(rt, suite, subject, files)
+        }
     }
 }
 
@@ -103,7 +114,8 @@ fn test_verified<R: Threads + Sync, F: Files>(
 ) -> Result<Told, AllocError>
     requires opened { F.opened files.old ≤ 2 ^ 63 }
     requires files { F.failures files.old ≤ 2 ^ 63 }
-    ensures gathers { Gathers (AreJudgedBy Verification.Required (asked_of suite.entry.tests) suite.entry.names.now
+    ensures gathers { Gathers (AreJudgedBy Verification.Required
+        (asked_of suite.entry.tests) suite.entry.names.now
         (F.supply files.old) bytes.now set) (F.opened files.old) (F.opened files.new)
         (F.failures files.old) (F.failures files.new) result }
     ensures supply { F.supply files.new ≡ F.supply files.old }
@@ -113,9 +125,27 @@ fn test_verified<R: Threads + Sync, F: Files>(
     match verify(suite.alloc, set) {
         Ok(accepted) => {
             let set = accepted.set();
-            test_all(rt, suite, Subject { bytes, set }, files)
-        },
-        Err((_set, refusal)) => tell_refused(suite.alloc, suite.tests, &refusal),
+            let refusal = None;
+            test_all(
+                rt,
+                suite,
+                Subject {
+                    bytes,
+                    set,
+                    refusal,
+                },
+                files,
+            )
+        }
+        Err((_set, refusal)) if refusal.rule == Rule::Memory => Err(AllocError),
+        Err((set, refusal)) => {
+            let subject = Subject {
+                bytes,
+                set: &set,
+                refusal: Some(refusal),
+            };
+            test_all(rt, suite, subject, files)
+        }
     }
 }
 
@@ -128,32 +158,75 @@ fn test_all<R: Threads + Sync, F: Files>(
 ) -> Result<Told, AllocError>
     requires opened { F.opened files.old ≤ 2 ^ 63 }
     requires files { F.failures files.old ≤ 2 ^ 63 }
-    ensures gathers { Gathers (ArePlayed (asked_of suite.entry.tests) suite.entry.names.now
-        (F.supply files.old) subject.entry.bytes.now subject.entry.set.now)
+    ensures gathers { Gathers (AreTested (asked_of suite.entry.tests) suite.entry.names.now
+        (F.supply files.old) (tested_of subject.entry))
         (F.opened files.old) (F.opened files.new) (F.failures files.old) (F.failures files.new)
         result }
     ensures supply { F.supply files.new ≡ F.supply files.old }
     ensures created { F.created files.new ≡ F.created files.old }
     ensures unwritten { F.unwritten files.new ≡ F.unwritten files.old }
 {
-    let Suite {
-        alloc,
-        tests,
-        names,
-    } = suite;
     let way = Way {
-        alloc,
+        alloc: suite.alloc,
         is_told: false,
-        jobs: tests.jobs,
+        jobs: suite.tests.jobs,
     };
-    let Ok(held) = files.read_each(rt, way, names) else {
+    let Ok(held) = files.read_each(rt, way, suite.names) else {
         return Err(AllocError);
     };
-    let Ok(told) = test_each(rt, suite, subject, held.as_slice()) else {
-        return Err(AllocError);
-    };
-    let Ok(all) = report_each(suite, subject, held.as_slice(), told.as_slice()) else {
-        return Err(AllocError);
-    };
-    framed(alloc, tests.report, tests.set, names.len(), &all)
+    tell_held(rt, suite, subject, held.as_slice())
+}
+
+/// What is answered for scenarios that were read: for each; or once that the set is refused, where
+/// it isn't run and none of them expects nothing but a verdict on it.
+fn tell_held<R: Threads + Sync>(
+    rt: &R,
+    suite: Suite<'_>,
+    subject: Subject<'_>,
+    held: &[Held<'_>],
+) -> Result<Told, AllocError>
+    ensures { IfOk result (AreToldBy subject.entry.refusal (asked_of suite.entry.tests)
+        (tested_of subject.entry) held.now) }
+{
+    match subject.refusal {
+        Some(_) if !are_kept(held) => Err(AllocError),
+        Some(refusal) => {
+            if any_of_verdict(suite.alloc, subject.bytes, held)? {
+                tell_each(rt, suite, subject, held)
+            } else {
+                tell_unplayed(suite, &refusal)
+            }
+        }
+        None => tell_each(rt, suite, subject, held),
+    }
+}
+
+/// That the set is refused, as the one test that there is.
+fn tell_unplayed(suite: Suite<'_>, refusal: &Refusal) -> Result<Told, AllocError>
+    ensures { IfOk result (λ told. told ≡ alone suite.entry.tests.report suite.entry.tests.set.now
+        (refused refusal.now)) }
+{
+    let told = tell_refused(suite.alloc, refusal)?;
+    alone(suite.alloc, suite.tests.report, suite.tests.set, &told)
+}
+
+/// What is answered for each of them, in order.
+fn tell_each<R: Threads + Sync>(
+    rt: &R,
+    suite: Suite<'_>,
+    subject: Subject<'_>,
+    held: &[Held<'_>],
+) -> Result<Told, AllocError>
+    ensures { IfOk result (AreEntries (asked_of suite.entry.tests) (tested_of subject.entry)
+        held.now) }
+{
+    let told = test_each(rt, suite, subject, held)?;
+    let all = report_each(suite, subject, held, told.as_slice())?;
+    framed(
+        suite.alloc,
+        suite.tests.report,
+        suite.tests.set,
+        held.len(),
+        &all,
+    )
 }

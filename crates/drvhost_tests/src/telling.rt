@@ -1,21 +1,20 @@
 //! What is told of tests.
 
-ghost use Rattle.std.specs.Prelude.{◌≡◌, ◌≢◌, ◌++◌, IfOk};
+ghost use Rattle.std.specs.Prelude.{◌≡◌, ◌++◌, IfOk};
 ghost use Rattle.drvhost_devices.specs.Answer.{ended, faulty};
 ghost use Rattle.drvhost_tests.specs.Reports.{alone};
-ghost use Rattle.drvhost_tests.specs.Tests.{marked, unread};
+ghost use Rattle.drvhost_tests.specs.Tests.{marked, refused, unread};
 ghost use Rattle.report.specs.Fault.{image_fault_line, schedule_fault_line, text_fault_line};
-ghost use Rattle.report.specs.Verdict.{refusal_line};
 
 use crate::reporting::alone;
 use crate::test::Tests;
 use asm::AsmFault;
-use drvhost_devices::fault::{End, Fault};
+use drvhost_devices::fault::Fault;
 use drvhost_many::told::Told;
 use drvhost_scenarios::telling::{self, tell_refusal};
 use image::ImageFault;
 use interleave::schedule::ScheduleFault;
-use model::abs::{Refusal, Rule};
+use model::abs::Refusal;
 use report::fault::READ_FAILED;
 use report::lines::Lines;
 use std::alloc::{AllocError, Global};
@@ -90,20 +89,11 @@ fn tell_faulty_set(alloc: Global, tests: Tests<'_>, line: &[u8]) -> Result<Told,
 }
 
 /// That the set is refused; a refusal for want of memory is no verdict.
-pub(crate) fn tell_refused(
-    alloc: Global,
-    tests: Tests<'_>,
-    refusal: &Refusal,
-) -> Result<Told, AllocError>
-    ensures { IfOk result (λ told. (refusal.now.rule ≢ Rule.Memory)
-        × (told ≡ alone tests.entry.report tests.entry.set.now
-        (ended End.Stopped (refusal_line refusal.now)))) }
+pub(crate) fn tell_refused(alloc: Global, refusal: &Refusal) -> Result<Told, AllocError>
+    ensures { IfOk result (λ told. told ≡ refused refusal.now) }
 {
     match tell_refusal(alloc, refusal) {
-        Ok(told) => {
-            let told = answer_of(alloc, told);
-            alone(alloc, tests.report, tests.set, &told)
-        }
+        Ok(told) => Ok(answer_of(alloc, told)),
         Err(_) => Err(AllocError),
     }
 }

@@ -3,19 +3,22 @@ use Rattle.std.specs.Prelude.{ℕ, ◌^◌, ◌-◌, ◌&&◌, ◌||◌, Bool, L
 use Rattle.interleave.specs.Line.{and_then}
 use Rattle.interleave.specs.declared.schedule.ScheduleKind.{ScheduleKind}
 use Rattle.interleave.specs.declared.schedule.ScheduleKind.TheVariants.{UnknownWord}
+use Rattle.model.specs.declared.abs.Rule.{Rule}
+use Rattle.model.specs.declared.limits.TheConstants.{MAX_INSTRUCTIONS}
 use Rattle.model.specs.declared.status.Status.{Status}
 use Rattle.scenario_names.specs.Names.{Named}
-use Rattle.scenario_names.specs.Operands.{byte_of, device_of, number_of, packet_of, spot_labelled, spot_on_line, status_named}
+use Rattle.scenario_names.specs.Operands.{byte_of, device_of, number_of, packet_of, routine_of, rule_named, spot_labelled, spot_on_line, status_named}
 use Rattle.scenario_expected.specs.Places.{cancel_lock_line, current_line, held_line, in_line, of_line, own_list_line}
 use Rattle.scenario_expected.specs.declared.expectation.DeviceState.{DeviceState}
 use Rattle.scenario_expected.specs.declared.expectation.DeviceState.TheVariants as device
 use Rattle.scenario_expected.specs.declared.expectation.Expectation.{Expectation}
-use Rattle.scenario_expected.specs.declared.expectation.Expectation.TheVariants.{Clean, Bug, Packet, Thread, Device}
+use Rattle.scenario_expected.specs.declared.expectation.Expectation.TheVariants.{Clean, Bug, Packet, Thread, Device, Verdict}
 use Rattle.scenario_expected.specs.declared.expectation.List.TheVariants.{StartList, DeviceQueue}
 use Rattle.scenario_expected.specs.declared.expectation.PacketState.{PacketState}
 use Rattle.scenario_expected.specs.declared.expectation.PacketState.TheVariants.{Live, Cancelled, Marked, Unmarked, Topped}
 use Rattle.scenario_expected.specs.declared.expectation.ThreadState.{ThreadState}
 use Rattle.scenario_expected.specs.declared.expectation.ThreadState.TheVariants as thread
+use Rattle.scenario_expected.specs.declared.expectation.Verdict.TheVariants.{Accepted, Refused}
 
 -- `information N`, of which the first word is given, behind a status or without
 abbrev pub topped_information : Option Status → List ℕ → List (List ℕ)
@@ -148,18 +151,40 @@ expecting_of names packets name word operands =
     then own_list_line names packets DeviceQueue operands
     else packet_line names packets name word operands))))
 
--- what is expected of what has a name: of a thread, which bug check, or of the rest
+-- `at ROUTINE POSITION`, behind the rule that is broken there first
+abbrev pub refused_at : Named → Rule → List ℕ → List ℕ → Result Expectation ScheduleKind
+refused_at names rule routine position =
+    and_then
+    (λ s. and_then
+    (λ n. Ok (Verdict (Refused rule (record { driver = s.driver; routine = s.routine; position = n }))))
+    (number_of 0 (MAX_INSTRUCTIONS - 1) position)) (routine_of names routine)
+
+abbrev pub refused_line : Named → Rule → List (List ℕ) → Result Expectation ScheduleKind
+refused_line names rule (at ∷ routine ∷ position ∷ []) =
+    if bytes_eq at (codes "at") then refused_at names rule routine position else Err UnknownWord
+refused_line names rule _ = Err UnknownWord
+
+-- with a rule behind it `refused` is a verdict, else it is a name like others
+abbrev pub refused_or : Named → List (List ℕ) → List ℕ → List ℕ → List (List ℕ) → Option Rule
+    → Result Expectation ScheduleKind
+refused_or names packets name word operands (Some rule) = refused_line names rule operands
+refused_or names packets name word operands None = expecting_of names packets name word operands
+
+-- what is expected of what has a name: of a thread, which bug check or refusal, or of the rest
 abbrev pub expecting : Named → List (List ℕ) → List ℕ → List ℕ → List (List ℕ)
     → Result Expectation ScheduleKind
 expecting names packets name word operands =
     if bytes_eq name (codes "thread") then thread_line names word operands else
-    (if bytes_eq name (codes "bug") then bug_line word operands
-    else expecting_of names packets name word operands)
+    (if bytes_eq name (codes "bug") then bug_line word operands else
+    (if bytes_eq name (codes "refused")
+    then refused_or names packets name word operands (rule_named word)
+    else expecting_of names packets name word operands))
 
 -- what stands behind `expect`
 abbrev pub expect_line : Named → List (List ℕ) → List (List ℕ) → Result Expectation ScheduleKind
 expect_line names packets [] = Err UnknownWord
 expect_line names packets (word ∷ []) =
-    if bytes_eq word (codes "clean") then Ok Clean else Err UnknownWord
+    if bytes_eq word (codes "clean") then Ok Clean else
+    (if bytes_eq word (codes "accepted") then Ok (Verdict Accepted) else Err UnknownWord)
 expect_line names packets (name ∷ word ∷ operands) =
     expecting names packets name word operands

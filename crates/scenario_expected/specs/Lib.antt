@@ -1,2 +1,3 @@
 pub mod Expecting
+pub mod Judged
 pub mod Places

@@ -1,5 +1,9 @@
 //! What may be expected of a run.
 
+ghost use Rattle.std.specs.Prelude.{◌≡◌};
+ghost use Rattle.scenario_expected.specs.Judged.{is_refused_so, is_verdict};
+
+use model::abs::{Refusal, Rule};
 use model::event::Lock;
 use model::status::Status;
 use scenario_names::names::Spot;
@@ -18,7 +22,7 @@ pub enum Expectation {
     Bug(u8),
     /// Of a packet.
     Packet {
-        packet: usize,
+        packet: u16,
         state: PacketState,
     },
     /// Of a thread.
@@ -40,8 +44,23 @@ pub enum Expectation {
     Listed {
         device: u8,
         list: List,
-        packets: [Option<usize>; MAX_LISTED],
+        packets: [Option<u16>; MAX_LISTED],
     },
+    /// Of the set: that this is the verdict on it, which isn't known yet. It doesn't hold so.
+    Verdict(Verdict),
+    /// The same, where what the verdict found is known: none but for an accepted set.
+    Judged {
+        expected: Verdict,
+        found: Option<Refusal>,
+    },
+}
+
+/// A verdict on a driver set.
+#[derive(Clone, Copy)]
+pub enum Verdict {
+    Accepted,
+    /// The first fault is at this instruction, which breaks this rule.
+    Refused { rule: Rule, spot: Spot },
 }
 
 /// A list of a device.
@@ -111,4 +130,25 @@ pub enum DeviceState {
     DpcQueued,
     /// One of its cells has this number.
     Has { cell: CellName, number: u64 },
+}
+
+/// Whether a verdict is the one that found this, or nothing.
+pub fn is_verdict(expected: Verdict, found: Option<Refusal>) -> bool
+    ensures { result ≡ is_verdict expected found }
+{
+    match (expected, found) {
+        (Verdict::Accepted, None) => true,
+        (Verdict::Refused { rule, spot }, Some(refusal)) => is_refused_so(rule, spot, refusal),
+        _ => false,
+    }
+}
+
+/// Whether a refusal is for this rule, at this instruction.
+fn is_refused_so(rule: Rule, spot: Spot, refusal: Refusal) -> bool
+    ensures { result ≡ is_refused_so rule spot refusal }
+{
+    rule.number() == refusal.rule.number()
+        && spot.driver == u64::from(refusal.driver)
+        && spot.routine == u64::from(refusal.routine)
+        && spot.position == u64::from(refusal.at)
 }

@@ -1,16 +1,19 @@
 //! What a line expects.
 
 ghost use Rattle.std.specs.Prelude.{◌≡◌};
-ghost use Rattle.scenario_expected.specs.Expecting.{at_label, at_number, bug_line, device_line, device_state, expect_line, expecting, expecting_of, is_device_word, packet_line, packet_state, packet_word, thread_line, thread_state, topped_as, topped_information, topped_line, waiting_for};
+ghost use Rattle.scenario_expected.specs.Expecting.{at_label, at_number, bug_line, device_line, device_state, expect_line, expecting, expecting_of, is_device_word, packet_line, packet_state, packet_word, refused_at, refused_line, thread_line, thread_state, topped_as, topped_information, topped_line, waiting_for};
 
-use crate::expectation::{DeviceState, Expectation, List, PacketState, ThreadState};
+use crate::expectation::{DeviceState, Expectation, List, PacketState, ThreadState, Verdict};
 use crate::places::{cancel_lock_line, current_line, held_line, in_line, of_line, own_list_line};
 use interleave::schedule::ScheduleKind;
+use model::abs::Rule;
+use model::limits::MAX_INSTRUCTIONS;
 use model::status::Status;
 use scenario_names::issued::Issued;
-use scenario_names::names::Names;
+use scenario_names::names::{Names, Spot};
 use scenario_names::operands::{
-    byte_of, device_of, number_of, packet_of, spot_labelled, spot_on_line, status_named,
+    byte_of, device_of, number_of, packet_of, routine_of, rule_named, spot_labelled, spot_on_line,
+    status_named,
 };
 use text::class::is;
 use text::token::Tokens;
@@ -31,6 +34,8 @@ pub fn expect_line(
         (Some(word), None) => {
             if is(word, b"clean") {
                 Ok(Expectation::Clean)
+            } else if is(word, b"accepted") {
+                Ok(Expectation::Verdict(Verdict::Accepted))
             } else {
                 Err(ScheduleKind::UnknownWord)
             }
@@ -40,7 +45,7 @@ pub fn expect_line(
     }
 }
 
-/// What is expected of what has a name: of a thread, which bug check, or of the rest.
+/// What is expected of what has a name: of a thread, which bug check or refusal, or of the rest.
 fn expecting(
     names: &Names<'_>,
     packets: &Issued<'_>,
@@ -55,8 +60,53 @@ fn expecting(
     } else if is(name, b"bug") {
         bug_line(word, operands)
     } else {
-        expecting_of(names, packets, name, word, operands)
+        match (is(name, b"refused"), rule_named(word)) {
+            (true, Some(rule)) => refused_line(names, rule, operands),
+            _ => expecting_of(names, packets, name, word, operands),
+        }
     }
+}
+
+/// `at ROUTINE POSITION`, behind the rule that is broken there first.
+fn refused_line(
+    names: &Names<'_>,
+    rule: Rule,
+    mut operands: Tokens,
+) -> Result<Expectation, ScheduleKind>
+    ensures { result ≡ refused_line names.now rule operands.entry }
+{
+    let three = (operands.next(), operands.next(), operands.next());
+    match (three, operands.next()) {
+        ((Some(at), Some(routine), Some(position)), None) => {
+            if is(at, b"at") {
+                refused_at(names, rule, routine, position)
+            } else {
+                Err(ScheduleKind::UnknownWord)
+            }
+        }
+        _ => Err(ScheduleKind::UnknownWord),
+    }
+}
+
+/// The refusal for a rule at a position of a routine.
+fn refused_at(
+    names: &Names<'_>,
+    rule: Rule,
+    routine: &[u8],
+    position: &[u8],
+) -> Result<Expectation, ScheduleKind>
+    ensures { result ≡ refused_at names.now rule routine.now position.now }
+{
+    let entry = routine_of(names, routine)?;
+    let position = number_of(0, MAX_INSTRUCTIONS as u64 - 1, position)?;
+    Ok(Expectation::Verdict(Verdict::Refused {
+        rule,
+        spot: Spot {
+            driver: entry.driver,
+            routine: entry.routine,
+            position,
+        },
+    }))
 }
 
 /// Of a device, of what it has, of the system cancel spin lock, or of a packet.

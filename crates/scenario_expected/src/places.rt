@@ -203,7 +203,7 @@ fn packets_line(
     packets: &Issued<'_>,
     word: &[u8],
     operands: Tokens,
-) -> Result<[Option<usize>; MAX_LISTED], ScheduleKind>
+) -> Result<[Option<u16>; MAX_LISTED], ScheduleKind>
     ensures { result ≡ packets_line packets.now word.now operands.entry }
 {
     let mut left = operands;
@@ -230,7 +230,7 @@ fn packets_from(
     packets: &Issued<'_>,
     first: &[u8],
     mut operands: Tokens,
-) -> Result<[Option<usize>; MAX_LISTED], ScheduleKind>
+) -> Result<[Option<u16>; MAX_LISTED], ScheduleKind>
     ensures { result
         ≡ packets_from packets.now none_listed 0 (first.now ∷ operands.entry) }
 {

@@ -1,7 +1,9 @@
-//! The form of a scenario's lines: the words that one begins with, and what has to stand behind them.
+//! The form of a scenario's lines: the words that one begins with, and what has to stand behind
+//! them.
 
-use crate::operand::{DEVICE_STATES, Operand, is_one_of};
+use crate::operand::{DEVICE_STATES, Operand, PACKET_STATES, is_one_of};
 use interleave_faults::faulty::FaultyLine;
+use scenario_expected::expectation::MAX_LISTED;
 use text::class::is;
 
 /// What has to stand behind the first words of a line.
@@ -12,6 +14,19 @@ pub(crate) struct Form {
     pub(crate) operands: &'static [Operand],
     /// How many of them have to stand there.
     pub(crate) least: usize,
+    /// How often the last of them may stand there.
+    pub(crate) often: usize,
+}
+
+impl Form {
+    /// The operand at a place, the first one at 0, if one may stand there.
+    pub(crate) fn operand(&self, place: usize) -> Option<Operand> {
+        let last = self.operands.len().saturating_sub(1);
+        if place >= last.saturating_add(self.often) {
+            return None;
+        }
+        self.operands.get(place.min(last)).copied()
+    }
 }
 
 /// The words that lines begin with, and those of them that may stand behind `may`.
@@ -71,6 +86,17 @@ fn of(first: usize, operands: &'static [Operand], least: usize) -> Form {
         first,
         operands,
         least,
+        often: 1,
+    }
+}
+
+/// The same, with packets of a list at the end.
+fn listing(first: usize, operands: &'static [Operand]) -> Form {
+    Form {
+        first,
+        operands,
+        least: operands.len(),
+        often: MAX_LISTED,
     }
 }
 
@@ -118,16 +144,25 @@ pub(crate) fn bound_form(place: usize) -> Form {
 pub(crate) fn expect_form(line: &FaultyLine<'_>) -> Option<Form> {
     let name = line.token(1)?;
     match (name, line.token(2)) {
-        (b"clean", _) => Some(of(2, &[], 0)),
+        (b"clean" | b"accepted", _) => Some(of(2, &[], 0)),
         (b"bug", _) => Some(of(2, &[Operand::BugCheck], 1)),
         (b"thread", _) => Some(thread_form(line)),
         (_, Some(state)) if is_one_of(state, &DEVICE_STATES) => Some(device_form(state)),
         (_, Some(b"of")) => Some(of_form(line)),
         (b"cancel", Some(b"lock")) => Some(owner_form(line)),
         (b"start", Some(b"list")) | (b"device", Some(b"queue")) => Some(list_form(line)),
+        (b"refused", None) => Some(of(2, &REFUSED, 4)),
+        (b"refused", Some(word)) if !is_one_of(word, &PACKET_STATES) => Some(of(2, &REFUSED, 4)),
         _ => Some(packet_form(line)),
     }
 }
+
+const REFUSED: [Operand; 4] = [
+    Operand::Rule,
+    Operand::At,
+    Operand::Routine,
+    Operand::Position,
+];
 
 /// The form of what is said of a thread.
 fn thread_form(line: &FaultyLine<'_>) -> Form {
@@ -165,7 +200,7 @@ fn of_form(line: &FaultyLine<'_>) -> Form {
         Some(b"free") => of(1, &LOCK_OWNED, 4),
         Some(b"owned") => of(1, &LOCK_OWNED, 7),
         Some(b"empty") => of(1, &QUEUE_EMPTY, 4),
-        Some(b"has") => of(1, &QUEUE_HAS, 5),
+        Some(b"has") => listing(1, &QUEUE_HAS),
         _ => of(1, &HAS_STATE, 4),
     }
 }
@@ -195,26 +230,11 @@ const QUEUE_EMPTY: [Operand; 4] = [
     Operand::HasState,
 ];
 
-const QUEUE_HAS: [Operand; 20] = [
+const QUEUE_HAS: [Operand; 5] = [
     Operand::Queue,
     Operand::Of,
     Operand::Device,
     Operand::HasState,
-    Operand::Packet,
-    Operand::Packet,
-    Operand::Packet,
-    Operand::Packet,
-    Operand::Packet,
-    Operand::Packet,
-    Operand::Packet,
-    Operand::Packet,
-    Operand::Packet,
-    Operand::Packet,
-    Operand::Packet,
-    Operand::Packet,
-    Operand::Packet,
-    Operand::Packet,
-    Operand::Packet,
     Operand::Packet,
 ];
 
@@ -243,30 +263,15 @@ const OWNED: [Operand; 4] = [
 /// The form of what is said of a start list or a device queue, behind its name.
 fn list_form(line: &FaultyLine<'_>) -> Form {
     match line.token(5) {
-        Some(b"has") => of(3, &LIST_HAS, 4),
+        Some(b"has") => listing(3, &LIST_HAS),
         _ => of(3, &[Operand::Of, Operand::Device, Operand::ListState], 3),
     }
 }
 
-const LIST_HAS: [Operand; 19] = [
+const LIST_HAS: [Operand; 4] = [
     Operand::Of,
     Operand::Device,
     Operand::ListState,
-    Operand::Packet,
-    Operand::Packet,
-    Operand::Packet,
-    Operand::Packet,
-    Operand::Packet,
-    Operand::Packet,
-    Operand::Packet,
-    Operand::Packet,
-    Operand::Packet,
-    Operand::Packet,
-    Operand::Packet,
-    Operand::Packet,
-    Operand::Packet,
-    Operand::Packet,
-    Operand::Packet,
     Operand::Packet,
 ];
 

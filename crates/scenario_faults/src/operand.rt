@@ -2,7 +2,8 @@
 
 use crate::known::Known;
 use interleave::schedule::MAX_EVENTS;
-use model::limits::{CELLS, SPIN_LOCKS};
+use model::limits::{CELLS, MAX_INSTRUCTIONS, SPIN_LOCKS};
+use scenario_names::operands::rule_named;
 use scenario_text::scenario::{MAX_STEPS, MAX_WORLDS};
 use text::class::{is, is_name};
 use text::major::major_of;
@@ -58,9 +59,13 @@ pub(crate) enum Operand {
     Runner,
     Release,
     Times,
+    Rule,
+    At,
+    Position,
 }
 
-/// The words of threads' states, of devices', of packets', and of what a packet has topped out with.
+/// The words of threads' states, of devices', of packets', and of what a packet has topped out
+/// with.
 pub(crate) const THREAD_STATES: [&str; 4] = ["idle", "busy", "waiting", "at"];
 
 pub(crate) const DEVICE_STATES: [&str; 3] = ["idle", "busy", "dpc"];
@@ -109,12 +114,22 @@ impl Operand {
             Operand::Until => {
                 "`until`, and then `ROUTINE:LABEL`, `line` and a number, or `release` and a spin lock"
             }
-            Operand::Spot => "an instruction, as `ROUTINE:LABEL` of the driver text, or `line` N",
             Operand::Runner => "`all`, or the number of a thread, counted from 0, at most 255",
             Operand::Release => "`release`, and a spin lock, `l0` to `l7`",
             Operand::Times => "how often the lines up to `end` are listed, 1 to 65536",
             Operand::Line => "`line`, and the number of an instruction's line in the driver text",
             Operand::LineNumber => "the number of a line of the driver text with an instruction",
+            Operand::Spot => "an instruction, as `ROUTINE:LABEL` of the driver text, or `line` N",
+            Operand::Named => "the number of a thread, 0 to 63, or `up to` a number of `worlds`",
+            Operand::Up | Operand::To | Operand::Worlds => "`up to`, a number, and `worlds`",
+            Operand::WorldCount => "how many worlds may be met, 1 to 1000000",
+            _ => self.expected_words(),
+        }
+    }
+
+    /// The same of an expectation of a run, a thread, a device's state or a packet.
+    fn expected_words(self) -> &'static str {
+        match self {
             Operand::BugCheck => "the number of a bug check, as 0x0A",
             Operand::ThreadState => {
                 "`idle`, `busy`, `waiting`, `waiting for thread` and its number, or `at` an \
@@ -130,14 +145,22 @@ impl Operand {
             Operand::Status => "a status, as `SUCCESS` or `CANCELLED`",
             Operand::Information => "`information`, and a number",
             Operand::Number => "the information, a number below 2^64",
-            Operand::Named => "the number of a thread, 0 to 63, or `up to` a number of `worlds`",
-            Operand::Up | Operand::To | Operand::Worlds => "`up to`, a number, and `worlds`",
-            Operand::WorldCount => "how many worlds may be met, 1 to 1000000",
             Operand::For => "`for thread`, and its number",
             Operand::OfThread => "`thread`, and its number",
-            Operand::Of => "`of`, and a device",
             Operand::By => "`by`, and who has it: a routine has a packet, a thread a lock",
             Operand::On => "`on`, and a device",
+            Operand::Routine => "a routine, by its name in the driver text",
+            Operand::Rule => "a rule, `V1` to `V20`",
+            Operand::At => "`at`, a routine, and a position in it",
+            Operand::Position => "a position in the routine, 0 to 1023",
+            _ => self.listed_words(),
+        }
+    }
+
+    /// The same of cells, locks and lists.
+    fn listed_words(self) -> &'static str {
+        match self {
+            Operand::Of => "`of`, and a device",
             Operand::Cell => "a cell, `c0` to `c15` or `p0` to `p15`",
             Operand::CellNumber => "the number in the cell, below 2^64",
             Operand::SpinLock => "a spin lock, `l0` to `l7`",
@@ -153,7 +176,7 @@ impl Operand {
                 "`is` and a number, of a cell; `free` or `owned by thread` and its number, of a \
                  spin lock; `empty`, or `has` and packets, of a queue"
             }
-            Operand::Routine => "a routine, by its name in the driver text",
+            _ => "",
         }
     }
 
@@ -189,6 +212,8 @@ impl Operand {
             Operand::CellNumber => Fit::within(number(token), 0, u64::MAX),
             Operand::Queue => known.fit_queue(token),
             Operand::Routine => Fit::if_so(known.names.entry_of(token).is_some()),
+            Operand::Rule => Fit::if_so(rule_named(token).is_some()),
+            Operand::Position => Fit::within(number(token), 0, MAX_INSTRUCTIONS as u64 - 1),
             _ => Fit::if_so(is_one_of(token, self.choices())),
         }
     }
@@ -211,6 +236,7 @@ impl Operand {
             Operand::Of => &["of"],
             Operand::By => &["by"],
             Operand::On => &["on"],
+            Operand::At => &["at"],
             Operand::LockState => &["free", "owned"],
             Operand::ListState => &["empty", "has"],
             Operand::ListWord => &["start", "list", "device", "queue"],

@@ -28,7 +28,7 @@ const END: &str = "`end`, alone on a line behind those that are listed more than
 
 /// What may be expected.
 const EXPECTED: &str =
-    "`clean`, `bug` and a number, `thread`, its number and its state, a device or a packet and its \
+    "`clean`, `bug` and a number, `accepted`, `refused` and by which rule, `thread`, its number and its state, a device or a packet and its \
      state, a cell, a spin lock or a queue `of` a device, `start list`, `device queue`, or \
      `cancel lock`";
 
@@ -173,7 +173,7 @@ fn add_unfit(
     form: Form,
 ) -> Result<(), AllocError> {
     let mut count: usize = 0;
-    for operand in form.operands {
+    while let Some(operand) = form.operand(count) {
         match line.token(form.first.saturating_add(count)) {
             Some(token) => match operand.fit(known, token) {
                 Fit::Fits => {}
@@ -181,7 +181,7 @@ fn add_unfit(
                     add_at_fault(prose, token, ", whose number is out of range")?;
                     return add_expected(prose, operand.words());
                 }
-                Fit::Other => return add_other(prose, known, token, *operand),
+                Fit::Other => return add_other(prose, known, token, operand),
             },
             None if count < form.least => return add_short(prose, operand.words()),
             None => return Ok(()),

@@ -1,11 +1,14 @@
 -- The operands of a line: what each token may be, or the kind of what is wrong with it.
-use Rattle.std.specs.Prelude.{ℕ, ◌+◌, ◌^◌, ◌-◌, nat_eq, nat_lt, List, [], ◌∷◌, bytes_eq, drop, position, take, Option, Some, None, Result, Ok, Err, if◌then◌else◌}
+use Rattle.std.specs.Prelude.{ℕ, ◌+◌, ◌^◌, ◌-◌, nat_eq, nat_lt, Bool, List, [], ◌∷◌, bytes_eq, drop, position, take, Option, Some, None, Result, Ok, Err, if◌then◌else◌}
 use Rattle.std.specs.List.{find}
 use Rattle.asm_line.specs.Words.{status_text}
 use Rattle.interleave.specs.Line.{and_then, number_within}
 use Rattle.interleave.specs.declared.schedule.ScheduleKind.{ScheduleKind}
 use Rattle.interleave.specs.declared.schedule.ScheduleKind.TheVariants.{UnknownWord, OutOfRange}
 use Rattle.model.specs.declared.limits.TheConstants.{CELLS, MAX_QUEUES, SPIN_LOCKS}
+use Rattle.model.specs.LocalRule.{rule_number}
+use Rattle.model.specs.declared.abs.Rule.{Rule}
+use Rattle.model.specs.declared.abs.Rule.TheVariants.{Malformed, Unreachable, StatesDiffer, WrongKind, DoubleCompletion, MarkIrpPending, CancelSpinLock, SpinLock, LockHeld, Level, Guard as GuardRule, CancelState, Dropped, Token, Sort as SortRule, Completion, StackTooSmall, NoLower, TooLong, Memory}
 use Rattle.model.specs.declared.status.Major.{Major}
 use Rattle.model.specs.declared.status.Status.{Status}
 use Rattle.model.specs.declared.status.Status.TheVariants.{Success, Pending, Busy, Unsuccessful, InvalidParameter, InvalidDeviceRequest, Cancelled}
@@ -126,3 +129,24 @@ statuses =
 
 abbrev pub status_named : List ℕ → Option Status
 status_named token = find (λ status. bytes_eq token (status_text status)) statuses
+
+-- the rule that a token names by its number
+abbrev pub rules : List Rule
+rules =
+    Malformed ∷ Unreachable ∷ StatesDiffer ∷ WrongKind ∷ DoubleCompletion ∷ MarkIrpPending
+    ∷ CancelSpinLock ∷ SpinLock ∷ LockHeld ∷ Level ∷ GuardRule ∷ CancelState ∷ Dropped ∷ Token
+    ∷ SortRule ∷ Completion ∷ StackTooSmall ∷ NoLower ∷ TooLong ∷ Memory ∷ []
+
+abbrev pub has_number : Rule → ℕ → Bool
+has_number rule n = nat_eq (rule_number rule) n
+
+abbrev pub rule_of : ℕ → Option Rule
+rule_of n = find (λ rule. has_number rule n) rules
+
+abbrev pub rule_in : Numeral → Option Rule
+rule_in (Number n) = rule_of n
+rule_in TooLarge = None
+rule_in Other = None
+
+abbrev pub rule_named : List ℕ → Option Rule
+rule_named token = rule_in (numbered_in 86 token)

@@ -1,6 +1,6 @@
 //! The packets that lines issue, by their names.
 
-ghost use Rattle.std.specs.Prelude.{◌≡◌, ◌++◌, [], ◌∷◌, OnOk};
+ghost use Rattle.std.specs.Prelude.{◌≡◌, ◌+◌, ◌<◌, ◌≤◌, ◌^◌, ◌++◌, [], ◌∷◌, OnOk, length};
 ghost use Rattle.scenario_names.specs.Operands.{last_named};
 
 use indexmap::IndexMap;
@@ -9,12 +9,13 @@ use std::marker::Model;
 use text::piece::Piece;
 
 /// The names of the packets that lines issue, in order. A name may stand there more than once: it
-/// is that of the last packet that was issued under it, which is found at once.
+/// is that of the last packet that was issued under it, which is found at once. There are at most 65,536:
+/// no scenario has more steps.
 #[derive(Drop)]
 pub struct Issued<'a> {
     names: Vec<Piece<'a>>,
     /// By name, the place of the last packet that has it.
-    places: IndexMap<Piece<'a>, usize>,
+    places: IndexMap<Piece<'a>, u16>,
 }
 
 impl<'a> Model for Issued<'a> {
@@ -41,7 +42,7 @@ impl<'a> Issued<'a> {
     }
 
     /// The place of the last packet that has this name.
-    pub fn last_named(&self, name: &[u8]) -> Option<usize>
+    pub fn last_named(&self, name: &[u8]) -> Option<u16>
         ensures { result ≡ last_named self.now name.now }
     {
         self.places.get(&Piece::of(name)).copied()
@@ -54,9 +55,11 @@ impl<'a> Issued<'a> {
     /// When memory runs out.
     #[tactic(auto, using(crate::proofs::Issuing::index_more))]
     pub fn add(&mut self, name: Piece<'a>) -> Result<(), AllocError>
-        ensures { OnOk result (self.new ≡ self.old ++ name.entry ∷ []) }
+        requires { length self.old < 2 ^ 16 }
+        ensures added { OnOk result (self.new ≡ self.old ++ name.entry ∷ []) }
+        ensures few { length self.new ≤ length self.old + 1 }
     {
-        let place = self.names.len();
+        let place = self.names.len() as u16;
         self.places.reserve(1)?;
         self.names.push(name.again())?;
         let _before = self.places.insert(name, place)?;

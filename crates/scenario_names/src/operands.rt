@@ -1,7 +1,7 @@
 //! The operands of a line, each by what it may be.
 
 ghost use Rattle.std.specs.Prelude.{◌≡◌, ◌+◌, ◌<◌, ◌≤◌, IfOk, IfSome, bytes_eq, drop, length, nat_eq, position, take};
-ghost use Rattle.scenario_names.specs.Operands.{below, byte_of, cell_of, device_named, device_of, known, lettered, major_from, number_of, packet_of, queue_of, routine_of, small, spin_lock_of, spot_labelled, spot_on_line, spot_parted, status_named};
+ghost use Rattle.scenario_names.specs.Operands.{below, byte_of, cell_of, device_named, device_of, has_number, known, lettered, major_from, number_of, packet_of, queue_of, routine_of, rule_in, rule_named, rule_of, small, spin_lock_of, spot_labelled, spot_on_line, spot_parted, status_named};
 ghost use Rattle.model.specs.declared.limits.TheConstants.{CELLS, SPIN_LOCKS};
 
 use crate::issued::Issued;
@@ -9,6 +9,7 @@ use crate::names::{Names, Spot};
 use asm_line::status_text;
 use interleave::read::number_within;
 use interleave::schedule::ScheduleKind;
+use model::abs::Rule;
 use model::limits::{CELLS, MAX_QUEUES, SPIN_LOCKS};
 use model::status::{Major, Status};
 use text::class::{is, is_number};
@@ -25,6 +26,30 @@ const STATUSES: [Status; 7] = [
     Status::InvalidParameter,
     Status::InvalidDeviceRequest,
     Status::Cancelled,
+];
+
+/// The rules that a set may break.
+const RULES: [Rule; 20] = [
+    Rule::Malformed,
+    Rule::Unreachable,
+    Rule::StatesDiffer,
+    Rule::WrongKind,
+    Rule::DoubleCompletion,
+    Rule::MarkIrpPending,
+    Rule::CancelSpinLock,
+    Rule::SpinLock,
+    Rule::LockHeld,
+    Rule::Level,
+    Rule::Guard,
+    Rule::CancelState,
+    Rule::Dropped,
+    Rule::Token,
+    Rule::Sort,
+    Rule::Completion,
+    Rule::StackTooSmall,
+    Rule::NoLower,
+    Rule::TooLong,
+    Rule::Memory,
 ];
 
 /// A number cell of a device.
@@ -98,7 +123,7 @@ fn is_named(name: &[u8], other: &Piece<'_>) -> bool
 }
 
 /// The packet that was last issued under this name.
-pub fn packet_of(packets: &Issued<'_>, name: &[u8]) -> Result<usize, ScheduleKind>
+pub fn packet_of(packets: &Issued<'_>, name: &[u8]) -> Result<u16, ScheduleKind>
     ensures { result ≡ packet_of packets.now name.now }
 {
     match packets.last_named(name) {
@@ -256,4 +281,35 @@ pub fn status_named(token: &[u8]) -> Option<Status>
         .iter()
         .copied()
         .find(|status| is(token, status_text(*status).as_bytes()))
+}
+
+/// The rule that a token names by its number, `V1` to `V20`.
+pub fn rule_named(token: &[u8]) -> Option<Rule>
+    ensures { result ≡ rule_named token.now }
+{
+    rule_in(numbered(b'V', token))
+}
+
+/// The rule of a number.
+fn rule_in(numeral: Numeral) -> Option<Rule>
+    ensures { result ≡ rule_in numeral }
+{
+    match numeral {
+        Numeral::Number(number) => rule_of(number),
+        Numeral::TooLarge | Numeral::Other => None,
+    }
+}
+
+/// The first rule of a number.
+fn rule_of(number: u64) -> Option<Rule>
+    ensures { result ≡ rule_of number }
+{
+    RULES.iter().copied().find(|rule| has_number(*rule, number))
+}
+
+/// Whether a rule has a number.
+fn has_number(rule: Rule, number: u64) -> bool
+    ensures { result ≡ has_number rule number }
+{
+    u64::from(rule.number()) == number
 }

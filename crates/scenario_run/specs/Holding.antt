@@ -20,10 +20,11 @@ use Rattle.model.specs.View.{packet_at, thread_at}
 use Rattle.model.specs.Words.{bug_check_code}
 use Rattle.model.specs.World.{World, is_queued, owner_of, start_of}
 use Rattle.scenario_run.specs.Playing.{Playing, number_of, replies_of, run_of, stands_at, world_of}
+use Rattle.scenario_expected.specs.Judged.{is_verdict}
 use Rattle.scenario_expected.specs.declared.expectation.DeviceState.{DeviceState}
 use Rattle.scenario_expected.specs.declared.expectation.DeviceState.TheVariants as device
 use Rattle.scenario_expected.specs.declared.expectation.Expectation.{Expectation}
-use Rattle.scenario_expected.specs.declared.expectation.Expectation.TheVariants.{Clean, Bug as BugCheck, Packet, Thread, Device, Lock, Listed}
+use Rattle.scenario_expected.specs.declared.expectation.Expectation.TheVariants.{Clean, Bug as BugCheck, Packet, Thread, Device, Lock, Listed, Verdict, Judged}
 use Rattle.scenario_expected.specs.declared.expectation.PacketState.{PacketState}
 use Rattle.scenario_expected.specs.declared.expectation.PacketState.TheVariants.{Live, Cancelled, Marked, Unmarked, Topped, In, Current, Held}
 use Rattle.scenario_expected.specs.declared.expectation.ThreadState.{ThreadState}
@@ -135,3 +136,5 @@ holds p (Device d state) = device_holds (world_of p) d state
 holds p (Lock lock owner) = is_owned owner (owner_of (world_of p).shared.locks lock)
 holds p (Listed d list packets) =
     has_entries (numbers_of p packets) (entries_of (world_of p).shared d list)
+holds p (Verdict expected) = false
+holds p (Judged expected found) = is_verdict expected found

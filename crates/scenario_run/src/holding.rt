@@ -16,7 +16,7 @@ use model::history::TopOut;
 use model::status::Status;
 use model::view::{PacketView, ThreadView};
 use scenario_expected::expectation::{
-    DeviceState, Expectation, List, MAX_LISTED, PacketState, ThreadState,
+    DeviceState, Expectation, List, MAX_LISTED, PacketState, ThreadState, is_verdict,
 };
 use scenario_world::cells::has_number;
 use scenario_world::holders::is_held;
@@ -50,6 +50,8 @@ pub fn holds(
             list,
             packets,
         } => are_listed(alloc, playing, device, list, &packets),
+        Expectation::Verdict(_) => Ok(false),
+        Expectation::Judged { expected, found } => Ok(is_verdict(expected, found)),
     }
 }
 
@@ -114,7 +116,7 @@ fn add_times(events: &mut Vec<Event>, event: Event, count: usize) -> Result<(), 
 }
 
 /// Whether this holds of a packet of the scenario.
-fn packet_holds(playing: &Playing, packet: usize, state: PacketState) -> bool
+fn packet_holds(playing: &Playing, packet: u16, state: PacketState) -> bool
     ensures { result ≡ packet_holds (world_of playing.now) (replies_of playing.now)
         (number_of playing.now packet) state }
 {
@@ -239,7 +241,7 @@ fn are_listed(
     playing: &Playing,
     device: u8,
     list: List,
-    packets: &[Option<usize>; MAX_LISTED],
+    packets: &[Option<u16>; MAX_LISTED],
 ) -> Result<bool, AllocError>
     ensures { IfOk result (λ yes. yes ≡ has_entries (numbers_of playing.now packets.now)
         (entries_of (world_of playing.now).shared device list)) }
@@ -253,7 +255,7 @@ fn are_listed(
 fn numbers_of(
     alloc: Global,
     playing: &Playing,
-    packets: &[Option<usize>; MAX_LISTED],
+    packets: &[Option<u16>; MAX_LISTED],
 ) -> Result<Vec<Option<u64>>, AllocError>
     ensures { IfOk result (λ numbers. numbers.items ≡ numbers_of playing.now packets.now) }
 {

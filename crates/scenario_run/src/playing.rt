@@ -207,7 +207,7 @@ impl Playing {
     pub(crate) fn cancel(
         &mut self,
         thread: u8,
-        packet: usize,
+        packet: u16,
         level: u8,
     ) -> Result<Outcome, AllocError>
         ensures { IfOk result (λ outcome. record { now = self.new; outcome = outcome }
@@ -351,10 +351,10 @@ impl Playing {
     }
 
     /// The number of a packet of the scenario, if it was issued.
-    pub fn number_of(&self, packet: usize) -> Option<u64>
+    pub fn number_of(&self, packet: u16) -> Option<u64>
         ensures { result ≡ number_of self.now packet }
     {
-        match self.packets.get(packet) {
+        match self.packets.get(packet as usize) {
             Some(number) => *number,
             None => None,
         }

@@ -1,3 +1,4 @@
+pub mod Judging
 pub mod Line
 pub mod Listing
 pub mod Repeating

@@ -2,6 +2,7 @@
 //! their texts.
 #![tactic(auto)]
 
+pub mod judging;
 pub mod parse;
 pub mod reading;
 pub mod repeating;

@@ -152,6 +152,7 @@ struct Given<'a> {
 }
 
 impl<'a> Model for Given<'a> {
+    ghost use Rattle.std.specs.Prelude.{◌≤◌, length};
     ghost use Rattle.scenario_text.specs.Listing.{Given};
 
     ghost Value = { Given };
@@ -161,6 +162,8 @@ impl<'a> Model for Given<'a> {
       steps = g.steps.items;
       block = g.block;
     } };
+
+    ghost invariant = { λ g. length g.packets ≤ length g.steps.items };
 }
 
 impl<'a> Given<'a> {
@@ -287,6 +290,7 @@ impl<'a> Given<'a> {
 
     /// Adds a step, the name of the packet that it issues, and its line to the block that is open.
     fn add(&mut self, number: u64, line: &'a [u8], said: Said<'a>) -> Result<(), AllocError>
+        requires { length self.old.steps < 2 ^ 16 }
         ensures { OnOk result (self.new ≡ with_said self.old number line.now said.entry) }
     {
         self.steps.push(Step {

@@ -45,7 +45,7 @@ pub enum Action {
     /// IoCancelIrp is called for a packet, at a level.
     Cancel {
         thread: u8,
-        packet: usize,
+        packet: u16,
         level: u8,
     },
     /// A device interrupts.

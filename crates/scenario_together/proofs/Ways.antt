@@ -29,7 +29,7 @@ use Rattle.scenario_world.specs.Expected.{entries_of, has_entries, is_owned}
 use Rattle.scenario_text.specs.declared.scenario.Action.{Action}
 use Rattle.scenario_text.specs.declared.scenario.Action.TheVariants.{Issue, Cancel, Interrupt, Dpc, StartIo, Steps, Run as RunAction, RunTo, RunToRelease, RunAll, Together, Expect}
 use Rattle.scenario_expected.specs.declared.expectation.Expectation.{Expectation}
-use Rattle.scenario_expected.specs.declared.expectation.Expectation.TheVariants.{Clean, Bug, Packet, Thread, Device, Lock, Listed}
+use Rattle.scenario_expected.specs.declared.expectation.Expectation.TheVariants.{Clean, Bug, Packet, Thread, Device, Lock, Listed, Verdict, Judged}
 use Rattle.scenario_expected.specs.declared.expectation.PacketState.{PacketState}
 use Rattle.scenario_expected.specs.declared.expectation.PacketState.TheVariants.{Live, Cancelled, Topped, Marked, Unmarked, In, Current, Held}
 use Rattle.scenario_together.specs.Likeness.{SameWay, same_way}
@@ -440,6 +440,8 @@ module _ (agreed : AcceptedRunsShowNoDisagreement) (p : Playing) (others : List 
       alike.stand.world
       ∙ ap (λ (ns : List (Option ℕ)). has_entries ns (entries_of its_run.world.shared d list))
       (numbers_alike p others packets)
+  holds_alike (Verdict expected) accepted = refl
+  holds_alike (Judged expected found) accepted = refl
 
   expected_alike : (e : Expectation) → (expects_audit (Expect e) ≡ true → IsTypable p.set)
       → WentAlike (expected p (holds p e))

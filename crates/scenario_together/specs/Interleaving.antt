@@ -1,4 +1,5 @@
--- Interleavings of threads: each step is one of a named thread that isn't idle and waits for no lock.
+-- Interleavings of threads: each step is one of a named thread that isn't idle and waits for no
+-- lock.
 use Rattle.std.specs.Prelude.{ℕ, ◌≡◌, ◌++◌, ◌&&◌, not, Bool, true, false, List, map, is_none, slice_index_or}
 use Rattle.laws_locks.specs.Waiting.{waits_for}
 use Rattle.model.specs.declared.event.Event.{Event}

@@ -48,8 +48,8 @@ AllPass p [] = ⊤
 AllPass p (step ∷ steps) =
     Passes p step × ((q : Playing) → Leads p step q → AllPass q steps)
 
--- a step fails in a play, and leaves another: what it does fails, or a step of an interleaving does,
--- or a thread that it names isn't there
+-- a step fails in a play, and leaves another: what it does fails, or a step of an interleaving
+-- does, or a thread that it names isn't there
 abbrev pub IsMissing : List Bool → Playing → Type 0
 IsMissing named p = (t : ℕ) × (is_named named t ≡ true) × (p.threads ≤ t)
 

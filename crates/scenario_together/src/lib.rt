@@ -1,4 +1,5 @@
-//! Threads of a scenario that run in every interleaving, and the scenario behind each of their ends.
+//! Threads of a scenario that run in every interleaving, and the scenario behind each of their
+//! ends.
 #![tactic(auto)]
 
 mod interleaving;

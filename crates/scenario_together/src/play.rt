@@ -234,8 +234,8 @@ fn play_on(alloc: Global, home: Playing, steps: &[Step], merges: bool) -> Result
     Ok(Played { now, failed: None })
 }
 
-/// Plays the steps of a scenario, each in what every interleaving before it has led to, up to the first
-/// that fails.
+/// Plays the steps of a scenario, each in what every interleaving before it has led to, up to the
+/// first that fails.
 ///
 /// Ends of interleavings that lead to one world are taken for one. What an audit finds may be
 /// different there if the set isn't accepted: where that is asked for, none are taken for another.

@@ -81,9 +81,9 @@ fn failing(alloc: Global, home: &Interleaving, failed: &Failed) -> Result<Playin
     Ok(there.playing)
 }
 
-/// Runs these of the threads of a scenario in every interleaving, up to where each is idle or waits.
-/// So many worlds are met at most. Interleavings that go on alike are taken for one where that is
-/// asked for.
+/// Runs these of the threads of a scenario in every interleaving, up to where each is idle or
+/// waits. So many worlds are met at most. Interleavings that go on alike are taken for one where
+/// that is asked for.
 ///
 /// # Errors
 ///

@@ -3,7 +3,7 @@ use Rattle.rayon.proofs.ListFacts.{IfOk-then}
 use Rattle.rayon.proofs.ToStd.{slice-AllZip}
 use Rattle.std.specs.List.{AllZip}
 use Rattle.drvhost_tests.specs.Tests.{IsHeldTold}
-use Rattle.drvhost_tests.specs.Told.{asked_of}
+use Rattle.drvhost_tests.specs.Told.{asked_of, tested_of}
 use Rattle.drvhost_tests.proofs.scenario.test_each.Goals as goal
 
 pub returns : goal.returns
@@ -16,10 +16,10 @@ returns g c =
     IfOk-then c.collect.result _ _ c.collect.ensures (λ v h.
     let chain = h.1 in
     subst (λ s. AllZip (λ one answer. IfOk answer (IsHeldTold (asked_of s.tests)
-    c.args.subject.bytes.now c.args.subject.set.now one)) c.args.held.now v.items) suite
+    (tested_of c.args.subject) one)) c.args.held.now v.items) suite
     (subst (λ s. AllZip (λ one answer. IfOk answer (IsHeldTold (asked_of c.map.result.f.0.now.tests)
-    s.bytes.now s.set.now one)) c.args.held.now v.items) subject
+    (tested_of s) one)) c.args.held.now v.items) subject
     (rw h.2
     (slice-AllZip chain.0 c.args.held.now (chain.1 ∙ slice)
     (λ one answer. IfOk answer (IsHeldTold (asked_of c.map.result.f.0.now.tests)
-    c.map.result.f.1.now.bytes.now c.map.result.f.1.now.set.now one)) h.0 chain.2))))
+    (tested_of c.map.result.f.1.now) one)) h.0 chain.2))))

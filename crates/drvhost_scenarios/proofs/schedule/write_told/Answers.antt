@@ -5,7 +5,7 @@ use Rattle.drvhost_devices.specs.Answer.{IsOfFile, IsTraced}
 use Rattle.drvhost_devices.specs.Device.{Holds, TakesBeginning}
 use Rattle.drvhost_scenarios.specs.Scenarios.{IsOfSources, IsPlayedOf, right_of}
 use Rattle.drvhost_scenarios.proofs.Told.{tells_rightly, told_broken, told_written, unread, unread_held, untold}
-use Rattle.drvhost_scenarios.proofs.play.write_told.Goals as goal
+use Rattle.drvhost_scenarios.proofs.schedule.write_told.Goals as goal
 
 pub returns-in_err-bytes-clause-goes : goal.returns-in_err-bytes-clause-goes
 returns-in_err-bytes-clause-goes g c =

@@ -4,8 +4,9 @@ use Rattle.drvhost_devices.specs.Ends.{OutOfMemory}
 use Rattle.drvhost_devices.specs.Fault.{fault_told, reads_failed, told_of, writes_failed}
 use Rattle.drvhost_devices.proofs.Jobs.{ends_of}
 use Rattle.drvhost_devices.proofs.Writing.{keeps_same}
+use Rattle.drvhost_scenarios.specs.declared.telling.Asked.TheVariants.{Schedule}
 use Rattle.drvhost_scenarios.specs.Scenarios.{IsOfSources, right_of}
-use Rattle.drvhost_scenarios.proofs.play.play.Goals as goal
+use Rattle.drvhost_scenarios.proofs.schedule.schedule.Goals as goal
 
 pub returns-in-Ok-clause-answers : goal.returns-in-Ok-clause-answers
 returns-in-Ok-clause-answers g c =
@@ -18,7 +19,7 @@ returns-in-Ok-clause-answers g c =
       writes_are = c.write_told-end.ensures.writes;
       tells = c.finish.ensures.told;
       ends = rw c.finish.ensures.status
-          (ends_of (IsOfSources (right_of c.args.plan.asked) c.args.plan.verification
+          (ends_of (IsOfSources (right_of Schedule) c.args.verification
           (g.S.Source.supply c.args.set.now) (g.P.Source.supply c.args.scenario.now)) _ _ end
           c.write_told-end.ensures.goes);
     }

@@ -1,0 +1,74 @@
+//! Steps that expect a verdict on the set.
+
+ghost use Rattle.std.specs.Prelude.{◌≡◌, IfOk};
+ghost use Rattle.std.specs.List.{list_all};
+ghost use Rattle.scenario_text.specs.Judging.{expect_verdict_alone, expects_verdict, judged, judged_action, judged_step};
+
+use crate::scenario::{Action, Step};
+use model::abs::Refusal;
+use scenario_expected::expectation::Expectation;
+use std::alloc::{AllocError, Global};
+
+/// Whether a step expects a verdict, which isn't known yet.
+pub fn expects_verdict(step: &Step) -> bool
+    ensures { result ≡ expects_verdict step.now }
+{
+    match step.action {
+        Action::Expect(Expectation::Verdict(_)) => true,
+        _ => false,
+    }
+}
+
+/// Whether steps expect nothing but a verdict, and there are some: then nothing happens in them.
+pub fn expect_verdict_alone(steps: &[Step]) -> bool
+    ensures { result ≡ expect_verdict_alone steps.now }
+{
+    all_expect_verdict(steps) && !steps.is_empty()
+}
+
+/// Whether each step expects a verdict.
+fn all_expect_verdict(steps: &[Step]) -> bool
+    ensures { result ≡ list_all expects_verdict steps.now }
+{
+    steps.iter().all(|step| expects_verdict(step))
+}
+
+/// The same steps where it is known what the verdict found: the first fault of the set, or none.
+///
+/// # Errors
+///
+/// When memory runs out.
+pub fn judged(
+    alloc: Global,
+    steps: &[Step],
+    found: Option<Refusal>,
+) -> Result<Vec<Step>, AllocError>
+    ensures { IfOk result (λ all. all.items ≡ judged found steps.now) }
+{
+    steps
+        .iter()
+        .map(|step| judged_step(step, found))
+        .collect(alloc)
+}
+
+/// The same step where that is known.
+fn judged_step(step: &Step, found: Option<Refusal>) -> Step
+    ensures { result ≡ judged_step found step.now }
+{
+    Step {
+        line: step.line,
+        may: step.may,
+        action: judged_action(&step.action, found),
+    }
+}
+
+fn judged_action(action: &Action, found: Option<Refusal>) -> Action
+    ensures { result ≡ judged_action found action.now }
+{
+    match *action {
+        Action::Expect(Expectation::Verdict(expected)) => {
+            Action::Expect(Expectation::Judged { expected, found })
+        }
+        other => other,
+    }
+}
