@@ -58,7 +58,7 @@ steps_same found (step ∷ steps) none =
     ∙ ap (λ (rest : List Step). step ∷ rest) (steps_same found steps both.1)
 
 never : {A : Type 0} (b : Bool) → b ≡ false → b ≡ true → A
-never b no yes = let not : ⊥ = cc in absurd not
+never b is isnt = let not : ⊥ = cc in absurd not
 
 -- how they play where none expects a verdict
 pub none_judged : {E : Type 0} (p : Playing) (steps : List Step) (result : Result Played E)
