@@ -2,9 +2,9 @@
 
 ghost use Rattle.std.specs.Prelude.{◌≡◌, ◌+◌, [], IfErr, IfOk};
 ghost use Rattle.drvhost_devices.specs.Answer.{IsOfFile, ended};
-ghost use Rattle.drvhost_devices.specs.Device.{CanCount, Says};
-ghost use Rattle.drvhost_devices.specs.Ends.{Answers};
+ghost use Rattle.drvhost_devices.specs.Device.{CanCount};
 ghost use Rattle.drvhost_devices.specs.Fault.{Goes, reads_failed, writes_failed};
+ghost use Rattle.drvhost_sets.specs.Devices.{AnswersOver};
 ghost use Rattle.drvhost_scenarios.specs.Scenarios.{names_in};
 ghost use Rattle.drvhost_scenarios.specs.Telling.{Tells};
 ghost use Rattle.drvhost_finds.specs.Find.{IsFindBy, IsFindOf, IsShown, IsWritten, unshown_line};
@@ -13,10 +13,9 @@ use drvhost_devices::device::{Sink, Source};
 use drvhost_devices::fault::{End, Fault, finish, no_memory};
 use drvhost_devices::reading::set_of;
 use drvhost_devices::transfer::{read_whole, write_bytes};
-use drvhost_hunts::hunt::{Hunting, Way, end_told, told_of};
+use drvhost_hunts::hunt::{Hunting, end_told, told_of};
 use drvhost_scenarios::finding::scenario_of;
 use drvhost_scenarios::telling::Told;
-use hunt_bounds::reach::Reach;
 use hunt_schedule::telling::Told as Hunted;
 use image::DriverSet;
 use interleave_lines::appending::add;
@@ -24,65 +23,13 @@ use report::lines::Lines;
 use report_progress::progress::Progress;
 use std::alloc::{AllocError, Global};
 
-/// Hunts as `drvhost_hunts::hunt` does, but writes a scenario in place of the schedule of a run
-/// that was found: it makes the run's events happen, and fails at its last line, which expects that
-/// nothing is amiss. A line says so where no scenario shows the run, as one that is stuck. The
-/// answer is the exit status, as that of the hunt: 0 none, 1 found, 2 where the set's text or its
-/// image is faulty or a read or a write failed, 3 where memory ran out. Faults are told on the
-/// error writer, and meanwhile how far the search has come.
-pub fn find_telling<S: Source, O: Sink, E: Sink, P: Progress>(
-    alloc: Global,
-    reach: Reach,
-    progress: &P,
-    set: &mut S,
-    out: &mut O,
-    err: &mut E,
-) -> u8
-    requires set { CanCount (S.failures set.old) }
-    requires out { CanCount (O.failures out.old) }
-    requires err { CanCount (E.failures err.old) }
-    ensures { Answers (IsFindOf Way.Quick reach (S.supply set.old))
-        (S.failures set.old) (S.failures set.new) (O.failures out.old) (O.failures out.new)
-        (O.contents out.old) (O.contents out.new)
-        (Says (E.failures err.old) (E.failures err.new) (E.contents err.old) (E.contents err.new))
-        result }
-{
-    let hunting = Hunting {
-        reach,
-        way: Way::Quick,
-        progress,
-    };
-    find(alloc, &hunting, set, out, err)
-}
-
-/// The same, as `drvhost_hunts::exact` hunts.
-pub fn find_exactly<S: Source, O: Sink, E: Sink, P: Progress>(
-    alloc: Global,
-    reach: Reach,
-    progress: &P,
-    set: &mut S,
-    out: &mut O,
-    err: &mut E,
-) -> u8
-    requires set { CanCount (S.failures set.old) }
-    requires out { CanCount (O.failures out.old) }
-    requires err { CanCount (E.failures err.old) }
-    ensures { Answers (IsFindOf Way.Exact reach (S.supply set.old))
-        (S.failures set.old) (S.failures set.new) (O.failures out.old) (O.failures out.new)
-        (O.contents out.old) (O.contents out.new)
-        (Says (E.failures err.old) (E.failures err.new) (E.contents err.old) (E.contents err.new))
-        result }
-{
-    let hunting = Hunting {
-        reach,
-        way: Way::Exact,
-        progress,
-    };
-    find(alloc, &hunting, set, out, err)
-}
-
-/// Hunts in one of these ways.
-fn find<S: Source, O: Sink, E: Sink, P: Progress>(
+/// Hunts as [`hunt_by`](drvhost_hunts::hunt::hunt_by) does, but writes a scenario in place of the
+/// schedule of a run that was found: it makes the run's events happen, and fails at its last line,
+/// which expects that nothing is amiss. A line says so where no scenario shows the run, as one that
+/// is stuck. The answer is the exit status, as that of the hunt: 0 none, 1 found, 2 where the set's
+/// text or its image is faulty or a read or a write failed, 3 where memory ran out. Faults are told
+/// on the error writer, and meanwhile how far the search has come.
+pub fn find<S: Source, O: Sink, E: Sink, P: Progress>(
     alloc: Global,
     hunting: &Hunting<'_, P>,
     set: &mut S,
@@ -92,11 +39,9 @@ fn find<S: Source, O: Sink, E: Sink, P: Progress>(
     requires set { CanCount (S.failures set.old) }
     requires out { CanCount (O.failures out.old) }
     requires err { CanCount (E.failures err.old) }
-    ensures { Answers (IsFindOf hunting.now.way hunting.now.reach (S.supply set.old))
-        (S.failures set.old) (S.failures set.new) (O.failures out.old) (O.failures out.new)
-        (O.contents out.old) (O.contents out.new)
-        (Says (E.failures err.old) (E.failures err.new) (E.contents err.old) (E.contents err.new))
-        result }
+    ensures { AnswersOver O.Sink E.Sink
+        (IsFindOf hunting.now.way hunting.now.reach (S.supply set.old))
+        (S.failures set.old) (S.failures set.new) out.old out.new err.old err.new result }
 {
     match Lines::new(alloc) {
         Ok(mut lines) => {

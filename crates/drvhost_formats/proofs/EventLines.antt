@@ -55,49 +55,6 @@ next_reply number count made reply within =
     ∙ ap (λ line. line ++ event_lines (number + 1) (replicate (count - (made + 1)) reply))
     (sym (append-nil (json_line (event_json number reply))))
 
--- the lines of what is told together
-lines_told : (number : ℕ) (r : Replies) → event_lines number (told_by r)
-    ≡ event_lines number (replicate r.stepped Stepped)
-    ++ event_lines (number + r.stepped) (replicate r.times r.last)
-lines_told number r =
-    lines_on number (replicate r.stepped Stepped) (replicate r.times r.last)
-    ∙ ap (λ k. event_lines number (replicate r.stepped Stepped)
-    ++ event_lines (number + k) (replicate r.times r.last))
-    (length-replicate r.stepped Stepped)
-
-pub told_added : (number next : ℕ) (r : Replies) (b m n : Option (List ℕ)) (g l k : List ℕ)
-    → next ≡ number + r.stepped
-    → Adds b m g l (event_lines number (replicate r.stepped Stepped))
-    → Adds m n l k (event_lines next (replicate r.times r.last))
-    → Adds b n g k (event_lines number (told_by r))
-told_added number next r b m n g l k is first second =
-    rw (lines_told number r, sym is) (adds_more _ _ _ _ _ _ _ _ first second)
-
-pub told_breaks : (number next : ℕ) (r : Replies) (b m n : Option (List ℕ)) (g l : List ℕ)
-    → next ≡ number + r.stepped
-    → Adds b m g l (event_lines number (replicate r.stepped Stepped))
-    → TakesBeginning m n (l ++ event_lines next (replicate r.times r.last))
-    → TakesBeginning b n (g ++ event_lines number (told_by r))
-told_breaks number next r b m n g l is first second =
-    let steps = event_lines number (replicate r.stepped Stepped) in
-    let others = event_lines next (replicate r.times r.last) in
-    let gathered : Gathered (steps ++ others) others b m g l =
-    record { text = steps; whole = refl; adds = first } in
-    rw (lines_told number r, sym is)
-    (gathered_part _ _ others [] _ _ _ _ _ gathered (sym (append-nil others)) second)
-
-pub steps_break : (number : ℕ) (r : Replies) (b n : Option (List ℕ)) (g : List ℕ)
-    → TakesBeginning b n (g ++ event_lines number (replicate r.stepped Stepped))
-    → TakesBeginning b n (g ++ event_lines number (told_by r))
-steps_break number r b n g p =
-    rw (
-      lines_told number r,
-      sym (append_assoc g
-          (event_lines number (replicate r.stepped Stepped))
-          (event_lines (number + r.stepped) (replicate r.times r.last))),
-    )
-    (breaks_before _ _ _ _ p)
-
 module _ {O : Type 0} (failures : O → ℕ) (contents : O → Option (List ℕ))
     {M : Type 0} (set_of : M → Set) (ShowsRun : M → ℕ → List Event → Type 0) (m : M) (e : Event)
     (old : EventWriter O) where

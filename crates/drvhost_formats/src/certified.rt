@@ -12,8 +12,8 @@ use std::alloc::{AllocError, Global};
 use std::vec::IntoIter;
 use verifier::Accepted;
 
-/// The routines of an accepted set, by driver and then by number. The first of them has the first of
-/// these names, and so on.
+/// The routines of an accepted set, by driver and then by number. The first of them has the first
+/// of these names, and so on.
 pub(crate) fn certified_routines(
     alloc: Global,
     accepted: &Accepted,

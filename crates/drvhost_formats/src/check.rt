@@ -4,8 +4,8 @@ ghost use Rattle.std.specs.Prelude.{◌≡◌, ◌≢◌, ◌++◌, [], IfOk};
 ghost use Rattle.model.specs.Typable.{IsTypable};
 ghost use Rattle.report_json.specs.Line.{json_line};
 ghost use Rattle.report_json.specs.Verdict.{refusal_json};
-ghost use Rattle.drvhost_devices.specs.Device.{CanCount, Says};
-ghost use Rattle.drvhost_devices.specs.Ends.{Answers};
+ghost use Rattle.drvhost_devices.specs.Device.{CanCount};
+ghost use Rattle.drvhost_sets.specs.Devices.{AnswersOver};
 ghost use Rattle.drvhost_formats.specs.Check.{IsAcceptanceJson, IsCheckJsonOf, IsVerdictJson};
 ghost use Rattle.drvhost_formats.specs.Told.{told};
 
@@ -22,11 +22,12 @@ use report_json::verdict::{Acceptance, FileRefusal};
 use std::alloc::{AllocError, Global};
 use verifier::{Accepted, verify};
 
-/// Writes the verdict on the driver set of the file of a name as a line of JSON: that it is accepted,
-/// with the names, the sorts and the certificates of its routines, or the rule that it breaks first,
-/// and where; or the fault of its text or its image. The answer is the exit status, as that of
-/// `check`: 0 accepted, 1 refused, 2 where the file is faulty or a read or a write failed, 3 where
-/// memory ran out. That a read or a write failed or memory ran out is told on the error writer.
+/// Writes the verdict on the driver set of the file of a name as a line of JSON: that it is
+/// accepted, with the names, the sorts and the certificates of its routines, or the rule that it
+/// breaks first, and where; or the fault of its text or its image. The answer is the exit status,
+/// as that of `check`: 0 accepted, 1 refused, 2 where the file is faulty or a read or a write
+/// failed, 3 where memory ran out. That a read or a write failed or memory ran out is told on the
+/// error writer.
 pub fn check_json<S: Source, O: Sink, E: Sink>(
     alloc: Global,
     name: &str,
@@ -37,11 +38,8 @@ pub fn check_json<S: Source, O: Sink, E: Sink>(
     requires set { CanCount (S.failures set.old) }
     requires out { CanCount (O.failures out.old) }
     requires err { CanCount (E.failures err.old) }
-    ensures { Answers (IsCheckJsonOf name.now (S.supply set.old))
-        (S.failures set.old) (S.failures set.new) (O.failures out.old) (O.failures out.new)
-        (O.contents out.old) (O.contents out.new)
-        (Says (E.failures err.old) (E.failures err.new) (E.contents err.old) (E.contents err.new))
-        result }
+    ensures { AnswersOver O.Sink E.Sink (IsCheckJsonOf name.now (S.supply set.old))
+        (S.failures set.old) (S.failures set.new) out.old out.new err.old err.new result }
 {
     answer(&mut Judgement { file: name }, alloc, name, set, out, err)
 }

@@ -1,6 +1,7 @@
 //! The events of a run, as an observer of it adds their lines.
 
-ghost use Rattle.std.specs.Prelude.{◌≡◌, ◌+◌, ◌++◌, ◌∷◌, ◌<◌, ◌^◌, [], IfErr, OnErr, OnOk, replicate};
+ghost use Rattle.std.specs.Prelude.{◌≡◌, ◌+◌, ◌++◌, ◌∷◌, ◌<◌, ◌^◌, [], IfErr, OnErr, OnOk};
+ghost use Rattle.std.specs.Prelude.{replicate};
 ghost use Rattle.interleave.specs.Listing.{IsWithinLimits};
 ghost use Rattle.drvhost_devices.specs.Device.{Adds, CanCount, TakesBeginning};
 ghost use Rattle.drvhost_devices.specs.Fault.{reads_failed, writes_failed};

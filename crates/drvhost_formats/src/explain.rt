@@ -5,10 +5,12 @@ ghost use Rattle.mend_offers.specs.Offers.{AreOffersOf};
 ghost use Rattle.model.specs.declared.abs.Refusal.{Refusal as RefusalValue};
 ghost use Rattle.model.specs.Typable.{IsFirstFault, IsTypable, at_start};
 ghost use Rattle.verifier_words.specs.Faults.{AreFaults};
-ghost use Rattle.drvhost_devices.specs.Device.{CanCount, Says};
-ghost use Rattle.drvhost_devices.specs.Ends.{Answers};
+ghost use Rattle.drvhost_devices.specs.Device.{CanCount};
+ghost use Rattle.drvhost_sets.specs.Devices.{AnswersOver};
 ghost use Rattle.drvhost_evidence.specs.Faults.{IsFaultOf};
-ghost use Rattle.drvhost_formats.specs.Explain.{AreLinesOf, AreRefusalLines, IsAcceptanceExplained, IsExplainJsonOf, IsExplainedJson, IsRefusalExplained, IsRefusalLine};
+ghost use Rattle.drvhost_formats.specs.Explain.{AreLinesOf, AreRefusalLines, IsAcceptanceExplained};
+ghost use Rattle.drvhost_formats.specs.Explain.{IsExplainJsonOf, IsExplainedJson};
+ghost use Rattle.drvhost_formats.specs.Explain.{IsRefusalExplained, IsRefusalLine};
 ghost use Rattle.drvhost_formats.specs.Told.{told};
 
 use crate::certified::certified_routines;
@@ -37,9 +39,9 @@ use verifier_words::explanations;
 /// an accepted set, with words on its routines and on the order in which its drivers take their
 /// locks; or for the first fault of a refused one, and, if asked for, for that of each other
 /// routine, with its place, the paths that lead there and what is known at each of their steps, why
-/// the rule is broken, and how to mend it, for the first fault with the edits of lines that do it, if they
-/// were judged; or for the fault of its text or its image. The answer is
-/// the exit status, as that of [`check_json`](crate::check::check_json).
+/// the rule is broken, and how to mend it, for the first fault with the edits of lines that do it,
+/// if they were judged; or for the fault of its text or its image. The answer is the exit status,
+/// as that of [`check_json`](crate::check::check_json).
 pub fn explain_json<S: Source, O: Sink, E: Sink>(
     alloc: Global,
     extent: Extent,
@@ -51,11 +53,8 @@ pub fn explain_json<S: Source, O: Sink, E: Sink>(
     requires set { CanCount (S.failures set.old) }
     requires out { CanCount (O.failures out.old) }
     requires err { CanCount (E.failures err.old) }
-    ensures { Answers (IsExplainJsonOf extent name.now (S.supply set.old))
-        (S.failures set.old) (S.failures set.new) (O.failures out.old) (O.failures out.new)
-        (O.contents out.old) (O.contents out.new)
-        (Says (E.failures err.old) (E.failures err.new) (E.contents err.old) (E.contents err.new))
-        result }
+    ensures { AnswersOver O.Sink E.Sink (IsExplainJsonOf extent name.now (S.supply set.old))
+        (S.failures set.old) (S.failures set.new) out.old out.new err.old err.new result }
 {
     answer(
         &mut Explaining { file: name, extent },

@@ -6,7 +6,8 @@ ghost use Rattle.json.specs.Token.{key, number, string};
 ghost use Rattle.json.specs.Tree.{items_tokens, json_tokens};
 ghost use Rattle.model.specs.Words.{rule_word};
 ghost use Rattle.report.specs.Rule.{rule_name};
-ghost use Rattle.drvhost_formats.specs.Explanation.{edit_json, edits_json, region_json, step_json, steps_json};
+ghost use Rattle.drvhost_formats.specs.Explanation.{edit_json, edits_json, region_json, step_json};
+ghost use Rattle.drvhost_formats.specs.Explanation.{steps_json};
 
 use drvhost_evidence::shown::Shown;
 use json::Writer;

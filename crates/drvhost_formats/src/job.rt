@@ -6,9 +6,11 @@ ghost use Rattle.report_json.specs.Fault.{fault_json};
 ghost use Rattle.report_json.specs.Line.{json_line};
 ghost use Rattle.drvhost_devices.specs.Answer.{Answer};
 ghost use Rattle.drvhost_devices.specs.Device.{Bytes, CanCount, Says};
-ghost use Rattle.drvhost_devices.specs.Ends.{Answers, HoldsSet};
+ghost use Rattle.drvhost_devices.specs.Ends.{HoldsSet};
 ghost use Rattle.drvhost_devices.specs.Fault.{reads_failed, writes_failed};
-ghost use Rattle.drvhost_formats.specs.Told.{IsToldOf, IsToldOfFile, Tells, telling_status, telling_told};
+ghost use Rattle.drvhost_sets.specs.Devices.{AnswersOver};
+ghost use Rattle.drvhost_formats.specs.Told.{IsToldOf, IsToldOfFile, Tells, telling_status};
+ghost use Rattle.drvhost_formats.specs.Told.{telling_told};
 
 use crate::outcome::Outcome;
 use crate::reading::said_in;
@@ -38,6 +40,9 @@ pub trait Job {
     // It has taken nothing.
     ghost stays: { Self → Self → Type 0 } = { λ _ _. ⊤ };
 
+    // What it takes to be done is there.
+    ghost able: { Self → Type 0 } = { λ _. ⊤ };
+
     /// Tells it of the set that the bytes of a file name. What it tells goes out, but for the lines
     /// that gather last.
     fn perform<O: Sink>(
@@ -48,6 +53,7 @@ pub trait Job {
         lines: &mut JsonLines,
         out: &mut O,
     ) -> Result<Outcome, Fault>
+        requires able { able self.old }
         requires others { CanCount (failures self.old) }
         requires out { CanCount (O.failures out.old) }
         requires empty { lines.old ≡ [] }
@@ -71,17 +77,17 @@ pub fn answer<J: Job, S: Source, O: Sink, E: Sink>(
     out: &mut O,
     err: &mut E,
 ) -> u8
+    requires able { J.able job.old }
     requires others { CanCount (J.failures job.old) }
     requires set { CanCount (S.failures set.old) }
     requires out { CanCount (O.failures out.old) }
     requires err { CanCount (E.failures err.old) }
     ensures keeps { J.keeps job.old job.new }
     ensures unread { J.stays job.old job.new ⊎ HoldsSet (J.needs job.old) (S.supply set.old) }
-    ensures answers { Answers (IsToldOf (J.right job.old) name.now (S.supply set.old))
-        (S.failures set.old + J.failures job.old) (S.failures set.new + J.failures job.new)
-        (O.failures out.old) (O.failures out.new) (O.contents out.old) (O.contents out.new)
-        (Says (E.failures err.old) (E.failures err.new) (E.contents err.old) (E.contents err.new))
-        result }
+    ensures answers { AnswersOver O.Sink E.Sink
+        (IsToldOf (J.right job.old) name.now (S.supply set.old))
+        (S.failures set.old + J.failures job.old) (S.failures set.new + J.failures job.new) out.old
+        out.new err.old err.new result }
 {
     match Lines::new(alloc) {
         Ok(mut told) => {
@@ -100,6 +106,7 @@ fn perform_on<J: Job, S: Source, O: Sink>(
     set: &mut S,
     out: &mut O,
 ) -> Result<Outcome, Fault>
+    requires able { J.able job.old }
     requires others { CanCount (J.failures job.old) }
     requires set { CanCount (S.failures set.old) }
     requires out { CanCount (O.failures out.old) }
@@ -127,6 +134,7 @@ fn perform_for<J: Job, O: Sink>(
     lines: &mut JsonLines,
     out: &mut O,
 ) -> Result<Outcome, Fault>
+    requires able { J.able job.old }
     requires others { CanCount (J.failures job.old) }
     requires out { CanCount (O.failures out.old) }
     requires empty { lines.old ≡ [] }

@@ -1,6 +1,6 @@
 //! What the program answers in formats that other programs read: the verdict on the driver set of
-//! one file, explained if asked for, and the trace of a run as lines of JSON, on the output whatever
-//! comes of it.
+//! one file, explained if asked for, and the trace of a run as lines of JSON, on the output
+//! whatever comes of it.
 #![tactic(auto)]
 
 mod certified;
@@ -9,6 +9,7 @@ mod events;
 pub mod explain;
 mod explanation;
 pub mod job;
+pub mod judged;
 mod names;
 pub mod outcome;
 pub mod reading;

@@ -13,8 +13,8 @@ use std::alloc::{AllocError, Global};
 use text::cut::Lines;
 use text::piece::Piece;
 
-/// The names of the routines of the set that the bytes of a file name, by driver and then by number.
-/// An image has none.
+/// The names of the routines of the set that the bytes of a file name, by driver and then by
+/// number. An image has none.
 pub(crate) fn routine_names(alloc: Global, bytes: &[u8]) -> Result<Vec<String>, AllocError>
     ensures { IfOk result
         (λ names. map string_bytes names.items ≡ map utf8_lossy (routine_names bytes.now)) }

@@ -2,30 +2,30 @@
 
 ghost use Rattle.std.specs.Prelude.{◌≡◌, ◌+◌, ◌⊎◌, [], IfErr, IfOk};
 ghost use Rattle.interleave.specs.Listing.{IsWithinLimits};
-ghost use Rattle.drvhost_devices.specs.Device.{CanCount, Says};
-ghost use Rattle.drvhost_devices.specs.Ends.{Answers, HoldsRun};
+ghost use Rattle.drvhost_devices.specs.Device.{CanCount};
+ghost use Rattle.drvhost_devices.specs.Ends.{HoldsRun};
 ghost use Rattle.drvhost_devices.specs.Fault.{reads_failed, writes_failed};
+ghost use Rattle.drvhost_sets.specs.Chosen.{set_chosen};
+ghost use Rattle.drvhost_sets.specs.Devices.{AnswersOver};
 ghost use Rattle.drvhost_formats.specs.Told.{Tells};
-ghost use Rattle.drvhost_formats.specs.Trace.{IsJudgedJson, IsRunJsonOf, IsTraceJsonOf, ReadsIn};
-ghost use Rattle.model.specs.Typable.{IsTypable};
+ghost use Rattle.drvhost_formats.specs.Trace.{IsRunJsonOf, IsTraceJsonOf, ReadsIn};
 
-use crate::check::refuse;
 use crate::events::follow;
-use crate::job::{Job, answer, tell_fault};
+use crate::job::{answer, tell_fault};
+use crate::judged::{Judged, Running};
 use crate::outcome::Outcome;
 use checked::Checked;
 use drvhost_devices::device::{Sink, Source};
 use drvhost_devices::fault::Fault;
 use drvhost_devices::transfer::read_whole;
 use drvhost_devices::verification::Verification;
-use image::DriverSet;
+use drvhost_sets::judged::Chosen;
 use interleave::parse::parse_schedule;
 use interleave::schedule::{Schedule, ScheduleFault, ScheduleKind};
 use machine::World;
 use report_json::fault::InputFault;
 use report_json::json_lines::JsonLines;
 use std::alloc::Global;
-use verifier::{Accepted, verify};
 
 /// A run whose trace is asked for: the names of its files, and whether the set has to be accepted.
 #[derive(Clone, Copy)]
@@ -37,12 +37,12 @@ pub struct Asked<'n> {
 
 /// Runs a driver set by a schedule, and writes a line of JSON for each event, up to the first bug
 /// check or wrong operand. Where verification is required, a refused set isn't run, and what is
-/// written is the line of its verdict. The fault of a file is written as a line too: that of the set
-/// before a refusal, and a refusal before that of the schedule, which is read for a run alone. The
-/// answer is the exit status, as that of `trace`: 0 where the run came to the end of its schedule, 1
-/// where the set was refused or the run stopped, 2 where an input is faulty or a read or a write
-/// failed, 3 where memory ran out. That a read or a write failed or memory ran out is told on the
-/// error writer.
+/// written is the line of its verdict. The fault of a file is written as a line too: that of the
+/// set before a refusal, and a refusal before that of the schedule, which is read for a run alone.
+/// The answer is the exit status, as that of `trace`: 0 where the run came to the end of its
+/// schedule, 1 where the set was refused or the run stopped, 2 where an input is faulty or a read
+/// or a write failed, 3 where memory ran out. That a read or a write failed or memory ran out is
+/// told on the error writer.
 pub fn trace_json<'a, S: Source, P: Source, O: Sink, E: Sink>(
     alloc: Global,
     asked: Asked<'a>,
@@ -57,89 +57,61 @@ pub fn trace_json<'a, S: Source, P: Source, O: Sink, E: Sink>(
     requires err { CanCount (E.failures err.old) }
     ensures unread { (schedule.new ≡ schedule.old)
         ⊎ HoldsRun asked.entry.verification (S.supply set.old) }
-    ensures answers { Answers (IsTraceJsonOf asked.entry (S.supply set.old) (P.supply schedule.old))
+    ensures answers { AnswersOver O.Sink E.Sink
+        (IsTraceJsonOf asked.entry (S.supply set.old) (P.supply schedule.old))
         (S.failures set.old + P.failures schedule.old)
-        (S.failures set.new + P.failures schedule.new)
-        (O.failures out.old) (O.failures out.new) (O.contents out.old) (O.contents out.new)
-        (Says (E.failures err.old) (E.failures err.new) (E.contents err.old) (E.contents err.new))
-        result }
+        (S.failures set.new + P.failures schedule.new) out.old out.new err.old err.new result }
 {
-    let mut job = Tracing { asked, schedule };
+    let mut job = Judged {
+        running: Tracing {
+            name: asked.schedule,
+            schedule,
+        },
+        file: asked.set,
+        verification: asked.verification,
+    };
     answer(&mut job, alloc, asked.set, set, out, err)
 }
 
-/// The trace of a run by the schedule that a source has.
+/// The trace of a run by the schedule that a source has, which is the file of a name.
 #[derive(Drop)]
 struct Tracing<'a, P> {
-    asked: Asked<'a>,
+    name: &'a str,
     schedule: &'a mut P,
 }
 
-impl<'a, P: Source> Job for Tracing<'a, P> {
+impl<'a, P: Source> Running for Tracing<'a, P> {
     ghost use Rattle.std.specs.Prelude.{◌≡◌, refl};
-    ghost use Rattle.drvhost_devices.specs.Answer.{IsToRun};
-    ghost use Rattle.drvhost_formats.specs.Trace.{IsTraceJson};
+    ghost use Rattle.drvhost_formats.specs.Trace.{IsRunJsonOf};
 
-    ghost right = { λ job bytes. IsTraceJson job.asked (P.supply job.schedule.now) };
+    ghost right = { λ running. IsRunJsonOf running.name.now (P.supply running.schedule.now) };
 
-    ghost failures = { λ job. P.failures job.schedule.now };
-
-    ghost needs = { λ job. IsToRun job.asked.verification };
+    ghost failures = { λ running. P.failures running.schedule.now };
 
     ghost keeps = { λ old new. new.schedule.ghost_name ≡ old.schedule.ghost_name };
 
     ghost stays = { λ old new. new.schedule.now ≡ old.schedule.now };
 
-    fn perform<O: Sink>(
+    fn run<O: Sink>(
         &mut self,
         alloc: Global,
         _bytes: &[u8],
-        set: DriverSet,
+        chosen: Chosen,
         lines: &mut JsonLines,
         out: &mut O,
     ) -> Result<Outcome, Fault> {
-        let asked = self.asked;
-        match asked.verification {
-            Verification::Required => trace_verified(alloc, asked, set, self.schedule, lines, out),
-            Verification::Skipped => {
-                trace_any(alloc, asked.schedule, set, self.schedule, lines, out)
-            }
-        }
+        trace_chosen(alloc, self.name, chosen, self.schedule, lines, out)
     }
 
     ghost stays_kept = { λ _. (refl, refl) };
 }
 
-/// Runs a set if it is accepted, and else adds the line of its verdict.
-fn trace_verified<P: Source, O: Sink>(
-    alloc: Global,
-    asked: Asked<'_>,
-    set: DriverSet,
-    schedule: &mut P,
-    lines: &mut JsonLines,
-    out: &mut O,
-) -> Result<Outcome, Fault>
-    requires schedule { CanCount (P.failures schedule.old) }
-    requires out { CanCount (O.failures out.old) }
-    requires empty { lines.old ≡ [] }
-    ensures unread { (schedule.new ≡ schedule.old) ⊎ IsTypable set }
-    ensures tells { Tells (IsJudgedJson Verification.Required asked.entry.set.now
-        (IsRunJsonOf asked.entry.schedule.now (P.supply schedule.old)) set)
-        (O.contents out.old) (O.contents out.new) [] lines.new result }
-    ensures reads { P.failures schedule.new ≡ P.failures schedule.old + reads_failed result }
-    ensures writes { O.failures out.new ≡ O.failures out.old + writes_failed result }
-{
-    match verify(alloc, set) {
-        Ok(accepted) => trace_accepted(alloc, asked.schedule, accepted, schedule, lines, out),
-        Err((_set, refusal)) => Ok(refuse(asked.set, refusal, lines)?),
-    }
-}
-
-/// Runs an accepted set to the end of its schedule, which is the file of a name.
-fn trace_accepted<P: Source, O: Sink>(
+/// Runs an accepted set to the end of its schedule, which is the file of a name, and any other up
+/// to the first bug check or wrong operand.
+fn trace_chosen<P: Source, O: Sink>(
     alloc: Global,
     name: &str,
-    accepted: Accepted,
+    chosen: Chosen,
     schedule: &mut P,
     lines: &mut JsonLines,
     out: &mut O,
@@ -147,7 +119,7 @@ fn trace_accepted<P: Source, O: Sink>(
     requires schedule { CanCount (P.failures schedule.old) }
     requires out { CanCount (O.failures out.old) }
     requires empty { lines.old ≡ [] }
-    ensures tells { Tells (IsRunJsonOf name.now (P.supply schedule.old) accepted)
+    ensures tells { Tells (IsRunJsonOf name.now (P.supply schedule.old) (set_chosen chosen))
         (O.contents out.old) (O.contents out.new) [] lines.new result }
     ensures reads { P.failures schedule.new ≡ P.failures schedule.old + reads_failed result }
     ensures writes { O.failures out.new ≡ O.failures out.old + writes_failed result }
@@ -156,36 +128,15 @@ fn trace_accepted<P: Source, O: Sink>(
         Ok(schedule) => schedule,
         Err(fault) => return Ok(tell_fault(name, InputFault::Schedule(fault), lines)?),
     };
-    match World::new(alloc, accepted, schedule.threads) {
-        Ok(mut world) => follow(&mut world, &schedule, lines, out),
-        Err((_accepted, _refused)) => Err(Fault::Memory),
-    }
-}
-
-/// Runs any set, up to the first bug check or wrong operand, likewise.
-fn trace_any<P: Source, O: Sink>(
-    alloc: Global,
-    name: &str,
-    set: DriverSet,
-    schedule: &mut P,
-    lines: &mut JsonLines,
-    out: &mut O,
-) -> Result<Outcome, Fault>
-    requires schedule { CanCount (P.failures schedule.old) }
-    requires out { CanCount (O.failures out.old) }
-    requires empty { lines.old ≡ [] }
-    ensures tells { Tells (IsRunJsonOf name.now (P.supply schedule.old) set)
-        (O.contents out.old) (O.contents out.new) [] lines.new result }
-    ensures reads { P.failures schedule.new ≡ P.failures schedule.old + reads_failed result }
-    ensures writes { O.failures out.new ≡ O.failures out.old + writes_failed result }
-{
-    let schedule = match read_schedule(alloc, schedule)? {
-        Ok(schedule) => schedule,
-        Err(fault) => return Ok(tell_fault(name, InputFault::Schedule(fault), lines)?),
-    };
-    match Checked::new(alloc, set, schedule.threads) {
-        Ok(mut machine) => follow(&mut machine, &schedule, lines, out),
-        Err((_set, _refused)) => Err(Fault::Memory),
+    match chosen {
+        Chosen::Accepted(accepted) => match World::new(alloc, accepted, schedule.threads) {
+            Ok(mut world) => follow(&mut world, &schedule, lines, out),
+            Err((_accepted, _refused)) => Err(Fault::Memory),
+        },
+        Chosen::Any(set) => match Checked::new(alloc, set, schedule.threads) {
+            Ok(mut machine) => follow(&mut machine, &schedule, lines, out),
+            Err((_set, _refused)) => Err(Fault::Memory),
+        },
     }
 }
 

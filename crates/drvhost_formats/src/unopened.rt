@@ -1,9 +1,9 @@
 //! Files that can't be opened.
 
 ghost use Rattle.std.specs.Prelude.{◌≡◌, ◌+◌, ℕ, []};
-ghost use Rattle.drvhost_devices.specs.Device.{CanCount, Says};
-ghost use Rattle.drvhost_devices.specs.Ends.{Answers};
+ghost use Rattle.drvhost_devices.specs.Device.{CanCount};
 ghost use Rattle.drvhost_devices.specs.Fault.{reads_failed, writes_failed};
+ghost use Rattle.drvhost_sets.specs.Devices.{AnswersOver};
 ghost use Rattle.drvhost_formats.specs.Told.{IsUnopenedJson, Tells};
 
 use crate::job::{close, tell_fault};
@@ -20,11 +20,8 @@ use std::alloc::{AllocError, Global};
 pub fn unopened_json<O: Sink, E: Sink>(alloc: Global, name: &str, out: &mut O, err: &mut E) -> u8
     requires out { CanCount (O.failures out.old) }
     requires err { CanCount (E.failures err.old) }
-    ensures { (reads : ℕ) → Answers (IsUnopenedJson name.now)
-        reads reads (O.failures out.old) (O.failures out.new) (O.contents out.old)
-        (O.contents out.new)
-        (Says (E.failures err.old) (E.failures err.new) (E.contents err.old) (E.contents err.new))
-        result }
+    ensures { (reads : ℕ) → AnswersOver O.Sink E.Sink (IsUnopenedJson name.now)
+        reads reads out.old out.new err.old err.new result }
 {
     match Lines::new(alloc) {
         Ok(mut told) => {

@@ -40,9 +40,10 @@ IsHuntBy way bounds set answer =
     (told : Told) × IsToldBy way set bounds told
     × (answer ≡ ended (end_told told) (text_told told))
 
--- what `hunt` answers for what its source has, and what it answers where it is exact
-abbrev pub IsHuntOf : Bounds → Supply → Answer → Type 0
-IsHuntOf bounds supply answer = IsOfSupply (IsHuntBy Quick bounds) supply answer
+-- what `hunt` answers for what its source has, in the way that is asked for
+abbrev pub IsHuntOfWay : Way → Bounds → Supply → Answer → Type 0
+IsHuntOfWay way bounds supply answer = IsOfSupply (IsHuntBy way bounds) supply answer
 
-abbrev pub IsExactHuntOf : Bounds → Supply → Answer → Type 0
-IsExactHuntOf bounds supply answer = IsOfSupply (IsHuntBy Exact bounds) supply answer
+-- and where it is quick
+abbrev pub IsHuntOf : Bounds → Supply → Answer → Type 0
+IsHuntOf bounds supply answer = IsHuntOfWay Quick bounds supply answer

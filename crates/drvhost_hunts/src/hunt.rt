@@ -1,10 +1,11 @@
 //! A hunt through the runs of a driver set.
 
 ghost use Rattle.std.specs.Prelude.{◌≡◌, ◌+◌, [], IfErr, IfOk};
-ghost use Rattle.drvhost_devices.specs.Device.{CanCount, Says};
-ghost use Rattle.drvhost_devices.specs.Ends.{Answers};
+ghost use Rattle.drvhost_devices.specs.Device.{CanCount};
 ghost use Rattle.drvhost_devices.specs.Fault.{Goes, reads_failed, writes_failed};
-ghost use Rattle.drvhost_hunts.specs.Hunt.{IsHuntBy, IsHuntOf, IsToldBy, end_told, text_told};
+ghost use Rattle.drvhost_sets.specs.Devices.{AnswersOver};
+ghost use Rattle.drvhost_hunts.specs.Hunt.{IsHuntBy, IsHuntOf, IsHuntOfWay, IsToldBy, end_told};
+ghost use Rattle.drvhost_hunts.specs.Hunt.{text_told};
 
 use drvhost_devices::device::{Sink, Source};
 use drvhost_devices::fault::{End, Fault};
@@ -32,20 +33,42 @@ pub fn hunt<S: Source, O: Sink, E: Sink>(
     requires set { CanCount (S.failures set.old) }
     requires out { CanCount (O.failures out.old) }
     requires err { CanCount (E.failures err.old) }
-    ensures { Answers (IsHuntOf reach (S.supply set.old))
-        (S.failures set.old) (S.failures set.new) (O.failures out.old) (O.failures out.new)
-        (O.contents out.old) (O.contents out.new)
-        (Says (E.failures err.old) (E.failures err.new) (E.contents err.old) (E.contents err.new))
-        result }
+    ensures { AnswersOver O.Sink E.Sink (IsHuntOf reach (S.supply set.old))
+        (S.failures set.old) (S.failures set.new) out.old out.new err.old err.new result }
 {
-    hunt_telling(alloc, reach, &Silent, set, out, err)
+    let hunting = Hunting {
+        reach,
+        way: Way::Quick,
+        progress: &Silent,
+    };
+    hunt_by(alloc, hunting, set, out, err)
 }
 
-/// Hunts as `hunt` does, and tells meanwhile how far the search has come.
-pub fn hunt_telling<S: Source, O: Sink, E: Sink, P: Progress>(
+/// How runs are searched.
+#[derive(Clone, Copy)]
+pub enum Way {
+    /// Worlds that differ only in what can't matter are taken for one; packets are bounded that
+    /// live at once.
+    Quick,
+    /// No world is taken for another one; packets are bounded in all.
+    Exact,
+}
+
+/// The job of hunting through the runs of a set: within which bounds and how they are searched, and
+/// what is told meanwhile.
+#[derive(Drop)]
+pub struct Hunting<'p, P> {
+    pub reach: Reach,
+    pub way: Way,
+    pub progress: &'p P,
+}
+
+/// Hunts in the way that is asked for, as [`hunt`] does where it is a quick one, and tells
+/// meanwhile how far the search has come. An exact hunt finds none only where there is none within
+/// reach, of any length, or none of up to so many events; it looks for no run that is stuck.
+pub fn hunt_by<S: Source, O: Sink, E: Sink, P: Progress>(
     alloc: Global,
-    reach: Reach,
-    progress: &P,
+    hunting: Hunting<'_, P>,
     set: &mut S,
     out: &mut O,
     err: &mut E,
@@ -53,36 +76,12 @@ pub fn hunt_telling<S: Source, O: Sink, E: Sink, P: Progress>(
     requires set { CanCount (S.failures set.old) }
     requires out { CanCount (O.failures out.old) }
     requires err { CanCount (E.failures err.old) }
-    ensures { Answers (IsHuntOf reach (S.supply set.old))
-        (S.failures set.old) (S.failures set.new) (O.failures out.old) (O.failures out.new)
-        (O.contents out.old) (O.contents out.new)
-        (Says (E.failures err.old) (E.failures err.new) (E.contents err.old) (E.contents err.new))
-        result }
+    ensures { AnswersOver O.Sink E.Sink
+        (IsHuntOfWay hunting.way hunting.reach (S.supply set.old))
+        (S.failures set.old) (S.failures set.new) out.old out.new err.old err.new result }
 {
-    let mut job = Hunting {
-        reach,
-        way: Way::Quick,
-        progress,
-    };
+    let mut job = hunting;
     answer(&mut job, alloc, set, out, err)
-}
-
-/// How runs are searched.
-#[derive(Clone, Copy)]
-pub enum Way {
-    /// Worlds that differ only in what can't matter are taken for one; packets are bounded that live
-    /// at once.
-    Quick,
-    /// No world is taken for another one; packets are bounded in all.
-    Exact,
-}
-
-/// The job of hunting through the runs of a set.
-#[derive(Drop)]
-pub struct Hunting<'p, P> {
-    pub reach: Reach,
-    pub way: Way,
-    pub progress: &'p P,
 }
 
 impl<P: Progress> Job for Hunting<'_, P> {

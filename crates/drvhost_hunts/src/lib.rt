@@ -2,5 +2,4 @@
 //! that there is none.
 #![tactic(auto)]
 
-pub mod exact;
 pub mod hunt;

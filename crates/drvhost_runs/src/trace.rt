@@ -5,6 +5,7 @@ ghost use Rattle.interleave.specs.Listing.{IsWithinLimits};
 ghost use Rattle.drvhost_devices.specs.Device.{CanCount};
 ghost use Rattle.drvhost_devices.specs.Ends.{HoldsRun, IsRunOf, IsTraceOf};
 ghost use Rattle.drvhost_devices.specs.Fault.{Goes, ReadsSchedule, reads_failed, writes_failed};
+ghost use Rattle.drvhost_sets.specs.Chosen.{set_chosen};
 ghost use Rattle.drvhost_sets.specs.Devices.{AnswersOver};
 
 use crate::follow::follow;
@@ -14,14 +15,12 @@ use drvhost_devices::fault::{End, Fault, of_schedule};
 use drvhost_devices::transfer::read_whole;
 use drvhost_devices::verification::Verification;
 use drvhost_sets::job::{Notes, answer};
-use drvhost_sets::judged::{Judged, Running};
-use image::DriverSet;
+use drvhost_sets::judged::{Chosen, Judged, Running};
 use interleave::parse::parse_schedule;
 use interleave::schedule::Schedule;
 use machine::World;
 use report::lines::Lines;
 use std::alloc::Global;
-use verifier::Accepted;
 
 /// Runs a driver set by a schedule, and writes a line for each event, up to the first bug check or
 /// wrong operand. Where verification is required, a refused set isn't run, and what is written is
@@ -72,35 +71,25 @@ impl<'a, P: Source> Running for Tracing<'a, P> {
 
     ghost stays = { λ old new. new.schedule.now ≡ old.schedule.now };
 
-    fn run_accepted<O: Sink>(
+    fn run<O: Sink>(
         &mut self,
         alloc: Global,
         _bytes: &[u8],
-        accepted: Accepted,
+        chosen: Chosen,
         notes: &mut Notes,
         out: &mut O,
     ) -> Result<End, Fault> {
-        trace_accepted(alloc, accepted, self.schedule, &mut notes.lines, out)
-    }
-
-    fn run_any<O: Sink>(
-        &mut self,
-        alloc: Global,
-        _bytes: &[u8],
-        set: DriverSet,
-        notes: &mut Notes,
-        out: &mut O,
-    ) -> Result<End, Fault> {
-        trace_any(alloc, set, self.schedule, &mut notes.lines, out)
+        trace_chosen(alloc, chosen, self.schedule, &mut notes.lines, out)
     }
 
     ghost stays_kept = { λ running. (refl, refl) };
 }
 
-/// Runs an accepted set to the end of its schedule.
-fn trace_accepted<P: Source, O: Sink>(
+/// Runs an accepted set to the end of its schedule, and any other up to the first bug check or
+/// wrong operand.
+fn trace_chosen<P: Source, O: Sink>(
     alloc: Global,
-    accepted: Accepted,
+    chosen: Chosen,
     schedule: &mut P,
     lines: &mut Lines,
     out: &mut O,
@@ -108,38 +97,21 @@ fn trace_accepted<P: Source, O: Sink>(
     requires schedule { CanCount (P.failures schedule.old) }
     requires out { CanCount (O.failures out.old) }
     requires empty { lines.old ≡ [] }
-    ensures goes { Goes (IsRunOf (P.supply schedule.old) accepted) (O.contents out.old)
+    ensures goes { Goes (IsRunOf (P.supply schedule.old) (set_chosen chosen)) (O.contents out.old)
         (O.contents out.new) [] lines.new result }
     ensures reads { P.failures schedule.new ≡ P.failures schedule.old + reads_failed result }
     ensures writes { O.failures out.new ≡ O.failures out.old + writes_failed result }
 {
     let schedule = read_schedule(alloc, schedule)?;
-    match World::new(alloc, accepted, schedule.threads) {
-        Ok(mut world) => follow(&mut world, &schedule, lines, out),
-        Err((_accepted, _refused)) => Err(Fault::Memory),
-    }
-}
-
-/// Runs any set, up to the first bug check or wrong operand.
-fn trace_any<P: Source, O: Sink>(
-    alloc: Global,
-    set: DriverSet,
-    schedule: &mut P,
-    lines: &mut Lines,
-    out: &mut O,
-) -> Result<End, Fault>
-    requires schedule { CanCount (P.failures schedule.old) }
-    requires out { CanCount (O.failures out.old) }
-    requires empty { lines.old ≡ [] }
-    ensures goes { Goes (IsRunOf (P.supply schedule.old) set) (O.contents out.old)
-        (O.contents out.new) [] lines.new result }
-    ensures reads { P.failures schedule.new ≡ P.failures schedule.old + reads_failed result }
-    ensures writes { O.failures out.new ≡ O.failures out.old + writes_failed result }
-{
-    let schedule = read_schedule(alloc, schedule)?;
-    match Checked::new(alloc, set, schedule.threads) {
-        Ok(mut machine) => follow(&mut machine, &schedule, lines, out),
-        Err((_set, _refused)) => Err(Fault::Memory),
+    match chosen {
+        Chosen::Accepted(accepted) => match World::new(alloc, accepted, schedule.threads) {
+            Ok(mut world) => follow(&mut world, &schedule, lines, out),
+            Err((_accepted, _refused)) => Err(Fault::Memory),
+        },
+        Chosen::Any(set) => match Checked::new(alloc, set, schedule.threads) {
+            Ok(mut machine) => follow(&mut machine, &schedule, lines, out),
+            Err((_set, _refused)) => Err(Fault::Memory),
+        },
     }
 }
 

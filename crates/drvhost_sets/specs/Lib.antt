@@ -1,3 +1,4 @@
+pub mod Chosen
 pub mod Devices
 pub mod Explained
 pub mod Laws

@@ -1,11 +1,12 @@
 //! Jobs that run a driver set, which has to be accepted, or needn't be.
 
-ghost use Rattle.std.specs.Prelude.{◌≡◌, ◌+◌, ◌⊎◌, ℕ, []};
+ghost use Rattle.std.specs.Prelude.{◌≡◌, ◌+◌, ◌⊎◌, ℕ, [], IfOk};
 ghost use Rattle.model.specs.Set.{Set};
 ghost use Rattle.model.specs.Typable.{IsTypable};
 ghost use Rattle.drvhost_devices.specs.Answer.{Answer, IsIfAccepted};
 ghost use Rattle.drvhost_devices.specs.Device.{CanCount};
 ghost use Rattle.drvhost_devices.specs.Fault.{Goes, reads_failed, writes_failed};
+ghost use Rattle.drvhost_sets.specs.Chosen.{set_chosen};
 ghost use Rattle.drvhost_sets.specs.Worded.{TakesWords};
 
 use crate::check::refuse;
@@ -14,8 +15,32 @@ use drvhost_devices::device::Sink;
 use drvhost_devices::fault::{End, Fault};
 use drvhost_devices::verification::Verification;
 use image::DriverSet;
+use model::memory::OutOfMemory;
 use std::alloc::Global;
 use verifier::{Accepted, verify};
+
+/// A set that is to be run: one that is accepted, or any.
+#[derive(Drop)]
+pub enum Chosen {
+    Accepted(Accepted),
+    Any(DriverSet),
+}
+
+impl Chosen {
+    /// The set itself: of an accepted one a copy.
+    ///
+    /// # Errors
+    ///
+    /// `OutOfMemory` where a growth was refused.
+    pub fn into_set(self, alloc: Global) -> Result<DriverSet, OutOfMemory>
+        ensures { IfOk result (λ set. set ≡ set_chosen self) }
+    {
+        match self {
+            Chosen::Accepted(accepted) => accepted.set().copy(alloc),
+            Chosen::Any(set) => Ok(set),
+        }
+    }
+}
 
 /// A run of a set, and what else it takes for it.
 pub trait Running {
@@ -31,12 +56,12 @@ pub trait Running {
     // It has taken nothing.
     ghost stays: { Self → Self → Type 0 };
 
-    /// Runs an accepted set, which the bytes of a file name.
-    fn run_accepted<O: Sink>(
+    /// Runs a set, which the bytes of a file name.
+    fn run<O: Sink>(
         &mut self,
         alloc: Global,
         bytes: &[u8],
-        accepted: Accepted,
+        chosen: Chosen,
         notes: &mut Notes,
         out: &mut O,
     ) -> Result<End, Fault>
@@ -45,32 +70,11 @@ pub trait Running {
         requires empty { notes.old.lines ≡ [] }
         requires wordless { notes.old.words.items ≡ [] }
         ensures keeps { keeps self.old self.new }
-        ensures goes { Goes (right self.old accepted) (O.contents out.old) (O.contents out.new) []
-            notes.new.lines result }
-        ensures words { (notes.new.words.items ≡ []) ⊎ TakesWords (right self.old accepted) result }
-        ensures reads { failures self.new ≡ failures self.old + reads_failed result }
-        ensures writes { O.failures out.new ≡ O.failures out.old + writes_failed result };
-
-    /// Runs any set, likewise.
-    fn run_any<O: Sink>(
-        &mut self,
-        alloc: Global,
-        bytes: &[u8],
-        set: DriverSet,
-        notes: &mut Notes,
-        out: &mut O,
-    ) -> Result<End, Fault>
-        requires others { CanCount (failures self.old) }
-        requires out { CanCount (O.failures out.old) }
-        requires empty { notes.old.lines ≡ [] }
-        requires wordless { notes.old.words.items ≡ [] }
-        ensures keeps { keeps self.old self.new }
-        ensures goes { Goes (right self.old set) (O.contents out.old)
+        ensures goes { Goes (right self.old (set_chosen chosen)) (O.contents out.old)
             (O.contents out.new) [] notes.new.lines result }
         ensures words { (notes.new.words.items ≡ [])
-            ⊎ TakesWords (right self.old set) result }
-        ensures reads { failures self.new
-            ≡ failures self.old + reads_failed result }
+            ⊎ TakesWords (right self.old (set_chosen chosen)) result }
+        ensures reads { failures self.new ≡ failures self.old + reads_failed result }
         ensures writes { O.failures out.new ≡ O.failures out.old + writes_failed result };
 
     ghost stays_kept: { (running : Self) → keeps running running × stays running running };
@@ -108,7 +112,7 @@ impl<R: Running> Job for Judged<R> {
             Verification::Required => {
                 run_verified(&mut self.running, alloc, bytes, set, notes, out)
             }
-            Verification::Skipped => self.running.run_any(alloc, bytes, set, notes, out),
+            Verification::Skipped => self.running.run(alloc, bytes, Chosen::Any(set), notes, out),
         }
     }
 
@@ -138,7 +142,7 @@ fn run_verified<R: Running, O: Sink>(
     ensures writes { O.failures out.new ≡ O.failures out.old + writes_failed result }
 {
     match verify(alloc, set) {
-        Ok(accepted) => running.run_accepted(alloc, bytes, accepted, notes, out),
+        Ok(accepted) => running.run(alloc, bytes, Chosen::Accepted(accepted), notes, out),
         Err((_set, refusal)) => refuse(&refusal, &mut notes.lines),
     }
 }

@@ -1,40 +1,24 @@
 -- What came of a script that was served.
-use Rattle.std.proofs.Common.{◌≡◌, ◌∙◌, ℕ, List, [], ◌++◌, length, None, Option, Some, Ok, Err, sym, ap}
+use Rattle.std.proofs.Common.{◌≡◌, ◌∙◌, ℕ, List, [], ◌++◌, length, Option, Ok, Err, ap}
 use Rattle.std.specs.Global.{Vec}
 use Rattle.interleave.specs.declared.schedule.ScheduleFault.{ScheduleFault}
 use Rattle.model.specs.declared.event.Reply.{Reply}
 use Rattle.model.specs.declared.history.Command.{Command}
 use Rattle.model.specs.declared.history.Entry.{Entry}
-use Rattle.model.specs.History.{events_of, world_after_all}
-use Rattle.model.specs.Machine.{Machine}
-use Rattle.model.specs.Run.{run}
 use Rattle.model.specs.Set.{Set}
-use Rattle.model.specs.World.{World}
 use Rattle.report_json.specs.declared.fault.InputFault.TheVariants as input
 use Rattle.report_json.specs.Line.{json_line}
 use Rattle.report_json.specs.Served.{history_json}
-use Rattle.tell_audit.specs.Findings.{ringed_threads}
 use Rattle.workers_script.specs.declared.hosted.Hosted.{Hosted}
-use Rattle.workers_script.specs.Standing.{IsStanding}
 use Rattle.workers_script.specs.Told.{Hosts, all_told}
 use Rattle.drvhost_devices.specs.Answer.{Answer}
 use Rattle.drvhost_devices.specs.Device.{Supply}
 use Rattle.drvhost_formats.specs.declared.outcome.Outcome.{Outcome}
 use Rattle.drvhost_formats.specs.Events.{outcome_of}
 use Rattle.drvhost_formats.specs.Told.{fault_answer, told}
-use Rattle.drvhost_runs.proofs.Idling.{none_ringed}
+use Rattle.drvhost_runs.proofs.Serving.{rings_after}
 use Rattle.drvhost_runs.specs.Served.{ringed_after, rings_in, served_end}
 use Rattle.drvhost_told.specs.Served.{IsServedInJson, IsServedJsonOf, ReadsCommands, command_objects, served_objects}
-
--- the threads that wait in a ring after a history, by what stands
-rings_after : (set : Set) (workers : ℕ) (history : List Entry) (standing : Option Machine)
-    → IsStanding set workers history standing
-    → rings_in standing ≡ ringed_after set workers history
-rings_after set workers history None idle =
-    sym (none_ringed set (world_after_all set workers history) idle)
-rings_after set workers history (Some machine) h =
-    ap (λ (w : World). ringed_threads machine.set w) h.run.world
-    ∙ ap (λ (s : Set). ringed_threads s (run s workers (events_of history)).world) h.same_set
 
 -- the lines of what was hosted are right
 pub hosted_told : (set : Set) (workers : ℕ) (commands : List Command) (hosted : Hosted)

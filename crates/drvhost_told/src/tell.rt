@@ -1,29 +1,27 @@
 //! A run that is told, and its audit, as lines of JSON.
 
 ghost use Rattle.std.specs.Prelude.{◌≡◌, ◌+◌, ◌⊎◌, []};
-ghost use Rattle.drvhost_devices.specs.Answer.{IsToRun};
-ghost use Rattle.drvhost_devices.specs.Device.{CanCount, Says};
-ghost use Rattle.drvhost_devices.specs.Ends.{Answers, HoldsRun};
+ghost use Rattle.drvhost_devices.specs.Device.{CanCount};
+ghost use Rattle.drvhost_devices.specs.Ends.{HoldsRun};
 ghost use Rattle.drvhost_devices.specs.Fault.{reads_failed};
-ghost use Rattle.drvhost_formats.specs.Trace.{IsJudgedJson};
+ghost use Rattle.drvhost_sets.specs.Chosen.{set_chosen};
+ghost use Rattle.drvhost_sets.specs.Devices.{AnswersOver};
 ghost use Rattle.drvhost_told.specs.Made.{Makes};
-ghost use Rattle.drvhost_told.specs.Tell.{IsRunToldOf, IsTellJson, IsTellJsonOf};
-ghost use Rattle.model.specs.Typable.{IsTypable};
+ghost use Rattle.drvhost_told.specs.Tell.{IsRunToldOf, IsTellJsonOf};
 
 use crate::telling::tell_run;
 use drvhost_devices::device::{Sink, Source};
 use drvhost_devices::fault::Fault;
 use drvhost_devices::verification::Verification;
-use drvhost_formats::check::refuse;
-use drvhost_formats::job::{Job, answer, tell_fault};
+use drvhost_formats::job::{answer, tell_fault};
+use drvhost_formats::judged::{Judged, Running};
 use drvhost_formats::outcome::Outcome;
 use drvhost_formats::trace::read_schedule;
 use drvhost_options::manner::Strictness;
-use image::DriverSet;
+use drvhost_sets::judged::Chosen;
 use report_json::fault::InputFault;
 use report_json::json_lines::JsonLines;
 use std::alloc::Global;
-use verifier::{Accepted, verify};
 
 /// A run that is to be told: the names of its files, of which sets, and how.
 #[derive(Clone, Copy)]
@@ -56,14 +54,16 @@ pub fn tell_json<'a, S: Source, P: Source, O: Sink, E: Sink>(
     requires err { CanCount (E.failures err.old) }
     ensures unread { (schedule.new ≡ schedule.old)
         ⊎ HoldsRun asked.entry.verification (S.supply set.old) }
-    ensures answers { Answers (IsTellJsonOf asked.entry (S.supply set.old) (P.supply schedule.old))
+    ensures answers { AnswersOver O.Sink E.Sink
+        (IsTellJsonOf asked.entry (S.supply set.old) (P.supply schedule.old))
         (S.failures set.old + P.failures schedule.old)
-        (S.failures set.new + P.failures schedule.new)
-        (O.failures out.old) (O.failures out.new) (O.contents out.old) (O.contents out.new)
-        (Says (E.failures err.old) (E.failures err.new) (E.contents err.old) (E.contents err.new))
-        result }
+        (S.failures set.new + P.failures schedule.new) out.old out.new err.old err.new result }
 {
-    let mut job = TellingRun { asked, schedule };
+    let mut job = Judged {
+        running: TellingRun { asked, schedule },
+        file: asked.set,
+        verification: asked.verification,
+    };
     answer(&mut job, alloc, asked.set, set, out, err)
 }
 
@@ -74,114 +74,49 @@ struct TellingRun<'a, P> {
     schedule: &'a mut P,
 }
 
-impl<'a, P: Source> Job for TellingRun<'a, P> {
+impl<'a, P: Source> Running for TellingRun<'a, P> {
     ghost use Rattle.std.specs.Prelude.{◌≡◌, refl};
-    ghost use Rattle.drvhost_devices.specs.Answer.{IsToRun};
-    ghost use Rattle.drvhost_told.specs.Tell.{IsTellJson};
+    ghost use Rattle.drvhost_told.specs.Tell.{IsRunToldOf};
 
-    ghost right = { λ job bytes. IsTellJson job.asked (P.supply job.schedule.now) };
+    ghost right = { λ running. IsRunToldOf running.asked (P.supply running.schedule.now) };
 
-    ghost failures = { λ job. P.failures job.schedule.now };
-
-    ghost needs = { λ job. IsToRun job.asked.verification };
+    ghost failures = { λ running. P.failures running.schedule.now };
 
     ghost keeps = { λ old new. new.schedule.ghost_name ≡ old.schedule.ghost_name };
 
     ghost stays = { λ old new. new.schedule.now ≡ old.schedule.now };
 
-    fn perform<O: Sink>(
+    fn run<O: Sink>(
         &mut self,
         alloc: Global,
         bytes: &[u8],
-        set: DriverSet,
+        chosen: Chosen,
         lines: &mut JsonLines,
         _out: &mut O,
     ) -> Result<Outcome, Fault> {
-        tell_set(alloc, self.asked, bytes, set, self.schedule, lines)
+        tell_chosen(alloc, self.asked, bytes, chosen, self.schedule, lines)
     }
 
     ghost stays_kept = { λ _. (refl, refl) };
 }
 
-/// Tells the run of a set, if it is to be run, and else adds the line of its verdict.
-fn tell_set<P: Source>(
+/// Tells the run of a set.
+fn tell_chosen<P: Source>(
     alloc: Global,
     asked: Asked<'_>,
     bytes: &[u8],
-    set: DriverSet,
+    chosen: Chosen,
     schedule: &mut P,
     lines: &mut JsonLines,
 ) -> Result<Outcome, Fault>
     requires schedule { CanCount (P.failures schedule.old) }
     requires empty { lines.old ≡ [] }
-    ensures unread { (schedule.new ≡ schedule.old) ⊎ IsToRun asked.entry.verification set }
-    ensures made { Makes (IsTellJson asked.entry (P.supply schedule.old) set) lines.new result }
-    ensures reads { P.failures schedule.new ≡ P.failures schedule.old + reads_failed result }
-{
-    match asked.verification {
-        Verification::Required => tell_verified(alloc, asked, bytes, set, schedule, lines),
-        Verification::Skipped => tell_any(alloc, asked, bytes, set, schedule, lines),
-    }
-}
-
-/// Tells the run of a set if it is accepted, and else adds the line of its verdict.
-fn tell_verified<P: Source>(
-    alloc: Global,
-    asked: Asked<'_>,
-    bytes: &[u8],
-    set: DriverSet,
-    schedule: &mut P,
-    lines: &mut JsonLines,
-) -> Result<Outcome, Fault>
-    requires schedule { CanCount (P.failures schedule.old) }
-    requires empty { lines.old ≡ [] }
-    ensures unread { (schedule.new ≡ schedule.old) ⊎ IsTypable set }
-    ensures made { Makes (IsJudgedJson Verification.Required asked.entry.set.now
-        (IsRunToldOf asked.entry (P.supply schedule.old)) set) lines.new result }
-    ensures reads { P.failures schedule.new ≡ P.failures schedule.old + reads_failed result }
-{
-    match verify(alloc, set) {
-        Ok(accepted) => tell_accepted(alloc, asked, bytes, &accepted, schedule, lines),
-        Err((_set, refusal)) => Ok(refuse(asked.set, refusal, lines)?),
-    }
-}
-
-/// Tells the run of an accepted set.
-fn tell_accepted<P: Source>(
-    alloc: Global,
-    asked: Asked<'_>,
-    bytes: &[u8],
-    accepted: &Accepted,
-    schedule: &mut P,
-    lines: &mut JsonLines,
-) -> Result<Outcome, Fault>
-    requires schedule { CanCount (P.failures schedule.old) }
-    requires empty { lines.old ≡ [] }
-    ensures made { Makes (IsRunToldOf asked.entry (P.supply schedule.old) accepted.now) lines.new
-        result }
+    ensures made { Makes (IsRunToldOf asked.entry (P.supply schedule.old) (set_chosen chosen))
+        lines.new result }
     ensures reads { P.failures schedule.new ≡ P.failures schedule.old + reads_failed result }
 {
     // The machine that looks at each step wants a set of its own.
-    match accepted.set().copy(alloc) {
-        Ok(set) => tell_any(alloc, asked, bytes, set, schedule, lines),
-        Err(_refused) => Err(Fault::Memory),
-    }
-}
-
-/// Tells the run of any set.
-fn tell_any<P: Source>(
-    alloc: Global,
-    asked: Asked<'_>,
-    bytes: &[u8],
-    set: DriverSet,
-    schedule: &mut P,
-    lines: &mut JsonLines,
-) -> Result<Outcome, Fault>
-    requires schedule { CanCount (P.failures schedule.old) }
-    requires empty { lines.old ≡ [] }
-    ensures made { Makes (IsRunToldOf asked.entry (P.supply schedule.old) set) lines.new result }
-    ensures reads { P.failures schedule.new ≡ P.failures schedule.old + reads_failed result }
-{
+    let set = chosen.into_set(alloc)?;
     let schedule = match read_schedule(alloc, schedule)? {
         Ok(schedule) => schedule,
         Err(fault) => {

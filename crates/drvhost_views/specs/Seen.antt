@@ -3,12 +3,14 @@ use Rattle.std.specs.Prelude.{ℕ, ◌≡◌, Bool, true, false, List}
 use Rattle.model.specs.declared.event.Event.{Event}
 use Rattle.model.specs.declared.event.Reply.{Reply}
 use Rattle.model.specs.declared.event.Reply.TheVariants.{Stepped}
-use Rattle.model.specs.Machine.{Machine, ShowsWhole}
+use Rattle.laws_runs.specs.Waits.{says_unchanged}
+use Rattle.model.specs.Machine.{AppliesWhole, Machine, ShowsWhole}
 use Rattle.tell_uses.specs.Acting.{acting_in}
 use Rattle.tell_uses.specs.Acts.{use_step}
 use Rattle.tell_uses.specs.Plain.{is_plain}
 use Rattle.drvhost_options.specs.declared.manner.Detail.{Detail}
-use Rattle.drvhost_views.specs.Told.{is_left_out}
+use Rattle.drvhost_views.specs.declared.seeing.Sight.{Sight}
+use Rattle.drvhost_views.specs.Told.{LedgerGoesOn, is_left_out}
 use Rattle.tell_words.specs.declared.line.Happened.{Happened}
 
 -- a reply that says that a step was made
@@ -23,6 +25,13 @@ pub record HappensBefore (m : Machine) (e : Event) (happened : Happened) : Type 
   pub step : happened.step ≡ use_step m.set m.world e
   pub acting : (threads : ℕ) (events : List Event) → ShowsWhole m threads events
       → happened.moment.acting ≡ acting_in m.set m.world e
+
+-- an event was applied and noted, and its reply is the last that is seen: a ledger that told a run
+-- tells it with the event added, and is the same where nothing has changed
+pub record Sees (m : Machine) (e : Event) (n : Machine) (old new : Sight) : Type 0 where
+  pub applied : AppliesWhole m e n new.happened.reply
+  pub noted : LedgerGoesOn m e old.ledger new.ledger
+  pub kept : says_unchanged new.happened.reply ≡ true → new.ledger ≡ old.ledger
 
 -- an event needs no look at it before it is applied: a plain step of which no line is told
 pub record GoesUnseen (detail : Detail) (m : Machine) (e : Event) : Type 0 where

@@ -5,7 +5,7 @@ ghost use Rattle.checked.specs.GoingOn.{GoesOn};
 ghost use Rattle.drvhost_views.specs.Told.{GoesAlone, ToldAlone, ToldOnce, unknown_step};
 
 use crate::levels::FEW;
-use crate::page::{Page, length_of};
+use crate::page::{Page, length_of, words_of};
 use checked::Checked;
 use drvhost_options::manner::Detail;
 use model::event::{Event, Reply};
@@ -108,8 +108,7 @@ impl<'a> Page<'a> {
             &mut self.number,
             &Reply::Stepped,
             Word::Stepped,
-            self.teller.front(),
-            self.teller.words(),
+            words_of(&self.teller),
         )?;
         Ok(1)
     }

@@ -1,8 +1,9 @@
 //! A run that is drawn.
 
 ghost use Rattle.std.specs.Prelude.{◌≡◌, ◌+◌, ◌⊎◌};
-ghost use Rattle.drvhost_devices.specs.Device.{CanCount, Says};
-ghost use Rattle.drvhost_devices.specs.Ends.{Answers, HoldsRun};
+ghost use Rattle.drvhost_devices.specs.Device.{CanCount};
+ghost use Rattle.drvhost_devices.specs.Ends.{HoldsRun};
+ghost use Rattle.drvhost_sets.specs.Devices.{AnswersOver};
 ghost use Rattle.drvhost_views.specs.Told.{IsDrawOf};
 
 use crate::show::{Showing, Shown};
@@ -20,13 +21,13 @@ pub struct Drawing {
     pub figure: Figure,
 }
 
-/// Runs a driver set by a schedule as [`trace`](drvhost_runs::trace::trace) does, and writes the run as
-/// one SVG picture: a lane for each thread, device and list, a line for each packet, and a row of
-/// words for each event of interest, at most 500; or, without a limit, as trace events in JSON: a
-/// track for each thread with a span for each frame. Where verification is required, a refused set
-/// isn't run, and what is written is the line of its refusal. The answer is the exit status of the
-/// trace, and faults are told on the error writer as there. Nothing is written before the whole
-/// text stands in memory.
+/// Runs a driver set by a schedule as [`trace`](drvhost_runs::trace::trace) does, and writes the
+/// run as one SVG picture: a lane for each thread, device and list, a line for each packet, and a
+/// row of words for each event of interest, at most 500; or, without a limit, as trace events in
+/// JSON: a track for each thread with a span for each frame. Where verification is required, a
+/// refused set isn't run, and what is written is the line of its refusal. The answer is the exit
+/// status of the trace, and faults are told on the error writer as there. Nothing is written before
+/// the whole text stands in memory.
 pub fn draw<S: Source, P: Source, O: Sink, E: Sink>(
     alloc: Global,
     drawing: Drawing,
@@ -39,15 +40,12 @@ pub fn draw<S: Source, P: Source, O: Sink, E: Sink>(
     requires schedule { CanCount (P.failures schedule.old) }
     requires out { CanCount (O.failures out.old) }
     requires err { CanCount (E.failures err.old) }
-    ensures unread { (schedule.new ≡ schedule.old) ⊎ HoldsRun drawing.verification (S.supply set.old) }
-    ensures answers { Answers
-        (IsDrawOf drawing.verification drawing.figure
-        (S.supply set.old) (P.supply schedule.old))
+    ensures unread { (schedule.new ≡ schedule.old)
+        ⊎ HoldsRun drawing.verification (S.supply set.old) }
+    ensures answers { AnswersOver O.Sink E.Sink
+        (IsDrawOf drawing.verification drawing.figure (S.supply set.old) (P.supply schedule.old))
         (S.failures set.old + P.failures schedule.old)
-        (S.failures set.new + P.failures schedule.new)
-        (O.failures out.old) (O.failures out.new) (O.contents out.old) (O.contents out.new)
-        (Says (E.failures err.old) (E.failures err.new) (E.contents err.old) (E.contents err.new))
-        result }
+        (S.failures set.new + P.failures schedule.new) out.old out.new err.old err.new result }
 {
     let mut job = Judged {
         running: Shown {

@@ -1,5 +1,5 @@
-//! A run shown to people, over any devices: told in words, or drawn as a picture. Both watch the loop
-//! that runs a driver set by a schedule.
+//! A run shown to people, over any devices: told in words, or drawn as a picture. Both watch the
+//! loop that runs a driver set by a schedule.
 #![tactic(auto)]
 
 mod alone;

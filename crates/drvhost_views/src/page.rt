@@ -13,7 +13,7 @@ use report::event_number::EventNumber;
 use report::lines::Lines;
 use report::word::Word;
 use std::alloc::AllocError;
-use tell_lines::kept::ToldLines;
+use tell_lines::kept::{ToldLines, Words};
 use tell_words::{Happened, Teller};
 
 /// The text of a run that is told, and what its lines are made with.
@@ -91,8 +91,7 @@ impl<'a> Page<'a> {
                 self.lines,
                 &mut self.number,
                 &happened.reply,
-                self.teller.front(),
-                self.teller.words(),
+                words_of(&self.teller),
                 some,
             )?;
             left -= some;
@@ -158,8 +157,7 @@ impl<'a> Page<'a> {
             &mut self.number,
             &happened.reply,
             word,
-            self.teller.front(),
-            self.teller.words(),
+            words_of(&self.teller),
         )?;
         Ok(())
     }
@@ -177,9 +175,18 @@ impl<'a> Page<'a> {
         self.lines.reply(&mut self.number, &happened.reply);
         let head = self.lines.bytes().len().saturating_sub(1);
         self.teller.tell(head, happened, machine)?;
-        self.text.add_headed(self.lines.bytes(), self.teller.front(), self.teller.words())?;
+        self.text
+            .add_headed(self.lines.bytes(), words_of(&self.teller))?;
         self.number.advance();
         Ok(())
+    }
+}
+
+/// The words that a teller has made last.
+pub(crate) fn words_of<'w>(teller: &'w Teller<'_>) -> Words<'w> {
+    Words {
+        front: teller.front(),
+        rest: teller.words(),
     }
 }
 

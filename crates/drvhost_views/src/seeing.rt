@@ -1,13 +1,11 @@
 //! Events of a run that is told, applied one by one: what is seen of each.
 
 ghost use Rattle.std.specs.Prelude.{◌≡◌, IfOk, IsTrue, OnOk, false, true};
-ghost use Rattle.drvhost_views.specs.Seen.{GoesUnseen, HappensBefore, is_stepped};
-ghost use Rattle.drvhost_views.specs.Told.{LedgerGoesOn, is_left_out};
+ghost use Rattle.drvhost_views.specs.Seen.{GoesUnseen, HappensBefore, Sees, is_stepped};
+ghost use Rattle.drvhost_views.specs.Told.{is_left_out};
 ghost use Rattle.model.specs.declared.event.Reply.TheVariants.{Stepped};
-ghost use Rattle.model.specs.Machine.{AppliesWhole};
 ghost use Rattle.tell_uses.specs.Acting.{acting_in};
 ghost use Rattle.tell_uses.specs.Plain.{is_plain};
-ghost use Rattle.laws_runs.specs.Waits.{says_unchanged};
 
 use checked::Checked;
 use drvhost_options::manner::Detail;
@@ -68,12 +66,7 @@ impl Sight {
         detail: Detail,
     ) -> Result<bool, AllocError>
         requires { IsTrue unseen → GoesUnseen detail machine.old event.now }
-        ensures applied { OnOk result
-            (AppliesWhole machine.old event.now machine.new self.new.happened.reply) }
-        ensures noted { OnOk result
-            (LedgerGoesOn machine.old event.now self.old.ledger self.new.ledger) }
-        ensures kept { OnOk result (says_unchanged self.new.happened.reply ≡ true
-            → self.new.ledger ≡ self.old.ledger) }
+        ensures sees { OnOk result (Sees machine.old event.now machine.new self.old self.new) }
         ensures seen { IfOk result (λ passed. passed ≡ false
             → HappensBefore machine.old event.now self.new.happened) }
         ensures passed { IfOk result (λ passed. IsTrue passed
@@ -107,12 +100,7 @@ impl Sight {
         detail: Detail,
     ) -> Result<bool, AllocError>
         requires { is_plain machine.old.set machine.old.world event.now ≡ true }
-        ensures applied { OnOk result
-            (AppliesWhole machine.old event.now machine.new self.new.happened.reply) }
-        ensures noted { OnOk result
-            (LedgerGoesOn machine.old event.now self.old.ledger self.new.ledger) }
-        ensures kept { OnOk result (says_unchanged self.new.happened.reply ≡ true
-            → self.new.ledger ≡ self.old.ledger) }
+        ensures sees { OnOk result (Sees machine.old event.now machine.new self.old self.new) }
         ensures seen { IfOk result (λ passed. passed ≡ false
             → HappensBefore machine.old event.now self.new.happened) }
         ensures passed { IfOk result (λ passed. IsTrue passed

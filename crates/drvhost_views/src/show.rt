@@ -19,14 +19,13 @@ use drvhost_devices::transfer::read_whole;
 use drvhost_options::figure::Figure;
 use drvhost_options::manner::Manner;
 use drvhost_sets::job::Notes;
-use drvhost_sets::judged::Running;
+use drvhost_sets::judged::{Chosen, Running};
 use image::DriverSet;
 use interleave::parse::parse_schedule;
 use interleave::schedule::Schedule;
 use interleave_faults::fault_words;
 use report::lines::Lines;
 use std::alloc::{AllocError, Global};
-use verifier::Accepted;
 
 /// How a run is shown to people.
 #[derive(Clone, Copy)]
@@ -57,29 +56,16 @@ impl<'a, P: Source> Running for Shown<'a, P> {
 
     ghost stays = { λ old new. new.schedule.now ≡ old.schedule.now };
 
-    fn run_accepted<O: Sink>(
+    fn run<O: Sink>(
         &mut self,
         alloc: Global,
         bytes: &[u8],
-        accepted: Accepted,
+        chosen: Chosen,
         notes: &mut Notes,
         out: &mut O,
     ) -> Result<End, Fault> {
         // The machine that looks at each step wants a set of its own.
-        match accepted.set().copy(alloc) {
-            Ok(set) => self.show(alloc, bytes, set, notes, out),
-            Err(_refused) => Err(Fault::Memory),
-        }
-    }
-
-    fn run_any<O: Sink>(
-        &mut self,
-        alloc: Global,
-        bytes: &[u8],
-        set: DriverSet,
-        notes: &mut Notes,
-        out: &mut O,
-    ) -> Result<End, Fault> {
+        let set = chosen.into_set(alloc)?;
         self.show(alloc, bytes, set, notes, out)
     }
 

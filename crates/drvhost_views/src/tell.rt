@@ -1,8 +1,9 @@
 //! A run told for people, and its audit.
 
 ghost use Rattle.std.specs.Prelude.{◌≡◌, ◌+◌, ◌⊎◌};
-ghost use Rattle.drvhost_devices.specs.Device.{CanCount, Says};
-ghost use Rattle.drvhost_devices.specs.Ends.{Answers, HoldsRun};
+ghost use Rattle.drvhost_devices.specs.Device.{CanCount};
+ghost use Rattle.drvhost_devices.specs.Ends.{HoldsRun};
+ghost use Rattle.drvhost_sets.specs.Devices.{AnswersOver};
 ghost use Rattle.drvhost_views.specs.Told.{IsTellOf};
 
 use crate::show::{Showing, Shown};
@@ -20,15 +21,14 @@ pub struct Telling {
     pub manner: Manner,
 }
 
-/// Runs a driver set by a schedule as [`trace`](drvhost_runs::trace::trace) does, and tells the run in
-/// words: for each event of which a line is asked for, the line of the trace with words behind it,
-/// and then an audit of what the run has left. Where verification is required, a refused set isn't
-/// run, and what is written is the line of its refusal. The answer is the exit status: that of the
-/// trace, but 1 also where the audit finds a packet that no place names, a lock that an idle thread
-/// owns, threads that wait in a ring, or a stack location that was returned from otherwise than it
-/// was marked, and, strictly told, where an event was refused.
-/// Faults are told on the error writer, in the order of the trace. Nothing is written before the
-/// whole text stands in memory.
+/// Runs a driver set by a schedule as [`trace`](drvhost_runs::trace::trace) does, and tells the run
+/// in words: for each event of which a line is asked for, the line of the trace with words behind
+/// it, and then an audit of what the run has left. Where verification is required, a refused set
+/// isn't run, and what is written is the line of its refusal. The answer is the exit status: that
+/// of the trace, but 1 also where the audit finds a packet that no place names, a lock that an idle
+/// thread owns, threads that wait in a ring, or a stack location that was returned from otherwise
+/// than it was marked, and, strictly told, where an event was refused. Faults are told on the error
+/// writer, in the order of the trace. Nothing is written before the whole text stands in memory.
 pub fn tell<S: Source, P: Source, O: Sink, E: Sink>(
     alloc: Global,
     set: &mut S,
@@ -41,15 +41,12 @@ pub fn tell<S: Source, P: Source, O: Sink, E: Sink>(
     requires schedule { CanCount (P.failures schedule.old) }
     requires out { CanCount (O.failures out.old) }
     requires err { CanCount (E.failures err.old) }
-    ensures unread { (schedule.new ≡ schedule.old) ⊎ HoldsRun telling.verification (S.supply set.old) }
-    ensures answers { Answers
-        (IsTellOf telling.verification telling.manner (S.supply set.old)
-        (P.supply schedule.old))
+    ensures unread { (schedule.new ≡ schedule.old)
+        ⊎ HoldsRun telling.verification (S.supply set.old) }
+    ensures answers { AnswersOver O.Sink E.Sink
+        (IsTellOf telling.verification telling.manner (S.supply set.old) (P.supply schedule.old))
         (S.failures set.old + P.failures schedule.old)
-        (S.failures set.new + P.failures schedule.new)
-        (O.failures out.old) (O.failures out.new) (O.contents out.old) (O.contents out.new)
-        (Says (E.failures err.old) (E.failures err.new) (E.contents err.old) (E.contents err.new))
-        result }
+        (S.failures set.new + P.failures schedule.new) out.old out.new err.old err.new result }
 {
     let mut job = Judged {
         running: Shown {

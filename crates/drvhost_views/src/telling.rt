@@ -1,13 +1,14 @@
 //! Runs that are told in words.
 
-ghost use Rattle.std.specs.Prelude.{◌≡◌, ◌+◌, ◌++◌, ◌<◌, ◌≤◌, ◌^◌, ◌||◌, [], IfOk, IsTrue, OnOk, codes, if◌then◌else◌, true};
+ghost use Rattle.std.specs.Prelude.{◌≡◌, ◌+◌, ◌++◌, ◌<◌, ◌≤◌, ◌^◌, ◌||◌, [], IfOk, IsTrue, OnOk};
+ghost use Rattle.std.specs.Prelude.{codes, if◌then◌else◌, true};
 ghost use Rattle.drvhost_devices.specs.declared.fault.Fault.TheVariants.{Memory};
 ghost use Rattle.drvhost_devices.specs.Answer.{ended};
-ghost use Rattle.drvhost_views.specs.Seen.{GoesUnseen};
-ghost use Rattle.drvhost_views.specs.Told.{InRuns, IsRunTold, IsTelling, LedgerGoesOn, ToldTimes, fails_strictly, is_refused, occurs_in, times_of};
+ghost use Rattle.drvhost_views.specs.Seen.{GoesUnseen, Sees};
+ghost use Rattle.drvhost_views.specs.Told.{InRuns, IsRunTold, IsTelling, ToldTimes};
+ghost use Rattle.drvhost_views.specs.Told.{fails_strictly, is_refused, occurs_in, times_of};
 ghost use Rattle.interleave.specs.Listing.{IsWithinLimits};
-ghost use Rattle.laws_runs.specs.Waits.{says_unchanged};
-ghost use Rattle.model.specs.Machine.{AppliesWhole, ShowsWhole};
+ghost use Rattle.model.specs.Machine.{ShowsWhole};
 
 use crate::levels::{at_once, times_of};
 use crate::page::Page;
@@ -167,12 +168,8 @@ impl<'a> Telling<'a> {
         ensures detail { OnOk result (self.new.page.detail ≡ self.old.page.detail) }
         ensures number { IfOk result (λ times.
             self.new.page.number ≡ self.old.page.number + times) }
-        ensures applied { OnOk result
-            (AppliesWhole machine.old event.now machine.new self.new.sight.happened.reply) }
-        ensures noted { OnOk result (LedgerGoesOn machine.old event.now self.old.sight.ledger
-            self.new.sight.ledger) }
-        ensures kept { OnOk result (says_unchanged self.new.sight.happened.reply ≡ true
-            → self.new.sight.ledger ≡ self.old.sight.ledger) }
+        ensures sees { OnOk result
+            (Sees machine.old event.now machine.new self.old.sight self.new.sight) }
         ensures refused { OnOk result (self.new.refused
             ≡ self.old.refused || is_refused self.new.sight.happened.reply) }
         ensures told { IfOk result (λ times. InRuns machine.old (ToldTimes self.old.page.detail

@@ -1,3 +1,4 @@
+pub mod Devices
 pub mod Program
 pub mod Unread
 pub mod Returned

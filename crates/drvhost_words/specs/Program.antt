@@ -15,7 +15,7 @@ use Rattle.drvhost_finds.specs.Find.{IsFindOf}
 use Rattle.drvhost_formats.specs.Told.{IsUnopenedJson}
 use Rattle.drvhost_formats.specs.Trace.{IsTraceJsonOf}
 use Rattle.drvhost_hunts.specs.declared.hunt.Way.TheVariants.{Quick, Exact}
-use Rattle.drvhost_hunts.specs.Hunt.{IsExactHuntOf, IsHuntOf}
+use Rattle.drvhost_hunts.specs.Hunt.{IsHuntOfWay}
 use Rattle.drvhost_mends.specs.declared.apply.Asked.{Asked as Applying}
 use Rattle.drvhost_mends.specs.Apply.{IsApplyOf, IsApplyWith}
 use Rattle.drvhost_mends.specs.Mend.{IsMendOf}
@@ -122,8 +122,8 @@ AreWarningsBy Json set status warnings = warnings ≡ []
 abbrev pub IsTaskOf : Task → Supply → Answer → Type 0
 IsTaskOf (Mend tries) = IsMendOf (record { tries = tries })
 IsTaskOf Listing = IsListOf
-IsTaskOf (Hunt reach) = IsHuntOf reach
-IsTaskOf (HuntExactly reach) = IsExactHuntOf reach
+IsTaskOf (Hunt reach) = IsHuntOfWay Quick reach
+IsTaskOf (HuntExactly reach) = IsHuntOfWay Exact reach
 IsTaskOf (Find reach) = IsFindOf Quick reach
 IsTaskOf (FindExactly reach) = IsFindOf Exact reach
 

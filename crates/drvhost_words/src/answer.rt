@@ -1,12 +1,22 @@
 //! What the program answers.
 
-ghost use Rattle.std.specs.Prelude.{◌≡◌, ◌+◌, ◌<◌, ◌^◌, ◌⊎◌, ℕ, List, Option, drop, map, string_bytes, true};
-ghost use Rattle.drvhost_words.specs.Program.{FileEnds, IsAnswerToLost, IsDoneOf, IsOfApply, IsOfWork, IsPage, IsRunBy, IsJobCount, IsTaskOf, IsUnopenedBy, OpensToTrace, asked_by, IsQuietly, EndsAtOnce, JobEnds, JobStores, MendsFile, PathsEnd, ProgramEnds, ProgramStores, RewritesFile, WordsEnd, WordsStore, is_in_json, settled_judging, verification_of};
+ghost use Rattle.std.specs.Prelude.{◌≡◌, ◌+◌, ◌<◌, ◌^◌, ◌⊎◌, ℕ, List, Option};
+ghost use Rattle.std.specs.Prelude.{drop, map, string_bytes, true};
+ghost use Rattle.drvhost_words.specs.Program.{EndsAtOnce, FileEnds, IsAnswerToLost, IsDoneOf};
+ghost use Rattle.drvhost_words.specs.Program.{IsJobCount, IsOfApply, IsOfWork, IsPage, IsQuietly};
+ghost use Rattle.drvhost_words.specs.Program.{IsRunBy, IsTaskOf, IsUnopenedBy, JobEnds, JobStores};
+ghost use Rattle.drvhost_words.specs.Program.{MendsFile, OpensToTrace, PathsEnd, ProgramEnds};
+ghost use Rattle.drvhost_words.specs.Program.{ProgramStores, RewritesFile, WordsEnd, WordsStore};
+ghost use Rattle.drvhost_words.specs.Program.{asked_by, is_in_json, settled_judging};
+ghost use Rattle.drvhost_words.specs.Program.{verification_of};
 ghost use Rattle.drvhost_many.specs.All.{Counted};
+ghost use Rattle.drvhost_words.specs.Devices.{CountedOver};
+ghost use Rattle.drvhost_hunts.specs.declared.hunt.Way.TheVariants.{Exact, Quick};
 ghost use Rattle.drvhost_tests.specs.Told.{asked_of};
 ghost use Rattle.drvhost_words.specs.Unread.{IsNamedUnread, IsOneOf, SaysMore};
 ghost use Rattle.drvhost_devices.specs.Device.{CanCount, Says};
 ghost use Rattle.drvhost_devices.specs.Ends.{Answers, HoldsRun, IsCheckOf, IsRewriteOf};
+ghost use Rattle.drvhost_sets.specs.Devices.{AnswersBy, AnswersOver};
 
 use crate::coloring::{settled_judging, settled_way};
 use crate::keeping::keep_files;
@@ -23,12 +33,11 @@ use drvhost_devices::device::{Sink, Source};
 use drvhost_devices::fault::no_memory;
 use drvhost_devices::unopened::tell_unopened;
 use drvhost_files::files::{Files, Later, Pending};
-use drvhost_finds::find::{find_exactly, find_telling};
+use drvhost_finds::find::find;
 use drvhost_formats::trace::{Asked, trace_json};
 use drvhost_formats::unopened::unopened_json;
 use drvhost_found::sought::{Search, Sought};
-use drvhost_hunts::exact::hunt_exactly;
-use drvhost_hunts::hunt::hunt_telling;
+use drvhost_hunts::hunt::{self, Hunting, hunt_by};
 use drvhost_many::file::{self, judge};
 use drvhost_many::many::{Sets, answer_each};
 use drvhost_many::paths::{alone, find_all};
@@ -47,6 +56,7 @@ use drvhost_sets::version::version;
 use drvhost_tests::test::{Tests, test};
 use drvhost_told::tell::{self, tell_json};
 use drvhost_views::draw::{Drawing, draw};
+use hunt_bounds::reach::Reach;
 use report_progress::progress::{Progress, Silent};
 use std::alloc::{AllocError, Global};
 use std::io::ErrorKind;
@@ -64,8 +74,8 @@ pub struct Setting {
 /// Does what the words of a command line ask for, the program's own name first, or says why they
 /// can't be had. Each file that they name is opened, read and handed back when its turn comes. The
 /// answer is the exit status: that of the job that they name; 2 where they name none, and the
-/// writer for errors is then told how the program is used; 3 where memory ran out. How far a job has
-/// come is told beside the runtime.
+/// writer for errors is then told how the program is used; 3 where memory ran out. How far a job
+/// has come is told beside the runtime.
 pub fn answer<F: Files, O: Sink, E: Sink, R: Threads + Wait + Sync + Progress>(
     rt: &R,
     setting: Setting,
@@ -80,12 +90,10 @@ pub fn answer<F: Files, O: Sink, E: Sink, R: Threads + Wait + Sync + Progress>(
     requires unwritten { CanCount (F.unwritten files.old) }
     requires out { CanCount (O.failures out.old) }
     requires err { CanCount (E.failures err.old) }
-    ensures answers { Counted (ProgramEnds setting.surroundings (F.stands files.old) (F.supply files.old) words)
-        (F.opened files.old) (F.opened files.new) (F.failures files.old) (F.failures files.new)
+    ensures answers { CountedOver F.Files O.Sink E.Sink
+        (ProgramEnds setting.surroundings (F.stands files.old) (F.supply files.old) words)
         (F.unwritten files.old + O.failures out.old) (F.unwritten files.new + O.failures out.new)
-        (O.contents out.old) (O.contents out.new)
-        (Says (E.failures err.old) (E.failures err.new) (E.contents err.old) (E.contents err.new))
-        result }
+        files.old files.new out.old out.new err.old err.new result }
     ensures stores { ProgramStores words (F.supply files.old) (F.supply files.new)
         (F.created files.old) (F.created files.new) result }
 {
@@ -137,15 +145,14 @@ fn answer_words<F: Files, O: Sink, E: Sink, R: Threads + Wait + Sync + Progress>
     requires unwritten { CanCount (F.unwritten files.old) }
     requires out { CanCount (O.failures out.old) }
     requires err { CanCount (E.failures err.old) }
-    ensures answers { Counted
-        (WordsEnd setting.surroundings (F.stands files.old) (F.supply files.old) (map string_bytes words.now))
-        (F.opened files.old) (F.opened files.new) (F.failures files.old) (F.failures files.new)
+    ensures answers { CountedOver F.Files O.Sink E.Sink
+        (WordsEnd setting.surroundings (F.stands files.old) (F.supply files.old)
+        (map string_bytes words.now))
         (F.unwritten files.old + O.failures out.old) (F.unwritten files.new + O.failures out.new)
-        (O.contents out.old) (O.contents out.new)
-        (Says (E.failures err.old) (E.failures err.new) (E.contents err.old) (E.contents err.new))
+        files.old files.new out.old out.new err.old err.new result }
+    ensures stores { WordsStore (map string_bytes words.now)
+        (F.supply files.old) (F.supply files.new) (F.created files.old) (F.created files.new)
         result }
-    ensures stores { WordsStore (map string_bytes words.now) (F.supply files.old) (F.supply files.new)
-        (F.created files.old) (F.created files.new) result }
 {
     match Job::of(setting.alloc, words) {
         Ok(job) => perform(rt, setting, &job, files, out, err),
@@ -153,8 +160,8 @@ fn answer_words<F: Files, O: Sink, E: Sink, R: Threads + Wait + Sync + Progress>
     }
 }
 
-/// Does a job with the files that it names. Only what does `host`, or judges several files, is given
-/// the runtime as such: nothing else starts a thread, or waits.
+/// Does a job with the files that it names. Only what does `host`, or judges several files, is
+/// given the runtime as such: nothing else starts a thread, or waits.
 fn perform<F: Files, O: Sink, E: Sink, R: Threads + Wait + Sync + Progress>(
     rt: &R,
     setting: Setting,
@@ -169,12 +176,10 @@ fn perform<F: Files, O: Sink, E: Sink, R: Threads + Wait + Sync + Progress>(
     requires unwritten { CanCount (F.unwritten files.old) }
     requires out { CanCount (O.failures out.old) }
     requires err { CanCount (E.failures err.old) }
-    ensures answers { Counted (JobEnds setting.surroundings (F.stands files.old) (F.supply files.old) job.now)
-        (F.opened files.old) (F.opened files.new) (F.failures files.old) (F.failures files.new)
+    ensures answers { CountedOver F.Files O.Sink E.Sink
+        (JobEnds setting.surroundings (F.stands files.old) (F.supply files.old) job.now)
         (F.unwritten files.old + O.failures out.old) (F.unwritten files.new + O.failures out.new)
-        (O.contents out.old) (O.contents out.new)
-        (Says (E.failures err.old) (E.failures err.new) (E.contents err.old) (E.contents err.new))
-        result }
+        files.old files.new out.old out.new err.old err.new result }
     ensures stores { JobStores job.now (F.supply files.old) (F.supply files.new)
         (F.created files.old) (F.created files.new) result }
 {
@@ -237,11 +242,8 @@ fn tests_of<'n>(testing: &'n Testing<'n>, jobs: u8) -> Tests<'n>
 fn write_page<O: Sink, E: Sink>(alloc: Global, page: Page, out: &mut O, err: &mut E) -> u8
     requires out { CanCount (O.failures out.old) }
     requires err { CanCount (E.failures err.old) }
-    ensures { (reads : ℕ) → Answers (IsPage page)
-        reads reads (O.failures out.old) (O.failures out.new)
-        (O.contents out.old) (O.contents out.new)
-        (Says (E.failures err.old) (E.failures err.new) (E.contents err.old) (E.contents err.new))
-        result }
+    ensures { (reads : ℕ) → AnswersOver O.Sink E.Sink (IsPage page)
+        reads reads out.old out.new err.old err.new result }
 {
     match page {
         Page::Rule(rule) => explain_rule(alloc, rule, out, err),
@@ -264,13 +266,11 @@ fn judge_paths<R: Threads + Sync + Progress, F: Files, O: Sink, E: Sink>(
     requires files { F.failures files.old < 2 ^ 63 }
     requires out { CanCount (O.failures out.old) }
     requires err { CanCount (E.failures err.old) }
-    ensures answers { Counted
+    ensures answers { CountedOver F.Files O.Sink E.Sink
         (PathsEnd (F.stands files.old) (F.supply files.old) judged.now.paths.items
         (settled_judging setting.surroundings judged.now.judging) judged.now.jobs)
-        (F.opened files.old) (F.opened files.new) (F.failures files.old) (F.failures files.new)
-        (O.failures out.old) (O.failures out.new) (O.contents out.old) (O.contents out.new)
-        (Says (E.failures err.old) (E.failures err.new) (E.contents err.old) (E.contents err.new))
-        result }
+        (O.failures out.old) (O.failures out.new)
+        files.old files.new out.old out.new err.old err.new result }
     ensures supply { F.supply files.new ≡ F.supply files.old }
     ensures created { F.created files.new ≡ F.created files.old }
     ensures unwritten { F.unwritten files.new ≡ F.unwritten files.old }
@@ -324,11 +324,10 @@ fn judge_file<F: Files, O: Sink, E: Sink>(
     requires files { CanCount (F.failures files.old) }
     requires out { CanCount (O.failures out.old) }
     requires err { CanCount (E.failures err.old) }
-    ensures answers { Counted (FileEnds judging (F.supply files.old) set.now)
-        (F.opened files.old) (F.opened files.new) (F.failures files.old) (F.failures files.new)
-        (O.failures out.old) (O.failures out.new) (O.contents out.old) (O.contents out.new)
-        (Says (E.failures err.old) (E.failures err.new) (E.contents err.old) (E.contents err.new))
-        result }
+    ensures answers { CountedOver F.Files O.Sink E.Sink
+        (FileEnds judging (F.supply files.old) set.now)
+        (O.failures out.old) (O.failures out.new)
+        files.old files.new out.old out.new err.old err.new result }
     ensures supply { F.supply files.new ≡ F.supply files.old }
     ensures created { F.created files.new ≡ F.created files.old }
     ensures unwritten { F.unwritten files.new ≡ F.unwritten files.old }
@@ -357,11 +356,8 @@ fn check_file<F: Files, O: Sink, E: Sink>(
     requires files { CanCount (F.failures files.old) }
     requires out { CanCount (O.failures out.old) }
     requires err { CanCount (E.failures err.old) }
-    ensures answers { Answers (IsCheckOf (F.supply files.old set.now))
-        (F.failures files.old) (F.failures files.new) (O.failures out.old) (O.failures out.new)
-        (O.contents out.old) (O.contents out.new)
-        (Says (E.failures err.old) (E.failures err.new) (E.contents err.old) (E.contents err.new))
-        result }
+    ensures answers { AnswersOver O.Sink E.Sink (IsCheckOf (F.supply files.old set.now))
+        (F.failures files.old) (F.failures files.new) out.old out.new err.old err.new result }
     ensures opened { F.opened files.new ≡ F.opened files.old + 1 }
     ensures supply { F.supply files.new ≡ F.supply files.old }
     ensures created { F.created files.new ≡ F.created files.old }
@@ -380,6 +376,31 @@ struct Beside<'p, P> {
     progress: &'p P,
 }
 
+impl<'p, P: Progress> Beside<'p, P> {
+    /// A quick hunt within such a reach.
+    fn quick(&self, reach: Reach) -> Hunting<'p, P>
+        ensures way { result.way ≡ Quick }
+        ensures reach { result.reach ≡ reach }
+    {
+        Hunting {
+            reach,
+            way: hunt::Way::Quick,
+            progress: self.progress,
+        }
+    }
+
+    /// An exact one.
+    fn exact(&self, reach: Reach) -> Hunting<'p, P>
+        ensures way { result.way ≡ Exact }
+        ensures reach { result.reach ≡ reach }
+    {
+        Hunting {
+            way: hunt::Way::Exact,
+            ..self.quick(reach)
+        }
+    }
+}
+
 /// Does some work with the set of a file. One that can't be opened or read is named.
 fn work_file<F: Files, O: Sink, E: Sink, P: Progress>(
     beside: &Beside<'_, P>,
@@ -393,13 +414,11 @@ fn work_file<F: Files, O: Sink, E: Sink, P: Progress>(
     requires files { CanCount (F.failures files.old) }
     requires out { CanCount (O.failures out.old) }
     requires err { CanCount (E.failures err.old) }
-    ensures answers { Answers (IsOfWork work (F.supply files.old) set.now)
-        (F.failures files.old) (F.failures files.new) (O.failures out.old) (O.failures out.new)
-        (O.contents out.old) (O.contents out.new)
+    ensures answers { AnswersBy O.Sink E.Sink
         (SaysMore (IsNamedUnread (λ name. name ≡ set.now)
-        (F.failures files.old) (F.failures files.new))
-        (E.failures err.old) (E.failures err.new) (E.contents err.old) (E.contents err.new))
-        result }
+        (F.failures files.old) (F.failures files.new)))
+        (IsOfWork work (F.supply files.old) set.now)
+        (F.failures files.old) (F.failures files.new) out.old out.new err.old err.new result }
     ensures opened { F.opened files.new ≡ F.opened files.old + 1 }
     ensures supply { F.supply files.new ≡ F.supply files.old }
     ensures created { F.created files.new ≡ F.created files.old }
@@ -427,11 +446,8 @@ fn refuse_unopened<O: Sink, E: Sink>(
 ) -> u8
     requires out { CanCount (O.failures out.old) }
     requires err { CanCount (E.failures err.old) }
-    ensures { (reads : ℕ) → Answers (IsUnopenedBy work name.now)
-        reads reads (O.failures out.old) (O.failures out.new)
-        (O.contents out.old) (O.contents out.new)
-        (Says (E.failures err.old) (E.failures err.new) (E.contents err.old) (E.contents err.new))
-        result }
+    ensures { (reads : ℕ) → AnswersOver O.Sink E.Sink (IsUnopenedBy work name.now)
+        reads reads out.old out.new err.old err.new result }
 {
     if is_in_json(work) {
         return unopened_json(alloc, name, out, err);
@@ -461,11 +477,8 @@ fn perform_work<S: Source, O: Sink, E: Sink, P: Progress>(
     requires set { CanCount (S.failures set.old) }
     requires out { CanCount (O.failures out.old) }
     requires err { CanCount (E.failures err.old) }
-    ensures { Answers (IsDoneOf work name.now (S.supply set.old))
-        (S.failures set.old) (S.failures set.new) (O.failures out.old) (O.failures out.new)
-        (O.contents out.old) (O.contents out.new)
-        (Says (E.failures err.old) (E.failures err.new) (E.contents err.old) (E.contents err.new))
-        result }
+    ensures { AnswersOver O.Sink E.Sink (IsDoneOf work name.now (S.supply set.old))
+        (S.failures set.old) (S.failures set.new) out.old out.new err.old err.new result }
 {
     match work {
         Work::Judge(judging) => judge(beside.alloc, judging, name, set, out, err),
@@ -484,20 +497,17 @@ fn fulfil<S: Source, O: Sink, E: Sink, P: Progress>(
     requires set { CanCount (S.failures set.old) }
     requires out { CanCount (O.failures out.old) }
     requires err { CanCount (E.failures err.old) }
-    ensures { Answers (IsTaskOf task (S.supply set.old))
-        (S.failures set.old) (S.failures set.new) (O.failures out.old) (O.failures out.new)
-        (O.contents out.old) (O.contents out.new)
-        (Says (E.failures err.old) (E.failures err.new) (E.contents err.old) (E.contents err.new))
-        result }
+    ensures { AnswersOver O.Sink E.Sink (IsTaskOf task (S.supply set.old))
+        (S.failures set.old) (S.failures set.new) out.old out.new err.old err.new result }
 {
     let alloc = beside.alloc;
     match task {
         Task::Mend(tries) => mend(alloc, mend::Asked { tries }, set, out, err),
         Task::List => list(alloc, set, out, err),
-        Task::Hunt(reach) => hunt_telling(alloc, reach, beside.progress, set, out, err),
-        Task::HuntExactly(reach) => hunt_exactly(alloc, reach, beside.progress, set, out, err),
-        Task::Find(reach) => find_telling(alloc, reach, beside.progress, set, out, err),
-        Task::FindExactly(reach) => find_exactly(alloc, reach, beside.progress, set, out, err),
+        Task::Hunt(reach) => hunt_by(alloc, beside.quick(reach), set, out, err),
+        Task::HuntExactly(reach) => hunt_by(alloc, beside.exact(reach), set, out, err),
+        Task::Find(reach) => find(alloc, &beside.quick(reach), set, out, err),
+        Task::FindExactly(reach) => find(alloc, &beside.exact(reach), set, out, err),
     }
 }
 
@@ -611,16 +621,14 @@ fn run_files<F: Files, O: Sink, E: Sink>(
     requires files { CanCount (F.failures files.old) }
     requires out { CanCount (O.failures out.old) }
     requires err { CanCount (E.failures err.old) }
-    ensures answers { Answers (IsRunBy running.entry.way
+    ensures answers { AnswersBy O.Sink E.Sink
+        (SaysMore (IsNamedUnread (IsOneOf running.entry.names.set.now running.entry.names.input.now)
+        (F.failures files.old) (F.failures files.new)))
+        (IsRunBy running.entry.way
         running.entry.names.set running.entry.names.input
         (F.supply files.old running.entry.names.set.now)
         (F.supply files.old running.entry.names.input.now))
-        (F.failures files.old) (F.failures files.new) (O.failures out.old) (O.failures out.new)
-        (O.contents out.old) (O.contents out.new)
-        (SaysMore (IsNamedUnread (IsOneOf running.entry.names.set.now running.entry.names.input.now)
-        (F.failures files.old) (F.failures files.new))
-        (E.failures err.old) (E.failures err.new) (E.contents err.old) (E.contents err.new))
-        result }
+        (F.failures files.old) (F.failures files.new) out.old out.new err.old err.new result }
     ensures opened { (count : ℕ)
         × OpensToTrace (verification_of running.entry.way)
         (F.supply files.old running.entry.names.set.now) count
@@ -655,13 +663,11 @@ fn run<S: Source, P: Source, O: Sink, E: Sink>(
     requires err { CanCount (E.failures err.old) }
     ensures unread { (input.new ≡ input.old)
         ⊎ HoldsRun (verification_of running.entry.way) (S.supply set.old) }
-    ensures answers { Answers (IsRunBy running.entry.way
+    ensures answers { AnswersOver O.Sink E.Sink (IsRunBy running.entry.way
         running.entry.names.set running.entry.names.input
         (S.supply set.old) (P.supply input.old))
         (S.failures set.old + P.failures input.old) (S.failures set.new + P.failures input.new)
-        (O.failures out.old) (O.failures out.new) (O.contents out.old) (O.contents out.new)
-        (Says (E.failures err.old) (E.failures err.new) (E.contents err.old) (E.contents err.new))
-        result }
+        out.old out.new err.old err.new result }
 {
     match running.way {
         Way::Trace(verification) => trace(alloc, set, input, verification, out, err),

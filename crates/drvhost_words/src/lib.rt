@@ -1,5 +1,5 @@
-//! What the program answers for the words of its command line: the files that they name, each opened
-//! when its turn comes, and the job done with them.
+//! What the program answers for the words of its command line: the files that they name, each
+//! opened when its turn comes, and the job done with them.
 #![tactic(auto)]
 
 pub mod answer;

@@ -2,7 +2,8 @@
 
 ghost use Rattle.std.specs.Prelude.{◌≡◌, ◌+◌, ◌<◌, ◌≤◌, ◌^◌, ◌⊎◌, ℕ, true};
 ghost use Rattle.drvhost_devices.specs.Device.{CanCount};
-ghost use Rattle.drvhost_devices.specs.Ends.{Answers, HoldsRun};
+ghost use Rattle.drvhost_devices.specs.Ends.{HoldsRun};
+ghost use Rattle.drvhost_sets.specs.Devices.{AnswersBy};
 ghost use Rattle.drvhost_runs.specs.Readiness.{SaysWarned};
 ghost use Rattle.drvhost_words.specs.Program.{AreWarningsBy, IsServedBy, OpensToTrace};
 ghost use Rattle.drvhost_words.specs.Unread.{IsNamedUnread, IsOneOf, SaysAround};
@@ -63,18 +64,16 @@ pub(crate) fn host_files<F: Files, O: Sink, E: Sink, R: Threads + Wait + Sync>(
     requires files { CanCount (F.failures files.old) }
     requires out { CanCount (O.failures out.old) }
     requires err { CanCount (E.failures err.old) }
-    ensures answers { Answers (IsServedBy serving.now.form serving.now.workers
-        serving.now.names.set.now serving.now.names.input.now
-        (F.supply files.old serving.now.names.set.now)
-        (F.supply files.old serving.now.names.input.now))
-        (F.failures files.old) (F.failures files.new) (O.failures out.old) (O.failures out.new)
-        (O.contents out.old) (O.contents out.new)
+    ensures answers { AnswersBy O.Sink E.Sink
         (SaysAround (AreWarningsBy serving.now.form
         (F.supply files.old serving.now.names.set.now) result)
         (IsNamedUnread (IsOneOf serving.now.names.set.now serving.now.names.input.now)
-        (F.failures files.old) (F.failures files.new))
-        (E.failures err.old) (E.failures err.new) (E.contents err.old) (E.contents err.new))
-        result }
+        (F.failures files.old) (F.failures files.new)))
+        (IsServedBy serving.now.form serving.now.workers
+        serving.now.names.set.now serving.now.names.input.now
+        (F.supply files.old serving.now.names.set.now)
+        (F.supply files.old serving.now.names.input.now))
+        (F.failures files.old) (F.failures files.new) out.old out.new err.old err.new result }
     ensures opened { (count : ℕ)
         × OpensToTrace Verification.Required
         (F.supply files.old serving.now.names.set.now) count
@@ -116,15 +115,13 @@ fn serve<S: Source, P: Source, O: Sink, E: Sink, R: Threads + Wait + Sync>(
     requires err { CanCount (E.failures err.old) }
     ensures unread { (script.new ≡ script.old)
         ⊎ HoldsRun Verification.Required (S.supply set.old) }
-    ensures answers { Answers
+    ensures answers { AnswersBy O.Sink E.Sink
+        (SaysWarned (AreWarningsBy orders.now.form (S.supply set.old) result))
         (IsServedBy orders.now.form orders.now.workers
         orders.now.set.now orders.now.script.now
         (S.supply set.old) (P.supply script.old))
         (S.failures set.old + P.failures script.old) (S.failures set.new + P.failures script.new)
-        (O.failures out.old) (O.failures out.new) (O.contents out.old) (O.contents out.new)
-        (SaysWarned (AreWarningsBy orders.now.form (S.supply set.old) result)
-        (E.failures err.old) (E.failures err.new) (E.contents err.old) (E.contents err.new))
-        result }
+        out.old out.new err.old err.new result }
 {
     let hosting = Hosting {
         runtime: orders.runtime,

@@ -1,8 +1,9 @@
 //! Told runs, in colour or not.
 
 ghost use Rattle.std.specs.Prelude.{◌≡◌, ◌+◌, ◌⊎◌};
-ghost use Rattle.drvhost_devices.specs.Device.{CanCount, Says};
-ghost use Rattle.drvhost_devices.specs.Ends.{Answers, HoldsRun};
+ghost use Rattle.drvhost_devices.specs.Device.{CanCount};
+ghost use Rattle.drvhost_devices.specs.Ends.{HoldsRun};
+ghost use Rattle.drvhost_sets.specs.Devices.{AnswersOver};
 ghost use Rattle.drvhost_many.specs.Painted.{IsInColor, IsShown};
 ghost use Rattle.drvhost_views.specs.Told.{IsTellOf};
 
@@ -36,14 +37,13 @@ pub(crate) fn tell_shown<S: Source, P: Source, O: Sink, E: Sink>(
     requires schedule { CanCount (P.failures schedule.old) }
     requires out { CanCount (O.failures out.old) }
     requires err { CanCount (E.failures err.old) }
-    ensures unread { (schedule.new ≡ schedule.old) ⊎ HoldsRun shown.verification (S.supply set.old) }
-    ensures answers { Answers (IsShown shown.coloring
+    ensures unread { (schedule.new ≡ schedule.old)
+        ⊎ HoldsRun shown.verification (S.supply set.old) }
+    ensures answers { AnswersOver O.Sink E.Sink (IsShown shown.coloring
         (IsTellOf shown.verification shown.manner (S.supply set.old) (P.supply schedule.old)))
         (S.failures set.old + P.failures schedule.old)
         (S.failures set.new + P.failures schedule.new)
-        (O.failures out.old) (O.failures out.new) (O.contents out.old) (O.contents out.new)
-        (Says (E.failures err.old) (E.failures err.new) (E.contents err.old) (E.contents err.new))
-        result }
+        out.old out.new err.old err.new result }
 {
     let telling = Telling {
         verification: shown.verification,
@@ -56,8 +56,8 @@ pub(crate) fn tell_shown<S: Source, P: Source, O: Sink, E: Sink>(
     }
 }
 
-/// Tells the run in colour: with the paint taken out, what goes out is what [`tell`] writes, and the
-/// exit status is the same. It stands in memory before any of it goes out.
+/// Tells the run in colour: with the paint taken out, what goes out is what [`tell`] writes, and
+/// the exit status is the same. It stands in memory before any of it goes out.
 fn tell_painted<S: Source, P: Source, O: Sink, E: Sink>(
     alloc: Global,
     set: &mut S,
@@ -70,14 +70,13 @@ fn tell_painted<S: Source, P: Source, O: Sink, E: Sink>(
     requires schedule { CanCount (P.failures schedule.old) }
     requires out { CanCount (O.failures out.old) }
     requires err { CanCount (E.failures err.old) }
-    ensures unread { (schedule.new ≡ schedule.old) ⊎ HoldsRun telling.verification (S.supply set.old) }
-    ensures answers { Answers (IsInColor
+    ensures unread { (schedule.new ≡ schedule.old)
+        ⊎ HoldsRun telling.verification (S.supply set.old) }
+    ensures answers { AnswersOver O.Sink E.Sink (IsInColor
         (IsTellOf telling.verification telling.manner (S.supply set.old) (P.supply schedule.old)))
         (S.failures set.old + P.failures schedule.old)
         (S.failures set.new + P.failures schedule.new)
-        (O.failures out.old) (O.failures out.new) (O.contents out.old) (O.contents out.new)
-        (Says (E.failures err.old) (E.failures err.new) (E.contents err.old) (E.contents err.new))
-        result }
+        out.old out.new err.old err.new result }
 {
     let before = failures_of(set, schedule);
     let mut output = Writer::new(Vec::new(alloc));

@@ -3,8 +3,9 @@
 
 ghost use Rattle.std.specs.Prelude.{◌+◌, IfOk};
 ghost use Rattle.drvhost_devices.specs.Answer.{IsRuleExplained};
-ghost use Rattle.drvhost_devices.specs.Device.{Bytes, CanCount, Says};
-ghost use Rattle.drvhost_devices.specs.Ends.{Answers, IsCheckOf, IsListOf, IsRewriteOf};
+ghost use Rattle.drvhost_devices.specs.Device.{Bytes, CanCount};
+ghost use Rattle.drvhost_devices.specs.Ends.{IsCheckOf, IsListOf, IsRewriteOf};
+ghost use Rattle.drvhost_sets.specs.Devices.{AnswersOver};
 ghost use Rattle.drvhost_hunts.specs.Hunt.{IsHuntOf};
 ghost use Rattle.drvhost_mends.specs.Mend.{IsMendOf};
 ghost use Rattle.drvhost_sets.specs.Explained.{IsExplainedOf};
@@ -105,12 +106,9 @@ fn show<S: Source, P: Source, O: Sink, E: Sink>(
     requires schedule { CanCount (P.failures schedule.old) }
     requires out { CanCount (O.failures out.old) }
     requires err { CanCount (E.failures err.old) }
-    ensures { Answers (IsRunAs run (S.supply set.old) (P.supply schedule.old))
+    ensures { AnswersOver O.Sink E.Sink (IsRunAs run (S.supply set.old) (P.supply schedule.old))
         (S.failures set.old + P.failures schedule.old)
-        (S.failures set.new + P.failures schedule.new)
-        (O.failures out.old) (O.failures out.new) (O.contents out.old) (O.contents out.new)
-        (Says (E.failures err.old) (E.failures err.new) (E.contents err.old) (E.contents err.new))
-        result }
+        (S.failures set.new + P.failures schedule.new) out.old out.new err.old err.new result }
 {
     match run {
         Run::Trace(verification) => trace(alloc, set, schedule, verification, out, err),

@@ -78,7 +78,8 @@ fn write_packets(out: &mut Writer, packets: &[u64]) -> Result<(), AllocError>
 fn put_ringed(out: &mut Writer, threads: &[u8]) -> Result<(), AllocError>
     ensures before { out.new.before ≡ out.old.before }
     ensures tokens { OnOk result
-        (out.new.tokens ≡ out.old.tokens ++ key (codes "ring") ∷ json_tokens (array (numbers_json threads.now))) }
+        (out.new.tokens ≡ out.old.tokens
+        ++ key (codes "ring") ∷ json_tokens (array (numbers_json threads.now))) }
 {
     out.key("ring")?;
     out.begin_array()?;
@@ -89,7 +90,8 @@ fn put_ringed(out: &mut Writer, threads: &[u8]) -> Result<(), AllocError>
 fn put_left(out: &mut Writer, left: &[LeftLock]) -> Result<(), AllocError>
     ensures before { out.new.before ≡ out.old.before }
     ensures tokens { OnOk result
-        (out.new.tokens ≡ out.old.tokens ++ key (codes "locks_left") ∷ json_tokens (array (left_json left.now))) }
+        (out.new.tokens ≡ out.old.tokens
+        ++ key (codes "locks_left") ∷ json_tokens (array (left_json left.now))) }
 {
     out.key("locks_left")?;
     out.begin_array()?;
@@ -125,7 +127,8 @@ fn write_left_lock(out: &mut Writer, left: &LeftLock) -> Result<(), AllocError>
 fn put_uses(out: &mut Writer, uses: &[LocationUse]) -> Result<(), AllocError>
     ensures before { out.new.before ≡ out.old.before }
     ensures tokens { OnOk result
-        (out.new.tokens ≡ out.old.tokens ++ key (codes "disagreeing") ∷ json_tokens (array (uses_json uses.now))) }
+        (out.new.tokens ≡ out.old.tokens
+        ++ key (codes "disagreeing") ∷ json_tokens (array (uses_json uses.now))) }
 {
     out.key("disagreeing")?;
     out.begin_array()?;

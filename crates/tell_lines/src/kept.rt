@@ -1,6 +1,7 @@
 //! The text of a run that is told.
 
-ghost use Rattle.std.specs.Prelude.{◌≡◌, ◌+◌, ◌++◌, ◌∷◌, ◌<◌, ◌≤◌, ◌^◌, [], IfErr, IfOk, OnErr, OnOk, Some, replicate};
+ghost use Rattle.std.specs.Prelude.{◌≡◌, ◌+◌, ◌++◌, ◌∷◌, ◌<◌, ◌≤◌, ◌^◌, [], IfErr, IfOk, OnErr};
+ghost use Rattle.std.specs.Prelude.{OnOk, Some, replicate};
 ghost use Rattle.drvhost_devices.specs.Device.{CanCount, Writes};
 ghost use Rattle.drvhost_devices.specs.Fault.{writes_failed};
 ghost use Rattle.report.specs.Reply.{worded_line};
@@ -19,6 +20,13 @@ use report::lines::Lines;
 use report::word::Word;
 use std::alloc::{AllocError, Global};
 use std::marker::Model;
+
+/// Words in two parts, one behind the other.
+#[derive(Clone, Copy)]
+pub struct Words<'w> {
+    pub front: &'w [u8],
+    pub rest: &'w [u8],
+}
 
 /// The text of a run that is told, kept in memory until it is written. Lines of events that replied
 /// a word are spelled then, and their words stand once; others stand as they are.
@@ -98,12 +106,14 @@ impl ToldLines {
     /// # Errors
     ///
     /// When memory runs out.
-    pub fn add_headed(&mut self, line: &[u8], front: &[u8], words: &[u8]) -> Result<(), AllocError>
-        ensures { OnOk result (self.new ≡ self.old ++ headed line.now (front.now ++ words.now)) }
+    pub fn add_headed(&mut self, line: &[u8], words: Words<'_>) -> Result<(), AllocError>
+        ensures { OnOk result
+            (self.new ≡ self.old ++ headed line.now
+            (words.entry.front.now ++ words.entry.rest.now)) }
     {
         let head = &line[..line.len().saturating_sub(1)];
         let start = self.stored.byte_count();
-        self.stored.append_line(head, front, words)?;
+        self.stored.append_line(head, words.front, words.rest)?;
         let end = self.stored.byte_count();
         cover(&mut self.pieces, &mut self.last, start, end)
     }
@@ -120,16 +130,16 @@ impl ToldLines {
         number: &mut EventNumber,
         reply: &Reply,
         word: Word,
-        front: &[u8],
-        words: &[u8],
+        words: Words<'_>,
     ) -> Result<(), AllocError>
         requires word { word_of reply.now ≡ Some word }
         requires number { number.old + 1 < 2 ^ 64 }
         ensures number { OnOk result (number.new ≡ number.old + 1) }
         ensures added { OnOk result
-            (self.new ≡ self.old ++ worded_line number.old reply.now (front.now ++ words.now)) }
+            (self.new ≡ self.old ++ worded_line number.old reply.now
+            (words.entry.front.now ++ words.entry.rest.now)) }
     {
-        self.add_worded(number.value(), word, front, words)?;
+        self.add_worded(number.value(), word, words)?;
         number.advance();
         Ok(())
     }
@@ -145,24 +155,24 @@ impl ToldLines {
         lines: &mut Lines,
         number: &mut EventNumber,
         reply: &Reply,
-        front: &[u8],
-        words: &[u8],
+        words: Words<'_>,
         count: usize,
     ) -> Result<(), AllocError>
         requires { number.old + count < 2 ^ 64 }
         ensures number { OnOk result (number.new ≡ number.old + count) }
         ensures added { OnOk result (self.new
-            ≡ self.old ++ worded_lines number.old reply.now (front.now ++ words.now) count) }
+            ≡ self.old ++ worded_lines number.old reply.now
+            (words.entry.front.now ++ words.entry.rest.now) count) }
     {
         if let Some(word) = Word::of(reply) {
-            self.add_same(word, number.value(), front, words, count)?;
+            self.add_same(word, number.value(), words, count)?;
             number.advance_many(count as u64);
             return Ok(());
         }
         for _ in 0..count {
             lines.clear();
             lines.reply(number, reply);
-            self.add_headed(lines.bytes(), front, words)?;
+            self.add_headed(lines.bytes(), words)?;
             number.advance();
         }
         Ok(())
@@ -171,42 +181,34 @@ impl ToldLines {
     /// Adds a line of an event that replied a word: to the lines before it, where it goes on from
     /// them.
     #[inline]
-    fn add_worded(
-        &mut self,
-        number: u64,
-        word: Word,
-        front: &[u8],
-        words: &[u8],
-    ) -> Result<(), AllocError>
+    fn add_worded(&mut self, number: u64, word: Word, words: Words<'_>) -> Result<(), AllocError>
         requires { number + 1 < 2 ^ 64 }
         ensures { OnOk result
-            (self.new ≡ self.old ++ said_line word number (front.now ++ words.now)) }
+            (self.new ≡ self.old ++ said_line word number
+            (words.entry.front.now ++ words.entry.rest.now)) }
     {
         if let Piece::Said(run) = self.last {
             if let Some(index) = run.next(word, number) {
-                if self.stored.holds(index, front, words) {
+                if self.stored.holds(index, words.front, words.rest) {
                     self.index = index;
                     self.last = Piece::Said(run.longer());
                     return Ok(());
                 }
             }
         }
-        self.begin_run(number, word, front, words)
+        self.begin_run(number, word, words)
     }
 
     /// Adds such a line, with which a run begins.
-    fn begin_run(
-        &mut self,
-        number: u64,
-        word: Word,
-        front: &[u8],
-        words: &[u8],
-    ) -> Result<(), AllocError>
+    fn begin_run(&mut self, number: u64, word: Word, words: Words<'_>) -> Result<(), AllocError>
         requires { number + 1 < 2 ^ 64 }
         ensures { OnOk result
-            (self.new ≡ self.old ++ said_line word number (front.now ++ words.now)) }
+            (self.new ≡ self.old ++ said_line word number
+            (words.entry.front.now ++ words.entry.rest.now)) }
     {
-        let index = self.stored.index_behind(self.index, front, words)?;
+        let index = self
+            .stored
+            .index_behind(self.index, words.front, words.rest)?;
         self.index = index;
         begin(
             &mut self.pieces,
@@ -220,15 +222,17 @@ impl ToldLines {
         &mut self,
         word: Word,
         number: u64,
-        front: &[u8],
-        words: &[u8],
+        words: Words<'_>,
         count: usize,
     ) -> Result<(), AllocError>
         requires { number + count < 2 ^ 64 }
         ensures { OnOk result (self.new
-            ≡ self.old ++ said_lines word number (replicate count (front.now ++ words.now))) }
+            ≡ self.old ++ said_lines word number
+            (replicate count (words.entry.front.now ++ words.entry.rest.now))) }
     {
-        let index = self.stored.index_behind(self.index, front, words)?;
+        let index = self
+            .stored
+            .index_behind(self.index, words.front, words.rest)?;
         begin(
             &mut self.pieces,
             &mut self.last,

@@ -1,6 +1,7 @@
 //! Bytes that are kept, and words among them that stand once.
 
-ghost use Rattle.std.specs.Prelude.{◌≡◌, ◌+◌, ◌-◌, ◌++◌, ◌<◌, ◌≤◌, List, ℕ, [], ◌∷◌, IfOk, IsTrue, OnOk, get_or, length};
+ghost use Rattle.std.specs.Prelude.{◌≡◌, ◌+◌, ◌-◌, ◌++◌, ◌<◌, ◌≤◌, List, ℕ, [], ◌∷◌, IfOk, IsTrue};
+ghost use Rattle.std.specs.Prelude.{OnOk, get_or, length};
 ghost use Rattle.tell_lines.specs.Stored.{IsWithin, Keeps, store_of, words_at};
 
 use std::alloc::{AllocError, Global};
@@ -55,8 +56,8 @@ struct Entry {
     index: usize,
 }
 
-/// Bytes that are kept one after another, and words that were stored among them: those that come again
-/// are found. A line feed stands behind the words.
+/// Bytes that are kept one after another, and words that were stored among them: those that come
+/// again are found. A line feed stands behind the words.
 #[derive(Drop)]
 pub(crate) struct StoredWords {
     bytes: Vec<u8>,
@@ -149,8 +150,8 @@ impl StoredWords {
         &self.bytes[place.start..place.start + place.length + 1]
     }
 
-    /// The index of words in two parts, one behind the other, that come behind those of another index;
-    /// they are stored if they aren't found.
+    /// The index of words in two parts, one behind the other, that come behind those of another
+    /// index; they are stored if they aren't found.
     pub(crate) fn index_behind(
         &mut self,
         last: usize,

@@ -29,8 +29,8 @@ pub(crate) fn add_pieces<K: Sink>(
 ) -> Result<(), Fault>
     requires stand { All (Stands stored.now) pieces.now }
     requires sink { CanCount (K.failures sink.old) }
-    ensures added { OnOk result (Adds (K.contents sink.old) (K.contents sink.new) lines.old lines.new
-        (text_of stored.now pieces.now)) }
+    ensures added { OnOk result (Adds (K.contents sink.old) (K.contents sink.new)
+        lines.old lines.new (text_of stored.now pieces.now)) }
     ensures broken { OnErr result (TakesBeginning (K.contents sink.old) (K.contents sink.new)
         (lines.old ++ text_of stored.now pieces.now)) }
     ensures fault { IfErr result (λ fault. fault ≡ Fault.Write) }
@@ -52,8 +52,8 @@ pub(crate) fn add_piece<K: Sink>(
 ) -> Result<(), Fault>
     requires stands { Stands stored.now piece.now }
     requires sink { CanCount (K.failures sink.old) }
-    ensures added { OnOk result (Adds (K.contents sink.old) (K.contents sink.new) lines.old lines.new
-        (piece_text stored.now piece.now)) }
+    ensures added { OnOk result (Adds (K.contents sink.old) (K.contents sink.new)
+        lines.old lines.new (piece_text stored.now piece.now)) }
     ensures broken { OnErr result (TakesBeginning (K.contents sink.old) (K.contents sink.new)
         (lines.old ++ piece_text stored.now piece.now)) }
     ensures fault { IfErr result (λ fault. fault ≡ Fault.Write) }
@@ -75,8 +75,8 @@ fn add_run<K: Sink>(
 ) -> Result<(), Fault>
     requires stands { RunStands stored.now.words run.now }
     requires sink { CanCount (K.failures sink.old) }
-    ensures added { OnOk result (Adds (K.contents sink.old) (K.contents sink.new) lines.old lines.new
-        (run_text stored.now.words run.now)) }
+    ensures added { OnOk result (Adds (K.contents sink.old) (K.contents sink.new)
+        lines.old lines.new (run_text stored.now.words run.now)) }
     ensures broken { OnErr result (TakesBeginning (K.contents sink.old) (K.contents sink.new)
         (lines.old ++ run_text stored.now.words run.now)) }
     ensures fault { IfErr result (λ fault. fault ≡ Fault.Write) }
@@ -117,8 +117,8 @@ fn add_line<K: Sink>(
 ) -> Result<(), Fault>
     requires sink { CanCount (K.failures sink.old) }
     ensures number { number.new ≡ number.old }
-    ensures added { OnOk result (Adds (K.contents sink.old) (K.contents sink.new) lines.old lines.new
-        (word_head word number.old ++ line.now)) }
+    ensures added { OnOk result (Adds (K.contents sink.old) (K.contents sink.new)
+        lines.old lines.new (word_head word number.old ++ line.now)) }
     ensures broken { OnErr result (TakesBeginning (K.contents sink.old) (K.contents sink.new)
         (lines.old ++ (word_head word number.old ++ line.now))) }
     ensures fault { IfErr result (λ fault. fault ≡ Fault.Write) }
@@ -133,8 +133,8 @@ fn add_line<K: Sink>(
 #[inline]
 fn gather<K: Sink>(bytes: &[u8], lines: &mut Lines, sink: &mut K) -> Result<(), Fault>
     requires { CanCount (K.failures sink.old) }
-    ensures added { OnOk result (Adds (K.contents sink.old) (K.contents sink.new) lines.old lines.new
-        bytes.now) }
+    ensures added { OnOk result (Adds (K.contents sink.old) (K.contents sink.new)
+        lines.old lines.new bytes.now) }
     ensures broken { OnErr result (TakesBeginning (K.contents sink.old) (K.contents sink.new)
         (lines.old ++ bytes.now)) }
     ensures fault { IfErr result (λ fault. fault ≡ Fault.Write) }

@@ -8,8 +8,8 @@ pub returns-in-Ok-clause-words : goal.returns-in-Ok-clause-words
 returns-in-Ok-clause-words g c =
     let accepted = c.in-Ok.ensures.accepted in
     accepted_words (g.R.Running.right c.args.running.now) c.args.set c.in-Ok.accepted
-    c.run_accepted.new.notes.words.items c.run_accepted.result accepted.0 accepted.1
-    c.run_accepted.ensures.words
+    c.run.new.notes.words.items c.run.result accepted.0 accepted.1
+    c.run.ensures.words
 
 pub returns-in-Err-clause-goes : goal.returns-in-Err-clause-goes
 returns-in-Err-clause-goes g c =

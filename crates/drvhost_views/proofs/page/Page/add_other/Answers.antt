@@ -5,7 +5,7 @@ use Rattle.drvhost_views.proofs.page.Page.add_other.Goals as goal
 
 pub returns-clause-told : goal.returns-clause-told
 returns-clause-told c =
-    let words = c.front.result.now ++ c.words.result.now in (
+    let words = c.words_of.result.front.now ++ c.words_of.result.rest.now in (
       words,
       c.in_ok-add_headed.ensures
           ∙ ap (λ line. c.args.self.now.text ++ headed line words)

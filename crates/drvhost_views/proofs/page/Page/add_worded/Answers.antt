@@ -3,6 +3,6 @@ use Rattle.drvhost_views.proofs.page.Page.add_worded.Goals as goal
 
 pub returns-clause-told : goal.returns-clause-told
 returns-clause-told c = (
-  c.front.result.now ++ c.words.result.now,
+  c.words_of.result.front.now ++ c.words_of.result.rest.now,
   c.in_ok-add_line.ensures.added,
 )

@@ -26,7 +26,7 @@ loop-left-init c =
 
 pub loop-left-preserved : goal.loop-left-preserved
 loop-left-preserved c =
-    let words = c.front.result.now ++ c.words.result.now in
+    let words = c.words_of.result.front.now ++ c.words_of.result.rest.now in
     let place = c.in_ok-make_words.ensures.number ∙ c.head_length-head.ensures.number in
     record {
       detail = c.in_ok-make_words.ensures.detail ∙ c.loop-left.invariant.detail;

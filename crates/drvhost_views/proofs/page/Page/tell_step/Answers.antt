@@ -7,6 +7,6 @@ returns-in_default-clause-goes c = none
 
 pub returns-clause-told : goal.returns-clause-told
 returns-clause-told c some = (
-  c.front.result.now ++ c.words.result.now,
+  c.words_of.result.front.now ++ c.words_of.result.rest.now,
   c.in_ok-add_line.ensures.added,
 )

@@ -1,11 +1,17 @@
+use Rattle.std.proofs.Common.{rules}
 use Rattle.drvhost_views.proofs.PlainlySeen.{quiet_left_out}
 use Rattle.drvhost_views.proofs.ToldAlone.{noted_by}
 use Rattle.drvhost_views.proofs.seeing.Sight.see.Goals as goal
 
-pub returns-clause-noted : goal.returns-clause-noted
-returns-clause-noted c =
-    noted_by _ _ _ _ _ _ c.apply-self.ensures
-    (rw c.use_step_of-self.ensures at c.in_ok-note.ensures.told)
+pub returns-clause-sees : goal.returns-clause-sees
+returns-clause-sees c =
+    record {
+      applied = search rules;
+      noted =
+          noted_by _ _ _ _ _ _ c.apply-self.ensures
+          (rw c.use_step_of-self.ensures at c.in_ok-note.ensures.told);
+      kept = search rules;
+    }
 
 pub returns-clause-passed : goal.returns-clause-passed
 returns-clause-passed c holds =

@@ -75,13 +75,13 @@ pub returns-clause-some : goal.returns-clause-some
 returns-clause-some c =
     rw c.in_ok-times.ensures.times
     (some_times c.go_ahead.new.machine c.tell_next.new.machine c.args.event.now
-    c.tell_next.new.self.sight.happened.reply c.at_once.result c.in_ok-times.ensures.applied
+    c.tell_next.new.self.sight.happened.reply c.at_once.result c.in_ok-times.ensures.sees.applied
     c.waiting_changes_nothing.ensures c.at_once.ensures.some)
 
 pub returns-clause-few : goal.returns-clause-few
 returns-clause-few c =
     let few = few_times c.go_ahead.new.machine c.tell_next.new.machine c.args.event.now
-    c.tell_next.new.self.sight.happened.reply c.at_once.result c.in_ok-times.ensures.applied
+    c.tell_next.new.self.sight.happened.reply c.at_once.result c.in_ok-times.ensures.sees.applied
     c.waiting_changes_nothing.ensures c.at_once.ensures.some in
     omega (arith, few, c.in_ok-times.ensures.times, c.at_once.ensures.few)
 
@@ -94,7 +94,7 @@ returns-clause-takes c =
     c.tell_next.new.machine (times_of reply c.at_once.result) (is_last reply))
     (c.in_ok-made.ensures.none zero).0
     (takes_times c.go_ahead.new.machine c.tell_next.new.machine c.args.event.now reply
-    c.at_once.result c.in_ok-times.ensures.applied c.waiting_changes_nothing.ensures
+    c.at_once.result c.in_ok-times.ensures.sees.applied c.waiting_changes_nothing.ensures
     c.at_once.ensures.some))
 
 pub returns-clause-tells : goal.returns-clause-tells
@@ -109,6 +109,6 @@ returns-clause-tells c =
     (telling_next c.waiting_changes_nothing.ensures c.go_ahead.new.machine c.tell_next.new.machine
     c.args.event.now c.tell_next.new.self.sight.happened.reply c.at_once.result c.in_ok-times.times
     mid c.tell_next.new.self c.at_once.ensures.some c.in_ok-times.ensures.times
-    c.in_ok-times.ensures.applied c.in_ok-times.ensures.noted c.in_ok-times.ensures.kept
+    c.in_ok-times.ensures.sees.applied c.in_ok-times.ensures.sees.noted c.in_ok-times.ensures.sees.kept
     c.in_ok-times.ensures.detail c.in_ok-times.ensures.number c.in_ok-times.ensures.refused
     c.in_ok-times.ensures.told)

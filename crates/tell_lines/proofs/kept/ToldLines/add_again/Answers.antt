@@ -10,11 +10,11 @@ returns-in-Some-clause-added c =
     c.in_ok-add_same.ensures
     ∙ ap (λ n. c.args.self.now
     ++ said_lines c.in-Some.word n
-    (replicate c.args.count (c.args.front.now ++ c.args.words.now)))
+    (replicate c.args.count (c.args.words.front.now ++ c.args.words.rest.now)))
     c.value.ensures
     ∙ ap (λ lines. c.args.self.now ++ lines)
     (words_worded c.in-Some.word c.args.reply.now (sym c.of.ensures ∙ c.in-Some.is)
-    c.args.number.now (c.args.front.now ++ c.args.words.now) c.args.count)
+    c.args.number.now (c.args.words.front.now ++ c.args.words.rest.now) c.args.count)
 
 pub loop-init : goal.loop-init
 loop-init c =
@@ -31,10 +31,10 @@ loop-preserved c =
       few = search rules;
       added =
           again_added _ c.loop.self c.args.self.now c.args.number.now c.loop.counter c.loop.number
-          c.args.reply.now (c.args.front.now ++ c.args.words.now) c.loop.invariant.added
+          c.args.reply.now (c.args.words.front.now ++ c.args.words.rest.now) c.loop.invariant.added
           c.loop.invariant.numbered
           (c.in_ok-add_headed.ensures
-          ∙ ap (λ line. c.loop.self ++ headed line (c.args.front.now ++ c.args.words.now))
+          ∙ ap (λ line. c.loop.self ++ headed line (c.args.words.front.now ++ c.args.words.rest.now))
           (c.bytes.ensures ∙ c.reply.ensures.line
           ∙ ap (λ line. line ++ reply_line c.loop.number c.args.reply.now) c.clear.ensures));
     }

@@ -8,5 +8,5 @@ invariant-loop l =
       numbered : l.number ≡ l.initial.number + l.counter;
       few : l.counter ≤ l.count;
       added : l.self ≡ l.initial.self ++ worded_lines l.initial.number l.reply
-          (l.front ++ l.words) l.counter;
+          (l.words.front.now ++ l.words.rest.now) l.counter;
     }

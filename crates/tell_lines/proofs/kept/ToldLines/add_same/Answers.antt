@@ -10,7 +10,7 @@ invariant_of-self-2 c =
     c.self.inside.last (Said c.again.result) _ c.index_behind.ensures.kept c.self.invariant.0
     c.self.invariant.1
     (same_stands new c.args.word c.args.number c.args.count c.in_ok-index.index c.again.result
-    (c.args.front.now ++ c.args.words.now) c.in_ok-index.ensures.found c.requires c.again.ensures)
+    (c.args.words.front.now ++ c.args.words.rest.now) c.in_ok-index.ensures.found c.requires c.again.ensures)
     c.begin.ensures.begun c.begin.ensures.kept
 
 pub returns : goal.returns
@@ -20,5 +20,5 @@ returns c =
     c.self.inside.last (Said c.again.result) _ c.args.self.now _ c.index_behind.ensures.kept
     c.self.invariant.0 c.self.invariant.1 c.self.view_is
     (same_text new c.args.word c.args.number c.args.count c.in_ok-index.index c.again.result
-    (c.args.front.now ++ c.args.words.now) c.in_ok-index.ensures.found c.again.ensures)
+    (c.args.words.front.now ++ c.args.words.rest.now) c.in_ok-index.ensures.found c.again.ensures)
     c.begin.ensures.begun

@@ -6,5 +6,5 @@ pub returns-then-holds : goal.returns-then-holds
 returns-then-holds c =
     line_joined c.self.inside.stored c.self.inside.pieces.items c.self.inside.last
     c.in-Said.run' c.longer.result c.args.word c.args.number c.in-Some.index
-    (c.args.front.now ++ c.args.words.now) c.args.self.now c.self.view_is c.in-Said.is
+    (c.args.words.front.now ++ c.args.words.rest.now) c.args.self.now c.self.view_is c.in-Said.is
     c.in-Some.ensures (c.if-holds.ensures refl) c.longer.ensures

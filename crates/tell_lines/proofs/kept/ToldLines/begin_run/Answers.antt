@@ -10,7 +10,7 @@ invariant_of-self-2 c =
     c.self.inside.last (Said c.line.result) _ c.index_behind.ensures.kept c.self.invariant.0
     c.self.invariant.1
     (single_stands new c.args.word c.args.number c.in_ok-index.index c.line.result
-    (c.args.front.now ++ c.args.words.now) c.in_ok-index.ensures.found c.requires c.line.ensures)
+    (c.args.words.front.now ++ c.args.words.rest.now) c.in_ok-index.ensures.found c.requires c.line.ensures)
     c.begin.ensures.begun c.begin.ensures.kept
 
 pub returns : goal.returns
@@ -20,5 +20,5 @@ returns c =
     c.self.inside.last (Said c.line.result) _ c.args.self.now _ c.index_behind.ensures.kept
     c.self.invariant.0 c.self.invariant.1 c.self.view_is
     (single_text new c.args.word c.args.number c.in_ok-index.index c.line.result
-    (c.args.front.now ++ c.args.words.now) c.in_ok-index.ensures.found c.line.ensures)
+    (c.args.words.front.now ++ c.args.words.rest.now) c.in_ok-index.ensures.found c.line.ensures)
     c.begin.ensures.begun

@@ -4,7 +4,7 @@ use Rattle.interleave.specs.declared.schedule.ScheduleFault.{ScheduleFault}
 use Rattle.report_json.specs.declared.fault.InputFault.TheVariants as input
 use Rattle.drvhost_formats.specs.Trace.{ReadsIn}
 use Rattle.drvhost_formats.proofs.Telling.{fault_line}
-use Rattle.drvhost_told.proofs.tell.tell_any.Goals as goal
+use Rattle.drvhost_told.proofs.tell.tell_chosen.Goals as goal
 
 pub returns-in-Err-clause-made : goal.returns-in-Err-clause-made
 returns-in-Err-clause-made g c =

@@ -1,0 +1,8 @@
+use Rattle.drvhost_hunts.specs.Hunt.{IsHuntOfWay}
+use Rattle.drvhost_sets.proofs.Answering.{alone}
+use Rattle.drvhost_hunts.proofs.hunt.hunt_by.Goals as goal
+
+pub returns : goal.returns
+returns g c =
+    alone (IsHuntOfWay c.args.hunting.way c.args.hunting.reach (g.S.Source.supply c.args.set.now)) _ _ _ _ _ _ _ _
+    c.answer.ensures.answers
