@@ -19,13 +19,22 @@ pub(crate) struct Form {
 }
 
 impl Form {
+    /// How many operands may stand there, at most, where any may.
+    pub(crate) fn most(&self) -> usize {
+        self.last().saturating_add(self.often)
+    }
+
     /// The operand at a place, the first one at 0, if one may stand there.
     pub(crate) fn operand(&self, place: usize) -> Option<Operand> {
-        let last = self.operands.len().saturating_sub(1);
-        if place >= last.saturating_add(self.often) {
+        if place >= self.most() {
             return None;
         }
-        self.operands.get(place.min(last)).copied()
+        self.operands.get(place.min(self.last())).copied()
+    }
+
+    /// The place of the last operand of those that differ.
+    fn last(&self) -> usize {
+        self.operands.len().saturating_sub(1)
     }
 }
 

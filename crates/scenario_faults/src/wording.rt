@@ -173,7 +173,10 @@ fn add_unfit(
     form: Form,
 ) -> Result<(), AllocError> {
     let mut count: usize = 0;
-    while let Some(operand) = form.operand(count) {
+    for _ in 0..form.most() {
+        let Some(operand) = form.operand(count) else {
+            break;
+        };
         match line.token(form.first.saturating_add(count)) {
             Some(token) => match operand.fit(known, token) {
                 Fit::Fits => {}
