@@ -41,7 +41,7 @@ pub fn hunt<S: Source, O: Sink, E: Sink>(
         way: Way::Quick,
         progress: &Silent,
     };
-    hunt_by(alloc, hunting, set, out, err)
+    hunt_by(alloc, &hunting, set, out, err)
 }
 
 /// How runs are searched.
@@ -68,7 +68,7 @@ pub struct Hunting<'p, P> {
 /// reach, of any length, or none of up to so many events; it looks for no run that is stuck.
 pub fn hunt_by<S: Source, O: Sink, E: Sink, P: Progress>(
     alloc: Global,
-    hunting: Hunting<'_, P>,
+    hunting: &Hunting<'_, P>,
     set: &mut S,
     out: &mut O,
     err: &mut E,
@@ -77,10 +77,14 @@ pub fn hunt_by<S: Source, O: Sink, E: Sink, P: Progress>(
     requires out { CanCount (O.failures out.old) }
     requires err { CanCount (E.failures err.old) }
     ensures { AnswersOver O.Sink E.Sink
-        (IsHuntOfWay hunting.way hunting.reach (S.supply set.old))
+        (IsHuntOfWay hunting.now.way hunting.now.reach (S.supply set.old))
         (S.failures set.old) (S.failures set.new) out.old out.new err.old err.new result }
 {
-    let mut job = hunting;
+    let mut job = Hunting {
+        reach: hunting.reach,
+        way: hunting.way,
+        progress: hunting.progress,
+    };
     answer(&mut job, alloc, set, out, err)
 }
 

@@ -11,7 +11,6 @@ ghost use Rattle.drvhost_words.specs.Program.{asked_by, is_in_json, settled_judg
 ghost use Rattle.drvhost_words.specs.Program.{verification_of};
 ghost use Rattle.drvhost_many.specs.All.{Counted};
 ghost use Rattle.drvhost_words.specs.Devices.{CountedOver};
-ghost use Rattle.drvhost_hunts.specs.declared.hunt.Way.TheVariants.{Exact, Quick};
 ghost use Rattle.drvhost_tests.specs.Told.{asked_of};
 ghost use Rattle.drvhost_words.specs.Unread.{IsNamedUnread, IsOneOf, SaysMore};
 ghost use Rattle.drvhost_devices.specs.Device.{CanCount, Says};
@@ -377,26 +376,15 @@ struct Beside<'p, P> {
 }
 
 impl<'p, P: Progress> Beside<'p, P> {
-    /// A quick hunt within such a reach.
-    fn quick(&self, reach: Reach) -> Hunting<'p, P>
-        ensures way { result.way ≡ Quick }
+    /// A hunt in such a way, within such a reach.
+    fn hunting(&self, way: hunt::Way, reach: Reach) -> Hunting<'p, P>
+        ensures way { result.way ≡ way }
         ensures reach { result.reach ≡ reach }
     {
         Hunting {
             reach,
-            way: hunt::Way::Quick,
+            way,
             progress: self.progress,
-        }
-    }
-
-    /// An exact one.
-    fn exact(&self, reach: Reach) -> Hunting<'p, P>
-        ensures way { result.way ≡ Exact }
-        ensures reach { result.reach ≡ reach }
-    {
-        Hunting {
-            way: hunt::Way::Exact,
-            ..self.quick(reach)
         }
     }
 }
@@ -504,10 +492,22 @@ fn fulfil<S: Source, O: Sink, E: Sink, P: Progress>(
     match task {
         Task::Mend(tries) => mend(alloc, mend::Asked { tries }, set, out, err),
         Task::List => list(alloc, set, out, err),
-        Task::Hunt(reach) => hunt_by(alloc, beside.quick(reach), set, out, err),
-        Task::HuntExactly(reach) => hunt_by(alloc, beside.exact(reach), set, out, err),
-        Task::Find(reach) => find(alloc, &beside.quick(reach), set, out, err),
-        Task::FindExactly(reach) => find(alloc, &beside.exact(reach), set, out, err),
+        Task::Hunt(reach) => {
+            let asked = beside.hunting(hunt::Way::Quick, reach);
+            hunt_by(alloc, &asked, set, out, err)
+        }
+        Task::HuntExactly(reach) => {
+            let asked = beside.hunting(hunt::Way::Exact, reach);
+            hunt_by(alloc, &asked, set, out, err)
+        }
+        Task::Find(reach) => {
+            let asked = beside.hunting(hunt::Way::Quick, reach);
+            find(alloc, &asked, set, out, err)
+        }
+        Task::FindExactly(reach) => {
+            let asked = beside.hunting(hunt::Way::Exact, reach);
+            find(alloc, &asked, set, out, err)
+        }
     }
 }
 
