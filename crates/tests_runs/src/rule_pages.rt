@@ -26,7 +26,10 @@ fn is_written(alloc: Global, page: &[u8], calls: usize) -> bool {
 fn each_write_of_a_rule_fails_in_turn(rt: HostRuntime) {
     let whole = whole_page(rt.alloc());
     let page = whole.written.as_slice();
-    assert!(rt; page.starts_with(b"V12 CancelState\n"), "the rule that is asked for");
+    assert!(rt;
+        page.starts_with(b"V12 CancelState\n"),
+        "the rule that is asked for"
+    );
     for calls in 0..=page.len() {
         assert!(rt; is_written(rt.alloc(), page, calls), "{calls}");
     }
