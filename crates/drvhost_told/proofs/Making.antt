@@ -20,3 +20,9 @@ pub none_written : (R : Answer → Type 0) (l : List ℕ) (result : Result Outco
 none_written R l (Ok outcome) right = refl
 none_written R l (Err fault) (inl is) = ap (λ f. failed_writes f) is
 none_written R l (Err fault) (inr is) = ap (λ f. failed_writes f) is
+
+-- where more answers are right
+pub makes_rightly : (R Q : Answer → Type 0) (l : List ℕ) (result : Result Outcome Fault)
+    → ((answer : Answer) → R answer → Q answer) → Makes R l result → Makes Q l result
+makes_rightly R Q l (Ok outcome) on right = on (told outcome l) right
+makes_rightly R Q l (Err fault) on none = none

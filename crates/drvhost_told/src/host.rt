@@ -1,12 +1,12 @@
 //! What comes of a script of commands that workers serve, as lines of JSON.
 
 ghost use Rattle.std.specs.Prelude.{◌≡◌, ◌+◌, ◌++◌, ◌⊎◌, [], IfErr, IfOk, OnOk};
-ghost use Rattle.drvhost_devices.specs.Device.{CanCount};
+ghost use Rattle.drvhost_devices.specs.Device.{Bytes, CanCount};
 ghost use Rattle.drvhost_devices.specs.Ends.{HoldsRun};
-ghost use Rattle.drvhost_devices.specs.Fault.{reads_failed};
+ghost use Rattle.drvhost_devices.specs.Fault.{reads_failed, writes_failed};
 ghost use Rattle.drvhost_sets.specs.Devices.{AnswersOver};
 ghost use Rattle.drvhost_formats.specs.Events.{outcome_of};
-ghost use Rattle.drvhost_formats.specs.Told.{told};
+ghost use Rattle.drvhost_formats.specs.Told.{IsToldOfFile, Tells, told};
 ghost use Rattle.drvhost_runs.specs.Hosting.{AreWorkers};
 ghost use Rattle.drvhost_runs.specs.Served.{rings_in, served_end};
 ghost use Rattle.drvhost_told.specs.Made.{IsWithoutAnswer, Makes};
@@ -18,12 +18,13 @@ ghost use Rattle.report_json.specs.Served.{history_json};
 
 use checked::Checked;
 use drvhost_devices::device::{Sink, Source};
-use drvhost_devices::fault::Fault;
-use drvhost_devices::transfer::read_whole;
+use drvhost_devices::fault::{Fault, no_memory};
+use drvhost_devices::transfer::{read_whole, write_bytes};
 use drvhost_devices::verification::Verification;
 use drvhost_formats::check::refuse;
-use drvhost_formats::job::{Job, answer, tell_fault};
+use drvhost_formats::job::{close, tell_fault};
 use drvhost_formats::outcome::Outcome;
+use drvhost_formats::reading::said_in;
 use drvhost_runs::host::Hosting;
 use image::DriverSet;
 use interleave::schedule::{ScheduleFault, ScheduleKind};
@@ -31,6 +32,7 @@ use interleave_script::parse::parse_script;
 use model::event::Reply;
 use model::history::Command;
 use model::memory::OutOfMemory;
+use report::lines::Lines;
 use report_json::fault::InputFault;
 use report_json::json_lines::JsonLines;
 use report_json::served::{ServedCommand, ServedHistory};
@@ -57,19 +59,11 @@ pub struct Asked<'a, R, G> {
 /// refusal, and a refusal before those of the script, which is read for an accepted set alone. The
 /// answer is the exit status of `host`. That a read or a write failed or memory ran out is told on
 /// the error writer. Nothing is written before the whole text stands in memory.
-pub fn host_json<
-    'a,
-    S: Source,
-    P: Source,
-    G: Gate + Sync,
-    O: Sink,
-    E: Sink,
-    R: Threads + Wait + Sync,
->(
+pub fn host_json<S: Source, P: Source, G: Gate + Sync, O: Sink, E: Sink, R: Threads + Wait + Sync>(
     alloc: Global,
-    asked: &'a Asked<'a, R, G>,
+    asked: &Asked<'_, R, G>,
     set: &mut S,
-    script: &'a mut P,
+    script: &mut P,
     out: &mut O,
     err: &mut E,
 ) -> u8
@@ -86,48 +80,66 @@ pub fn host_json<
         (S.failures set.old + P.failures script.old) (S.failures set.new + P.failures script.new)
         out.old out.new err.old err.new result }
 {
-    let mut job = Serving { asked, script };
-    answer(&mut job, alloc, asked.set, set, out, err)
-}
-
-/// The job of having a script served that a source has.
-#[derive(Drop)]
-struct Serving<'a, P, R, G> {
-    asked: &'a Asked<'a, R, G>,
-    script: &'a mut P,
-}
-
-impl<'a, P: Source, R: Threads + Wait + Sync, G: Gate + Sync> Job for Serving<'a, P, R, G> {
-    ghost use Rattle.std.specs.Prelude.{◌≡◌, refl};
-    ghost use Rattle.model.specs.Typable.{IsTypable};
-    ghost use Rattle.drvhost_runs.specs.Hosting.{AreWorkers};
-    ghost use Rattle.drvhost_told.specs.Served.{IsHostJson};
-
-    ghost right = { λ job bytes. IsHostJson job.asked.now.hosting.workers job.asked.now.set.now
-        job.asked.now.script.now (P.supply job.script.now) };
-
-    ghost failures = { λ job. P.failures job.script.now };
-
-    ghost needs = { λ _. IsTypable };
-
-    ghost keeps = { λ old new. new.script.ghost_name ≡ old.script.ghost_name };
-
-    ghost stays = { λ old new. new.script.now ≡ old.script.now };
-
-    ghost able = { λ job. AreWorkers job.asked.now.hosting.workers };
-
-    fn perform<O: Sink>(
-        &mut self,
-        alloc: Global,
-        _bytes: &[u8],
-        set: DriverSet,
-        lines: &mut JsonLines,
-        _out: &mut O,
-    ) -> Result<Outcome, Fault> {
-        serve_set(alloc, self.asked, set, self.script, lines)
+    match Lines::new(alloc) {
+        Ok(mut told) => {
+            let end = host_on(alloc, asked, set, script, out);
+            close(end, &mut told, err)
+        }
+        Err(AllocError) => no_memory(err),
     }
+}
 
-    ghost stays_kept = { λ _. (refl, refl) };
+/// Has the script served over the set of a source, and writes the lines that gather.
+fn host_on<S: Source, P: Source, G: Gate + Sync, O: Sink, R: Threads + Wait + Sync>(
+    alloc: Global,
+    asked: &Asked<'_, R, G>,
+    set: &mut S,
+    script: &mut P,
+    out: &mut O,
+) -> Result<Outcome, Fault>
+    requires workers { AreWorkers asked.now.hosting.workers }
+    requires set { CanCount (S.failures set.old) }
+    requires script { CanCount (P.failures script.old) }
+    requires out { CanCount (O.failures out.old) }
+    ensures unread { (script.new ≡ script.old)
+        ⊎ HoldsRun Verification.Required (S.supply set.old) }
+    ensures tells { Tells
+        (IsHostJsonOf asked.now.hosting.workers asked.now.set.now asked.now.script.now
+        (S.supply set.old) (P.supply script.old))
+        (O.contents out.old) (O.contents out.new) [] [] result }
+    ensures reads { S.failures set.new + P.failures script.new
+        ≡ S.failures set.old + P.failures script.old + reads_failed result }
+    ensures writes { O.failures out.new ≡ O.failures out.old + writes_failed result }
+{
+    let bytes = read_whole(alloc, set)?;
+    let mut lines = JsonLines::new(alloc);
+    let outcome = host_for(alloc, asked, bytes.as_slice(), script, &mut lines)?;
+    write_bytes(lines.bytes(), out)?;
+    Ok(outcome)
+}
+
+/// Has it served over the set that the bytes of a file are, or adds the line of their fault.
+fn host_for<P: Source, G: Gate + Sync, R: Threads + Wait + Sync>(
+    alloc: Global,
+    asked: &Asked<'_, R, G>,
+    bytes: &[u8],
+    script: &mut P,
+    lines: &mut JsonLines,
+) -> Result<Outcome, Fault>
+    requires workers { AreWorkers asked.now.hosting.workers }
+    requires script { CanCount (P.failures script.old) }
+    requires empty { lines.old ≡ [] }
+    ensures unread { (script.new ≡ script.old)
+        ⊎ HoldsRun Verification.Required (Bytes bytes.now) }
+    ensures made { Makes (IsToldOfFile
+        (λ _. IsHostJson asked.now.hosting.workers asked.now.set.now asked.now.script.now
+        (P.supply script.old)) asked.now.set.now bytes.now) lines.new result }
+    ensures reads { P.failures script.new ≡ P.failures script.old + reads_failed result }
+{
+    match said_in(alloc, bytes)? {
+        Ok(set) => serve_set(alloc, asked, set, script, lines),
+        Err(fault) => Ok(tell_fault(asked.set, fault, lines)?),
+    }
 }
 
 /// Has the script served that a source has over a set if it is accepted, and else adds the line of
