@@ -86,21 +86,21 @@ all_tested asked tested supply (name ∷ names) (file ∷ files) whole (here, h)
 verdicts_read : (bytes : List ℕ) (supply : Supply) (contents : Contents)
     → IsReadOf false supply contents → is_contents_of_verdict (names_in bytes) contents ≡ true
     → IsVerdictsIn bytes supply
-verdicts_read bytes supply (Whole text) holds yes = (text.items, holds, yes)
-verdicts_read bytes supply Unread h yes = let no : ⊥ = cc in absurd no
-verdicts_read bytes supply Unopened h yes = let no : ⊥ = cc in absurd no
-verdicts_read bytes supply Lacking h yes = let no : ⊥ = cc in absurd no
+verdicts_read bytes supply (Whole text) holds is_so = (text.items, holds, is_so)
+verdicts_read bytes supply Unread h is_so = let isnt : ⊥ = cc in absurd isnt
+verdicts_read bytes supply Unopened h is_so = let isnt : ⊥ = cc in absurd isnt
+verdicts_read bytes supply Lacking h is_so = let isnt : ⊥ = cc in absurd isnt
 
 one_has : (bytes : List ℕ) (supply : List ℕ → Supply) (names : List (String Global))
     (files : List Held) → AllZip (IsHeld false supply) names files
     → list_any (is_held_of_verdict (names_in bytes)) files ≡ true
     → OneHasVerdicts bytes supply names
-one_has bytes supply [] [] h yes = let no : ⊥ = cc in absurd no
-one_has bytes supply [] (file ∷ files) h yes = absurd h
-one_has bytes supply (name ∷ names) [] h yes = absurd h
-one_has bytes supply (name ∷ names) (file ∷ files) (here, h) yes =
+one_has bytes supply [] [] h is_so = let isnt : ⊥ = cc in absurd isnt
+one_has bytes supply [] (file ∷ files) h is_so = absurd h
+one_has bytes supply (name ∷ names) [] h is_so = absurd h
+one_has bytes supply (name ∷ names) (file ∷ files) (here, h) is_so =
     let all = names_in bytes in
-    elim (or_cases (is_held_of_verdict all file) (list_any (is_held_of_verdict all) files) yes) [
+    elim (or_cases (is_held_of_verdict all file) (list_any (is_held_of_verdict all) files) is_so) [
       | inl this ↦ inl (verdicts_read bytes (supply (string_bytes name)) file.contents here.read this)
       | inr other ↦ inr (one_has bytes supply names files h other)
     ]
@@ -109,21 +109,21 @@ other_read : (bytes : List ℕ) (supply : Supply) (contents : Contents)
     → IsReadOf false supply contents → IsKeptSo contents
     → is_contents_of_verdict (names_in bytes) contents ≡ false
     → IsOther bytes supply (reads_of contents)
-other_read bytes supply (Whole text) holds kept no = inl (refl, (text.items, holds, no))
-other_read bytes supply Unread h kept no = inr refl
-other_read bytes supply Unopened (closed, never) kept no = cc
-other_read bytes supply Lacking h kept no = absurd kept
+other_read bytes supply (Whole text) holds kept isnt = inl (refl, (text.items, holds, isnt))
+other_read bytes supply Unread h kept isnt = inr refl
+other_read bytes supply Unopened (closed, never) kept isnt = cc
+other_read bytes supply Lacking h kept isnt = absurd kept
 
 none_has : (bytes : List ℕ) (supply : List ℕ → Supply) (names : List (String Global))
     (files : List Held) → AllZip (IsHeld false supply) names files → All IsKept files
     → list_any (is_held_of_verdict (names_in bytes)) files ≡ false
     → AreOthers bytes supply names (sum_by held_reads files)
-none_has bytes supply [] [] h kept no = refl
-none_has bytes supply [] (file ∷ files) h kept no = absurd h
-none_has bytes supply (name ∷ names) [] h kept no = absurd h
-none_has bytes supply (name ∷ names) (file ∷ files) (here, h) kept no =
+none_has bytes supply [] [] h kept isnt = refl
+none_has bytes supply [] (file ∷ files) h kept isnt = absurd h
+none_has bytes supply (name ∷ names) [] h kept isnt = absurd h
+none_has bytes supply (name ∷ names) (file ∷ files) (here, h) kept isnt =
     let all = names_in bytes in
-    let both = neither (is_held_of_verdict all file) (list_any (is_held_of_verdict all) files) no in (
+    let both = neither (is_held_of_verdict all file) (list_any (is_held_of_verdict all) files) isnt in (
       held_reads file,
       sum_by held_reads files,
       other_read bytes (supply (string_bytes name)) file.contents here.read
@@ -151,13 +151,13 @@ told_if : (asked : Asked) (tested : Tested) (supply : List ℕ → Supply)
     → AllZip (IsHeld false supply) names files
     → AreToldIf any asked tested files refusal answer
     → AreTold (Some refusal) asked names supply tested (sum_by held_reads files) answer
-told_if asked tested supply names files refusal answer true yes h told =
+told_if asked tested supply names files refusal answer true is_so h told =
     inl (
-      one_has tested.bytes supply names files h yes,
+      one_has tested.bytes supply names files h is_so,
       entries_told asked tested supply names files answer h told,
     )
-told_if asked tested supply names files refusal answer false no h (kept, is) =
-    inr (none_has tested.bytes supply names files h kept no, is)
+told_if asked tested supply names files refusal answer false isnt h (kept, is) =
+    inr (none_has tested.bytes supply names files h kept isnt, is)
 
 told_by : (refusal : Option Refusal) (asked : Asked) (tested : Tested)
     (supply : List ℕ → Supply) (names : List (String Global)) (files : List Held)
@@ -244,6 +244,19 @@ gathers_none P Q o r result on h =
       reads_are = omega arith;
       few = omega arith;
       right = ok_on result on h;
+    }
+
+-- memory ran out before one was
+pub gathers_nothing : {E : Type 0} (R : ℕ → ℕ → Answer → Type 0) (o r : ℕ) (e : E)
+    → Gathers R o o r r (Err e)
+gathers_nothing R o r e =
+    record {
+      opened = 0;
+      reads = 0;
+      opened_are = omega arith;
+      reads_are = omega arith;
+      few = omega arith;
+      right = tt;
     }
 
 -- where one is, and then others
