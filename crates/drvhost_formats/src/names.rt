@@ -46,11 +46,8 @@ fn routine_name(raw: &[u8]) -> Option<Piece<'_>>
         (named_before (body_on raw.now) later ≡ later)
         (λ name. named_before (body_on raw.now) later ≡ name ∷ later) }
 {
-    match read_line(raw) {
-        Ok(line) => match line.body {
-            Body::OpenRoutine(name, _) => Some(name),
-            _ => None,
-        },
-        Err(_) => None,
+    match read_line(raw).ok()?.body {
+        Body::OpenRoutine(name, _) => Some(name),
+        _ => None,
     }
 }

@@ -40,9 +40,7 @@ fn said_in_text(alloc: Global, text: &[u8]) -> Result<Result<DriverSet, InputFau
 {
     match assemble(alloc, text) {
         Ok(set) => Ok(Ok(set)),
-        Err(fault) => match fault.kind {
-            AsmKind::Memory => Err(AllocError),
-            _ => Ok(Err(InputFault::Text(fault))),
-        },
+        Err(fault) if matches!(fault.kind, AsmKind::Memory) => Err(AllocError),
+        Err(fault) => Ok(Err(InputFault::Text(fault))),
     }
 }
