@@ -3,7 +3,6 @@
 use asm_line::status_text;
 use checked::Checked;
 use hunt_ends::amiss::Amiss;
-use interleave::read::Repeated;
 use interleave::schedule::MAX_EVENTS;
 use model::abs::Refusal;
 use model::event::{Lock, Reply};
@@ -86,21 +85,12 @@ fn add_joined(
     if playing.machine().stopped() {
         return add_reply(words, book, playing);
     }
-    if count_of(playing.past()) >= MAX_EVENTS {
+    if playing.count() >= MAX_EVENTS {
         return words.push_str("more events than a schedule has");
     }
     words.push_str("there are more than ")?;
     add_number(words, worlds)?;
     words.push_str(" worlds")
-}
-
-/// How many events these are.
-fn count_of(past: &[Repeated]) -> usize {
-    let mut count: usize = 0;
-    for happened in past {
-        count = count.saturating_add(happened.count);
-    }
-    count
 }
 
 /// The line of a number.

@@ -1,6 +1,6 @@
 -- What is kept of a run, with more of it.
-use Rattle.std.proofs.Common.{◌≡◌, ◌∙◌, ◌+◌, ◌<◌, ℕ, zero, List, [], ◌∷◌, ◌++◌, append_assoc, arith, get_or, length, take, refl, replicate, suc, sym, ap, subst}
-use Rattle.std.proofs.lemmas.List.{append-nil, length-append, length-replicate, take_more}
+use Rattle.std.proofs.Common.{◌≡◌, ◌∙◌, ◌+◌, ◌<◌, ◌≤◌, ℕ, zero, List, [], ◌∷◌, ◌++◌, append_assoc, arith, get_or, length, take, refl, replicate, suc, sym, ap, subst}
+use Rattle.std.proofs.lemmas.List.{append-nil, length-append, length-replicate, replicate-append-replicate, take_more}
 use Rattle.checked.specs.GoingOn.{GoesOn}
 use Rattle.interleave.specs.declared.read.Repeated.{Repeated}
 use Rattle.model.specs.declared.event.Event.{Event}
@@ -35,18 +35,41 @@ events_further past i d inside =
     ap (λ (xs : List Repeated). events_of xs) (take_more past i d inside)
     ∙ events_more (take i past) (get_or past i d)
 
-module _ (r n : Runner) (threads count : ℕ) (past : List Repeated) (told now : Told)
+-- an entry that happens as often again
+pub events_again : (past : List Repeated) (last h : Repeated) → last.event ≡ h.event
+    → events_of (past ++ record { event = h.event; count = last.count + h.count } ∷ [])
+    ≡ events_of (past ++ last ∷ []) ++ replicate h.count h.event
+events_again past last h same =
+    let e : Event = h.event in
+    let times : ℕ → List Event = λ n. replicate n e in
+    events_more past (record { event = e; count = last.count + h.count })
+    ∙ ap (λ (later : List Event). events_of past ++ later)
+    (sym (replicate-append-replicate last.count h.count e))
+    ∙ sym (append_assoc (events_of past) (times last.count) (times h.count))
+    ∙ ap (λ (x : Event). (events_of past ++ replicate last.count x) ++ times h.count) (sym same)
+    ∙ ap (λ (earlier : List Event). earlier ++ times h.count) (sym (events_more past last))
+
+-- there are at least as many events as an entry has
+pub last_few : (past : List Repeated) (last : Repeated)
+    → last.count ≤ length (events_of (past ++ last ∷ []))
+last_few past last =
+    let all = ap (λ (es : List Event). length es) (events_more past last) in
+    let both = length-append (events_of past) (replicate last.count last.event) in
+    let times = length-replicate last.count last.event in
+    omega (arith, all, both, times)
+
+module _ (r n : Runner) (threads count : ℕ) (past later : List Repeated) (told now : Told)
     (same : n.machine.set ≡ r.machine.set) (is : IsPast r threads count past told) where
   -- an entry more, by which the run goes on
   pub past_longer : (h : Repeated) (more : List Reply)
+      → events_of later ≡ events_of past ++ replicate h.count h.event
       → Runs n threads (events_of past ++ replicate h.count h.event)
       → replies r.machine.set threads (events_of past ++ replicate h.count h.event)
       ≡ replies r.machine.set threads (events_of past) ++ more
-      → Adds told more now → IsPast n threads (count + h.count) (past ++ h ∷ []) now
-  past_longer h more runs replied adds =
+      → Adds told more now → IsPast n threads (count + h.count) later now
+  past_longer h more all runs replied adds =
       let events : List Event = events_of past in
       let added : List Event = replicate h.count h.event in
-      let all : events_of (past ++ h ∷ []) ≡ events ++ added = events_more past h in
       let long : length (events ++ added) ≡ length events + length added =
       length-append events added in
       let times : length added ≡ h.count = length-replicate h.count h.event in
@@ -65,30 +88,31 @@ module _ (r n : Runner) (threads count : ℕ) (past : List Repeated) (told now :
       }
 
 -- an event more
-pub past_more : (r n : Runner) (threads count : ℕ) (past : List Repeated) (told now : Told)
-    (e : Event) (reply : Reply) → RunsOn r e n reply → Adds told (reply ∷ []) now
-    → IsPast r threads count past told
-    → IsPast n threads (count + 1) (past ++ record { event = e; count = 1 } ∷ []) now
-past_more r n threads count past told now e reply on adds is =
+pub past_more : (r n : Runner) (threads count : ℕ) (past later : List Repeated)
+    (told now : Told) (e : Event) (reply : Reply)
+    → events_of later ≡ events_of past ++ replicate 1 e → RunsOn r e n reply
+    → Adds told (reply ∷ []) now → IsPast r threads count past told
+    → IsPast n threads (count + 1) later now
+past_more r n threads count past later told now e reply all on adds is =
     let events : List Event = events_of past in
     let h : Repeated = record { event = e; count = 1 } in
-    past_longer r n threads count past told now on.set is h (reply ∷ [])
+    past_longer r n threads count past later told now on.set is h (reply ∷ []) all
     (on.runs threads events is.runs)
     (replies_more r.machine.set (begun r.machine.set threads) events e
     ∙ ap (λ (y : Reply). replies r.machine.set threads events ++ y ∷ [])
     (sym (on.replies threads events is.runs))) adds
 
 -- steps that a thread made by itself
-pub past_gone : (r n : Runner) (t made threads count : ℕ) (past : List Repeated) (told now : Told)
-    → GoesOn t r.machine made n.machine → n.ledger ≡ r.ledger → n.keeping ≡ r.keeping
+pub past_gone : (r n : Runner) (t made threads count : ℕ) (past later : List Repeated)
+    (told now : Told) → events_of later ≡ events_of past ++ replicate made (Step t) → GoesOn t r.machine made n.machine → n.ledger ≡ r.ledger → n.keeping ≡ r.keeping
     → Adds told (replicate made Stepped) now → IsPast r threads count past told
-    → IsPast n threads (count + made) (past ++ record { event = Step t; count = made } ∷ []) now
-past_gone r n t made threads count past told now goes ledger keeping adds is =
+    → IsPast n threads (count + made) later now
+past_gone r n t made threads count past later told now all goes ledger keeping adds is =
     let events : List Event = events_of past in
     let h : Repeated = record { event = Step t; count = made } in
     let shown : Shown r.machine n.machine threads (events ++ replicate made (Step t)) =
     shown_along t r.machine made n.machine threads events goes is.runs.shows in
-    past_longer r n threads count past told now shown.same is h (replicate made Stepped)
+    past_longer r n threads count past later told now shown.same is h (replicate made Stepped) all
     (runs_gone r n t made threads events goes ledger keeping is.runs)
     (replies_along t r.machine made n.machine threads events goes is.runs.shows) adds
 

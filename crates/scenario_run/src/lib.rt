@@ -3,6 +3,7 @@
 #![tactic(auto)]
 
 pub mod holding;
+mod past;
 pub mod play;
 pub mod playing;
 mod runner;

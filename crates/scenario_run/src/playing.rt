@@ -1,6 +1,6 @@
 //! A scenario as it plays on the reference machine.
 
-ghost use Rattle.std.specs.Prelude.{◌≡◌, ◌≤◌, ◌-◌, [], IfOk, IfSome, IsTrue, is_none, true};
+ghost use Rattle.std.specs.Prelude.{◌≡◌, ◌≤◌, ◌-◌, [], IfOk, IfSome, IsTrue, is_none, length, true};
 ghost use Rattle.model.specs.declared.limits.TheConstants.{MAX_THREADS};
 ghost use Rattle.model.specs.History.{started_by, top_out_of};
 ghost use Rattle.model.specs.View.{busy_at, thread_at};
@@ -13,6 +13,7 @@ ghost use Rattle.scenario_run.specs.Past.{events_of};
 ghost use Rattle.scenario_run.specs.Told.{last_of};
 ghost use Rattle.scenario_run.specs.Playing.{begun, cancelled, happened, has_room, is_at, issued, most_of, number_of, one, outcome_of, outcome_of_cancel, replies_of, reply_in, reply_of, run_of, run_thread, running, running_to, stands_at, stepping, with_event, world_of};
 
+use crate::past::add_past;
 use crate::runner::{Keeping, Runner};
 use crate::told::Told;
 use checked::Checked;
@@ -161,7 +162,8 @@ impl Playing {
             × (reply ≡ reply_in self.old event)) }
     {
         self.told.make_room()?;
-        self.past.push(Repeated { event, count: 1 })?;
+        self.past.reserve(1)?;
+        add_past(&mut self.past, Repeated { event, count: 1 });
         self.count += 1;
         let reply = self.runner.apply(&event);
         self.told.note(&reply);
@@ -235,10 +237,8 @@ impl Playing {
         if made == 0 {
             return Ok(most);
         }
-        self.past.push_reserved(Repeated {
-            event: Event::Step { thread },
-            count: made,
-        });
+        let event = Event::Step { thread };
+        add_past(&mut self.past, Repeated { event, count: made });
         self.count += made;
         self.told.note_steps(made);
         Ok(most - made)
@@ -409,6 +409,13 @@ impl Playing {
         ensures few { self.now.threads ≤ MAX_THREADS }
     {
         self.threads
+    }
+
+    /// How many events have happened.
+    pub fn count(&self) -> usize
+        ensures { result ≡ length self.now.events }
+    {
+        self.count
     }
 
     /// What has happened.

@@ -161,7 +161,8 @@ may_line names packets [] = Err UnknownWord
 may_line names packets (word ∷ operands) =
     says true word (action_line names packets word operands)
 
--- what a line says, or None for a blank one
+-- what a line says behind the one that gives the threads, or None for a blank one: with the names of
+-- the set's devices, and those of the packets that were issued in lines before it
 abbrev pub line_of : Named → List (List ℕ) → List (List ℕ)
     → Result (Option Said) ScheduleKind
 line_of names packets [] = Ok None
@@ -175,8 +176,3 @@ line_of names packets (word ∷ operands) =
 -- the tokens of a line whose bytes are all allowed
 abbrev pub clean_tokens : List ℕ → Result (List (List ℕ)) ScheduleKind
 clean_tokens line = if is_clean line then Ok (tokens_of line) else Err Lex
-
--- what a line says behind the one that gives the threads: with the names of the set's devices, and
--- those of the packets that were issued in lines before it
-abbrev pub step_line : Named → List (List ℕ) → List ℕ → Result (Option Said) ScheduleKind
-step_line names packets line = and_then (line_of names packets) (clean_tokens line)

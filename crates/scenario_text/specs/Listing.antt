@@ -7,13 +7,13 @@ use Rattle.interleave.specs.declared.schedule.ScheduleFault.{ScheduleFault}
 use Rattle.interleave.specs.declared.schedule.ScheduleKind.{ScheduleKind}
 use Rattle.interleave.specs.declared.schedule.ScheduleKind.TheVariants.{UnknownWord, TooLong, Memory}
 use Rattle.model.specs.declared.limits.TheConstants.{MAX_THREADS}
-use Rattle.scenario_text.specs.Line.{step_line}
+use Rattle.scenario_text.specs.Line.{clean_tokens, line_of}
 use Rattle.scenario_names.specs.Names.{Named}
 use Rattle.scenario_text.specs.declared.reading.Said.{Said}
 use Rattle.scenario_text.specs.declared.repeating.Block.{Block}
 use Rattle.scenario_text.specs.declared.repeating.Block.TheVariants.{Plain, Opens, Ends}
 use Rattle.scenario_text.specs.declared.repeating.Numbered.{Numbered}
-use Rattle.scenario_text.specs.Repeating.{Open, block_of, kept}
+use Rattle.scenario_text.specs.Repeating.{Open, block_in, kept}
 use Rattle.scenario_text.specs.declared.scenario.Step.{Step}
 use Rattle.text.specs.Cut.{lines_of}
 
@@ -42,9 +42,13 @@ lengthened given n line None = Ok given
 lengthened given n line (Some said) =
     if nat_lt (length given.steps) 65536 then Ok (with_said given n line said) else Err TooLong
 
+-- by the tokens of the line
+abbrev pub with_tokens : Named → Given → ℕ → List ℕ → List (List ℕ) → Result Given ScheduleKind
+with_tokens names given n line tokens =
+    and_then (lengthened given n line) (line_of names given.packets tokens)
+
 abbrev pub with_line : Named → Given → ℕ → List ℕ → Result Given ScheduleKind
-with_line names given n line =
-    and_then (lengthened given n line) (step_line names given.packets line)
+with_line names given n line = and_then (with_tokens names given n line) (clean_tokens line)
 
 -- with what these lines say, and that so often
 abbrev pub with_lines : Named → Given → List Numbered → Result Given ScheduleKind
@@ -69,13 +73,18 @@ ends names given (Some block) =
     repeated names (block.times - 1) (record given { block = None }) block.lines
 
 -- what is given after a line of a number, with these names
-abbrev pub given_by : Named → Given → ℕ → List ℕ → Block → Result Given ScheduleKind
-given_by names given n line Plain = with_line names given n line
-given_by names given n line (Opens times) = opens given times given.block
-given_by names given n line Ends = ends names given given.block
+abbrev pub given_by : Named → Given → ℕ → List ℕ → List (List ℕ) → Block
+    → Result Given ScheduleKind
+given_by names given n line tokens Plain = with_tokens names given n line tokens
+given_by names given n line tokens (Opens times) = opens given times given.block
+given_by names given n line tokens Ends = ends names given given.block
+
+abbrev pub given_of : Named → Given → ℕ → List ℕ → List (List ℕ) → Result Given ScheduleKind
+given_of names given n line tokens =
+    and_then (given_by names given n line tokens) (block_in tokens)
 
 abbrev pub given_after : Named → Given → ℕ → List ℕ → Result Given ScheduleKind
-given_after names given n line = and_then (given_by names given n line) (block_of line)
+given_after names given n line = and_then (given_of names given n line) (clean_tokens line)
 
 -- the steps, where no block is open behind the last line
 abbrev pub closed : Given → ℕ → Option Open → Result (List Step) ScheduleFault

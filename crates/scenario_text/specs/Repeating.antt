@@ -6,20 +6,23 @@ use Rattle.scenario_names.specs.Operands.{number_of}
 use Rattle.scenario_text.specs.declared.repeating.Block.{Block}
 use Rattle.scenario_text.specs.declared.repeating.Block.TheVariants.{Plain, Opens, Ends}
 use Rattle.scenario_text.specs.declared.repeating.Numbered.{Numbered}
-use Rattle.scenario_text.specs.Line.{clean_tokens}
 
--- what a line is to those round it: `repeat N` opens a block, of which the lines are listed so often,
--- `end` ends it, and any other is one of the lines
+-- what a line is to those round it: `end` ends a block, `repeat N` opens one, of which the lines are
+-- listed so often, and any other is one of the lines
+abbrev pub ending : List (List ℕ) → Block
+ending [] = Ends
+ending (more ∷ rest) = Plain
+
+abbrev pub opening : List (List ℕ) → Result Block ScheduleKind
+opening [] = Ok Plain
+opening (count ∷ []) = and_then (λ n. Ok (Opens n)) (number_of 1 65536 count)
+opening (count ∷ more ∷ rest) = Ok Plain
+
 abbrev pub block_in : List (List ℕ) → Result Block ScheduleKind
 block_in [] = Ok Plain
-block_in (word ∷ []) = if bytes_eq word (codes "end") then Ok Ends else Ok Plain
-block_in (word ∷ count ∷ []) =
-    if bytes_eq word (codes "repeat") then and_then (λ n. Ok (Opens n)) (number_of 1 65536 count)
-    else Ok Plain
-block_in (word ∷ count ∷ more ∷ rest) = Ok Plain
-
-abbrev pub block_of : List ℕ → Result Block ScheduleKind
-block_of line = and_then block_in (clean_tokens line)
+block_in (word ∷ operands) =
+    if bytes_eq word (codes "end") then Ok (ending operands)
+    else (if bytes_eq word (codes "repeat") then opening operands else Ok Plain)
 
 -- a block that is open: how often its lines are listed, and those of them so far that say something,
 -- with their numbers

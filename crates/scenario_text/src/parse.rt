@@ -2,12 +2,13 @@
 
 ghost use Rattle.std.specs.Prelude.{◌≡◌, ◌+◌, ◌<◌, ◌≤◌, ◌^◌, IfOk, IfSome, MatchResult, OnOk, Ok, Err, length};
 ghost use Rattle.interleave.specs.Line.{opening_line};
+ghost use Rattle.text.specs.Cut.{tokens_of};
 ghost use Rattle.model.specs.declared.limits.TheConstants.{MAX_THREADS};
 ghost use Rattle.scenario_text.specs.Repeating.{kept};
-ghost use Rattle.scenario_text.specs.Listing.{IsFaultOf, closed, ends, given_after, listing, nothing, opening, opens, repeated, scenario_in, with_line, with_lines, with_said, with_threads};
+ghost use Rattle.scenario_text.specs.Listing.{IsFaultOf, closed, ends, given_after, listing, nothing, opening, opens, repeated, scenario_in, with_line, with_lines, with_said, with_threads, with_tokens};
 
-use crate::reading::{Said, step_line};
-use crate::repeating::{Block, Numbered, Open, block_of};
+use crate::reading::{Said, line_of};
+use crate::repeating::{Block, Numbered, Open, block_in};
 use crate::scenario::{MAX_STEPS, Scenario, Step};
 use interleave::read::opening_line;
 use interleave::schedule::{ScheduleFault, ScheduleKind};
@@ -15,7 +16,11 @@ use scenario_names::issued::Issued;
 use scenario_names::names::Names;
 use std::alloc::{AllocError, Global};
 use std::marker::Model;
-use text::cut::Lines;
+use text::cut::{Lines, is_clean};
+use text::token::Tokens;
+
+/// The fewest bytes that a line with a step has, with the one that ends it.
+const SHORTEST: usize = 6;
 
 /// The scenario that a text lists, where the set's devices have these names.
 ///
@@ -61,7 +66,7 @@ fn scenario_in(
 {
     let mut left = Lines::of(text);
     match find_opening(names, &mut left) {
-        Ok(opening) => match list(alloc, names, left, opening.line + 1)? {
+        Ok(opening) => match list(alloc, names, left, opening.line + 1, most_steps(text))? {
             Ok(steps) => Ok(Ok(Scenario {
                 threads: opening.threads,
                 steps,
@@ -112,19 +117,25 @@ fn find_opening(names: &Names<'_>, left: &mut Lines<'_>) -> Result<Opening, Sche
     })
 }
 
-/// The steps of lines of which the first has this number.
+/// How many steps a text has at most, but for those of lines that are listed more than once.
+fn most_steps(text: &[u8]) -> usize {
+    (text.len() / SHORTEST + 1).min(MAX_STEPS)
+}
+
+/// The steps of lines of which the first has this number, with room for so many from the start.
 fn list(
     alloc: Global,
     names: &Names<'_>,
     mut left: Lines<'_>,
     first: u64,
+    room: usize,
 ) -> Result<Result<Vec<Step>, ScheduleFault>, AllocError>
     requires { first + length left < 2 ^ 64 }
     ensures { IfOk result (λ r. MatchResult r
         (λ steps. listing names.now nothing first left.entry ≡ Ok steps.items)
         (λ fault. listing names.now nothing first left.entry ≡ Err fault)) }
 {
-    let mut given = Given::new(alloc);
+    let mut given = Given::new(alloc, room)?;
     let mut line = first;
     while let Some(raw) = left.next() {
         if let Err(kind) = given.add_line(alloc, names, line, raw)? {
@@ -167,15 +178,15 @@ impl<'a> Model for Given<'a> {
 }
 
 impl<'a> Given<'a> {
-    /// Nothing.
-    fn new(alloc: Global) -> Given<'a>
-        ensures { result ≡ nothing }
+    /// Nothing, with room for so many steps.
+    fn new(alloc: Global, room: usize) -> Result<Given<'a>, AllocError>
+        ensures { IfOk result (λ given. given ≡ nothing) }
     {
-        Given {
+        Ok(Given {
             packets: Issued::new(alloc),
-            steps: Vec::new(alloc),
+            steps: Vec::with_capacity(alloc, room)?,
             block: None,
-        }
+        })
     }
 
     /// Adds what a line says.
@@ -190,8 +201,11 @@ impl<'a> Given<'a> {
             (λ _. given_after names.now self.old number line.now ≡ Ok self.new)
             (λ kind. given_after names.now self.old number line.now ≡ Err kind)) }
     {
-        match block_of(line) {
-            Ok(Block::Plain) => self.add_plain(names, number, line),
+        if !is_clean(line) {
+            return Ok(Err(ScheduleKind::Lex));
+        }
+        match block_in(Tokens::of(line)) {
+            Ok(Block::Plain) => self.add_tokens(names, number, line),
             Ok(Block::Opens(times)) => Ok(self.open(alloc, times)),
             Ok(Block::Ends) => self.end(names),
             Err(kind) => Ok(Err(kind)),
@@ -275,7 +289,27 @@ impl<'a> Given<'a> {
             (λ _. with_line names.now self.old number line.now ≡ Ok self.new)
             (λ kind. with_line names.now self.old number line.now ≡ Err kind)) }
     {
-        match step_line(names, &self.packets, line) {
+        if is_clean(line) {
+            self.add_tokens(names, number, line)
+        } else {
+            Ok(Err(ScheduleKind::Lex))
+        }
+    }
+
+    /// The same by the tokens of the line, whose bytes are all allowed.
+    fn add_tokens(
+        &mut self,
+        names: &Names<'_>,
+        number: u64,
+        line: &'a [u8],
+    ) -> Result<Result<(), ScheduleKind>, AllocError>
+        ensures { IfOk result (λ r. MatchResult r
+            (λ _. with_tokens names.now self.old number line.now (tokens_of line.now)
+            ≡ Ok self.new)
+            (λ kind. with_tokens names.now self.old number line.now (tokens_of line.now)
+            ≡ Err kind)) }
+    {
+        match line_of(names, &self.packets, Tokens::of(line)) {
             Ok(Some(said)) => {
                 if self.steps.len() >= MAX_STEPS {
                     return Ok(Err(ScheduleKind::TooLong));

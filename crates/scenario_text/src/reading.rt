@@ -1,7 +1,7 @@
 //! One line of a scenario.
 
 ghost use Rattle.std.specs.Prelude.{◌≡◌};
-ghost use Rattle.scenario_text.specs.Line.{action_line, begins, cancel_line, cancels, clean_tokens, dpc_line, interrupt_line, issue_line, issues, line_of, may_line, request_line, run_line, run_of, saying, startio_line, starts, step_line, steps_line, steps_of, to_label, to_number, to_release, until_line};
+ghost use Rattle.scenario_text.specs.Line.{action_line, begins, cancel_line, cancels, dpc_line, interrupt_line, issue_line, issues, line_of, may_line, request_line, run_line, run_of, saying, startio_line, starts, steps_line, steps_of, to_label, to_number, to_release, until_line};
 
 use crate::scenario::Action;
 use crate::together::together_line;
@@ -13,7 +13,6 @@ use scenario_names::operands::{
     byte_of, device_of, major_from, number_of, packet_of, spin_lock_of, spot_labelled, spot_on_line,
 };
 use text::class::{is, is_name};
-use text::cut::is_clean;
 use text::piece::Piece;
 use text::token::Tokens;
 
@@ -33,28 +32,7 @@ pub struct Said<'a> {
 /// # Errors
 ///
 /// The kind of the first token that can't stand there.
-pub fn step_line<'a>(
-    names: &Names<'_>,
-    packets: &Issued<'_>,
-    line: &'a [u8],
-) -> Result<Option<Said<'a>>, ScheduleKind>
-    ensures { result ≡ step_line names.now packets.now line.now }
-{
-    line_of(names, packets, clean_tokens(line)?)
-}
-
-/// The tokens of a line whose bytes are all allowed.
-pub(crate) fn clean_tokens(line: &[u8]) -> Result<Tokens<'_>, ScheduleKind>
-    ensures { result ≡ clean_tokens line.now }
-{
-    if is_clean(line) {
-        Ok(Tokens::of(line))
-    } else {
-        Err(ScheduleKind::Lex)
-    }
-}
-
-fn line_of<'a>(
+pub(crate) fn line_of<'a>(
     names: &Names<'_>,
     packets: &Issued<'_>,
     mut tokens: Tokens<'a>,

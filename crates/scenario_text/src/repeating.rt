@@ -1,9 +1,8 @@
 //! Lines that are listed more than once: those between `repeat` and `end`.
 
 ghost use Rattle.std.specs.Prelude.{◌≡◌, [], OnOk};
-ghost use Rattle.scenario_text.specs.Repeating.{block_of, with_line};
+ghost use Rattle.scenario_text.specs.Repeating.{block_in, ending, opening, with_line};
 
-use crate::reading::clean_tokens;
 use crate::scenario::MAX_STEPS;
 use interleave::schedule::ScheduleKind;
 use scenario_names::operands::number_of;
@@ -11,6 +10,7 @@ use std::alloc::{AllocError, Global};
 use std::marker::Model;
 use text::class::is;
 use text::piece::Piece;
+use text::token::Tokens;
 
 /// What a line is to those round it.
 #[derive(Clone, Copy)]
@@ -88,30 +88,46 @@ impl<'a> Open<'a> {
     }
 }
 
-/// What a line is to those round it.
+/// What a line is to those round it, by its tokens.
 ///
 /// # Errors
 ///
 /// The kind of the first token that can't stand there.
-pub fn block_of(line: &[u8]) -> Result<Block, ScheduleKind>
-    ensures { result ≡ block_of line.now }
+pub(crate) fn block_in(mut tokens: Tokens) -> Result<Block, ScheduleKind>
+    ensures { result ≡ block_in tokens.entry }
 {
-    let mut tokens = clean_tokens(line)?;
-    match (tokens.next(), tokens.next(), tokens.next()) {
-        (Some(word), None, _) => {
+    match tokens.next() {
+        Some(word) => {
             if is(word, b"end") {
-                Ok(Block::Ends)
+                Ok(ending(tokens))
+            } else if is(word, b"repeat") {
+                opening(tokens)
             } else {
                 Ok(Block::Plain)
             }
         }
-        (Some(word), Some(count), None) => {
-            if is(word, b"repeat") {
-                let times = number_of(1, MAX_STEPS as u64, count)?;
-                Ok(Block::Opens(times))
-            } else {
-                Ok(Block::Plain)
-            }
+        None => Ok(Block::Plain),
+    }
+}
+
+/// What a line is that begins with `end`, by what stands behind that.
+fn ending(mut operands: Tokens) -> Block
+    ensures { result ≡ ending operands.entry }
+{
+    match operands.next() {
+        None => Block::Ends,
+        Some(_) => Block::Plain,
+    }
+}
+
+/// What a line is that begins with `repeat`, by what stands behind that.
+fn opening(mut operands: Tokens) -> Result<Block, ScheduleKind>
+    ensures { result ≡ opening operands.entry }
+{
+    match (operands.next(), operands.next()) {
+        (Some(count), None) => {
+            let times = number_of(1, MAX_STEPS as u64, count)?;
+            Ok(Block::Opens(times))
         }
         _ => Ok(Block::Plain),
     }

@@ -1,6 +1,7 @@
 -- Where no threads run together, steps play one after another, each with what it does alone.
-use Rattle.std.proofs.Common.{◌≡◌, ◌∙◌, Bool, true, false, List, [], ◌∷◌, Option, None, Some, ap, inl, inr, is_some, refl, subst, sym, if◌then◌else◌}
+use Rattle.std.proofs.Common.{◌≡◌, ◌∙◌, ◌&&◌, Bool, true, false, List, [], ◌∷◌, Option, None, Some, ap, inl, inr, is_none, is_some, refl, subst, sym, if◌then◌else◌}
 use Rattle.std.specs.Prelude.{option_map}
+use Rattle.std.specs.List.{list_all}
 use Rattle.scenario_run.specs.Acting.{Played, acted, passes, played}
 use Rattle.scenario_run.specs.Playing.{Playing, Went}
 use Rattle.scenario_text.specs.declared.scenario.Step.{Step}
@@ -84,3 +85,83 @@ pub plays_plain : (p : Playing) (steps : List Step) (now : Playing) (failed : Op
 plays_plain p steps now None plays plain = all_plain p steps now plain plays.0 plays.1
 plays_plain p steps now (Some failure) plays plain =
     fails_plain failure.more p steps failure.step now plain plays
+
+-- and what steps play to that run no threads together is right
+abbrev failure_of : Option Step → Option Failure
+failure_of failed = option_map (λ (s : Step). record { step = s; more = false }) failed
+
+module _ (p : Playing) (step : Step) (alone : together_of step.action ≡ None) where
+  passes_here : passes step.may (acted p step.action).outcome ≡ true
+      → PassesBy p step (together_of step.action)
+  passes_here on = subst (λ (o : Option (List Bool)). PassesBy p step o) (sym alone) on
+
+  fails_so : passes step.may (acted p step.action).outcome ≡ false
+      → FailsSo false p step (acted p step.action).now
+  fails_so off =
+      subst (λ (o : Option (List Bool)). FailsBy p step o (acted p step.action).now) (sym alone)
+      (off, refl)
+
+  on_behind : (steps : List Step) (now : Playing) (failed : Option Step)
+      → passes step.may (acted p step.action).outcome ≡ true
+      → PlaysTo (acted p step.action).now steps now (failure_of failed)
+      → PlaysTo p (step ∷ steps) now (failure_of failed)
+  on_behind steps now None on (all, inl comes) = (
+    (
+      passes_here on,
+      λ q leads. subst (λ (x : Playing). AllPass x steps) (sym (there p step alone q leads)) all,
+    ),
+    inl ((acted p step.action).now, leads_on p step alone on, comes),
+  )
+  on_behind steps now None on (all, inr none) = (
+    (
+      passes_here on,
+      λ q leads. subst (λ (x : Playing). AllPass x steps) (sym (there p step alone q leads)) all,
+    ),
+    inr (λ q comes.
+        none q
+        (subst (λ (x : Playing). Comes x steps q) (there p step alone comes.0 comes.1) comes.2)),
+  )
+  on_behind steps now (Some failed) on fails =
+      inr ((acted p step.action).now, leads_on p step alone on, fails)
+
+  by_outcome : (steps : List Step) (b : Bool)
+      → passes step.may (acted p step.action).outcome ≡ b
+      → PlaysTo (acted p step.action).now steps (played (acted p step.action).now steps).now
+      (failure_of (played (acted p step.action).now steps).failed)
+      → PlaysTo p (step ∷ steps) (Behind step steps (acted p step.action) b).now
+      (failure_of (Behind step steps (acted p step.action) b).failed)
+  by_outcome steps true on later =
+      on_behind steps (played (acted p step.action).now steps).now
+      (played (acted p step.action).now steps).failed on later
+  by_outcome steps false off later = inl (refl, fails_so off)
+
+played_plays : (p : Playing) (steps : List Step) → ArePlain steps
+    → PlaysTo p steps (played p steps).now (failure_of (played p steps).failed)
+played_plays p [] plain = (tt, inl refl)
+played_plays p (step ∷ steps) plain =
+    by_outcome p step plain.0 steps (passes step.may (acted p step.action).outcome) refl
+    (played_plays (acted p step.action).now steps plain.1)
+
+pub plain_plays : (p : Playing) (steps : List Step) (now : Playing) (failed : Option Step)
+    → ArePlain steps → record { now = now; failed = failed } ≡ played p steps
+    → PlaysTo p steps now (failure_of failed)
+plain_plays p steps now failed plain is =
+    subst (λ (d : Played). PlaysTo p steps d.now (failure_of d.failed)) (sym is)
+    (played_plays p steps plain)
+
+-- none of some steps does
+both_true : (a b : Bool) → a && b ≡ true → (a ≡ true) × (b ≡ true)
+both_true true b h = (refl, h)
+both_true false b h = cc
+
+alone_if : (o : Option (List Bool)) → is_none o ≡ true → o ≡ None
+alone_if None h = refl
+alone_if (Some named) h = cc
+
+pub all_alone : (steps : List Step)
+    → list_all (λ (s : Step). is_none (together_of s.action)) steps ≡ true → ArePlain steps
+all_alone [] all = tt
+all_alone (step ∷ steps) all =
+    let both = both_true (is_none (together_of step.action))
+    (list_all (λ (s : Step). is_none (together_of s.action)) steps) all in
+    (alone_if (together_of step.action) both.0, all_alone steps both.1)

@@ -104,7 +104,7 @@ impl Walker for Interleaving {
         for thread in 0..self.playing.threads() {
             add_thread(key, &self.playing, thread)?;
         }
-        add_number(key, self.playing.past().len() as u64)
+        add_number(key, self.playing.count() as u64)
     }
 }
 

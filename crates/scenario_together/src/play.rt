@@ -1,20 +1,20 @@
 //! The steps of a scenario, one after another, from every end of interleavings.
 
-ghost use Rattle.std.specs.Prelude.{◌≡◌, Bool, IfOk, IsTrue, List, Some, option_map};
+ghost use Rattle.std.specs.Prelude.{◌≡◌, Bool, IfOk, IsTrue, List, Some, false, is_none, option_map};
 ghost use Rattle.model.specs.Typable.{IsTypable};
-ghost use Rattle.std.specs.List.{list_any};
+ghost use Rattle.std.specs.List.{list_all, list_any};
 ghost use Rattle.scenario_run.specs.Acting.{expects_audit};
 ghost use Rattle.scenario_run.specs.Playing.{Playing};
 ghost use Rattle.scenario_text.specs.declared.scenario.Step.{Step};
 ghost use Rattle.scenario_together.specs.Joining.{ActedAll, IsFirstOr, JoinedAll, JoinedOne, Leaves, MayMerge, ThereIf};
-ghost use Rattle.scenario_together.specs.Plays.{Plays, PlaysPlainly, together_of};
+ghost use Rattle.scenario_together.specs.Plays.{ArePlain, Plays, PlaysPlainly, together_of};
 
 use crate::interleaving::is_named;
 use crate::together::{MOVES, Together, run_together};
 use driver_set::DriverSet;
 use laws_worlds::same_worlds_go_on_alike;
 use scenario_run::holding::events_of;
-use scenario_run::play::{act, expects_audit, passes};
+use scenario_run::play::{act, expects_audit, passes, play as play_each};
 use scenario_run::playing::Playing;
 use scenario_text::scenario::{Action, Step};
 use std::alloc::{AllocError, Global};
@@ -246,6 +246,52 @@ fn play_on(alloc: Global, home: Playing, steps: &[Step], merges: bool) -> Result
 pub fn play(alloc: Global, playing: Playing, steps: &[Step]) -> Result<Played, AllocError>
     ensures plays { IfOk result (Plays playing steps.now) }
     ensures plain { IfOk result (PlaysPlainly playing steps.now) }
+{
+    if are_plain(steps) {
+        return play_plainly(alloc, playing, steps);
+    }
+    play_all(alloc, playing, steps)
+}
+
+/// Whether none of some steps runs threads together.
+fn are_plain(steps: &[Step]) -> bool
+    ensures { result ≡ list_all (λ step. is_none (together_of step.action)) steps.now }
+{
+    steps.iter().all(|step| is_plain(step))
+}
+
+/// Whether a step runs no threads together.
+fn is_plain(step: &Step) -> bool
+    ensures { result ≡ is_none (together_of step.now.action) }
+{
+    !matches!(step.action, Action::Together { .. })
+}
+
+/// Plays the steps of a scenario, none of which runs threads together.
+fn play_plainly(alloc: Global, mut playing: Playing, steps: &[Step]) -> Result<Played, AllocError>
+    requires { ArePlain steps.now }
+    ensures { IfOk result (Plays playing steps.now) }
+{
+    let failed = play_each(alloc, &mut playing, steps)?;
+    Ok(Played {
+        now: playing,
+        failed: failure_at(failed),
+    })
+}
+
+/// The failure of the step that fails, if one does, not for want of worlds.
+fn failure_at(failed: Option<Step>) -> Option<Failure>
+    ensures { result ≡ option_map (λ step. record { step = step; more = false }) failed }
+{
+    match failed {
+        Some(step) => Some(Failure { step, more: false }),
+        None => None,
+    }
+}
+
+/// The same where a step may run threads together.
+fn play_all(alloc: Global, playing: Playing, steps: &[Step]) -> Result<Played, AllocError>
+    ensures { IfOk result (Plays playing steps.now) }
 {
     let audits = expect_audits(steps);
     let home = readied(playing, audits)?;

@@ -1,15 +1,16 @@
-use Rattle.scenario_together.proofs.Playing.{may_merge, plain_ok}
+use Rattle.std.proofs.Common.{◌∙◌, sym}
+use Rattle.scenario_together.proofs.Plain.{all_alone}
+use Rattle.scenario_together.proofs.Playing.{plain_ok}
 use Rattle.scenario_together.proofs.play.play.Goals as goal
 
-pub play_on-requires : goal.play_on-requires
-play_on-requires c =
-    may_merge c.in_ok-merges.merges c.expect_audits-audits.result c.args.steps.now
-    c.in_ok-home.home c.expect_audits-audits.ensures c.in_ok-merges.ensures
+pub play_plainly-requires : goal.play_plainly-requires
+play_plainly-requires c =
+    all_alone c.args.steps.now (sym c.are_plain.ensures ∙ c.if-are_plain.true)
 
-pub returns-clause-plays : goal.returns-clause-plays
-returns-clause-plays c = rw c.in_ok-home.ensures at c.play_on.ensures
+pub returns-then-are_plain-clause-plain : goal.returns-then-are_plain-clause-plain
+returns-then-are_plain-clause-plain c =
+    plain_ok c.args.playing c.args.steps.now c.play_plainly.result c.play_plainly.ensures
 
 pub returns-clause-plain : goal.returns-clause-plain
 returns-clause-plain c =
-    plain_ok c.args.playing c.args.steps.now c.play_on.result
-    (rw c.in_ok-home.ensures at c.play_on.ensures)
+    plain_ok c.args.playing c.args.steps.now c.play_all.result c.play_all.ensures
