@@ -1,10 +1,11 @@
 -- What is read of files, each whole.
-use Rattle.std.specs.Prelude.{ℕ, ⊤, ◌≡◌, ◌+◌, ◌≤◌, Bool, true, List, length, String, string_bytes}
+use Rattle.std.specs.Prelude.{ℕ, ⊤, ◌≡◌, ◌+◌, ◌≤◌, Bool, true, IfOk, List, if◌then◌else◌, length, String, string_bytes}
 use Rattle.std.specs.Global.{Global}
 use Rattle.std.specs.List.{AllZip, sum_by}
 use Rattle.drvhost_devices.specs.Device.{Holds, MayBeClosed, Supply}
 use Rattle.drvhost_files.specs.declared.reading.Contents.{Contents}
 use Rattle.drvhost_files.specs.declared.reading.Contents.TheVariants.{Whole, Unread, Unopened, Lacking}
+use Rattle.drvhost_files.specs.declared.reading.Answered.{Answered}
 use Rattle.drvhost_files.specs.declared.reading.Held.{Held}
 
 -- how many reads of a file failed
@@ -41,6 +42,43 @@ pub record AreHeld (is_told : Bool) (supply : List ℕ → Supply) (names : List
   pub are : AllZip (IsHeld is_told supply) names held
   pub opened_are : opened ≡ length names
   pub reads_are : reads ≡ sum_by held_reads held
+
+-- how many reads failed, by whether one did
+abbrev pub failed_reads : Bool → ℕ
+failed_reads is_unread = if is_unread then 1 else 0
+
+-- the file of a name is one that is answered
+abbrev pub IsNamedSo : {A : Type 0} → String Global → Answered A → Type 0
+IsNamedSo name one = one.name.now ≡ string_bytes name
+
+-- this was answered for a file of which that was read, where there was memory for it
+pub record IsAnswered {A : Type 0} (Answers : Held → A → Type 0) (held : Held) (one : Answered A)
+    : Type 0 where
+  pub name_is : one.name.now ≡ held.name.now
+  pub reads_are : failed_reads one.is_unread ≡ held_reads held
+  pub answers : IfOk one.answer (Answers held)
+
+-- for what may be read of one that has this to give
+pub record IsAnsweredBy {A : Type 0} (is_told : Bool) (supply : Supply)
+    (Answers : Held → A → Type 0) (one : Answered A) : Type 0 where
+  pub held : Held
+  pub read : IsReadOf is_told supply held.contents
+  pub answered : IsAnswered Answers held one
+
+-- for the file of a name
+pub record IsAnsweredFor {A : Type 0} (is_told : Bool) (supply : List ℕ → Supply)
+    (Answers : Held → A → Type 0) (name : String Global) (one : Answered A) : Type 0 where
+  pub held : Held
+  pub is_held : IsHeld is_told supply name held
+  pub answered : IsAnswered Answers held one
+
+-- so it was for files, in order: by how many were opened, and how many reads of them failed
+pub record AreAnswered {A : Type 0} (is_told : Bool) (supply : List ℕ → Supply)
+    (Answers : Held → A → Type 0) (names : List (String Global)) (opened reads : ℕ)
+    (answered : List (Answered A)) : Type 0 where
+  pub held : List Held
+  pub are_held : AreHeld is_told supply names opened reads held
+  pub are : AllZip (IsAnswered Answers) held answered
 
 -- some of so many files were opened, and some reads of them failed, by how many had before and
 -- after; and with these counts something holds

@@ -5,9 +5,11 @@ ghost use Rattle.std.specs.Io.KnownBytes.{Keeps};
 ghost use denote.Param.Send.{IsSync};
 ghost use Rattle.drvhost_devices.specs.Device.{Closed, IsSuppliedAs, Supply, Unknown};
 ghost use Rattle.drvhost_files.specs.Files.{blank, contents_given, contents_of, failures_of, supply_of, Stores};
-ghost use Rattle.drvhost_files.specs.Reading.{AreHeld, Opens};
+ghost use Rattle.drvhost_files.specs.Reading.{AreAnswered, AreHeld, Opens};
 
-use crate::reading::{Held, Way, count_reads, read_files};
+use crate::reading::{
+    Answered, Answering, Held, Way, answer_files, count_reads, count_unread, read_files,
+};
 use crate::standard::{Opened, STANDARD_INPUT, open};
 use drvhost_devices::device::{Failed, Reader, Sink, Source, Writer};
 use drvhost_found::find::{Found, alone, find};
@@ -165,6 +167,43 @@ impl<'r> Disk<'r> {
         ensures { result ≡ ⟦<Disk<'r> as Files>⟧.failures self.now }
     {
         self.failures
+    }
+
+    /// Reads the files of these names, each whole, by so many jobs at once, and answers each where it
+    /// was read: for each, in order, what is answered for what one job would have read of it. No
+    /// more is kept of it.
+    ///
+    /// # Errors
+    ///
+    /// When memory runs out before one is opened.
+    pub fn answer_each<'n, T: Threads + Sync, A: Answering + Sync>(
+        &mut self,
+        rt: &T,
+        way: Way,
+        names: &'n [String],
+        answering: &A,
+    ) -> Result<Vec<Answered<'n, A::Answer>>, AllocError>
+        requires room { ⟦<Disk<'r> as Files>⟧.opened self.old + length names.now < 2 ^ 64 }
+        requires few { ⟦<Disk<'r> as Files>⟧.failures self.old + length names.now < 2 ^ 64 }
+        ensures read { Opens (length names.now)
+            (⟦<Disk<'r> as Files>⟧.opened self.old) (⟦<Disk<'r> as Files>⟧.opened self.new)
+            (⟦<Disk<'r> as Files>⟧.failures self.old) (⟦<Disk<'r> as Files>⟧.failures self.new)
+            (λ opened reads. IfOk result (λ answered. AreAnswered way.is_told
+            (⟦<Disk<'r> as Files>⟧.supply self.old) (A.answers answering.now) names.now opened
+            reads answered.items)) }
+        ensures unopened { OnErr result (⟦<Disk<'r> as Files>⟧.opened self.new
+            ≡ ⟦<Disk<'r> as Files>⟧.opened self.old) }
+        ensures unread { OnErr result (⟦<Disk<'r> as Files>⟧.failures self.new
+            ≡ ⟦<Disk<'r> as Files>⟧.failures self.old) }
+        ensures created { ⟦<Disk<'r> as Files>⟧.created self.new
+            ≡ ⟦<Disk<'r> as Files>⟧.created self.old }
+        ensures unwritten { ⟦<Disk<'r> as Files>⟧.unwritten self.new
+            ≡ ⟦<Disk<'r> as Files>⟧.unwritten self.old }
+    {
+        let answered = answer_files(rt, self.system, way, names, answering)?;
+        self.opened += names.len() as u64;
+        self.failures += count_unread(answered.as_slice());
+        Ok(answered)
     }
 }
 

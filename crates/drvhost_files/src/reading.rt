@@ -3,7 +3,7 @@
 ghost use Rattle.std.specs.Prelude.{◌≡◌, ◌≤◌, ◌<◌, ◌↔◌, IfOk, IsTrue, length};
 ghost use Rattle.std.specs.List.{AllZip, sum_by};
 ghost use Rattle.drvhost_devices.specs.Device.{CanCount, Closed, Unknown};
-ghost use Rattle.drvhost_files.specs.Reading.{IsHeld, IsNamed, IsReadOf, held_reads, reads_of};
+ghost use Rattle.drvhost_files.specs.Reading.{IsAnsweredBy, IsAnsweredFor, IsHeld, IsNamed, IsNamedSo, IsReadOf, failed_reads, held_reads, reads_of};
 
 use crate::standard::{STANDARD_INPUT, open};
 use drvhost_devices::device::{Reader, Source};
@@ -13,7 +13,7 @@ use std::alloc::{AllocError, Global};
 use std::thread::{self, Threads};
 
 /// How few files are worth a thread of their own.
-pub const FILES_LEAST: usize = 16;
+const FILES_LEAST: usize = 16;
 
 /// How large a block is asked for, and given back, before files are read.
 const BLOCK_KEPT: usize = 1 << 20;
@@ -32,14 +32,11 @@ pub enum Contents {
 }
 
 impl Contents {
-    /// How many reads of it failed.
-    fn reads(&self) -> u64
-        ensures { result ≡ reads_of self.now }
+    /// Whether a read of it failed.
+    fn is_unread(&self) -> bool
+        ensures { failed_reads result ≡ reads_of self.now }
     {
-        match self {
-            Contents::Unread => 1,
-            Contents::Whole(_) | Contents::Unopened | Contents::Lacking => 0,
-        }
+        matches!(self, Contents::Unread)
     }
 }
 
@@ -48,6 +45,35 @@ impl Contents {
 pub struct Held<'n> {
     pub name: &'n str,
     pub contents: Contents,
+}
+
+/// What is answered for files that are read.
+pub trait Answering {
+    ghost use Rattle.drvhost_files.specs.declared.reading.Held.{Held};
+
+    /// What is answered for one of them.
+    type Answer: Send + Drop;
+
+    // What may be answered for a file of which this was read.
+    ghost answers: { Self → Held → Self.Answer → Type 0 };
+
+    /// What is answered for a file of which this was read.
+    ///
+    /// # Errors
+    ///
+    /// When memory runs out.
+    fn answer(&self, held: &Held<'_>) -> Result<Self::Answer, AllocError>
+        ensures { IfOk result (answers self.now held.now) };
+}
+
+/// A file that was read and answered.
+#[derive(Drop)]
+pub struct Answered<'n, A> {
+    pub name: &'n str,
+    /// Whether a read of it failed.
+    pub is_unread: bool,
+    /// What was answered for it, where there was memory for that.
+    pub answer: Result<A, AllocError>,
 }
 
 /// How files are read.
@@ -86,6 +112,73 @@ pub(crate) fn read_files<'n, T: Threads + Sync>(
         },
     );
     Ok(held)
+}
+
+/// Reads the files of these names, by so many jobs at once, and answers each.
+///
+/// # Errors
+///
+/// When memory runs out before one is opened.
+pub(crate) fn answer_files<'n, T: Threads + Sync, A: Answering + Sync>(
+    rt: &T,
+    system: &HostRuntime,
+    way: Way,
+    names: &'n [String],
+    answering: &A,
+) -> Result<Vec<Answered<'n, A::Answer>>, AllocError>
+    ensures { IfOk result (λ answered. AllZip
+        (IsAnsweredFor way.is_told (λ _. Unknown) (A.answers answering.now)) names.now
+        answered.items) }
+{
+    let mut answered = name_each(way.alloc, names)?;
+    keep_memory(way.alloc);
+    let threads = thread_count(way, names);
+    thread::for_each_mut(
+        rt,
+        answered.as_mut_slice(),
+        threads,
+        &|_, one: &mut Answered<'_, A::Answer>| {
+            answer_one(system, way, answering, one);
+        },
+    );
+    Ok(answered)
+}
+
+/// Files of these names, for none of which something was answered so far.
+fn name_each<'n, A: Drop>(
+    alloc: Global,
+    names: &'n [String],
+) -> Result<Vec<Answered<'n, A>>, AllocError>
+    ensures { IfOk result (λ answered. AllZip IsNamedSo names.now answered.items) }
+{
+    let mut answered = Vec::new(alloc);
+    for name in names {
+        answered.push(Answered {
+            name: name.as_str(),
+            is_unread: false,
+            answer: Err(AllocError),
+        })?;
+    }
+    Ok(answered)
+}
+
+/// Reads a file by its name, and answers it.
+fn answer_one<A: Answering>(
+    system: &HostRuntime,
+    way: Way,
+    answering: &A,
+    one: &mut Answered<'_, A::Answer>,
+)
+    ensures name { one.new.name ≡ one.old.name }
+    ensures answered { IsAnsweredBy way.is_told Unknown (A.answers answering.now) one.new }
+{
+    let mut held = Held {
+        name: one.name,
+        contents: Contents::Unread,
+    };
+    read_held(system, way, &mut held);
+    one.is_unread = held.contents.is_unread();
+    one.answer = answering.answer(&held);
 }
 
 /// Has the C library keep memory that is given back to it: of what is free for a thread it keeps
@@ -146,6 +239,20 @@ fn read_source<S: Source>(way: Way, is_closed: bool, source: &mut S) -> Contents
     }
 }
 
+/// How many reads of files failed that were answered.
+pub(crate) fn count_unread<A>(answered: &[Answered<'_, A>]) -> u64
+    ensures sum { result ≡ sum_by (λ one. failed_reads one.is_unread) answered.now }
+    ensures few { result ≤ length answered.now }
+{
+    let mut count = 0;
+    for one in answered {
+        if one.is_unread {
+            count += 1;
+        }
+    }
+    count
+}
+
 /// How many reads of files failed.
 pub(crate) fn count_reads(held: &[Held<'_>]) -> u64
     ensures sum { result ≡ sum_by held_reads held.now }
@@ -153,7 +260,9 @@ pub(crate) fn count_reads(held: &[Held<'_>]) -> u64
 {
     let mut count = 0;
     for one in held {
-        count += one.contents.reads();
+        if one.contents.is_unread() {
+            count += 1;
+        }
     }
     count
 }

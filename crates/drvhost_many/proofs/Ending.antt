@@ -189,48 +189,6 @@ module _ (judging : Judging) (width : ℕ) (supply : List ℕ → Supply) (names
   window_goes Tells (Ok status) delivered = window_answered Tells status delivered
   window_goes Tells (Err halt) delivered = window_halts Tells halt delivered
 
--- memory ran out before some files that were read were judged
-pub window_lost : (judging : Judging) (width : ℕ) (is_told : Bool) (supply : List ℕ → Supply)
-    (names : List (String Global)) (held : List Held) (o p r s w x : ℕ) (b n : Option (List ℕ))
-    (Tells : List ℕ → Type 0)
-    → Opens (length names) o p r s
-    (λ opened reads. AreHeld is_told supply names opened reads held) → length names ≤ width
-    → TellsLost judging names Tells → x ≡ w → Keeps b n
-    → Counted (EachGoes judging width supply names (Err Memory)) o p r s w x b n Tells
-    (halt_status Memory)
-window_lost judging width is_told supply [] held o p r s w x b n Tells read few tells wrote keep =
-    absurd tells
-window_lost judging width is_told supply (one ∷ names) held o p r s w x b n Tells read few tells wrote keep =
-    let text = noted judging (string_bytes one) (codes "out of memory\n") in
-    let all = read.so.opened_are in
-    record {
-      opened = read.opened;
-      reads = read.reads;
-      writes = 0;
-      told = text;
-      opened_are = read.opened_are;
-      reads_are = read.reads_are;
-      writes_are = omega (arith, wrote);
-      tells = tells;
-      ends =
-          OutOfMemory (string_bytes one) 0 read.reads nothing
-          (record {
-            before = [];
-            one = one;
-            behind = names;
-            some = 0;
-            ahead = 0;
-            split = refl;
-            name_is = refl;
-            answers = (refl, refl);
-            reads_are = refl;
-            opened_some = omega (arith, all);
-            opened_few = omega (arith, read.within, few);
-            opened_most = read.within;
-          })
-          (omega arith) refl refl refl refl (appends_none b n keep);
-    }
-
 -- memory ran out before one of some files was opened
 pub window_unopened : (judging : Judging) (width : ℕ) (supply : List ℕ → Supply)
     (names : List (String Global)) (o p r s w x : ℕ) (b n : Option (List ℕ))

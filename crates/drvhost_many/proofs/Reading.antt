@@ -10,8 +10,9 @@ use Rattle.drvhost_devices.specs.Answer.{Answer}
 use Rattle.drvhost_devices.specs.Device.{Bytes, Closed, Holds, IsSuppliedAs, Supply, Unknown}
 use Rattle.drvhost_files.specs.declared.reading.Contents.{Contents}
 use Rattle.drvhost_files.specs.declared.reading.Contents.TheVariants.{Whole, Unread, Unopened, Lacking}
+use Rattle.drvhost_files.specs.declared.reading.Answered.{Answered}
 use Rattle.drvhost_files.specs.declared.reading.Held.{Held}
-use Rattle.drvhost_files.specs.Reading.{IsHeld, IsReadOf, held_reads, reads_of}
+use Rattle.drvhost_files.specs.Reading.{IsAnswered, IsHeld, IsReadOf, held_reads, reads_of}
 use Rattle.drvhost_many.specs.All.{AreOf, IsAt, joined, nothing}
 use Rattle.drvhost_many.specs.Held.{AreJoined, AreToldOf, IsAmong, IsAnswerTo, IsToldOf}
 use Rattle.drvhost_many.specs.Marked.{named_answer}
@@ -40,13 +41,35 @@ zip_split R (x ∷ xs) (b ∷ before) one behind (r, h) =
     let p = zip_split R xs before one behind h in
     (x ∷ p.0, p.1, p.2, ap (λ l. x ∷ l) p.3, (r, p.4), p.5, p.6)
 
--- and at an index
-pub zip_at : {A B : Type 0} (R : A → B → Type 0) (xs : List A) (ys : List B) (i : ℕ) (d : A) (e : B)
-    → AllZip R xs ys → i < length xs → R (get_or xs i d) (get_or ys i e)
-zip_at R [] ys i d e h less = let no : ⊥ = omega (arith, less) in absurd no
-zip_at R (x ∷ xs) [] i d e h less = absurd h
-zip_at R (x ∷ xs) (y ∷ ys) zero d e (r, h) less = r
-zip_at R (x ∷ xs) (y ∷ ys) (suc i) d e (r, h) less = zip_at R xs ys i d e h (omega (arith, less))
+-- a file that was read, for which this was answered, where it stands among several
+pub record AnsweredAt (judging : Judging) (files : List Held) (i : ℕ) (one : Answered Answer)
+    : Type 0 where
+  pub held : Held
+  pub inside : i < length files
+  pub at : held ≡ get_or files i held
+  pub answered : IsAnswered (IsToldOf judging) held one
+
+pub answered_at : (judging : Judging) (files : List Held) (answered : List (Answered Answer))
+    (i : ℕ) (one : Answered Answer) → AllZip (IsAnswered (IsToldOf judging)) files answered
+    → i < length answered → one ≡ get_or answered i one → AnsweredAt judging files i one
+answered_at judging [] [] i one h less is = let no : ⊥ = omega (arith, less) in absurd no
+answered_at judging [] (a ∷ answered) i one h less is = absurd h
+answered_at judging (f ∷ files) [] i one h less is = absurd h
+answered_at judging (f ∷ files) (a ∷ answered) zero one (here, h) less is =
+    record {
+      held = f;
+      inside = omega arith;
+      at = refl;
+      answered = subst (λ o. IsAnswered (IsToldOf judging) f o) (sym is) here;
+    }
+answered_at judging (f ∷ files) (a ∷ answered) (suc i) one (here, h) less is =
+    let rest = answered_at judging files answered i one h (omega (arith, less)) is in
+    record {
+      held = rest.held;
+      inside = omega (arith, rest.inside);
+      at = rest.at;
+      answered = rest.answered;
+    }
 
 held_known : (supply : Supply) (bytes : List ℕ) → Holds supply bytes
     → IsSuppliedAs supply (Bytes bytes)

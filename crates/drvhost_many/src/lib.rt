@@ -3,6 +3,7 @@
 #![tactic(auto)]
 
 pub mod file;
+pub mod judging;
 pub mod many;
 pub mod named;
 pub mod painting;

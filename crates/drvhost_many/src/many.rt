@@ -1,22 +1,23 @@
 //! The driver sets of several files, judged by several jobs at once.
 
-ghost use Rattle.std.specs.Prelude.{◌≡◌, ◌+◌, ◌≤◌, ◌<◌, ◌^◌, IfOk, length, max};
+ghost use Rattle.std.specs.Prelude.{◌≡◌, ◌+◌, ◌≤◌, ◌<◌, ◌^◌, List, length, max};
 ghost use Rattle.std.specs.List.{AllZip};
 ghost use Rattle.drvhost_devices.specs.Device.{CanCount, Says, SaysBehind};
+ghost use Rattle.drvhost_files.specs.declared.reading.Held.{Held};
+ghost use Rattle.drvhost_files.specs.Reading.{IsAnswered};
 ghost use Rattle.drvhost_many.specs.All.{AnswersEach, Counted, EachGoes, end_status, width_of};
 ghost use Rattle.drvhost_many.specs.Held.{DeliversEach, IsToldOf, TellsLost};
 ghost use Rattle.drvhost_many.specs.One.{Delivers, halt_status};
 
-use crate::file::{answer_held, is_in_json};
+use crate::file::is_in_json;
+use crate::judging::JudgedFiles;
 use crate::named::{One, tell_no_memory};
 use crate::told::Told;
 use drvhost_commands::job::Judging;
 use drvhost_devices::device::{Failed, Sink};
 use drvhost_devices::transfer::write_whole;
 use drvhost_devices::unopened::say_behind;
-use drvhost_files::files::Files;
-use drvhost_files::reading::{FILES_LEAST, Held, Way};
-use rayon::prelude::*;
+use drvhost_files::reading::{Answered, Way};
 use report::fault::WRITE_FAILED;
 use report_progress::progress::{Progress, Reached};
 use std::alloc::{AllocError, Global};
@@ -47,20 +48,16 @@ impl<'n> Sets<'n> {
         }
         FILES_EACH * self.jobs as usize
     }
-
-    /// How many of so many files a thread takes at least.
-    fn share(self, count: usize) -> usize {
-        (count / (self.jobs as usize).max(1)).max(FILES_LEAST)
-    }
 }
 
 /// Judges the set of each of these files, by so many jobs at once, and tells the answers in order,
 /// each with the name of its file: before each line of a verdict, in a line of JSON, or in a line
 /// above an explanation. With one job what is answered for a file goes out before the next is
-/// opened. For several 256 files each are read at once, and then judged. The answer is the greatest
+/// opened. Several are handed 256 files each at once, and each is judged where it was read, of which
+/// the answer alone is kept. The answer is the greatest
 /// exit status. A file that can't be read, or is faulty, doesn't keep from the others; a
 /// write that fails does, and want of memory. How many of the files are done is told meanwhile.
-pub fn answer_each<R: Threads + Sync + Progress, F: Files, O: Sink, E: Sink>(
+pub fn answer_each<R: Threads + Sync + Progress, F: JudgedFiles, O: Sink, E: Sink>(
     rt: &R,
     sets: Sets<'_>,
     files: &mut F,
@@ -88,7 +85,7 @@ pub fn answer_each<R: Threads + Sync + Progress, F: Files, O: Sink, E: Sink>(
 }
 
 /// Judges the set of each of these files, some at a time.
-fn answer_all<R: Threads + Sync + Progress, F: Files, O: Sink, E: Sink>(
+fn answer_all<R: Threads + Sync + Progress, F: JudgedFiles, O: Sink, E: Sink>(
     rt: &R,
     sets: Sets<'_>,
     files: &mut F,
@@ -150,7 +147,7 @@ struct Window<'n> {
 }
 
 /// Judges the set of each of some files, at once.
-fn answer_window<R: Threads + Sync + Progress, F: Files, O: Sink, E: Sink>(
+fn answer_window<R: Threads + Sync + Progress, F: JudgedFiles, O: Sink, E: Sink>(
     rt: &R,
     window: &Window<'_>,
     files: &mut F,
@@ -180,22 +177,12 @@ fn answer_window<R: Threads + Sync + Progress, F: Files, O: Sink, E: Sink>(
         is_told: is_in_json(sets.judging),
         jobs: sets.jobs,
     };
-    let Ok(held) = files.read_each(rt, way, window.names) else {
-        return Err(lose(rt, window, err));
-    };
-    let Ok(told) = judge_each(rt, sets, held.as_slice()) else {
+    let Ok(answered) = files.judge_each(rt, way, sets.judging, window.names) else {
         return Err(lose(rt, window, err));
     };
     rt.clear();
     let failures = window.failures;
-    deliver_each(
-        sets.judging,
-        held.as_slice(),
-        told.as_slice(),
-        out,
-        failures,
-        err,
-    )
+    deliver_each(sets.judging, answered.as_slice(), out, failures, err)
 }
 
 /// Tells that memory ran out for the first of some files.
@@ -213,53 +200,31 @@ fn lose<P: Progress, E: Sink>(progress: &P, window: &Window<'_>, err: &mut E) ->
     Halt::Memory
 }
 
-/// Judges files that were read, in threads: what is answered for each, in order, where there was
-/// memory for it.
-fn judge_each<R: Threads + Sync>(
-    rt: &R,
-    sets: Sets<'_>,
-    held: &[Held<'_>],
-) -> Result<Vec<Result<Told, AllocError>>, AllocError>
-    ensures { IfOk result (λ told. AllZip
-        (λ one answer. IfOk answer (IsToldOf sets.entry.judging one)) held.now told.items) }
-{
-    let alloc = sets.alloc;
-    let judging = sets.judging;
-    held.par_iter()
-        .with_min_len(sets.share(held.len()))
-        .map(
-            |one: &Held<'_>| -> Result<Told, AllocError>
-                ensures { IfOk result (IsToldOf judging one.now) }
-            { answer_held(alloc, judging, one) },
-        )
-        .collect::<Vec<_>>(rt, alloc)
-}
-
 /// Writes the answers for files that were read to their writers, in order.
 fn deliver_each<O: Sink, E: Sink>(
     judging: Judging,
-    held: &[Held<'_>],
-    told: &[Result<Told, AllocError>],
+    answered: &[Answered<'_, Told>],
     out: &mut O,
     failures: u64,
     err: &mut E,
 ) -> Result<u8, Halt>
-    requires told { AllZip (λ one answer. IfOk answer (IsToldOf judging one)) held.now told.now }
     requires out { CanCount (O.failures out.old) }
     requires failures { CanCount failures }
-    ensures { DeliversEach judging held.now (O.failures out.old) (O.failures out.new)
+    ensures { (held : List Held)
+        → AllZip (IsAnswered (IsToldOf judging)) held answered.now
+        → DeliversEach judging held (O.failures out.old) (O.failures out.new)
         (O.contents out.old) (O.contents out.new)
         (SaysBehind failures (E.failures err.old) (E.failures err.new) (E.contents err.old)
         (E.contents err.new)) result }
 {
     let mut status = 0;
-    for i in 0..held.len() {
-        let one = One::of(judging, held[i].name);
-        let Ok(answer) = &told[i] else {
-            tell_no_memory(one, failures, err);
+    for i in 0..answered.len() {
+        let one = &answered[i];
+        let Ok(told) = &one.answer else {
+            tell_no_memory(One::of(judging, one.name), failures, err);
             return Err(Halt::Memory);
         };
-        match deliver(answer, out, failures, err) {
+        match deliver(told, out, failures, err) {
             Ok(answered) => status = greater(status, answered),
             Err(halt) => return Err(halt),
         }

@@ -38,6 +38,7 @@ use drvhost_formats::unopened::unopened_json;
 use drvhost_found::sought::{Search, Sought};
 use drvhost_hunts::hunt::{self, Hunting, hunt_by};
 use drvhost_many::file::{self, judge};
+use drvhost_many::judging::JudgedFiles;
 use drvhost_many::many::{Sets, answer_each};
 use drvhost_many::paths::{alone, find_all};
 use drvhost_mends::apply::{self, apply};
@@ -75,7 +76,7 @@ pub struct Setting {
 /// answer is the exit status: that of the job that they name; 2 where they name none, and the
 /// writer for errors is then told how the program is used; 3 where memory ran out. How far a job
 /// has come is told beside the runtime.
-pub fn answer<F: Files, O: Sink, E: Sink, R: Threads + Wait + Sync + Progress>(
+pub fn answer<F: JudgedFiles, O: Sink, E: Sink, R: Threads + Wait + Sync + Progress>(
     rt: &R,
     setting: Setting,
     words: Result<Vec<String>, ErrorKind>,
@@ -130,7 +131,7 @@ fn refuse_lost_words<E: Sink>(kind: ErrorKind, err: &mut E) -> u8
 }
 
 /// Does what the words ask for, without the program's name.
-fn answer_words<F: Files, O: Sink, E: Sink, R: Threads + Wait + Sync + Progress>(
+fn answer_words<F: JudgedFiles, O: Sink, E: Sink, R: Threads + Wait + Sync + Progress>(
     rt: &R,
     setting: Setting,
     words: &[String],
@@ -161,7 +162,7 @@ fn answer_words<F: Files, O: Sink, E: Sink, R: Threads + Wait + Sync + Progress>
 
 /// Does a job with the files that it names. Only what does `host`, or judges several files, is
 /// given the runtime as such: nothing else starts a thread, or waits.
-fn perform<F: Files, O: Sink, E: Sink, R: Threads + Wait + Sync + Progress>(
+fn perform<F: JudgedFiles, O: Sink, E: Sink, R: Threads + Wait + Sync + Progress>(
     rt: &R,
     setting: Setting,
     job: &Job<'_>,
@@ -253,7 +254,7 @@ fn write_page<O: Sink, E: Sink>(alloc: Global, page: Page, out: &mut O, err: &mu
 
 /// Judges the sets that paths stand for: that of one file alone as it is, and others each told with
 /// its name.
-fn judge_paths<R: Threads + Sync + Progress, F: Files, O: Sink, E: Sink>(
+fn judge_paths<R: Threads + Sync + Progress, F: JudgedFiles, O: Sink, E: Sink>(
     rt: &R,
     setting: Setting,
     judged: &Judged<'_>,
