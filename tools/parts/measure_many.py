@@ -1,8 +1,8 @@
 #!/usr/bin/env python3
 """tools/measure many [--sets N] [--lines N] [PROGRAM]: what the program (crates/drvhost/out/drvhost, if none is named) takes to
 check N sets (1,000 if left out) of N lines (60) in one folder, by one process with one job and by a process for each set; with 2,
-4 and 8 jobs; and the most memory of one job and of four, also for a tenth of the sets: it doesn't grow with their number, but for
-their names."""
+4 and 8 jobs; by four processes at once, each with one job and a quarter of the sets: that is what the machine has to give; and the
+most memory of one job and of four, also for a tenth of the sets: it doesn't grow with their number, but for their names."""
 import argparse, os, subprocess, tempfile, time
 
 TOP = os.path.dirname(os.path.dirname(os.path.dirname(os.path.abspath(__file__))))
@@ -14,11 +14,16 @@ def text(number, count):
     lines += ['routine g dpc'] + ['const r%d %d' % (1 + place % 8, number) for place in range(rest - 3)] + ['ret void', 'endr']
     return '\n'.join(lines + ['endd', 'device v d 1', ''])
 
-def spent(program, words):
-    begun = time.monotonic()
-    status = subprocess.run([program, *words], stdout=subprocess.DEVNULL).returncode
-    assert status == 0, words
-    return time.monotonic() - begun
+def spent(program, *commands):
+    """How long these commands take that begin at once, each of which has to end well."""
+    with open(os.devnull, 'w') as away:
+        begun = time.monotonic()
+        started = [os.posix_spawnp(program, [program, *words], os.environ, file_actions=[(os.POSIX_SPAWN_DUP2, away.fileno(), 1)])
+                   for words in commands]
+        ended = [os.waitpid(child, 0)[1] for child in started]
+        took = time.monotonic() - begun
+    assert not any(ended), commands
+    return took
 
 def most_memory(program, words):
     """The most memory of a run, in KiB, by `time`: a child of this process would count what this one has."""
@@ -49,6 +54,15 @@ def main():
             took = best(jobs)
             print('%d jobs on %d processors: %.1f ms (%.1f times as fast as one)'
                   % (jobs, len(os.sched_getaffinity(0)), took * 1000, together / took))
+        quarters = []
+        for quarter in range(4):
+            quarters.append(os.path.join(folder, 'quarter%d' % quarter))
+            os.mkdir(quarters[-1])
+            for name in every[quarter::4]:
+                os.link(name, os.path.join(quarters[-1], os.path.basename(name)))
+        apart = [['check', '--jobs', '1', quarter] for quarter in quarters]
+        took = min(spent(asked.program, *apart) for _ in range(9))
+        print('four processes at once, a quarter each: %.1f ms (%.1f times as fast as one)' % (took * 1000, together / took))
         for jobs in '1', '4':
             print('memory with %s: %d KiB for %d sets, %d KiB for %d' % (jobs,
                   most_memory(asked.program, ['check', '--jobs', jobs, *every_one]), asked.sets,
