@@ -1,12 +1,13 @@
 use Rattle.std.proofs.Common.{IfOk, ◌+◌, ◌∙◌, ap, arith, get_or, refl, subst, sym, take}
 use Rattle.std.proofs.lemmas.Slice.Zip.{AllZip-long}
-use Rattle.drvhost_many.proofs.Reading.{joined_next, zip_at}
+use Rattle.drvhost_many.proofs.Reading.{joined_next}
 use Rattle.drvhost_files.specs.declared.reading.Held.{Held}
 use Rattle.drvhost_many.specs.All.{joined}
 use Rattle.drvhost_many.specs.Held.{AreJoined}
 use Rattle.drvhost_tests.specs.Reports.{reported}
 use Rattle.drvhost_tests.specs.Tests.{IsEntry, IsHeldTold}
 use Rattle.drvhost_tests.specs.Told.{asked_of, tested_of}
+use Rattle.drvhost_tests.proofs.Zips.{zip_at}
 use Rattle.drvhost_tests.proofs.scenario.report_each.Goals as goal
 
 pub bounds-told-i : goal.bounds-told-i
