@@ -7,17 +7,16 @@ use Rattle.std.specs.HashMap.{get}
 use Rattle.std.specs.List.{list_any}
 use Rattle.std.specs.Map.{lookup}
 use Rattle.indexmap.specs.IndexMap.{IndexMap}
-use Rattle.laws_worlds.specs.SameWorlds.{GoOnAlike, SameWorldsGoOnAlike, StandAlike}
+use Rattle.laws_worlds.specs.SameWorlds.{GoOnAlike, SameWorldsGoOnAlike}
 use Rattle.model.specs.declared.event.Event.{Event}
 use Rattle.model.specs.declared.event.Reply.{Reply}
 use Rattle.model.specs.declared.history.TopOut.{TopOut}
-use Rattle.model.specs.History.{or_else, replies, replies_from, top_out_in, top_out_of}
+use Rattle.model.specs.History.{or_else, replies, top_out_in}
 use Rattle.model.specs.Machine.{Machine, ShowsWhole, reply_to}
 use Rattle.model.specs.Run.{begun, run}
 use Rattle.model.specs.Set.{Set}
 use Rattle.model.specs.Sound.{IsSound}
-use Rattle.model.specs.World.{World}
-use Rattle.scenario_run.specs.Alike.{AreAlike, GoAlike, TellAlike}
+use Rattle.scenario_run.specs.Alike.{GoAlike, TellAlike}
 use Rattle.scenario_run.specs.declared.told.Told.{Told}
 use Rattle.scenario_run.specs.Holding.{is_bug}
 use Rattle.scenario_run.specs.Playing.{Playing, has_room, with_event}

@@ -1,9 +1,9 @@
 -- Steps that a thread makes by itself, in its run and in a scenario.
-use Rattle.std.proofs.Common.{◌≡◌, ◌∙◌, ◌+◌, ◌-◌, ◌<◌, ◌≤◌, ℕ, zero, suc, Bool, true, List, [], ◌∷◌, ◌++◌, Option, Some, append_assoc, ap, arith, if◌then◌else◌, length, refl, replicate, subst, sym}
+use Rattle.std.proofs.Common.{◌≡◌, ◌∙◌, ◌+◌, ◌-◌, ◌≤◌, ℕ, suc, Bool, true, List, [], ◌∷◌, ◌++◌, Option, Some, append_assoc, ap, arith, if◌then◌else◌, length, refl, replicate, subst, sym}
 use Rattle.std.specs.Prelude.{nat_lt, option_map, slice_get}
 use Rattle.std.proofs.lemmas.Bool.{lt-ltb}
 use Rattle.std.proofs.lemmas.List.{append-nil, length-append, length-replicate, replicate_more}
-use Rattle.checked.specs.GoingOn.{GoesOn, StepsAlone, more, none}
+use Rattle.checked.specs.GoingOn.{GoesOn, more, none}
 use Rattle.model.specs.declared.event.Event.{Event}
 use Rattle.model.specs.declared.event.Event.TheVariants.{Step}
 use Rattle.model.specs.declared.event.Reply.{Reply}
@@ -18,9 +18,8 @@ use Rattle.model.specs.Run.{Run, begun, run, run_from, step}
 use Rattle.model.specs.Set.{Set}
 use Rattle.model.specs.View.{busy_at, has_frames, thread_view}
 use Rattle.model.specs.World.{World}
-use Rattle.scenario_run.specs.declared.playing.Outcome.{Outcome}
 use Rattle.scenario_run.specs.declared.playing.Outcome.TheVariants.{Done}
-use Rattle.scenario_run.specs.Going.{GoesAhead, moves, rests}
+use Rattle.scenario_run.specs.Going.{GoesAhead, moves, rests, with_steps}
 use Rattle.scenario_run.specs.Playing.{Playing, Went, has_room, if_done, one, outcome_of, reply_in, running, stepping, unless_failed, with_event, world_of}
 
 step_added : (t k : ℕ) (events : List Event)
@@ -118,9 +117,6 @@ one_stepped : (p : Playing) (e : Event) → has_room p ≡ true → Stepped ≡ 
     → Made p e true Stepped ≡ one p e
 one_stepped p e room is =
     ap (λ (r : Reply). Made p e true r) is ∙ ap (λ (b : Bool). Made p e b (reply_in p e)) (sym room)
-
-abbrev pub with_steps : Playing → ℕ → ℕ → Playing
-with_steps p t k = record p { events = p.events ++ replicate k (Step t) }
 
 -- so a thread goes ahead in a scenario
 module _ (p : Playing) (t : ℕ) (m : Machine) (same : m.set ≡ p.set)

@@ -8,3 +8,4 @@ pub mod Stepping
 pub mod Telling
 pub mod Topping
 pub mod Turning
+pub mod Walks

@@ -1,23 +1,22 @@
 -- What is kept of a run, with more of it.
-use Rattle.std.proofs.Common.{◌≡◌, ◌∙◌, ◌+◌, ◌<◌, ◌≤◌, ℕ, zero, List, [], ◌∷◌, ◌++◌, append_assoc, arith, get_or, length, take, refl, replicate, suc, sym, ap, subst}
+use Rattle.std.proofs.Common.{◌≡◌, ◌∙◌, ◌+◌, ◌<◌, ◌≤◌, ℕ, List, [], ◌∷◌, ◌++◌, append_assoc, arith, get_or, length, take, refl, replicate, sym, ap, subst}
 use Rattle.std.proofs.lemmas.List.{append-nil, length-append, length-replicate, replicate-append-replicate, take_more}
-use Rattle.checked.specs.GoingOn.{GoesOn}
 use Rattle.interleave.specs.declared.read.Repeated.{Repeated}
 use Rattle.model.specs.declared.event.Event.{Event}
 use Rattle.model.specs.declared.event.Event.TheVariants.{Step}
 use Rattle.model.specs.declared.event.Reply.{Reply}
-use Rattle.model.specs.declared.event.Reply.TheVariants.{Stepped}
 use Rattle.model.specs.History.{replies}
 use Rattle.model.specs.Machine.{Machine}
 use Rattle.model.specs.Run.{begun}
 use Rattle.model.specs.Set.{Set}
 use Rattle.scenario_run.specs.declared.runner.Runner.{Runner}
 use Rattle.scenario_run.specs.declared.told.Told.{Told}
+use Rattle.scenario_run.specs.declared.walking.Walked.{Walked}
 use Rattle.scenario_run.specs.Past.{IsPast, events_of}
 use Rattle.scenario_run.specs.Running.{Runs, RunsOn, StaysBegun}
 use Rattle.scenario_run.specs.Told.{Adds, AreTold}
-use Rattle.scenario_run.proofs.Going.{Shown, replies_along, replies_more, shown_along}
-use Rattle.scenario_run.proofs.Running.{runs_gone}
+use Rattle.scenario_run.specs.Walking.{WalksOn, replied, steps_in}
+use Rattle.scenario_run.proofs.Going.{replies_more}
 
 -- the events with those of an entry more
 pub events_more : (past : List Repeated) (h : Repeated)
@@ -102,39 +101,16 @@ past_more r n threads count past later told now e reply all on adds is =
     ∙ ap (λ (y : Reply). replies r.machine.set threads events ++ y ∷ [])
     (sym (on.replies threads events is.runs))) adds
 
--- steps that a thread made by itself
-pub past_gone : (r n : Runner) (t made threads count : ℕ) (past later : List Repeated)
-    (told now : Told) → events_of later ≡ events_of past ++ replicate made (Step t) → GoesOn t r.machine made n.machine → n.ledger ≡ r.ledger → n.keeping ≡ r.keeping
-    → Adds told (replicate made Stepped) now → IsPast r threads count past told
-    → IsPast n threads (count + made) later now
-past_gone r n t made threads count past later told now all goes ledger keeping adds is =
+-- steps that a thread made
+pub past_walked : (r n : Runner) (t threads count : ℕ) (w : Walked) (past later : List Repeated)
+    (told now : Told) → events_of later ≡ events_of past ++ replicate (steps_in w) (Step t)
+    → WalksOn t r w n → Adds told (replied w.made w.last) now → IsPast r threads count past told
+    → IsPast n threads (count + steps_in w) later now
+past_walked r n t threads count w past later told now all walks adds is =
     let events : List Event = events_of past in
-    let h : Repeated = record { event = Step t; count = made } in
-    let shown : Shown r.machine n.machine threads (events ++ replicate made (Step t)) =
-    shown_along t r.machine made n.machine threads events goes is.runs.shows in
-    past_longer r n threads count past later told now shown.same is h (replicate made Stepped) all
-    (runs_gone r n t made threads events goes ledger keeping is.runs)
-    (replies_along t r.machine made n.machine threads events goes is.runs.shows) adds
-
--- none, where it made none
-pub past_rested : (r n : Runner) (t made threads count : ℕ) (past : List Repeated) (told : Told)
-    → made ≡ 0 → GoesOn t r.machine made n.machine → n.ledger ≡ r.ledger
-    → n.keeping ≡ r.keeping → IsPast r threads count past told → IsPast n threads count past told
-past_rested r n t made threads count past told none goes ledger keeping is =
-    let events : List Event = events_of past in
-    let shown : Shown r.machine n.machine threads (events ++ replicate made (Step t)) =
-    shown_along t r.machine made n.machine threads events goes is.runs.shows in
-    let same : events ++ replicate made (Step t) ≡ events =
-    ap (λ (k : ℕ). events ++ replicate k (Step t)) none ∙ append-nil events in
-    record {
-      some = is.some;
-      few = is.few;
-      runs = subst (λ (es : List Event). Runs n threads es) same
-          (runs_gone r n t made threads events goes ledger keeping is.runs);
-      counts = is.counts;
-      tells = subst (λ (s : Set). AreTold told (replies s threads events)) (sym shown.same)
-          is.tells;
-    }
+    let h : Repeated = record { event = Step t; count = steps_in w } in
+    past_longer r n threads count past later told now walks.set is h (replied w.made w.last) all
+    (walks.runs threads events is.runs) (walks.replies threads events is.runs) adds
 
 -- with a ledger that begins where nothing has happened
 no_events : (events : List Event) → 0 ≡ length events → events ≡ []

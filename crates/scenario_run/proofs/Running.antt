@@ -9,7 +9,7 @@ use Rattle.model.specs.declared.event.Event.{Event}
 use Rattle.model.specs.declared.event.Event.TheVariants.{Step}
 use Rattle.model.specs.declared.event.Reply.{Reply}
 use Rattle.model.specs.Machine.{AppliesWhole, ShowsWhole}
-use Rattle.model.specs.Run.{Run, begun, run}
+use Rattle.model.specs.Run.{Run, run}
 use Rattle.model.specs.Set.{Set}
 use Rattle.model.specs.Trace.{Serving}
 use Rattle.scenario_run.specs.declared.runner.Keeping.{Keeping}

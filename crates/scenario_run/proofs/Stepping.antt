@@ -1,11 +1,13 @@
 -- Steps of a thread, one after another.
-use Rattle.std.proofs.Common.{◌≡◌, ◌∙◌, ◌<◌, ◌-◌, ℕ, zero, suc, true, false, Bool, sym, subst, ap, arith, if◌then◌else◌}
+use Rattle.std.proofs.Common.{◌≡◌, ◌∙◌, ◌<◌, ◌≤◌, ◌-◌, ℕ, zero, suc, true, false, Bool, sym, subst, ap, arith, if◌then◌else◌}
 use Rattle.model.specs.declared.event.Event.TheVariants as event
 use Rattle.model.specs.View.{busy_at, thread_at}
 use Rattle.scenario_names.specs.declared.names.Spot.{Spot}
 use Rattle.scenario_run.specs.declared.playing.Outcome.{Outcome}
 use Rattle.scenario_run.specs.declared.playing.Outcome.TheVariants.{Done, Waits, Fails}
+use Rattle.scenario_run.specs.Going.{Ends}
 use Rattle.scenario_run.specs.Playing.{Playing, Went, if_done, if_going, one, running, running_to, stands_at, stays, stepping, unless_failed, world_of}
+use Rattle.scenario_run.proofs.Going.{runs_ahead, steps_ahead}
 
 -- where a step went so, and so many are left
 abbrev Gone : ℕ → Playing → Playing → Outcome → Type 0
@@ -104,3 +106,39 @@ to_failed t spot zero p q some there h = absurd (omega (arith, some))
 to_failed t spot (suc left) p q some there h =
     ap (λ (w : Went). if_going w.outcome w.now (running_to t spot left w.now)) h
     ∙ ap (λ b. Ahead t spot left b p) (sym there)
+
+-- where steps were made, of which the one behind went so
+module _ (t left rest : ℕ) (p q : Playing) (some : 0 < rest) (less : rest ≤ left) where
+  pub steps_end_failed : Ends t p (left - rest) Fails q
+      → record { now = q; outcome = Fails } ≡ stepping t left p
+  steps_end_failed e =
+      steps_failed t rest e.before q some e.ends
+      ∙ steps_ahead t left rest p e.before less e.ahead
+
+  pub steps_end_done : Ends t p (left - rest) Done q → stepping t (rest - 1) q ≡ stepping t left p
+  steps_end_done e =
+      steps_done t rest e.before q some e.ends
+      ∙ steps_ahead t left rest p e.before less e.ahead
+
+  pub steps_end_waited : Ends t p (left - rest) Waits q
+      → stepping t (rest - 1) q ≡ stepping t left p
+  steps_end_waited e =
+      steps_waited t rest e.before q some e.ends
+      ∙ steps_ahead t left rest p e.before less e.ahead
+
+  pub run_end_failed : Ends t p (left - rest) Fails q
+      → record { now = q; outcome = Fails } ≡ running t left p
+  run_end_failed e =
+      run_failed t rest e.before q some e.busy e.ends
+      ∙ runs_ahead t left rest p e.before less e.ahead
+
+  pub run_end_done : Ends t p (left - rest) Done q → running t (rest - 1) q ≡ running t left p
+  run_end_done e =
+      run_done t rest e.before q some e.busy e.ends
+      ∙ runs_ahead t left rest p e.before less e.ahead
+
+  pub run_end_waited : Ends t p (left - rest) Waits q
+      → record { now = q; outcome = Waits } ≡ running t left p
+  run_end_waited e =
+      run_waited t rest e.before q some e.busy e.ends
+      ∙ runs_ahead t left rest p e.before less e.ahead

@@ -4,7 +4,6 @@ use Rattle.std.proofs.lemmas.List.{append-nil}
 use Rattle.std.proofs.lemmas.List.Folds.{list_any-append}
 use Rattle.std.specs.List.{list_any}
 use Rattle.laws_runs.proofs.Lists.{last_of as last_found}
-use Rattle.model.specs.declared.event.Bug.{Bug as BugFound}
 use Rattle.model.specs.declared.event.Reply.{Reply}
 use Rattle.model.specs.declared.event.Reply.TheVariants.{Started, Stepped, Finished, Topped, Waited, Idle, Refused, Bug, Wrong}
 use Rattle.scenario_run.specs.declared.told.Told.{Told}
@@ -92,3 +91,13 @@ steps_told before after (suc k) some last bugs tops told are =
     (append_assoc told (Stepped ∷ []) (replicate k Stepped))
     (steps_further after last k (told ++ Stepped ∷ [])
     (step_told before after last bugs tops told are))
+
+-- none is told by what was told, and more are told by it behind others
+pub steps_none : (t : Told) → Adds t [] t
+steps_none t told are = subst (λ (rs : List Reply). AreTold t rs) (sym (append-nil told)) are
+
+pub told_behind : (before mid after : Told) (steps more : List Reply) → Adds before steps mid
+    → Adds mid more after → Adds before (steps ++ more) after
+told_behind before mid after steps more first later told are =
+    subst (λ (rs : List Reply). AreTold after rs) (append_assoc told steps more)
+    (later (told ++ steps) (first told are))

@@ -1,5 +1,5 @@
 -- How packets have topped out, with one reply more.
-use Rattle.std.proofs.Common.{◌≡◌, ◌∙◌, ◌++◌, ℕ, Bool, true, false, cond, List, [], ◌∷◌, nat_eq, Option, Some, None, is_some, refl, sym, subst, ap, if◌then◌else◌}
+use Rattle.std.proofs.Common.{◌≡◌, ◌∙◌, ◌++◌, ℕ, Bool, true, false, List, [], ◌∷◌, nat_eq, Option, Some, None, is_some, refl, sym, subst, ap, if◌then◌else◌}
 use Rattle.std.proofs.lemmas.Bool.{eqb-true}
 use Rattle.indexmap.specs.IndexMap.{IndexMap, IsEmpty, IsUnchanged, Updates, get}
 use Rattle.model.specs.declared.event.Reply.{Reply}

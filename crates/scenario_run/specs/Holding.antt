@@ -7,7 +7,6 @@ use Rattle.model.specs.declared.event.Reply.{Reply}
 use Rattle.model.specs.declared.event.Reply.TheVariants.{Started, Stepped, Finished, Topped as ToppedReply, Waited, Idle, Refused, Bug, Wrong}
 use Rattle.model.specs.declared.history.TopOut.{TopOut}
 use Rattle.model.specs.declared.status.Status.{Status}
-use Rattle.model.specs.declared.view.LiveView.{LiveView}
 use Rattle.model.specs.declared.view.PacketView.{PacketView}
 use Rattle.model.specs.declared.view.PacketView.TheVariants as view
 use Rattle.model.specs.declared.view.ThreadView.{ThreadView}

@@ -8,3 +8,4 @@ pub mod Running
 pub mod Told
 pub mod Tops
 pub mod Turns
+pub mod Walking

@@ -1,5 +1,5 @@
 -- What the steps of a scenario make happen, by the run so far.
-use Rattle.std.specs.Prelude.{ℕ, zero, suc, ◌++◌, ◌-◌, ◌&&◌, Bool, true, false, List, [], ◌∷◌, length, nat_eq, nat_lt, slice_get, Option, None, Some, if◌then◌else◌}
+use Rattle.std.specs.Prelude.{ℕ, zero, suc, ◌++◌, ◌-◌, ◌&&◌, Bool, false, List, [], ◌∷◌, length, nat_eq, nat_lt, slice_get, Option, None, Some, if◌then◌else◌}
 use Rattle.model.specs.declared.event.Event.{Event}
 use Rattle.model.specs.declared.event.Event.TheVariants as event
 use Rattle.model.specs.declared.event.Reply.{Reply}

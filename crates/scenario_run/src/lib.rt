@@ -10,3 +10,4 @@ mod runner;
 mod told;
 mod tops;
 mod turns;
+mod walking;

@@ -14,6 +14,9 @@ pub(crate) fn add_past(past: &mut Vec<Repeated>, more: Repeated)
     ensures { events_of past.new.items
         ≡ events_of past.old.items ++ replicate more.count more.event }
 {
+    if more.count == 0 {
+        return;
+    }
     let Some(last) = past.pop() else {
         past.push_reserved(more);
         return;

@@ -1,13 +1,13 @@
 //! A scenario as it plays on the reference machine.
 
-ghost use Rattle.std.specs.Prelude.{◌≡◌, ◌≤◌, ◌-◌, [], IfOk, IfSome, IsTrue, is_none, length, true};
+ghost use Rattle.std.specs.Prelude.{◌≡◌, ◌≤◌, ◌<◌, ◌-◌, [], IfOk, IfSome, IsTrue, is_none, length, option_map, true};
 ghost use Rattle.model.specs.declared.limits.TheConstants.{MAX_THREADS};
 ghost use Rattle.model.specs.History.{started_by, top_out_of};
 ghost use Rattle.model.specs.View.{busy_at, thread_at};
 ghost use Rattle.hunt_ends.specs.Ends.{amiss_in};
 ghost use Rattle.std.specs.List.{list_any};
 ghost use Rattle.scenario_run.specs.Alike.{AreAlike};
-ghost use Rattle.scenario_run.specs.Going.{GoesAhead};
+ghost use Rattle.scenario_run.specs.Going.{Gone};
 ghost use Rattle.scenario_run.specs.Holding.{is_bug};
 ghost use Rattle.scenario_run.specs.Past.{events_of};
 ghost use Rattle.scenario_run.specs.Told.{last_of};
@@ -16,6 +16,7 @@ ghost use Rattle.scenario_run.specs.Playing.{begun, cancelled, happened, has_roo
 use crate::past::add_past;
 use crate::runner::{Keeping, Runner};
 use crate::told::Told;
+use crate::walking::{is_busy, walk};
 use checked::Checked;
 use driver_set::DriverSet;
 use hunt_worlds::world::same_world;
@@ -37,6 +38,15 @@ pub enum Outcome {
     Waits,
     /// It was refused, found nothing to do, or stopped the run; or what is expected doesn't hold.
     Fails,
+}
+
+/// How far a thread has gone by steps one after another.
+#[derive(Clone, Copy)]
+struct Ahead {
+    /// How many of its steps are left, without those that only stepped.
+    left: usize,
+    /// How the one behind these went, if one was made.
+    last: Option<Outcome>,
 }
 
 /// A scenario as it plays.
@@ -226,37 +236,54 @@ impl Playing {
         Ok(outcome_of_cancel(&reply))
     }
 
-    /// A thread makes steps by itself, at most so many: how many of them are left.
-    fn go_ahead(&mut self, thread: u8, most: usize) -> Result<usize, AllocError>
-        ensures { IfOk result (λ left. (left ≤ most)
-            × GoesAhead thread self.old (most - left) self.new) }
+    /// A thread makes steps one after another while it has frames and each only steps, and the one
+    /// behind these, at most so many.
+    fn go_ahead(&mut self, thread: u8, most: usize) -> Result<Ahead, AllocError>
+        ensures { IfOk result (λ ahead. (ahead.left ≤ most) × IfSome ahead.last (λ _. 0 < ahead.left)
+            × Gone thread self.old (most - ahead.left) ahead.last self.new) }
     {
         let room = MAX_EVENTS.saturating_sub(self.count);
-        self.past.reserve(1)?;
-        let made = self.runner.go_on(thread, most.min(room));
-        if made == 0 {
-            return Ok(most);
+        if room == 0 {
+            return Ok(Ahead {
+                left: most,
+                last: None,
+            });
         }
+        self.told.make_room()?;
+        self.past.reserve(1)?;
+        let walked = walk(&mut self.runner, thread, most.min(room));
         let event = Event::Step { thread };
-        add_past(&mut self.past, Repeated { event, count: made });
-        self.count += made;
-        self.told.note_steps(made);
-        Ok(most - made)
+        let count = walked.count();
+        add_past(&mut self.past, Repeated { event, count });
+        self.count += count;
+        self.told.note_walk(&walked);
+        Ok(Ahead {
+            left: most - walked.made,
+            last: outcome_if(&walked.last),
+        })
     }
 
     /// So many steps of a thread, up to one that fails.
-    #[tactic(auto, using(crate::proofs::Going::steps_ahead, crate::proofs::Stepping::steps_done, crate::proofs::Stepping::steps_waited, crate::proofs::Stepping::steps_failed))]
+    #[tactic(auto, using(crate::proofs::Going::steps_ahead, crate::proofs::Stepping::steps_done, crate::proofs::Stepping::steps_waited, crate::proofs::Stepping::steps_failed, crate::proofs::Stepping::steps_end_done, crate::proofs::Stepping::steps_end_waited, crate::proofs::Stepping::steps_end_failed))]
     pub(crate) fn steps(&mut self, thread: u8, count: u64) -> Result<Outcome, AllocError>
         ensures { IfOk result (λ outcome.
             record { now = self.new; outcome = outcome } ≡ stepping thread count self.old) }
     {
-        let mut left = self.go_ahead(thread, count as usize)?;
+        let mut left = count as usize;
         while left > 0 {
-            match self.one(Event::Step { thread })? {
+            let ahead = self.go_ahead(thread, left)?;
+            if ahead.left == 0 {
+                return Ok(Outcome::Done);
+            }
+            let outcome = match ahead.last {
+                Some(outcome) => outcome,
+                None => self.one(Event::Step { thread })?,
+            };
+            match outcome {
                 Outcome::Fails => return Ok(Outcome::Fails),
                 Outcome::Done | Outcome::Waits => {}
             }
-            left = self.go_ahead(thread, left - 1)?;
+            left = ahead.left - 1;
         }
         Ok(Outcome::Done)
     }
@@ -281,22 +308,32 @@ impl Playing {
     }
 
     /// The same by at most so many steps.
-    #[tactic(auto, using(crate::proofs::Going::runs_ahead, crate::proofs::Stepping::run_idle, crate::proofs::Stepping::run_done, crate::proofs::Stepping::run_waited, crate::proofs::Stepping::run_failed))]
+    #[tactic(auto, using(crate::proofs::Going::runs_ahead, crate::proofs::Stepping::run_idle, crate::proofs::Stepping::run_done, crate::proofs::Stepping::run_waited, crate::proofs::Stepping::run_failed, crate::proofs::Stepping::run_end_done, crate::proofs::Stepping::run_end_waited, crate::proofs::Stepping::run_end_failed))]
     fn run_on(&mut self, thread: u8, most: usize) -> Result<Outcome, AllocError>
         ensures { IfOk result (λ outcome.
             record { now = self.new; outcome = outcome } ≡ running thread most self.old) }
     {
-        let mut left = self.go_ahead(thread, most)?;
+        let mut left = most;
         while left > 0 {
-            if !self.is_busy(thread) {
-                return Ok(Outcome::Done);
+            let ahead = self.go_ahead(thread, left)?;
+            if ahead.left == 0 {
+                return Ok(Outcome::Fails);
             }
-            match self.one(Event::Step { thread })? {
+            let outcome = match ahead.last {
+                Some(outcome) => outcome,
+                None => {
+                    if !self.is_busy(thread) {
+                        return Ok(Outcome::Done);
+                    }
+                    self.one(Event::Step { thread })?
+                }
+            };
+            match outcome {
                 Outcome::Done => {}
                 Outcome::Waits => return Ok(Outcome::Waits),
                 Outcome::Fails => return Ok(Outcome::Fails),
             }
-            left = self.go_ahead(thread, left - 1)?;
+            left = ahead.left - 1;
         }
         Ok(Outcome::Fails)
     }
@@ -344,10 +381,7 @@ impl Playing {
     pub(crate) fn is_busy(&self, thread: u8) -> bool
         ensures { result ≡ busy_at (world_of self.now) thread }
     {
-        match self.runner.machine.thread(thread) {
-            Some(view) => view.frames > 0,
-            None => false,
-        }
+        is_busy(&self.runner, thread)
     }
 
     /// The number of a packet of the scenario, if it was issued.
@@ -467,6 +501,16 @@ fn outcome_of(reply: &Reply) -> Outcome
         }
         Reply::Waited => Outcome::Waits,
         Reply::Idle | Reply::Refused | Reply::Bug(_) | Reply::Wrong(_) => Outcome::Fails,
+    }
+}
+
+/// How the event went that has this reply, if there is one.
+fn outcome_if(reply: &Option<Reply>) -> Option<Outcome>
+    ensures { result ≡ option_map outcome_of reply.now }
+{
+    match reply {
+        Some(reply) => Some(outcome_of(reply)),
+        None => None,
     }
 }
 

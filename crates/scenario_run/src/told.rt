@@ -1,6 +1,6 @@
 //! What the replies of a run told, as far as a scenario asks for it.
 
-ghost use Rattle.std.specs.Prelude.{◌<◌, ◌≡◌, ◌≤◌, ◌∷◌, [], IsTrue, List, OnOk, replicate, vec_len};
+ghost use Rattle.std.specs.Prelude.{◌<◌, ◌≡◌, ◌∷◌, [], IsTrue, List, OnOk, replicate, vec_len};
 ghost use Rattle.std.specs.List.{list_any};
 ghost use Rattle.std.specs.Vec.{vec_capacity};
 ghost use Rattle.model.specs.declared.event.Reply.{Reply};
@@ -10,8 +10,10 @@ ghost use Rattle.model.specs.Words.{bug_check_code};
 ghost use Rattle.scenario_run.specs.Alike.{TellAlike};
 ghost use Rattle.scenario_run.specs.Holding.{is_bug};
 ghost use Rattle.scenario_run.specs.Told.{Adds, AddsBug, AreTold, HasRoom, bug_told};
+ghost use Rattle.scenario_run.specs.Walking.{replied};
 
 use crate::tops::{make_room, note_top, same_tops, top_at};
+use crate::walking::Walked;
 use indexmap::IndexMap;
 use model::event::{BugCheck, Reply};
 use model::history::TopOut;
@@ -60,12 +62,27 @@ impl Told {
         note_top(&mut self.tops, reply);
     }
 
-    /// Notes that a thread stepped, so many times more.
-    pub(crate) fn note_steps(&mut self, count: usize)
-        requires { 1 ≤ count }
-        ensures { Adds self.old (replicate count Stepped) self.new }
+    /// Notes the replies to steps of a thread.
+    #[tactic(auto, using(crate::proofs::Telling::told_behind))]
+    pub(crate) fn note_walk(&mut self, walked: &Walked)
+        requires { HasRoom self.old }
+        ensures { Adds self.old (replied walked.now.made walked.now.last) self.new }
     {
-        self.last = Some(Reply::Stepped);
+        self.note_steps(walked.made);
+        if let Some(reply) = &walked.last {
+            self.note(reply);
+        }
+    }
+
+    /// Notes that a thread stepped, so many times more.
+    fn note_steps(&mut self, count: usize)
+        requires { HasRoom self.old }
+        ensures adds { Adds self.old (replicate count Stepped) self.new }
+        ensures room { HasRoom self.new }
+    {
+        if count > 0 {
+            self.last = Some(Reply::Stepped);
+        }
     }
 
     /// Whether a bug check has this number.

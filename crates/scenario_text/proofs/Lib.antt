@@ -1,2 +1,3 @@
 pub mod Blocks
 pub mod Limits
+pub mod Usual

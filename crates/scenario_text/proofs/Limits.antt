@@ -1,5 +1,5 @@
 -- A line that gives the threads gives as many as a run may have.
-use Rattle.std.proofs.Common.{◌≡◌, ℕ, ◌≤◌, nat_le, true, Bool, List, [], ◌∷◌, Option, Some, None, Result, Ok, Err, IfOk, IfSome, ◌&&◌, bytes_eq, codes, if◌then◌else◌}
+use Rattle.std.proofs.Common.{ℕ, ◌≤◌, nat_le, Bool, List, [], ◌∷◌, Option, Some, None, Result, Ok, Err, IfOk, IfSome, ◌&&◌, bytes_eq, codes, if◌then◌else◌}
 use Rattle.std.proofs.lemmas.Bool.{and_parts, leb-true, cond_both}
 use Rattle.model.specs.declared.limits.TheConstants.{MAX_THREADS}
 use Rattle.text.specs.Class.{is_number}

@@ -1,12 +1,11 @@
 -- A text as a scenario: the threads and the steps that it lists, or its first faulty line with the
 -- kind of its first token that can't stand there. Lines, tokens and faults are those of a schedule.
-use Rattle.std.specs.Prelude.{◌≡◌, ◌⊎◌, ℕ, zero, suc, ◌+◌, ◌-◌, ◌≤◌, nat_lt, List, [], ◌∷◌, ◌++◌, length, option_to_list, Option, Some, None, Result, Ok, Err, if◌then◌else◌}
+use Rattle.std.specs.Prelude.{◌≡◌, ◌⊎◌, ℕ, zero, suc, ◌+◌, ◌-◌, nat_lt, List, [], ◌∷◌, ◌++◌, length, option_to_list, Option, Some, None, Result, Ok, Err, if◌then◌else◌}
 use Rattle.interleave.specs.Line.{and_then, opening_line}
 use Rattle.interleave.specs.Listing.{at_line}
 use Rattle.interleave.specs.declared.schedule.ScheduleFault.{ScheduleFault}
 use Rattle.interleave.specs.declared.schedule.ScheduleKind.{ScheduleKind}
 use Rattle.interleave.specs.declared.schedule.ScheduleKind.TheVariants.{UnknownWord, TooLong, Memory}
-use Rattle.model.specs.declared.limits.TheConstants.{MAX_THREADS}
 use Rattle.scenario_text.specs.Line.{clean_tokens, line_of}
 use Rattle.scenario_names.specs.Names.{Named}
 use Rattle.scenario_text.specs.declared.reading.Said.{Said}

@@ -4,6 +4,7 @@
 
 pub mod judging;
 pub mod parse;
+mod quick;
 pub mod reading;
 pub mod repeating;
 pub mod scenario;

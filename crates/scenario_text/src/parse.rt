@@ -1,12 +1,13 @@
 //! The text of a scenario.
 
-ghost use Rattle.std.specs.Prelude.{◌≡◌, ◌+◌, ◌<◌, ◌≤◌, ◌^◌, IfOk, IfSome, MatchResult, OnOk, Ok, Err, length};
+ghost use Rattle.std.specs.Prelude.{◌≡◌, ◌+◌, ◌<◌, ◌≤◌, ◌^◌, IfOk, IfSome, MatchResult, OnOk, Ok, Err, Some, length};
 ghost use Rattle.interleave.specs.Line.{opening_line};
 ghost use Rattle.text.specs.Cut.{tokens_of};
 ghost use Rattle.model.specs.declared.limits.TheConstants.{MAX_THREADS};
 ghost use Rattle.scenario_text.specs.Repeating.{kept};
-ghost use Rattle.scenario_text.specs.Listing.{IsFaultOf, closed, ends, given_after, listing, nothing, opening, opens, repeated, scenario_in, with_line, with_lines, with_said, with_threads, with_tokens};
+ghost use Rattle.scenario_text.specs.Listing.{IsFaultOf, closed, ends, given_after, lengthened, listing, nothing, opening, opens, repeated, scenario_in, with_line, with_lines, with_said, with_threads, with_tokens};
 
+use crate::quick::usual_line;
 use crate::reading::{Said, line_of};
 use crate::repeating::{Block, Numbered, Open, block_in};
 use crate::scenario::{MAX_STEPS, Scenario, Step};
@@ -190,6 +191,7 @@ impl<'a> Given<'a> {
     }
 
     /// Adds what a line says.
+    #[tactic(auto, using(crate::proofs::Usual::usual_given))]
     fn add_line(
         &mut self,
         alloc: Global,
@@ -201,6 +203,14 @@ impl<'a> Given<'a> {
             (λ _. given_after names.now self.old number line.now ≡ Ok self.new)
             (λ kind. given_after names.now self.old number line.now ≡ Err kind)) }
     {
+        if let Some(action) = usual_line(names, &self.packets, line) {
+            let said = Said {
+                name: None,
+                may: false,
+                action,
+            };
+            return self.add_said(number, line, said);
+        }
         if !is_clean(line) {
             return Ok(Err(ScheduleKind::Lex));
         }
@@ -310,16 +320,28 @@ impl<'a> Given<'a> {
             ≡ Err kind)) }
     {
         match line_of(names, &self.packets, Tokens::of(line)) {
-            Ok(Some(said)) => {
-                if self.steps.len() >= MAX_STEPS {
-                    return Ok(Err(ScheduleKind::TooLong));
-                }
-                self.add(number, line, said)?;
-                Ok(Ok(()))
-            }
+            Ok(Some(said)) => self.add_said(number, line, said),
             Ok(None) => Ok(Ok(())),
             Err(kind) => Ok(Err(kind)),
         }
+    }
+
+    /// Adds what a line says, if there may be a step more.
+    fn add_said(
+        &mut self,
+        number: u64,
+        line: &'a [u8],
+        said: Said<'a>,
+    ) -> Result<Result<(), ScheduleKind>, AllocError>
+        ensures { IfOk result (λ r. MatchResult r
+            (λ _. lengthened self.old number line.now (Some said.entry) ≡ Ok self.new)
+            (λ kind. lengthened self.old number line.now (Some said.entry) ≡ Err kind)) }
+    {
+        if self.steps.len() >= MAX_STEPS {
+            return Ok(Err(ScheduleKind::TooLong));
+        }
+        self.add(number, line, said)?;
+        Ok(Ok(()))
     }
 
     /// Adds a step, the name of the packet that it issues, and its line to the block that is open.

@@ -1,4 +1,4 @@
-use Rattle.std.proofs.Common.{◌≡◌, ◌∙◌, Some, None, rules, sym, true, is_some, nat_eq}
+use Rattle.std.proofs.Common.{◌≡◌, Some, None, rules, true, is_some, nat_eq}
 use Rattle.indexmap.specs.IndexMap.{get}
 use Rattle.scenario_run.specs.Tops.{top_told}
 use Rattle.scenario_run.proofs.Topping.{tops_silent, tops_known, tops_new}

@@ -1,6 +1,5 @@
-use Rattle.std.proofs.Common.{◌≡◌, ◌∙◌, ◌+◌, ◌++◌, ◌∷◌, [], List, ap, replicate, subst, sym}
+use Rattle.std.proofs.Common.{◌≡◌, ◌∙◌, ◌++◌, ◌∷◌, [], List, ap, subst}
 use Rattle.model.specs.declared.event.Event.{Event}
-use Rattle.model.specs.declared.event.Reply.{Reply}
 use Rattle.model.specs.Set.{Set}
 use Rattle.scenario_run.specs.Past.{events_of}
 use Rattle.scenario_run.specs.Playing.{Playing, reply_in}

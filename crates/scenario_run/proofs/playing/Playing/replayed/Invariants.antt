@@ -1,5 +1,4 @@
 use Rattle.std.proofs.Common.{◌≡◌, take}
-use Rattle.scenario_run.specs.Playing.{Playing}
 use Rattle.scenario_run.proofs.playing.Playing.replayed.Given as goal
 
 -- the first of the events have happened

@@ -1,4 +1,4 @@
-use Rattle.std.proofs.Common.{◌≡◌, ◌∙◌, ap}
+use Rattle.std.proofs.Common.{◌∙◌, ap}
 use Rattle.std.specs.Prelude.{not}
 use Rattle.scenario_run.proofs.Running.{finds_fine}
 use Rattle.scenario_run.proofs.runner.Runner.is_fine.Goals as goal

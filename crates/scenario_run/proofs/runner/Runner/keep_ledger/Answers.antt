@@ -1,4 +1,3 @@
-use Rattle.std.proofs.Common.{◌≡◌}
 use Rattle.scenario_run.proofs.runner.Runner.keep_ledger.Goals as goal
 
 pub returns-clause-begun : goal.returns-clause-begun

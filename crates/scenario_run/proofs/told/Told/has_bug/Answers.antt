@@ -1,4 +1,4 @@
-use Rattle.std.proofs.Common.{◌≡◌, ◌∙◌, ap, List, nat_eq, ℕ}
+use Rattle.std.proofs.Common.{◌∙◌, ap, List, nat_eq, ℕ}
 use Rattle.std.specs.List.{list_any}
 use Rattle.scenario_run.proofs.told.Told.has_bug.Goals as goal
 

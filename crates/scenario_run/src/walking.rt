@@ -1,0 +1,100 @@
+//! Steps that a thread makes one after another, on a machine with the ledger of its run.
+
+ghost use Rattle.std.specs.Prelude.{◌≡◌, ◌≤◌, ◌+◌, ◌<◌, ◌^◌};
+ghost use Rattle.checked.specs.GoingOn.{GoesOn};
+ghost use Rattle.model.specs.View.{busy_at};
+ghost use Rattle.scenario_run.specs.Walking.{WalksOn, is_stepped, steps_in};
+
+use crate::runner::Runner;
+use model::event::{Event, Reply};
+
+/// Steps that aren't tried as such of the routine by itself, behind one that wasn't.
+const PAUSE: u8 = 7;
+
+/// Steps that a thread made, one after another.
+#[derive(Clone, Copy)]
+pub struct Walked {
+    /// How many of them only stepped.
+    pub made: usize,
+    /// What the one behind these replied, if one was made: something else.
+    pub last: Option<Reply>,
+}
+
+impl Walked {
+    /// How many steps that are.
+    pub(crate) fn count(&self) -> usize
+        requires { self.now.made + 1 < 2 ^ 64 }
+        ensures { result ≡ steps_in self.now }
+    {
+        match self.last {
+            Some(_) => self.made + 1,
+            None => self.made,
+        }
+    }
+}
+
+/// Lets a thread make steps while it has frames and each only steps, and the one behind these, at
+/// most so many.
+pub(crate) fn walk(runner: &mut Runner, thread: u8, most: usize) -> Walked
+    ensures few { steps_in result ≤ most }
+    ensures walks { WalksOn thread runner.old result runner.new }
+{
+    let mut made = 0;
+    let mut pause = 0;
+    while made < most {
+        let alone = stride(runner, thread, most - made, pause);
+        pause = pause_behind(pause, alone);
+        made += alone;
+        if made == most || !is_busy(runner, thread) {
+            return Walked { made, last: None };
+        }
+        let reply = runner.apply(&Event::Step { thread });
+        if !is_stepped(&reply) {
+            return Walked {
+                made,
+                last: Some(reply),
+            };
+        }
+        made += 1;
+    }
+    Walked { made, last: None }
+}
+
+/// Lets the routine of a thread go on by itself, at most so many steps, unless that isn't tried, and
+/// answers how many it made.
+fn stride(runner: &mut Runner, thread: u8, most: usize, pause: u8) -> usize
+    ensures few { result ≤ most }
+    ensures goes { GoesOn thread runner.old.machine result runner.new.machine }
+    ensures ledger { runner.new.ledger ≡ runner.old.ledger }
+    ensures keeping { runner.new.keeping ≡ runner.old.keeping }
+{
+    if pause > 0 {
+        return 0;
+    }
+    runner.go_on(thread, most)
+}
+
+/// For how many steps more it isn't tried, where the routine has made so many by itself.
+fn pause_behind(pause: u8, alone: usize) -> u8 {
+    if pause > 0 {
+        return pause - 1;
+    }
+    if alone > 0 { 0 } else { PAUSE }
+}
+
+/// Whether a thread has frames.
+pub(crate) fn is_busy(runner: &Runner, thread: u8) -> bool
+    ensures { result ≡ busy_at runner.now.machine.world thread }
+{
+    match runner.machine.thread(thread) {
+        Some(view) => view.frames > 0,
+        None => false,
+    }
+}
+
+/// Whether a reply tells that the thread stepped.
+fn is_stepped(reply: &Reply) -> bool
+    ensures { result ≡ is_stepped reply.now }
+{
+    matches!(reply, Reply::Stepped)
+}
