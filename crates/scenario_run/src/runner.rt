@@ -65,7 +65,7 @@ impl Runner {
 
     /// Applies an event, and notes it in the ledger where that is kept. Where memory runs out, it is
     /// kept no longer.
-    #[inline]
+    #[inline(always)]
     #[tactic(auto, using(crate::proofs::Running::runs_plain))]
     pub(crate) fn apply(&mut self, event: &Event) -> Reply
         ensures { RunsOn self.old event.now self.new result }
