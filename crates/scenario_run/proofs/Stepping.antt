@@ -6,7 +6,8 @@ use Rattle.scenario_names.specs.declared.names.Spot.{Spot}
 use Rattle.scenario_run.specs.declared.playing.Outcome.{Outcome}
 use Rattle.scenario_run.specs.declared.playing.Outcome.TheVariants.{Done, Waits, Fails}
 use Rattle.scenario_run.specs.Going.{Ends}
-use Rattle.scenario_run.specs.Playing.{Playing, Went, if_done, if_going, one, running, running_to, stands_at, stays, stepping, unless_failed, world_of}
+use Rattle.scenario_run.specs.Playing.{Playing, Went, if_done, if_going, one, running, running_to, stays, stepping, unless_failed, world_of}
+use Rattle.scenario_world.specs.States.{stands_at}
 use Rattle.scenario_run.proofs.Going.{runs_ahead, steps_ahead}
 
 -- where a step went so, and so many are left

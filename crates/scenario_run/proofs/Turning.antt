@@ -4,7 +4,8 @@ use Rattle.model.specs.declared.event.Event.TheVariants as event
 use Rattle.scenario_run.specs.declared.playing.Outcome.{Outcome}
 use Rattle.scenario_run.specs.declared.playing.Outcome.TheVariants.{Done, Waits, Fails}
 use Rattle.scenario_run.specs.Playing.{Playing, Went, if_going, one, stays, unless_failed, world_of}
-use Rattle.scenario_run.specs.Turns.{any_goes_on, round, rounds, running_to_release, stands_before_release, turn}
+use Rattle.scenario_run.specs.Turns.{any_goes_on, round, rounds, running_to_release, turn}
+use Rattle.scenario_world.specs.Releases.{stands_before_release}
 
 -- how a round went so
 abbrev Rounded : Playing → Playing → Outcome → Type 0

@@ -1,5 +1,5 @@
 -- What the steps of a scenario make happen, by the run so far.
-use Rattle.std.specs.Prelude.{ℕ, zero, suc, ◌++◌, ◌-◌, ◌&&◌, Bool, false, List, [], ◌∷◌, length, nat_eq, nat_lt, slice_get, Option, None, Some, if◌then◌else◌}
+use Rattle.std.specs.Prelude.{ℕ, zero, suc, ◌++◌, ◌-◌, Bool, List, [], ◌∷◌, length, nat_lt, slice_get, Option, None, Some, if◌then◌else◌}
 use Rattle.model.specs.declared.event.Event.{Event}
 use Rattle.model.specs.declared.event.Event.TheVariants as event
 use Rattle.model.specs.declared.event.Reply.{Reply}
@@ -8,12 +8,10 @@ use Rattle.model.specs.History.{replies, started_by}
 use Rattle.model.specs.Machine.{reply_to}
 use Rattle.model.specs.Run.{Run, run}
 use Rattle.model.specs.Set.{Set}
-use Rattle.model.specs.declared.view.FrameView.{FrameView}
-use Rattle.model.specs.declared.view.FrameView.TheVariants.{Routine, Walk, Cancel as CancelView}
-use Rattle.model.specs.declared.view.ThreadView.{ThreadView}
 use Rattle.model.specs.View.{busy_at, thread_at}
 use Rattle.model.specs.World.{World}
 use Rattle.scenario_names.specs.declared.names.Spot.{Spot}
+use Rattle.scenario_world.specs.States.{stands_at}
 use Rattle.scenario_run.specs.declared.playing.Outcome.{Outcome}
 use Rattle.scenario_run.specs.declared.playing.Outcome.TheVariants.{Done, Waits, Fails}
 
@@ -125,18 +123,6 @@ running t (suc count) p =
 -- a run of a thread that there is
 abbrev pub run_thread : ℕ → Playing → Went
 run_thread t p = if nat_lt t p.threads then running t (most_of p) p else stays p Fails
-
--- a thread's next step is that of an instruction
-abbrev pub is_at : Spot → Option FrameView → Bool
-is_at spot None = false
-is_at spot (Some (Routine driver routine device position)) =
-    nat_eq driver spot.driver && nat_eq routine spot.routine && nat_eq position spot.position
-is_at spot (Some (Walk n)) = false
-is_at spot (Some (CancelView c)) = false
-
-abbrev pub stands_at : Spot → Option ThreadView → Bool
-stands_at spot None = false
-stands_at spot (Some view) = is_at spot view.top
 
 -- steps of a thread up to there; it fails where the thread waits before
 abbrev pub if_going : Outcome → Playing → Went → Went

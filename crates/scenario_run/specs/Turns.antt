@@ -1,16 +1,9 @@
 -- Threads that make steps in turn, and a run up to the release of a lock.
-use Rattle.std.specs.Prelude.{ℕ, zero, suc, ◌&&◌, ◌||◌, Bool, false, nat_eq, is_none, Option, None, Some, if◌then◌else◌}
+use Rattle.std.specs.Prelude.{ℕ, zero, suc, ◌&&◌, ◌||◌, Bool, false, is_none, if◌then◌else◌}
 use Rattle.laws_locks.specs.Waiting.{waits_for}
 use Rattle.model.specs.declared.event.Event.TheVariants as event
-use Rattle.model.specs.declared.instr.Instr.{Instr}
-use Rattle.model.specs.declared.instr.Instr.TheVariants.{Release}
-use Rattle.model.specs.declared.world.Frame.{Frame}
-use Rattle.model.specs.declared.world.Frame.TheVariants.{Routine, Walk, Cancel as CancelFrame}
-use Rattle.model.specs.Effect.{top_of}
-use Rattle.model.specs.Run.{frames_on}
-use Rattle.model.specs.Set.{Set, instruction_at}
 use Rattle.model.specs.View.{busy_at}
-use Rattle.model.specs.World.{World}
+use Rattle.scenario_world.specs.Releases.{stands_before_release}
 use Rattle.scenario_run.specs.declared.playing.Outcome.TheVariants.{Done, Fails}
 use Rattle.scenario_run.specs.Playing.{Playing, Went, if_going, most_of, one, stays, unless_failed, world_of}
 
@@ -45,23 +38,6 @@ rounds (suc count) p =
 
 abbrev pub run_all : Playing → Went
 run_all p = rounds (most_of p) p
-
--- an instruction releases a spin lock of its device
-abbrev pub is_release : ℕ → Option Instr → Bool
-is_release lock None = false
-is_release lock (Some (Release l)) = nat_eq l lock
-is_release lock (Some i) = false
-
--- the next step of a frame does, and that of a thread
-abbrev pub releases : Set → ℕ → Option Frame → Bool
-releases set lock None = false
-releases set lock (Some (Routine a)) =
-    is_release lock (instruction_at set a.driver a.routine a.position)
-releases set lock (Some (Walk n)) = false
-releases set lock (Some (CancelFrame c)) = false
-
-abbrev pub stands_before_release : Set → World → ℕ → ℕ → Bool
-stands_before_release set w t lock = releases set lock (top_of (frames_on w t))
 
 -- steps of a thread up to there; it fails where the thread waits before
 abbrev pub running_to_release : ℕ → ℕ → ℕ → Playing → Went

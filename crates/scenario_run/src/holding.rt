@@ -2,7 +2,7 @@
 
 ghost use Rattle.std.specs.Prelude.{◌≡◌, ◌++◌, IfOk, OnOk, replicate};
 ghost use Rattle.hunt_ends.specs.Ends.{Rehearses, amiss_in};
-ghost use Rattle.scenario_run.specs.Holding.{device_holds, has_information, has_status, holds, is_busy, is_cancelled, is_clean, is_idle, is_live, numbers_of, packet_holds, thread_holds, topped_as};
+ghost use Rattle.scenario_run.specs.Holding.{holds, is_clean, numbers_of, packet_holds};
 ghost use Rattle.scenario_run.specs.Past.{events_of};
 ghost use Rattle.scenario_run.specs.Playing.{number_of, replies_of, run_of, world_of};
 ghost use Rattle.scenario_world.specs.Expected.{entries_of, has_entries};
@@ -12,19 +12,13 @@ use hunt_ends::amiss::Amiss;
 use hunt_ends::rehearsal::Rehearsal;
 use interleave::read::Repeated;
 use model::event::{Event, Reply};
-use model::history::TopOut;
-use model::status::Status;
-use model::view::{PacketView, ThreadView};
-use scenario_expected::expectation::{
-    DeviceState, Expectation, List, MAX_LISTED, PacketState, ThreadState, is_verdict,
-};
-use scenario_world::cells::has_number;
+use scenario_expected::expectation::{Expectation, List, MAX_LISTED, PacketState, is_verdict};
 use scenario_world::holders::is_held;
 use scenario_world::lists::{has_entries, has_entry, is_current};
 use scenario_world::locks::is_owned;
 use scenario_world::marks::{is_marked, is_unmarked};
+use scenario_world::states::{device_holds, is_cancelled, is_live, thread_holds, topped_as};
 use std::alloc::{AllocError, Global};
-use tell_audit::ring::waits_for;
 
 /// Whether what is expected holds.
 ///
@@ -42,8 +36,8 @@ pub fn holds(
         Expectation::Clean => is_clean(alloc, playing),
         Expectation::Bug(number) => Ok(playing.has_bug(number)),
         Expectation::Packet { packet, state } => Ok(packet_holds(playing, packet, state)),
-        Expectation::Thread { thread, state } => Ok(thread_holds(playing, thread, state)),
-        Expectation::Device { device, state } => device_holds(playing, device, state),
+        Expectation::Thread { thread, state } => Ok(thread_holds(playing.machine(), thread, state)),
+        Expectation::Device { device, state } => device_holds(playing.machine(), device, state),
         Expectation::Lock { lock, owner } => Ok(is_owned(playing.machine(), lock, owner)),
         Expectation::Listed {
             device,
@@ -136,102 +130,6 @@ fn packet_holds(playing: &Playing, packet: u16, state: PacketState) -> bool
         PacketState::In { device, list } => has_entry(machine, number, device, list),
         PacketState::Current(device) => is_current(machine, number, device),
         PacketState::Held { driver, routine } => is_held(machine, number, driver, routine),
-    }
-}
-
-fn is_live(view: &PacketView) -> bool
-    ensures { result ≡ is_live view.now }
-{
-    match view {
-        PacketView::Live(_) => true,
-        PacketView::Never | PacketView::Topped => false,
-    }
-}
-
-fn is_cancelled(view: &PacketView) -> bool
-    ensures { result ≡ is_cancelled view.now }
-{
-    match view {
-        PacketView::Live(live) => live.cancel,
-        PacketView::Never | PacketView::Topped => false,
-    }
-}
-
-fn topped_as(status: Option<Status>, information: Option<u64>, top: Option<TopOut>) -> bool
-    ensures { result ≡ topped_as status information top }
-{
-    match top {
-        Some(top) => has_status(status, top.status) && has_information(information, top.info),
-        None => false,
-    }
-}
-
-fn has_status(given: Option<Status>, status: Status) -> bool
-    ensures { result ≡ has_status given status }
-{
-    match given {
-        Some(given) => given.code() == status.code(),
-        None => true,
-    }
-}
-
-fn has_information(given: Option<u64>, info: u64) -> bool
-    ensures { result ≡ has_information given info }
-{
-    match given {
-        Some(given) => given == info,
-        None => true,
-    }
-}
-
-/// Whether this holds of a thread.
-fn thread_holds(playing: &Playing, thread: u8, state: ThreadState) -> bool
-    ensures { result ≡ thread_holds playing.now.set (world_of playing.now) thread state }
-{
-    let machine = playing.machine();
-    match state {
-        ThreadState::Idle => is_idle(&machine.thread(thread)),
-        ThreadState::Busy => is_busy(&machine.thread(thread)),
-        ThreadState::Waiting => waits_for(machine, thread).is_some(),
-        ThreadState::WaitingFor(other) => waits_for(machine, thread) == Some(other),
-        ThreadState::At(spot) => playing.stands_at(thread, spot),
-    }
-}
-
-fn is_idle(view: &Option<ThreadView>) -> bool
-    ensures { result ≡ is_idle view.now }
-{
-    match view {
-        Some(view) => view.frames == 0,
-        None => false,
-    }
-}
-
-fn is_busy(view: &Option<ThreadView>) -> bool
-    ensures { result ≡ is_busy view.now }
-{
-    match view {
-        Some(view) => view.frames != 0,
-        None => false,
-    }
-}
-
-/// Whether this holds of a device.
-fn device_holds(playing: &Playing, device: u8, state: DeviceState) -> Result<bool, AllocError>
-    ensures { IfOk result (λ yes. yes ≡ device_holds (world_of playing.now) device state) }
-{
-    let shared = playing.machine().shared();
-    match state {
-        DeviceState::Idle => match shared.start_of(device) {
-            Some(start) => Ok(!start.is_busy()),
-            None => Ok(false),
-        },
-        DeviceState::Busy => match shared.start_of(device) {
-            Some(start) => Ok(start.is_busy()),
-            None => Ok(false),
-        },
-        DeviceState::DpcQueued => Ok(shared.is_queued(device)),
-        DeviceState::Has { cell, number } => has_number(playing.machine(), device, cell, number),
     }
 }
 

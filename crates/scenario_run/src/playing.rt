@@ -11,7 +11,8 @@ ghost use Rattle.scenario_run.specs.Going.{Gone};
 ghost use Rattle.scenario_run.specs.Holding.{is_bug};
 ghost use Rattle.scenario_run.specs.Past.{events_of};
 ghost use Rattle.scenario_run.specs.Told.{last_of};
-ghost use Rattle.scenario_run.specs.Playing.{begun, cancelled, happened, has_room, is_at, issued, most_of, number_of, one, outcome_of, outcome_of_cancel, replies_of, reply_in, reply_of, run_of, run_thread, running, running_to, stands_at, stepping, with_event, world_of};
+ghost use Rattle.scenario_run.specs.Playing.{begun, cancelled, happened, has_room, issued, most_of, number_of, one, outcome_of, outcome_of_cancel, replies_of, reply_in, reply_of, run_of, run_thread, running, running_to, stepping, with_event, world_of};
+ghost use Rattle.scenario_world.specs.States.{stands_at};
 
 use crate::past::add_past;
 use crate::runner::{Keeping, Runner};
@@ -24,8 +25,8 @@ use interleave::read::Repeated;
 use interleave::schedule::MAX_EVENTS;
 use model::event::{Event, Reply};
 use model::history::TopOut;
-use model::view::FrameView;
 use scenario_names::names::Spot;
+use scenario_world::states::stands_at;
 use std::alloc::{AllocError, Global};
 use std::marker::Model;
 
@@ -371,10 +372,7 @@ impl Playing {
     pub(crate) fn stands_at(&self, thread: u8, spot: Spot) -> bool
         ensures { result ≡ stands_at spot (thread_at (world_of self.now) thread) }
     {
-        match self.runner.machine.thread(thread) {
-            Some(view) => is_at(spot, view.top),
-            None => false,
-        }
+        stands_at(&self.runner.machine, thread, spot)
     }
 
     /// Whether a thread has frames.
@@ -457,27 +455,6 @@ impl Playing {
         ensures { events_of result.now ≡ self.now.events }
     {
         self.past.as_slice()
-    }
-}
-
-/// Whether a frame stands before an instruction.
-fn is_at(spot: Spot, top: Option<FrameView>) -> bool
-    ensures { result ≡ is_at spot top }
-{
-    match top {
-        Some(
-            FrameView::Routine {
-                driver,
-                routine,
-                position,
-                device: _,
-            },
-        ) => {
-            u64::from(driver) == spot.driver
-                && u64::from(routine) == spot.routine
-                && u64::from(position) == spot.position
-        }
-        _ => false,
     }
 }
 

@@ -1,17 +1,15 @@
 //! Threads that make steps in turn, and a run up to the release of a lock.
 
-ghost use Rattle.std.specs.Prelude.{◌≡◌, ◌≤◌, IfOk, Some};
+ghost use Rattle.std.specs.Prelude.{◌≡◌, ◌≤◌, IfOk};
 ghost use Rattle.model.specs.declared.limits.TheConstants.{MAX_THREADS};
 ghost use Rattle.scenario_run.specs.Playing.{most_of, world_of};
-ghost use Rattle.scenario_run.specs.Turns.{any_goes_on, goes_on, is_release, releases, round, rounds, run_all, running_to_release, stands_before_release, turn};
+ghost use Rattle.scenario_run.specs.Turns.{any_goes_on, goes_on, round, rounds, run_all, running_to_release, turn};
 
 use crate::playing::{Outcome, Playing};
-use checked_frames::Frame;
-use driver_set::{DriverSet, Instr};
 use model::event::Event;
+use scenario_world::releases::stands_before_release;
 use std::alloc::AllocError;
 use tell_audit::ring::waits_for;
-use tell_uses::standing::{instruction_at, top_frame};
 
 /// The threads make steps in turn, the lowest first, until each is idle or waits.
 ///
@@ -138,7 +136,7 @@ fn run_up_to_release(
 {
     let mut left = most;
     while left > 0 {
-        if stands_before_release(playing, thread, lock) {
+        if stands_before_release(playing.machine(), thread, lock) {
             return Ok(Outcome::Done);
         }
         match playing.one(Event::Step { thread })? {
@@ -148,39 +146,4 @@ fn run_up_to_release(
         left -= 1;
     }
     Ok(Outcome::Fails)
-}
-
-/// Whether a thread's next step releases a spin lock of its device.
-fn stands_before_release(playing: &Playing, thread: u8, lock: u8) -> bool
-    ensures { result
-        ≡ stands_before_release playing.now.set (world_of playing.now) thread lock }
-{
-    let machine = playing.machine();
-    match top_frame(machine, thread) {
-        Some(frame) => releases(machine.set(), lock, frame),
-        None => false,
-    }
-}
-
-/// Whether the next step of a frame does.
-fn releases(set: &DriverSet, lock: u8, frame: &Frame) -> bool
-    ensures { result ≡ releases set.now lock (Some frame.now) }
-{
-    match frame.activation() {
-        Some(a) => match instruction_at(set, a) {
-            Some(instr) => is_release(lock, &instr),
-            None => false,
-        },
-        None => false,
-    }
-}
-
-/// Whether an instruction releases a spin lock of its device.
-fn is_release(lock: u8, instr: &Instr) -> bool
-    ensures { result ≡ is_release lock (Some instr.now) }
-{
-    match *instr {
-        Instr::Release(released) => released.index() == lock as usize,
-        _ => false,
-    }
 }

@@ -7,8 +7,10 @@ use Rattle.model.specs.View.{busy_at, thread_at}
 use Rattle.scenario_run.specs.Acting.{acted}
 use Rattle.scenario_run.specs.declared.playing.Outcome.{Outcome}
 use Rattle.scenario_run.specs.declared.playing.Outcome.TheVariants.{Done, Waits, Fails}
-use Rattle.scenario_run.specs.Playing.{Playing, Went, cancelled, happened, has_room, if_done, if_going, most_of, number_of, one, running, running_to, stands_at, stays, stepping, unless_failed, with_event, world_of}
-use Rattle.scenario_run.specs.Turns.{any_goes_on, goes_on, round, rounds, running_to_release, stands_before_release, turn}
+use Rattle.scenario_run.specs.Playing.{Playing, Went, cancelled, happened, has_room, if_done, if_going, most_of, number_of, one, running, running_to, stays, stepping, unless_failed, with_event, world_of}
+use Rattle.scenario_world.specs.States.{stands_at}
+use Rattle.scenario_run.specs.Turns.{any_goes_on, goes_on, round, rounds, running_to_release, turn}
+use Rattle.scenario_world.specs.Releases.{stands_before_release}
 use Rattle.scenario_names.specs.declared.names.Spot.{Spot}
 use Rattle.scenario_text.specs.declared.scenario.Action.{Action}
 use Rattle.scenario_text.specs.declared.scenario.Action.TheVariants.{Issue, Cancel, Interrupt, Dpc, StartIo, Steps, Run as RunAction, RunTo, RunToRelease, RunAll, Together, Expect}

@@ -21,9 +21,12 @@ use Rattle.scenario_run.specs.Acting.{acted, expected, expects_audit}
 use Rattle.scenario_run.specs.Alike.{GoAlike}
 use Rattle.scenario_run.specs.declared.playing.Outcome.{Outcome}
 use Rattle.scenario_run.specs.declared.playing.Outcome.TheVariants.{Done, Waits, Fails}
-use Rattle.scenario_run.specs.Holding.{device_holds, holds, is_clean, numbers_of, packet_holds, packet_is, thread_holds, topped_as}
-use Rattle.scenario_run.specs.Playing.{Playing, Went, cancelled, happened, has_room, if_done, if_going, issued, most_of, number_of, one, outcome_of, outcome_of_cancel, replies_of, reply_in, reply_of, run_of, run_thread, running, running_to, stands_at, stays, stepping, unless_failed, with_event, world_of}
-use Rattle.scenario_run.specs.Turns.{any_goes_on, goes_on, round, rounds, run_all, running_to_release, stands_before_release, turn}
+use Rattle.scenario_run.specs.Holding.{holds, is_clean, numbers_of, packet_holds, packet_is}
+use Rattle.scenario_world.specs.States.{device_holds, thread_holds, topped_as}
+use Rattle.scenario_run.specs.Playing.{Playing, Went, cancelled, happened, has_room, if_done, if_going, issued, most_of, number_of, one, outcome_of, outcome_of_cancel, replies_of, reply_in, reply_of, run_of, run_thread, running, running_to, stays, stepping, unless_failed, with_event, world_of}
+use Rattle.scenario_world.specs.States.{stands_at}
+use Rattle.scenario_run.specs.Turns.{any_goes_on, goes_on, round, rounds, run_all, running_to_release, turn}
+use Rattle.scenario_world.specs.Releases.{stands_before_release}
 use Rattle.scenario_names.specs.declared.names.Spot.{Spot}
 use Rattle.scenario_world.specs.Expected.{entries_of, has_entries, is_owned}
 use Rattle.scenario_text.specs.declared.scenario.Action.{Action}

@@ -1,1 +1,3 @@
 pub mod Expected
+pub mod Releases
+pub mod States

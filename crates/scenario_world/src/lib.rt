@@ -7,3 +7,5 @@ pub mod holders;
 pub mod lists;
 pub mod locks;
 pub mod marks;
+pub mod releases;
+pub mod states;

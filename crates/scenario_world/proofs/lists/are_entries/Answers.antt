@@ -1,4 +1,4 @@
-use Rattle.std.proofs.Common.{rules, ◌≡◌, ◌∙◌, ◌+◌, ◌<◌, arith, get_or, length, slice_get, None, true}
+use Rattle.std.proofs.Common.{rules, ◌≡◌, ◌∙◌, ◌<◌, arith, get_or, length, slice_get, None, true}
 use Rattle.scenario_world.specs.Expected.{has_at}
 use Rattle.scenario_world.proofs.Entries.{entry_on, entry_within}
 use Rattle.scenario_world.proofs.lists.are_entries.Goals as goal
