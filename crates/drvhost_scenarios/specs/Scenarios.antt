@@ -97,7 +97,7 @@ right_of asked set scenario answer =
 
 -- what a scenario that was read lists
 abbrev pub listed : Scenario → Listed
-listed scenario = record { threads = scenario.threads; steps = scenario.steps.items }
+listed scenario = record { threads = scenario.threads; steps = scenario.steps }
 
 -- what is right for the scenario that a text lists, or its first fault
 abbrev pub IsOfScenario : (Set → Listed → Answer → Type 0) → Set → Result Listed ScheduleFault

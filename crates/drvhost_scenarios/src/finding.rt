@@ -109,7 +109,7 @@ fn try_scenario(
     let text = write_scenario(alloc, names, find, word)?;
     match parse_scenario(alloc, names, text.as_slice()) {
         Ok(scenario) => {
-            if fails_at_last(alloc, set, find, &scenario)? {
+            if fails_at_last(alloc, set, find, scenario)? {
                 Ok(Some(text))
             } else {
                 Ok(None)
@@ -126,27 +126,27 @@ fn fails_at_last(
     alloc: Global,
     set: &DriverSet,
     find: Find<'_>,
-    scenario: &Scenario,
+    mut scenario: Scenario,
 ) -> Result<bool, AllocError>
     requires some { 1 ≤ find.threads }
     requires few { find.threads ≤ MAX_THREADS }
     ensures { IfOk result (λ fails. IsTrue fails → FailsAtLast set.now find.entry.threads
-        find.entry.events.now (listed scenario.now)) }
+        find.entry.events.now (listed scenario)) }
 {
     if scenario.threads != find.threads {
         return Ok(false);
     }
-    let Some((last, before)) = scenario.steps.as_slice().split_last() else {
+    let Some(last) = scenario.steps.pop() else {
         return Ok(false);
     };
     let mut playing = Playing::new(alloc, set, find.threads)?;
-    if play(alloc, &mut playing, before)?.is_some() {
+    if play(alloc, &mut playing, &scenario.steps)?.is_some() {
         return Ok(false);
     }
     if !has_happened(alloc, &playing, find.events)? {
         return Ok(false);
     }
-    is_amiss(alloc, &playing, last)
+    is_amiss(alloc, &playing, &last)
 }
 
 /// Whether these are the events that have happened.

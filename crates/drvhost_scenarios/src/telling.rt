@@ -26,7 +26,7 @@ use model::abs::{Refusal, Rule};
 use report::lines::Lines;
 use scenario_names::names::Names;
 use scenario_run::playing::Playing;
-use scenario_text::judging::{expects_verdict, judged};
+use scenario_text::judging::judged;
 use scenario_text::parse::parse_scenario;
 use scenario_text::scenario::{Scenario, Step};
 use scenario_together::play::{Failure, Played, play};
@@ -205,29 +205,22 @@ fn tell_play(
         (ended told.end told.text.items)) }
 {
     let playing = Playing::new(alloc, set, scenario.threads)?;
-    let played = play_judged(alloc, playing, scenario.steps.as_slice())?;
+    let played = play_judged(alloc, playing, &scenario.steps)?;
     let failed = step_of(&played.failed);
     tell_asked(alloc, asked, source, text, &played.now, failed)
 }
 
 /// How steps play, with what the verdict on the set found, where one of them expects a verdict.
 #[tactic(auto, using(crate::proofs::Judging::none_judged, crate::proofs::Judging::found_judged))]
-fn play_judged(alloc: Global, playing: Playing, steps: &[Step]) -> Result<Played, AllocError>
+fn play_judged(alloc: Global, playing: Playing, steps: &Steps) -> Result<Played, AllocError>
     ensures { IfOk result (λ played. PlaysJudged playing steps.now played.now played.failed) }
 {
-    if !expect_verdicts(steps) {
+    if !steps.has(Kind::Verdict) {
         return play(alloc, playing, steps);
     }
     let found = find_fault(alloc, playing.machine().set())?;
     let known = judged(alloc, steps, found)?;
-    play(alloc, playing, known.as_slice())
-}
-
-/// Whether one of some steps expects a verdict.
-fn expect_verdicts(steps: &[Step]) -> bool
-    ensures { result ≡ list_any expects_verdict steps.now }
-{
-    steps.iter().any(|step| expects_verdict(step))
+    play(alloc, playing, &known)
 }
 
 /// What the verdict on a set finds: its first fault, or none.

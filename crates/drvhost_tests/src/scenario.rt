@@ -107,7 +107,7 @@ fn is_of_verdict(alloc: Global, names: &Names<'_>, text: &[u8]) -> Result<bool, 
     ensures { IfOk result (λ yes. yes ≡ is_of_verdict (scenario_in names.now text.now)) }
 {
     match parse_scenario(alloc, names, text) {
-        Ok(scenario) => Ok(expect_verdict_alone(scenario.steps.as_slice())),
+        Ok(scenario) => Ok(expect_verdict_alone(&scenario.steps)),
         Err(fault) if fault.kind == ScheduleKind::Memory => Err(AllocError),
         Err(_fault) => Ok(false),
     }

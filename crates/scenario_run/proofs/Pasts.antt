@@ -1,6 +1,6 @@
 -- What is kept of a run, with more of it.
-use Rattle.std.proofs.Common.{◌≡◌, ◌∙◌, ◌+◌, ◌<◌, ◌≤◌, ℕ, List, [], ◌∷◌, ◌++◌, append_assoc, arith, get_or, length, take, refl, replicate, sym, ap, subst}
-use Rattle.std.proofs.lemmas.List.{append-nil, length-append, length-replicate, replicate-append-replicate, take_more}
+use Rattle.std.proofs.Common.{◌≡◌, ◌∙◌, ◌+◌, ◌<◌, ◌≤◌, ℕ, List, [], ◌∷◌, ◌++◌, append_assoc, arith, get_or, length, set, take, refl, replicate, sym, ap, subst}
+use Rattle.std.proofs.lemmas.List.{append-nil, length-append, length-replicate, length-set, replicate-append-replicate, take_all, take_more, take_more_set}
 use Rattle.interleave.specs.declared.read.Repeated.{Repeated}
 use Rattle.model.specs.declared.event.Event.{Event}
 use Rattle.model.specs.declared.event.Event.TheVariants.{Step}
@@ -47,6 +47,32 @@ events_again past last h same =
     ∙ sym (append_assoc (events_of past) (times last.count) (times h.count))
     ∙ ap (λ (x : Event). (events_of past ++ replicate last.count x) ++ times h.count) (sym same)
     ∙ ap (λ (earlier : List Event). earlier ++ times h.count) (sym (events_more past last))
+
+-- the same where the entry is the one at the last place
+module _ (past : List Repeated) (place : ℕ) (last : Repeated) (ends : place + 1 ≡ length past)
+    (there : last ≡ get_or past place last) where
+  abbrev front : List Repeated
+  front = take place past
+
+  pub last_split : past ≡ front ++ last ∷ []
+  last_split =
+      sym (take_all (place + 1) past (omega (arith, ends)))
+      ∙ take_more past place last (omega (arith, ends))
+      ∙ ap (λ (h : Repeated). front ++ h ∷ []) (sym there)
+
+  pub events_again_at : (h : Repeated) → last.event ≡ h.event → (now : List Repeated)
+      → now ≡ set past place (record { event = h.event; count = last.count + h.count })
+      → events_of now ≡ events_of past ++ replicate h.count h.event
+  events_again_at h same now changed =
+      let entry : Repeated = record { event = h.event; count = last.count + h.count } in
+      let long : length (set past place entry) ≤ place + 1 =
+      omega (arith, length-set past place entry, ends) in
+      let split : set past place entry ≡ front ++ entry ∷ [] =
+      sym (take_all (place + 1) (set past place entry) long)
+      ∙ take_more_set past place entry (omega (arith, ends)) in
+      ap (λ (xs : List Repeated). events_of xs) (changed ∙ split)
+      ∙ events_again front last h same
+      ∙ ap (λ (xs : List Repeated). events_of xs ++ replicate h.count h.event) (sym last_split)
 
 -- there are at least as many events as an entry has
 pub last_few : (past : List Repeated) (last : Repeated)

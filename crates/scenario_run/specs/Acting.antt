@@ -8,7 +8,6 @@ use Rattle.scenario_run.specs.Turns.{run_all, running_to_release}
 use Rattle.scenario_run.specs.Playing.{Playing, Went, cancelled, issued, most_of, number_of, one, run_thread, running_to, stays, stepping}
 use Rattle.scenario_text.specs.declared.scenario.Action.{Action}
 use Rattle.scenario_text.specs.declared.scenario.Action.TheVariants.{Issue, Cancel, Interrupt, Dpc, StartIo, Steps, Run as RunAction, RunTo, RunToRelease, RunAll, Together, Expect}
-use Rattle.scenario_expected.specs.declared.expectation.Expectation.TheVariants.{Clean}
 use Rattle.scenario_text.specs.declared.scenario.Step.{Step}
 
 -- what is expected holds, or it fails
@@ -29,11 +28,6 @@ acted p (RunToRelease t lock) = running_to_release t lock (most_of p) p
 acted p RunAll = run_all p
 acted p (Together threads worlds) = stays p Fails
 acted p (Expect expectation) = expected p (holds p expectation)
-
--- it asks for an audit
-abbrev pub expects_audit : Action → Bool
-expects_audit (Expect Clean) = true
-expects_audit action = false
 
 -- a step that goes so far lets the next one begin
 abbrev pub passes : Bool → Outcome → Bool

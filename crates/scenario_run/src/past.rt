@@ -17,19 +17,16 @@ pub(crate) fn add_past(past: &mut Vec<Repeated>, more: Repeated)
     if more.count == 0 {
         return;
     }
-    let Some(last) = past.pop() else {
-        past.push_reserved(more);
-        return;
-    };
-    if is_same_step(&last.event, &more.event) {
-        let count = last.count + more.count;
-        past.push_reserved(Repeated {
-            event: more.event,
-            count,
-        });
-        return;
+    if let Some(place) = past.len().checked_sub(1) {
+        let last = past[place];
+        if is_same_step(&last.event, &more.event) {
+            past[place] = Repeated {
+                event: more.event,
+                count: last.count + more.count,
+            };
+            return;
+        }
     }
-    past.push_reserved(last);
     past.push_reserved(more);
 }
 

@@ -1,7 +1,7 @@
 //! The steps of a scenario, one after another.
 
 ghost use Rattle.std.specs.Prelude.{◌≡◌, IfOk};
-ghost use Rattle.scenario_run.specs.Acting.{acted, expected, expects_audit, passes, played};
+ghost use Rattle.scenario_run.specs.Acting.{acted, expected, passes, played};
 ghost use Rattle.scenario_run.specs.Holding.{holds};
 
 use crate::holding::holds;
@@ -10,6 +10,7 @@ use crate::turns::{run_all, run_to_release};
 use model::event::Event;
 use scenario_expected::expectation::Expectation;
 use scenario_text::scenario::{Action, Step};
+use scenario_text::steps::{Kind, Steps};
 use std::alloc::{AllocError, Global};
 
 /// Plays the steps of a scenario, up to the first that fails, and answers that one, if there is one.
@@ -17,40 +18,28 @@ use std::alloc::{AllocError, Global};
 /// # Errors
 ///
 /// When memory runs out.
-pub fn play(
-    alloc: Global,
-    playing: &mut Playing,
-    steps: &[Step],
-) -> Result<Option<Step>, AllocError>
+pub fn play(alloc: Global, playing: &mut Playing, steps: &Steps) -> Result<Option<Step>, AllocError>
     ensures { IfOk result (λ failed.
         record { now = playing.new; failed = failed } ≡ played playing.old steps.now) }
 {
-    if steps.iter().any(|step| expects_audit(step)) {
+    if steps.has(Kind::Audit) {
         playing.keep_ledger()?;
     }
+    playing.make_room(steps.len())?;
     play_on(alloc, playing, steps)
-}
-
-/// Whether a step asks for an audit.
-pub fn expects_audit(step: &Step) -> bool
-    ensures { result ≡ expects_audit step.now.action }
-{
-    match step.action {
-        Action::Expect(Expectation::Clean) => true,
-        _ => false,
-    }
 }
 
 /// Plays the steps from here on.
 #[tactic(auto, using(crate::proofs::Playings::played_on, crate::proofs::Playings::played_stop))]
-fn play_on(alloc: Global, playing: &mut Playing, steps: &[Step]) -> Result<Option<Step>, AllocError>
+fn play_on(alloc: Global, playing: &mut Playing, steps: &Steps) -> Result<Option<Step>, AllocError>
     ensures { IfOk result (λ failed.
         record { now = playing.new; failed = failed } ≡ played playing.old steps.now) }
 {
-    for step in steps {
+    for place in 0..steps.len() {
+        let step = steps.at(place);
         let outcome = act(alloc, playing, &step.action)?;
         if !passes(step.may, outcome) {
-            return Ok(Some(*step));
+            return Ok(Some(step));
         }
     }
     Ok(None)

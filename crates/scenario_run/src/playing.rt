@@ -166,6 +166,18 @@ impl Playing {
         self.runner.keep_ledger(self.threads)
     }
 
+    /// Makes room for what so many steps make happen, where each makes one event happen, as often as
+    /// it does.
+    ///
+    /// # Errors
+    ///
+    /// When memory runs out.
+    pub(crate) fn make_room(&mut self, steps: usize) -> Result<(), AllocError>
+        ensures { self.new ≡ self.old }
+    {
+        self.past.reserve(steps)
+    }
+
     /// An event happens.
     fn apply(&mut self, event: Event) -> Result<Reply, AllocError>
         requires { has_room self.old ≡ true }

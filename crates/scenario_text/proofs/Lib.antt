@@ -1,3 +1,4 @@
 pub mod Blocks
+pub mod Keeping
 pub mod Limits
 pub mod Usual

@@ -1,8 +1,9 @@
--- Steps that expect a verdict on the set, where it is known what that found.
+-- Steps that expect a verdict on the set, where it is known what that found; and those that ask for an
+-- audit.
 use Rattle.std.specs.Prelude.{◌&&◌, not, nat_eq, Bool, true, false, List, length, map, Option}
 use Rattle.std.specs.List.{list_all}
 use Rattle.model.specs.declared.abs.Refusal.{Refusal}
-use Rattle.scenario_expected.specs.declared.expectation.Expectation.TheVariants.{Verdict, Judged}
+use Rattle.scenario_expected.specs.declared.expectation.Expectation.TheVariants.{Clean, Verdict, Judged}
 use Rattle.scenario_text.specs.declared.scenario.Action.{Action}
 use Rattle.scenario_text.specs.declared.scenario.Action.TheVariants.{Expect}
 use Rattle.scenario_text.specs.declared.scenario.Step.{Step}
@@ -29,3 +30,8 @@ judged_step found step = record step { action = judged_action found step.action 
 
 abbrev pub judged : Option Refusal → List Step → List Step
 judged found steps = map (judged_step found) steps
+
+-- a step asks for an audit
+abbrev pub expects_audit : Action → Bool
+expects_audit (Expect Clean) = true
+expects_audit action = false

@@ -5,12 +5,13 @@ ghost use Rattle.std.specs.List.{list_all};
 ghost use Rattle.scenario_text.specs.Judging.{expect_verdict_alone, expects_verdict, judged, judged_action, judged_step};
 
 use crate::scenario::{Action, Step};
+use crate::steps::Steps;
 use model::abs::Refusal;
 use scenario_expected::expectation::Expectation;
 use std::alloc::{AllocError, Global};
 
 /// Whether a step expects a verdict, which isn't known yet.
-pub fn expects_verdict(step: &Step) -> bool
+pub(crate) fn expects_verdict(step: &Step) -> bool
     ensures { result ≡ expects_verdict step.now }
 {
     match step.action {
@@ -20,17 +21,22 @@ pub fn expects_verdict(step: &Step) -> bool
 }
 
 /// Whether steps expect nothing but a verdict, and there are some: then nothing happens in them.
-pub fn expect_verdict_alone(steps: &[Step]) -> bool
+pub fn expect_verdict_alone(steps: &Steps) -> bool
     ensures { result ≡ expect_verdict_alone steps.now }
 {
-    all_expect_verdict(steps) && !steps.is_empty()
+    all_expect_verdict(steps) && steps.len() > 0
 }
 
 /// Whether each step expects a verdict.
-fn all_expect_verdict(steps: &[Step]) -> bool
+fn all_expect_verdict(steps: &Steps) -> bool
     ensures { result ≡ list_all expects_verdict steps.now }
 {
-    steps.iter().all(|step| expects_verdict(step))
+    for place in 0..steps.len() {
+        if !expects_verdict(&steps.at(place)) {
+            return false;
+        }
+    }
+    true
 }
 
 /// The same steps where it is known what the verdict found: the first fault of the set, or none.
@@ -38,17 +44,14 @@ fn all_expect_verdict(steps: &[Step]) -> bool
 /// # Errors
 ///
 /// When memory runs out.
-pub fn judged(
-    alloc: Global,
-    steps: &[Step],
-    found: Option<Refusal>,
-) -> Result<Vec<Step>, AllocError>
-    ensures { IfOk result (λ all. all.items ≡ judged found steps.now) }
+pub fn judged(alloc: Global, steps: &Steps, found: Option<Refusal>) -> Result<Steps, AllocError>
+    ensures { IfOk result (λ all. all ≡ judged found steps.now) }
 {
-    steps
-        .iter()
-        .map(|step| judged_step(step, found))
-        .collect(alloc)
+    let mut all = Steps::with_capacity(alloc, steps.len())?;
+    for place in 0..steps.len() {
+        all.push(judged_step(&steps.at(place), found))?;
+    }
+    Ok(all)
 }
 
 /// The same step where that is known.

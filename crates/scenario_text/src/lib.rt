@@ -8,4 +8,5 @@ mod quick;
 pub mod reading;
 pub mod repeating;
 pub mod scenario;
+pub mod steps;
 mod together;

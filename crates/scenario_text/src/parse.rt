@@ -11,6 +11,7 @@ use crate::quick::usual_line;
 use crate::reading::{Said, line_of};
 use crate::repeating::{Block, Numbered, Open, block_in};
 use crate::scenario::{MAX_STEPS, Scenario, Step};
+use crate::steps::Steps;
 use interleave::read::opening_line;
 use interleave::schedule::{ScheduleFault, ScheduleKind};
 use scenario_names::issued::Issued;
@@ -38,7 +39,7 @@ pub fn parse_scenario(
 ) -> Result<Scenario, ScheduleFault>
     ensures listed { MatchResult result
         (λ s. scenario_in names.now text.now
-        ≡ Ok (record { threads = s.threads; steps = s.steps.items }))
+        ≡ Ok (record { threads = s.threads; steps = s.steps }))
         (IsFaultOf names.now text.now) }
     ensures some { IfOk result (λ s. 1 ≤ s.threads) }
     ensures few { IfOk result (λ s. s.threads ≤ MAX_THREADS) }
@@ -61,7 +62,7 @@ fn scenario_in(
 ) -> Result<Result<Scenario, ScheduleFault>, AllocError>
     ensures { IfOk result (λ r. MatchResult r
         (λ s. scenario_in names.now text.now
-        ≡ Ok (record { threads = s.threads; steps = s.steps.items })
+        ≡ Ok (record { threads = s.threads; steps = s.steps })
         × (1 ≤ s.threads) × (s.threads ≤ MAX_THREADS))
         (λ fault. scenario_in names.now text.now ≡ Err fault)) }
 {
@@ -130,10 +131,10 @@ fn list(
     mut left: Lines<'_>,
     first: u64,
     room: usize,
-) -> Result<Result<Vec<Step>, ScheduleFault>, AllocError>
+) -> Result<Result<Steps, ScheduleFault>, AllocError>
     requires { first + length left < 2 ^ 64 }
     ensures { IfOk result (λ r. MatchResult r
-        (λ steps. listing names.now nothing first left.entry ≡ Ok steps.items)
+        (λ steps. listing names.now nothing first left.entry ≡ Ok steps)
         (λ fault. listing names.now nothing first left.entry ≡ Err fault)) }
 {
     let mut given = Given::new(alloc, room)?;
@@ -158,7 +159,7 @@ fn list(
 struct Given<'a> {
     /// The names of the packets that they issue.
     packets: Issued<'a>,
-    steps: Vec<Step>,
+    steps: Steps,
     /// The block that is open, if one is.
     block: Option<Open<'a>>,
 }
@@ -171,11 +172,11 @@ impl<'a> Model for Given<'a> {
 
     ghost view = { λ g. record {
       packets = g.packets;
-      steps = g.steps.items;
+      steps = g.steps;
       block = g.block;
     } };
 
-    ghost invariant = { λ g. length g.packets ≤ length g.steps.items };
+    ghost invariant = { λ g. length g.packets ≤ length g.steps };
 }
 
 impl<'a> Given<'a> {
@@ -185,7 +186,7 @@ impl<'a> Given<'a> {
     {
         Ok(Given {
             packets: Issued::new(alloc),
-            steps: Vec::with_capacity(alloc, room)?,
+            steps: Steps::with_capacity(alloc, room)?,
             block: None,
         })
     }

@@ -1,5 +1,6 @@
 //! What a scenario is.
 
+use crate::steps::Steps;
 use model::status::Major;
 use scenario_expected::expectation::Expectation;
 use scenario_names::names::Spot;
@@ -10,7 +11,7 @@ pub struct Scenario {
     /// How many threads the run has, 1 to `MAX_THREADS`.
     pub threads: u8,
     /// At most `MAX_STEPS` steps, in order.
-    pub steps: Vec<Step>,
+    pub steps: Steps,
 }
 
 /// Steps of a scenario, at most.

@@ -1,10 +1,14 @@
 -- Where no threads run together, steps play one after another, each with what it does alone.
-use Rattle.std.proofs.Common.{◌≡◌, ◌∙◌, ◌&&◌, Bool, true, false, List, [], ◌∷◌, Option, None, Some, ap, inl, inr, is_none, is_some, refl, subst, sym, if◌then◌else◌}
+use Rattle.std.proofs.Common.{◌≡◌, ◌∙◌, ◌||◌, Bool, true, false, List, [], ◌∷◌, Option, None, Some, ap, inl, inr, is_some, refl, subst, sym, if◌then◌else◌}
 use Rattle.std.specs.Prelude.{option_map}
-use Rattle.std.specs.List.{list_all}
+use Rattle.std.specs.List.{list_any}
 use Rattle.scenario_run.specs.Acting.{Played, acted, passes, played}
 use Rattle.scenario_run.specs.Playing.{Playing, Went}
+use Rattle.scenario_text.specs.Steps.{is_of, runs_together}
+use Rattle.scenario_text.specs.declared.scenario.Action.{Action}
+use Rattle.scenario_text.specs.declared.scenario.Action.TheVariants.{Issue, Cancel, Interrupt, Dpc, StartIo, Steps, Run as RunAction, RunTo, RunToRelease, RunAll, Together, Expect}
 use Rattle.scenario_text.specs.declared.scenario.Step.{Step}
+use Rattle.scenario_text.specs.declared.steps.Kind.TheVariants.{Together as TogetherKind}
 use Rattle.scenario_together.specs.declared.play.Failure.{Failure}
 use Rattle.scenario_together.specs.Plays.{AllPass, ArePlain, Comes, ComesIf, FailsAt, FailsBy, FailsSo, Leads, LeadsBy, PassesBy, PlaysTo, together_of}
 
@@ -150,18 +154,26 @@ plain_plays p steps now failed plain is =
     (played_plays p steps plain)
 
 -- none of some steps does
-both_true : (a b : Bool) → a && b ≡ true → (a ≡ true) × (b ≡ true)
-both_true true b h = (refl, h)
-both_true false b h = cc
+both_false : (a b : Bool) → a || b ≡ false → (a ≡ false) × (b ≡ false)
+both_false true b h = cc
+both_false false b h = (refl, h)
 
-alone_if : (o : Option (List Bool)) → is_none o ≡ true → o ≡ None
-alone_if None h = refl
-alone_if (Some named) h = cc
+alone_if : (action : Action) → runs_together action ≡ false → together_of action ≡ None
+alone_if (Together threads worlds) h = cc
+alone_if (Issue t d major argument) h = refl
+alone_if (Cancel t packet level) h = refl
+alone_if (Interrupt d) h = refl
+alone_if (Dpc t d) h = refl
+alone_if (StartIo t d) h = refl
+alone_if (Steps t count) h = refl
+alone_if (RunAction t) h = refl
+alone_if (RunTo t spot) h = refl
+alone_if (RunToRelease t lock) h = refl
+alone_if RunAll h = refl
+alone_if (Expect expectation) h = refl
 
-pub all_alone : (steps : List Step)
-    → list_all (λ (s : Step). is_none (together_of s.action)) steps ≡ true → ArePlain steps
-all_alone [] all = tt
-all_alone (step ∷ steps) all =
-    let both = both_true (is_none (together_of step.action))
-    (list_all (λ (s : Step). is_none (together_of s.action)) steps) all in
-    (alone_if (together_of step.action) both.0, all_alone steps both.1)
+pub all_alone : (steps : List Step) → list_any (is_of TogetherKind) steps ≡ false → ArePlain steps
+all_alone [] none = tt
+all_alone (step ∷ steps) none =
+    let both = both_false (runs_together step.action) (list_any (is_of TogetherKind) steps) none in
+    (alone_if step.action both.0, all_alone steps both.1)

@@ -17,7 +17,8 @@ use Rattle.model.specs.View.{busy_at, thread_at}
 use Rattle.laws_locks.specs.Waiting.{waits_for}
 use Rattle.model.specs.World.{World, owner_of}
 use Rattle.scenario_run.proofs.Alike.{go_alike, reply_alike}
-use Rattle.scenario_run.specs.Acting.{acted, expected, expects_audit}
+use Rattle.scenario_run.specs.Acting.{acted, expected}
+use Rattle.scenario_text.specs.Judging.{expects_audit}
 use Rattle.scenario_run.specs.Alike.{GoAlike}
 use Rattle.scenario_run.specs.declared.playing.Outcome.{Outcome}
 use Rattle.scenario_run.specs.declared.playing.Outcome.TheVariants.{Done, Waits, Fails}

@@ -2,7 +2,8 @@
 use Rattle.std.specs.Prelude.{ℕ, ◌≡◌, ◌<◌, ◌≤◌, ◌⊎◌, Bool, true, false, List, [], Option, None, Some, length, slice_get}
 use Rattle.model.specs.Sound.{IsSound}
 use Rattle.model.specs.Typable.{IsTypable}
-use Rattle.scenario_run.specs.Acting.{acted, expects_audit, passes}
+use Rattle.scenario_run.specs.Acting.{acted, passes}
+use Rattle.scenario_text.specs.Judging.{expects_audit}
 use Rattle.scenario_run.specs.Playing.{Playing}
 use Rattle.scenario_text.specs.declared.scenario.Step.{Step}
 use Rattle.scenario_together.specs.Interleaving.{IsEnd, behind}

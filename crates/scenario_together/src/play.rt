@@ -1,9 +1,7 @@
 //! The steps of a scenario, one after another, from every end of interleavings.
 
-ghost use Rattle.std.specs.Prelude.{◌≡◌, Bool, IfOk, IsTrue, List, Some, false, is_none, option_map};
+ghost use Rattle.std.specs.Prelude.{◌≡◌, Bool, IfOk, IsTrue, List, Some, false, option_map};
 ghost use Rattle.model.specs.Typable.{IsTypable};
-ghost use Rattle.std.specs.List.{list_all, list_any};
-ghost use Rattle.scenario_run.specs.Acting.{expects_audit};
 ghost use Rattle.scenario_run.specs.Playing.{Playing};
 ghost use Rattle.scenario_text.specs.declared.scenario.Step.{Step};
 ghost use Rattle.scenario_together.specs.Joining.{ActedAll, IsFirstOr, JoinedAll, JoinedOne, Leaves, MayMerge, ThereIf};
@@ -14,9 +12,10 @@ use crate::together::{MOVES, Together, run_together};
 use driver_set::DriverSet;
 use laws_worlds::same_worlds_go_on_alike;
 use scenario_run::holding::events_of;
-use scenario_run::play::{act, expects_audit, passes, play as play_each};
+use scenario_run::play::{act, passes, play as play_each};
 use scenario_run::playing::Playing;
 use scenario_text::scenario::{Action, Step};
+use scenario_text::steps::{Kind, Steps};
 use std::alloc::{AllocError, Global};
 use tell_uses::laws::accepted_runs_show_no_disagreement;
 use verifier::verify;
@@ -214,7 +213,7 @@ fn first_or(mut plays: Vec<Playing>, other: Playing) -> Playing
 }
 
 /// Plays the steps from the first one on.
-fn play_on(alloc: Global, home: Playing, steps: &[Step], merges: bool) -> Result<Played, AllocError>
+fn play_on(alloc: Global, home: Playing, steps: &Steps, merges: bool) -> Result<Played, AllocError>
     requires { MayMerge merges steps.now home }
     ensures { IfOk result (Plays home steps.now) }
 {
@@ -224,8 +223,8 @@ fn play_on(alloc: Global, home: Playing, steps: &[Step], merges: bool) -> Result
     let spare = again(alloc, &home)?;
     let mut plays = Vec::new(alloc);
     plays.push(home)?;
-    for step in steps {
-        match step_all(alloc, plays, step, merges)? {
+    for place in 0..steps.len() {
+        match step_all(alloc, plays, &steps.at(place), merges)? {
             Left::On(next) => plays = next,
             Left::Over(played) => return Ok(played),
         }
@@ -243,32 +242,18 @@ fn play_on(alloc: Global, home: Playing, steps: &[Step], merges: bool) -> Result
 /// # Errors
 ///
 /// When memory runs out.
-pub fn play(alloc: Global, playing: Playing, steps: &[Step]) -> Result<Played, AllocError>
+pub fn play(alloc: Global, playing: Playing, steps: &Steps) -> Result<Played, AllocError>
     ensures plays { IfOk result (Plays playing steps.now) }
     ensures plain { IfOk result (PlaysPlainly playing steps.now) }
 {
-    if are_plain(steps) {
-        return play_plainly(alloc, playing, steps);
+    if steps.has(Kind::Together) {
+        return play_all(alloc, playing, steps);
     }
-    play_all(alloc, playing, steps)
-}
-
-/// Whether none of some steps runs threads together.
-fn are_plain(steps: &[Step]) -> bool
-    ensures { result ≡ list_all (λ step. is_none (together_of step.action)) steps.now }
-{
-    steps.iter().all(|step| is_plain(step))
-}
-
-/// Whether a step runs no threads together.
-fn is_plain(step: &Step) -> bool
-    ensures { result ≡ is_none (together_of step.now.action) }
-{
-    !matches!(step.action, Action::Together { .. })
+    play_plainly(alloc, playing, steps)
 }
 
 /// Plays the steps of a scenario, none of which runs threads together.
-fn play_plainly(alloc: Global, mut playing: Playing, steps: &[Step]) -> Result<Played, AllocError>
+fn play_plainly(alloc: Global, mut playing: Playing, steps: &Steps) -> Result<Played, AllocError>
     requires { ArePlain steps.now }
     ensures { IfOk result (Plays playing steps.now) }
 {
@@ -290,20 +275,13 @@ fn failure_at(failed: Option<Step>) -> Option<Failure>
 }
 
 /// The same where a step may run threads together.
-fn play_all(alloc: Global, playing: Playing, steps: &[Step]) -> Result<Played, AllocError>
+fn play_all(alloc: Global, playing: Playing, steps: &Steps) -> Result<Played, AllocError>
     ensures { IfOk result (Plays playing steps.now) }
 {
-    let audits = expect_audits(steps);
+    let audits = steps.has(Kind::Audit);
     let home = readied(playing, audits)?;
     let merges = may_merge(alloc, &home, audits)?;
     play_on(alloc, home, steps, merges)
-}
-
-/// Whether a step asks for an audit.
-fn expect_audits(steps: &[Step]) -> bool
-    ensures { result ≡ list_any (λ step. expects_audit step.action) steps.now }
-{
-    steps.iter().any(|step| expects_audit(step))
 }
 
 /// The same play, with what an audit needs.

@@ -4,8 +4,8 @@ use Rattle.scenario_text.specs.Judging.{expects_verdict}
 use Rattle.drvhost_scenarios.proofs.Judging.{none_judged}
 use Rattle.drvhost_scenarios.proofs.telling.play_judged.Goals as goal
 
-pub returns-then-not-expect_verdicts : goal.returns-then-not-expect_verdicts
-returns-then-not-expect_verdicts c =
+pub returns-then-not-has : goal.returns-then-not-has
+returns-then-not-has c =
     let none : list_any expects_verdict c.args.steps.now ≡ false =
-    sym c.expect_verdicts.ensures ∙ search rules in
+    sym c.has.ensures ∙ search rules in
     none_judged c.args.playing c.args.steps.now c.play.result none c.play.ensures.plays

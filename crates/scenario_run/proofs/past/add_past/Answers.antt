@@ -1,34 +1,31 @@
-use Rattle.std.proofs.Common.{◌∙◌, ◌++◌, ◌∷◌, [], List, ap, length, refl, replicate, rules, sym}
+use Rattle.std.proofs.Common.{rules, ◌≡◌, ◌∙◌, ◌+◌, ap, get_or, length, refl, take, List}
 use Rattle.interleave.specs.declared.read.Repeated.{Repeated}
-use Rattle.model.specs.declared.event.Event.{Event}
 use Rattle.scenario_run.specs.Past.{events_of}
-use Rattle.scenario_run.proofs.Pasts.{events_again, events_more, last_few}
+use Rattle.scenario_run.proofs.Pasts.{events_again_at, events_more, last_few, last_split}
 use Rattle.scenario_run.proofs.past.add_past.Goals as goal
 
-pub overflow_add-count : goal.overflow_add-count
-overflow_add-count c =
-    let front = c.pop.new.self.items in
-    let last = c.in-Some.last in
-    let few = last_few front last in
-    let long = ap (λ (xs : List Repeated). length (events_of xs)) c.in-Some.ensures.items in
+pub overflow_add-last : goal.overflow_add-last
+overflow_add-last c =
+    let past = c.args.past.now.items in
+    let place = c.in-Some.place in
+    let last = c.index.result.now in
+    let ends : place + 1 ≡ length past = search rules in
+    let there : last ≡ get_or past place last = search rules in
+    let split = last_split past place last ends there in
+    let few = last_few (take place past) last in
+    let long = ap (λ (xs : List Repeated). length (events_of xs)) split in
     search rules
 
 pub returns-then-is_same_step : goal.returns-then-is_same_step
 returns-then-is_same_step c =
-    let front = c.pop.new.self.items in
-    let more = c.args.more in
-    let added : List Event = replicate more.count more.event in
-    ap (λ (xs : List Repeated). events_of xs) c.push_reserved-then-is_same_step.ensures.items
-    ∙ events_again front c.in-Some.last more (c.if-is_same_step.ensures refl)
-    ∙ ap (λ (xs : List Repeated). events_of xs ++ added) (sym c.in-Some.ensures.items)
+    let past = c.args.past.now.items in
+    let place = c.in-Some.place in
+    let last = c.index.result.now in
+    let ends : place + 1 ≡ length past = search rules in
+    let there : last ≡ get_or past place last = search rules in
+    events_again_at past place last ends there c.args.more (c.if-is_same_step.ensures refl) _ refl
 
 pub returns : goal.returns
 returns c =
-    let front = c.pop.new.self.items in
-    let last = c.in-Some.last in
-    let more = c.args.more in
-    let added : List Event = replicate more.count more.event in
-    ap (λ (xs : List Repeated). events_of xs) c.push_reserved-3.ensures.items
-    ∙ ap (λ (xs : List Repeated). events_of (xs ++ more ∷ [])) c.push_reserved-2.ensures.items
-    ∙ events_more (front ++ last ∷ []) more
-    ∙ ap (λ (xs : List Repeated). events_of xs ++ added) (sym c.in-Some.ensures.items)
+    ap (λ (xs : List Repeated). events_of xs) c.push_reserved.ensures.items
+    ∙ events_more c.args.past.now.items c.args.more

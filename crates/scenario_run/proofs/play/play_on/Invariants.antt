@@ -3,6 +3,6 @@ use Rattle.scenario_run.specs.Acting.{played}
 use Rattle.scenario_run.proofs.play.play_on.Given as goal
 
 -- what is left plays as all did
-abbrev pub invariant-loop-step : goal.invariant-loop-step
-invariant-loop-step l =
-    played l.playing (drop l.step-index l.steps) ≡ played l.initial.playing l.steps
+abbrev pub invariant-loop-place : goal.invariant-loop-place
+invariant-loop-place l =
+    played l.playing (drop l.place l.steps) ≡ played l.initial.playing l.steps

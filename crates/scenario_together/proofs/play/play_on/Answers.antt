@@ -9,8 +9,8 @@ use Rattle.scenario_together.proofs.Covering.{covers_begun}
 use Rattle.scenario_together.proofs.Playing.{covers_next, ends_at, ends_nowhere, stops_there}
 use Rattle.scenario_together.proofs.play.play_on.Goals as goal
 
-pub loop-step-init : goal.loop-step-init
-loop-step-init c =
+pub loop-place-init : goal.loop-place-init
+loop-place-init c =
     let home = c.args.home in
     let pushed =
     c.in_ok-push.ensures.items
@@ -18,31 +18,31 @@ loop-step-init c =
     subst (λ (xs : List Playing). Covers c.args.merges home [] xs) (sym pushed)
     (covers_begun c.args.merges home)
 
-pub loop-step-preserved : goal.loop-step-preserved
-loop-step-preserved c =
-    let at = c.loop-step in
+pub loop-place-preserved : goal.loop-place-preserved
+loop-place-preserved c =
+    let at = c.loop-place in
     let sound =
     subst (λ (s : Set). IsSound s) (c.set.ensures ∙ c.machine.ensures.set)
     c.devices-devices.ensures.sound in
     covers_next c.same_worlds_go_on_alike.ensures c.accepted_runs_show_no_disagreement.ensures
-    c.args.merges c.args.home sound c.args.steps.now c.requires at.step-index _
-    c.loop-step-test.true at.plays.items c.in-On.next.items at.invariant
+    c.args.merges c.args.home sound c.args.steps.now c.requires at.place _
+    c.loop-place-test.true at.plays.items c.in-On.next.items at.invariant
     (rw c.in-On.is at c.in_ok-next.ensures)
 
 pub returns-in-Over : goal.returns-in-Over
 returns-in-Over c =
-    let at = c.loop-step in
+    let at = c.loop-place in
     let sound =
     subst (λ (s : Set). IsSound s) (c.set.ensures ∙ c.machine.ensures.set)
     c.devices-devices.ensures.sound in
     stops_there c.same_worlds_go_on_alike.ensures c.accepted_runs_show_no_disagreement.ensures
-    c.args.merges c.args.home sound c.args.steps.now c.requires at.step-index _
-    c.loop-step-test.true at.plays.items c.in-Over.played.now c.in-Over.played.failed at.invariant
+    c.args.merges c.args.home sound c.args.steps.now c.requires at.place _
+    c.loop-place-test.true at.plays.items c.in-Over.played.now c.in-Over.played.failed at.invariant
     (rw c.in-Over.is at c.in_ok-next.ensures)
 
 pub returns : goal.returns
 returns c =
-    let at = c.loop-step in
+    let at = c.loop-place in
     let merges = c.args.merges in
     let home = c.args.home in
     let steps = c.args.steps.now in
@@ -50,7 +50,7 @@ returns c =
     let now = c.first_or-now.result in
     let covers =
     subst (λ (xs : List Step). Covers merges home xs plays)
-    (take_all at.step-index steps (omega (arith, c.loop-step-test.false))) at.invariant in
+    (take_all at.place steps (omega (arith, c.loop-place-test.false))) at.invariant in
     elim c.first_or-now.ensures [
       | inl none ↦ ends_nowhere merges home steps plays now covers none
       | inr first ↦ ends_at merges home steps plays now covers first

@@ -1,0 +1,66 @@
+-- Steps as they are kept: what stands among those that are kept as they are, and stays so.
+use Rattle.std.proofs.Common.{◌≡◌, ◌∙◌, ◌<◌, ◌+◌, ◌++◌, ℕ, List, [], ◌∷◌, ap, arith, length, refl, subst, sym}
+use Rattle.std.specs.Prelude.{get_or, map}
+use Rattle.std.proofs.lemmas.List.{get_or_append_left, get_or_push, length-append, map_push}
+use Rattle.scenario_text.specs.Steps.{AreIn, IsIn, no_step, unfolded}
+use Rattle.scenario_text.specs.declared.scenario.Step.{Step}
+use Rattle.scenario_text.specs.declared.steps.Kept.{Kept}
+use Rattle.scenario_text.specs.declared.steps.Kept.TheVariants.{Brief, Whole}
+
+one_in_more : (n : ℕ) (one : Kept) → IsIn n one → IsIn (n + 1) one
+one_in_more n (Brief line usual) inside = inside
+one_in_more n (Whole place) inside = omega (arith, inside)
+
+in_more : (n : ℕ) (kept : List Kept) → AreIn n kept → AreIn (n + 1) kept
+in_more n [] all = all
+in_more n (one ∷ kept) all = (one_in_more n one all.0, in_more n kept all.1)
+
+pub in_pushed : (n : ℕ) (kept : List Kept) (one : Kept) → AreIn n kept → IsIn n one
+    → AreIn n (kept ++ one ∷ [])
+in_pushed n [] one all last = (last, tt)
+in_pushed n (first ∷ kept) one all last = (all.0, in_pushed n kept one all.1 last)
+
+pub in_popped : (n : ℕ) (kept : List Kept) (one : Kept) → AreIn n (kept ++ one ∷ []) → AreIn n kept
+in_popped n [] one all = tt
+in_popped n (first ∷ kept) one all = (all.0, in_popped n kept one all.1)
+
+module _ (whole : List Step) (step : Step) where
+  abbrev more : List Step
+  more = whole ++ step ∷ []
+
+  one_same : (one : Kept) → IsIn (length whole) one → unfolded more one ≡ unfolded whole one
+  one_same (Brief line usual) inside = refl
+  one_same (Whole place) inside = get_or_append_left whole (step ∷ []) no_step place inside
+
+  same : (kept : List Kept) → AreIn (length whole) kept
+      → map (unfolded more) kept ≡ map (unfolded whole) kept
+  same [] all = refl
+  same (one ∷ kept) all =
+      ap (λ (s : Step). s ∷ map (unfolded more) kept) (one_same one all.0)
+      ∙ ap (λ (rest : List Step). unfolded whole one ∷ rest) (same kept all.1)
+
+  last_whole : unfolded more (Whole (length whole)) ≡ step
+  last_whole = get_or_push whole step no_step (length whole) refl
+
+  -- behind a step more that is kept as it is all stand among them
+  pub whole_in : (now : List Step) (kept next : List Kept) → now ≡ more
+      → next ≡ kept ++ Whole (length whole) ∷ [] → AreIn (length whole) kept
+      → AreIn (length now) next
+  whole_in now kept next grown pushed all =
+      let count : length whole + 1 ≡ length now =
+      sym (length-append whole (step ∷ [])) ∙ ap (λ (s : List Step). length s) (sym grown) in
+      subst (λ (k : List Kept). AreIn (length now) k) (sym pushed)
+      (subst (λ (m : ℕ). AreIn m (kept ++ Whole (length whole) ∷ [])) count
+      (in_pushed (length whole + 1) kept (Whole (length whole)) (in_more (length whole) kept all)
+      (omega arith)))
+
+  -- and it stands behind them
+  pub whole_pushed : (now : List Step) (kept next : List Kept) → now ≡ more
+      → next ≡ kept ++ Whole (length whole) ∷ [] → AreIn (length whole) kept
+      → map (unfolded now) next ≡ map (unfolded whole) kept ++ step ∷ []
+  whole_pushed now kept next grown pushed all =
+      ap (λ (k : List Kept). map (unfolded now) k) pushed
+      ∙ ap (λ (s : List Step). map (unfolded s) (kept ++ Whole (length whole) ∷ [])) grown
+      ∙ map_push (unfolded more) kept (Whole (length whole))
+      ∙ ap (λ (steps : List Step). steps ++ unfolded more (Whole (length whole)) ∷ []) (same kept all)
+      ∙ ap (λ (s : Step). map (unfolded whole) kept ++ s ∷ []) last_whole

@@ -1,0 +1,7 @@
+use Rattle.std.proofs.Common.{◌≡◌, take}
+use Rattle.scenario_text.specs.Judging.{judged}
+use Rattle.scenario_text.proofs.judging.judged.Given as goal
+
+-- so many are
+abbrev pub invariant-loop-place : goal.invariant-loop-place
+invariant-loop-place l = l.all ≡ judged l.found (take l.place l.steps)
