@@ -8,7 +8,7 @@ use Rattle.model.specs.declared.event.Event.{Event}
 use Rattle.model.specs.Set.{Set}
 use Rattle.scenario_run.specs.Acting.{Played, acted, passes, played}
 use Rattle.scenario_run.specs.Playing.{Playing, begun}
-use Rattle.scenario_text.specs.declared.scenario.Step.{Step}
+use Rattle.scenario_steps.specs.declared.scenario.Step.{Step}
 use Rattle.scenario_text.specs.Listing.{Listed}
 use Rattle.scenario_names.specs.Names.{Named}
 use Rattle.drvhost_scenarios.specs.Finding.{FailsAtLast, FailsFor, FailsFound, IsAmiss}

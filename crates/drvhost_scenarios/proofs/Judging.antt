@@ -9,10 +9,10 @@ use Rattle.model.specs.Typable.{IsFirstFault, IsTypable, at_start}
 use Rattle.scenario_expected.specs.declared.expectation.Expectation.{Expectation}
 use Rattle.scenario_expected.specs.declared.expectation.Expectation.TheVariants.{Clean, Bug, Packet, Thread, Device, Lock, Listed, Verdict, Judged}
 use Rattle.scenario_run.specs.Playing.{Playing}
-use Rattle.scenario_text.specs.declared.scenario.Action.{Action}
-use Rattle.scenario_text.specs.declared.scenario.Action.TheVariants.{Issue, Cancel, Interrupt, Dpc, StartIo, Steps, Run, RunTo, RunToRelease, RunAll, Together, Expect}
-use Rattle.scenario_text.specs.declared.scenario.Step.{Step}
-use Rattle.scenario_text.specs.Judging.{expects_verdict, is_of_verdict, judged, judged_action, judged_step}
+use Rattle.scenario_steps.specs.declared.scenario.Action.{Action}
+use Rattle.scenario_steps.specs.declared.scenario.Action.TheVariants.{Issue, Cancel, Interrupt, Dpc, StartIo, Steps, Run, RunTo, RunToRelease, RunAll, Together, Expect}
+use Rattle.scenario_steps.specs.declared.scenario.Step.{Step}
+use Rattle.scenario_steps.specs.Judging.{expects_verdict, is_of_verdict, judged, judged_action, judged_step}
 use Rattle.scenario_together.specs.declared.play.Played.{Played}
 use Rattle.scenario_together.specs.Plays.{Plays, PlaysTo}
 use Rattle.verifier.proofs.FirstRules.{neither}

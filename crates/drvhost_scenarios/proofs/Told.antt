@@ -15,7 +15,7 @@ use Rattle.report.specs.Verdict.{refusal_line}
 use Rattle.scenario_run.specs.Acting.{Played}
 use Rattle.scenario_together.specs.declared.play.Failure.{Failure}
 use Rattle.scenario_run.specs.Playing.{Playing, begun}
-use Rattle.scenario_text.specs.declared.scenario.Step.{Step}
+use Rattle.scenario_steps.specs.declared.scenario.Step.{Step}
 use Rattle.scenario_text.specs.Listing.{Listed, IsFaultOf, scenario_in}
 use Rattle.drvhost_devices.specs.declared.fault.End.{End}
 use Rattle.drvhost_devices.specs.declared.fault.End.TheVariants.{Stopped}

@@ -7,9 +7,9 @@ use Rattle.model.specs.declared.event.Event.{Event}
 use Rattle.model.specs.Set.{Set}
 use Rattle.scenario_run.specs.Holding.{holds}
 use Rattle.scenario_run.specs.Playing.{Playing}
-use Rattle.scenario_text.specs.declared.scenario.Action.TheVariants.{Expect}
+use Rattle.scenario_steps.specs.declared.scenario.Action.TheVariants.{Expect}
 use Rattle.scenario_expected.specs.declared.expectation.Expectation.TheVariants.{Clean}
-use Rattle.scenario_text.specs.declared.scenario.Step.{Step}
+use Rattle.scenario_steps.specs.declared.scenario.Step.{Step}
 use Rattle.scenario_text.specs.Listing.{Listed, scenario_in}
 use Rattle.scenario_names.specs.Names.{Named}
 use Rattle.drvhost_scenarios.specs.Scenarios.{play_of}

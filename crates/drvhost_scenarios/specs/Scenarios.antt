@@ -17,9 +17,9 @@ use Rattle.scenario_run.specs.Acting.{Played, played}
 use Rattle.scenario_run.specs.Playing.{Playing, begun}
 use Rattle.scenario_together.specs.declared.play.Failure.{Failure}
 use Rattle.scenario_together.specs.Plays.{PlaysTo}
-use Rattle.scenario_text.specs.declared.scenario.Scenario.{Scenario}
-use Rattle.scenario_text.specs.declared.scenario.Step.{Step}
-use Rattle.scenario_text.specs.Judging.{expects_verdict, judged}
+use Rattle.scenario_steps.specs.declared.scenario.Scenario.{Scenario}
+use Rattle.scenario_steps.specs.declared.scenario.Step.{Step}
+use Rattle.scenario_steps.specs.Judging.{expects_verdict, judged}
 use Rattle.scenario_text.specs.Listing.{Listed, scenario_in}
 use Rattle.scenario_names.specs.Names.{Named, names_of, nothing}
 use Rattle.drvhost_scenarios.specs.declared.telling.Asked.{Asked}

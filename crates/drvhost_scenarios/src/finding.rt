@@ -19,8 +19,8 @@ use scenario_names::names::Names;
 use scenario_run::holding::{events_of, holds};
 use scenario_run::play::play;
 use scenario_run::playing::Playing;
+use scenario_steps::scenario::{Action, Scenario, Step};
 use scenario_text::parse::parse_scenario;
-use scenario_text::scenario::{Action, Scenario, Step};
 use std::alloc::{AllocError, Global};
 
 /// A run that was found, with a line that tells how it ends.

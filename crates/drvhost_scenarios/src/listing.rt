@@ -10,7 +10,7 @@ use interleave_lines::appending::add;
 use interleave_lines::listing::listing;
 use scenario_run::holding::events_of;
 use scenario_run::playing::Playing;
-use scenario_text::scenario::Step;
+use scenario_steps::scenario::Step;
 use std::alloc::{AllocError, Global};
 
 /// The schedule of what has happened, up to the first step that fails.

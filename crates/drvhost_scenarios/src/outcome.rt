@@ -9,7 +9,7 @@ use crate::words::failure_words;
 use drvhost_devices::fault::End;
 use interleave_lines::appending::{add, add_numbered};
 use scenario_run::playing::Playing;
-use scenario_text::scenario::Step;
+use scenario_steps::scenario::Step;
 use std::alloc::{AllocError, Global};
 
 /// That all holds in the scenario of a name, or the first step that fails.

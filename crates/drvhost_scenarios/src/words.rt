@@ -12,7 +12,7 @@ use scenario_expected::expectation::{DeviceState, Expectation, List, PacketState
 use scenario_names::operands::CellName;
 use scenario_run::holding::amiss;
 use scenario_run::playing::Playing;
-use scenario_text::scenario::{Action, Step};
+use scenario_steps::scenario::{Action, Step};
 use scenario_world::cells::number_of;
 use scenario_world::lists::entries_of;
 use scenario_world::marks::{is_marked, is_unmarked};

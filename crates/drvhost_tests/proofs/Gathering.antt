@@ -18,7 +18,7 @@ use Rattle.model.specs.Set.{Set}
 use Rattle.model.specs.Typable.{IsFirstFault, IsTypable, at_start}
 use Rattle.report.specs.Fault.{image_fault_line, schedule_fault_line, text_fault_line}
 use Rattle.scenario_text.specs.Listing.{Listed}
-use Rattle.scenario_text.specs.declared.scenario.Step.{Step}
+use Rattle.scenario_steps.specs.declared.scenario.Step.{Step}
 use Rattle.drvhost_devices.specs.Answer.{Answer, FileSays, ended, faulty}
 use Rattle.drvhost_devices.specs.declared.fault.End.{End}
 use Rattle.drvhost_devices.specs.declared.fault.End.TheVariants.{Complete, Stopped}

@@ -33,7 +33,7 @@ use Rattle.model.specs.Typable.{IsFirstFault, IsTypable}
 use Rattle.report.specs.Fault.{schedule_fault_line}
 use Rattle.report.specs.Verdict.{refusal_line}
 use Rattle.scenario_names.specs.Names.{Named}
-use Rattle.scenario_text.specs.Judging.{expect_verdict_alone}
+use Rattle.scenario_steps.specs.Judging.{expect_verdict_alone}
 use Rattle.scenario_text.specs.Listing.{Listed, scenario_in}
 use Rattle.drvhost_tests.specs.Reports.{alone, framed, reported}
 

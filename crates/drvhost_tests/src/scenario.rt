@@ -22,7 +22,7 @@ use model::abs::Refusal;
 use rayon::prelude::*;
 use scenario_faults::fault_words;
 use scenario_names::names::Names;
-use scenario_text::judging::expect_verdict_alone;
+use scenario_steps::judging::expect_verdict_alone;
 use scenario_text::parse::parse_scenario;
 use std::alloc::{AllocError, Global};
 use std::thread::Threads;

@@ -4,7 +4,7 @@ use crate::known::Known;
 use interleave::schedule::MAX_EVENTS;
 use model::limits::{CELLS, MAX_INSTRUCTIONS, SPIN_LOCKS};
 use scenario_names::operands::rule_named;
-use scenario_text::scenario::{MAX_STEPS, MAX_WORLDS};
+use scenario_steps::scenario::{MAX_STEPS, MAX_WORLDS};
 use text::class::{is, is_name};
 use text::major::major_of;
 use text::number::{Numeral, number, numbered};

@@ -6,9 +6,9 @@ use Rattle.scenario_run.specs.declared.playing.Outcome.TheVariants.{Done, Waits,
 use Rattle.scenario_run.specs.Holding.{holds}
 use Rattle.scenario_run.specs.Turns.{run_all, running_to_release}
 use Rattle.scenario_run.specs.Playing.{Playing, Went, cancelled, issued, most_of, number_of, one, run_thread, running_to, stays, stepping}
-use Rattle.scenario_text.specs.declared.scenario.Action.{Action}
-use Rattle.scenario_text.specs.declared.scenario.Action.TheVariants.{Issue, Cancel, Interrupt, Dpc, StartIo, Steps, Run as RunAction, RunTo, RunToRelease, RunAll, Together, Expect}
-use Rattle.scenario_text.specs.declared.scenario.Step.{Step}
+use Rattle.scenario_steps.specs.declared.scenario.Action.{Action}
+use Rattle.scenario_steps.specs.declared.scenario.Action.TheVariants.{Issue, Cancel, Interrupt, Dpc, StartIo, Steps, Run as RunAction, RunTo, RunToRelease, RunAll, Together, Expect}
+use Rattle.scenario_steps.specs.declared.scenario.Step.{Step}
 
 -- what is expected holds, or it fails
 abbrev pub expected : Playing → Bool → Went

@@ -9,8 +9,8 @@ use crate::playing::{Outcome, Playing};
 use crate::turns::{run_all, run_to_release};
 use model::event::Event;
 use scenario_expected::expectation::Expectation;
-use scenario_text::scenario::{Action, Step};
-use scenario_text::steps::{Kind, Steps};
+use scenario_steps::scenario::{Action, Step};
+use scenario_steps::steps::{Kind, Steps};
 use std::alloc::{AllocError, Global};
 
 /// Plays the steps of a scenario, up to the first that fails, and answers that one, if there is one.

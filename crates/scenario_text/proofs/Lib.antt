@@ -1,4 +1,3 @@
 pub mod Blocks
-pub mod Keeping
 pub mod Limits
 pub mod Usual

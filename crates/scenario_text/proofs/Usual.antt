@@ -18,8 +18,8 @@ use Rattle.scenario_text.specs.Listing.{Given, given_after, lengthened}
 use Rattle.scenario_text.specs.Repeating.{block_in}
 use Rattle.scenario_text.specs.Usual.{Reads, SaysUsually, TakesDevice, TakesPacket, TakesStatus, TakesThread, expects, is_packet_name}
 use Rattle.scenario_text.specs.declared.repeating.Block.TheVariants.{Plain}
-use Rattle.scenario_text.specs.declared.scenario.Action.{Action}
-use Rattle.scenario_text.specs.declared.scenario.Action.TheVariants.{Dpc, Expect, Interrupt, Run}
+use Rattle.scenario_steps.specs.declared.scenario.Action.{Action}
+use Rattle.scenario_steps.specs.declared.scenario.Action.TheVariants.{Dpc, Expect, Interrupt, Run}
 use Rattle.text.specs.Class.{begins_name, is_name, is_name_byte, is_number, is_word, is_word_byte, label_name}
 use Rattle.text.specs.Digits.{BeginsWith, Digits}
 use Rattle.text.specs.Number.{number_in}

@@ -10,8 +10,8 @@ use Rattle.scenario_names.specs.Names.{Named}
 use Rattle.scenario_names.specs.Operands.{byte_of, device_of, major_from, number_of, packet_of, spin_lock_of, spot_labelled, spot_on_line}
 use Rattle.scenario_text.specs.Together.{together_line}
 use Rattle.scenario_text.specs.declared.reading.Said.{Said}
-use Rattle.scenario_text.specs.declared.scenario.Action.{Action}
-use Rattle.scenario_text.specs.declared.scenario.Action.TheVariants.{Issue, Cancel, Interrupt, Dpc, StartIo, Steps, Run, RunTo, RunToRelease, RunAll, Together, Expect}
+use Rattle.scenario_steps.specs.declared.scenario.Action.{Action}
+use Rattle.scenario_steps.specs.declared.scenario.Action.TheVariants.{Issue, Cancel, Interrupt, Dpc, StartIo, Steps, Run, RunTo, RunToRelease, RunAll, Together, Expect}
 
 -- a request to a device
 abbrev pub issues : Named → List ℕ → List ℕ → List ℕ → List ℕ → Result Action ScheduleKind

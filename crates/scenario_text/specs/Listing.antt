@@ -13,7 +13,7 @@ use Rattle.scenario_text.specs.declared.repeating.Block.{Block}
 use Rattle.scenario_text.specs.declared.repeating.Block.TheVariants.{Plain, Opens, Ends}
 use Rattle.scenario_text.specs.declared.repeating.Numbered.{Numbered}
 use Rattle.scenario_text.specs.Repeating.{Open, block_in, kept}
-use Rattle.scenario_text.specs.declared.scenario.Step.{Step}
+use Rattle.scenario_steps.specs.declared.scenario.Step.{Step}
 use Rattle.text.specs.Cut.{lines_of}
 
 -- what lines have given so far: the names of the packets that they issue, the steps, and the block that

@@ -4,9 +4,9 @@ use Rattle.interleave.specs.Line.{and_then}
 use Rattle.interleave.specs.declared.schedule.ScheduleKind.{ScheduleKind}
 use Rattle.interleave.specs.declared.schedule.ScheduleKind.TheVariants.{UnknownWord}
 use Rattle.scenario_names.specs.Operands.{number_of}
-use Rattle.scenario_text.specs.declared.scenario.Action.{Action}
-use Rattle.scenario_text.specs.declared.scenario.Action.TheVariants.{Together}
-use Rattle.scenario_text.specs.declared.scenario.TheConstants.{MAX_WORLDS, USUAL_WORLDS}
+use Rattle.scenario_steps.specs.declared.scenario.Action.{Action}
+use Rattle.scenario_steps.specs.declared.scenario.Action.TheVariants.{Together}
+use Rattle.scenario_steps.specs.declared.scenario.TheConstants.{MAX_WORLDS, USUAL_WORLDS}
 
 -- `to N worlds`, of which the words are given
 abbrev pub bounded : List Bool → List ℕ → List ℕ → List ℕ → Result Action ScheduleKind

@@ -9,8 +9,8 @@ use Rattle.scenario_names.specs.Operands.{byte_of, device_of, packet_of, status_
 use Rattle.scenario_text.specs.Line.{clean_tokens, line_of, named}
 use Rattle.scenario_text.specs.Repeating.{block_in}
 use Rattle.scenario_text.specs.declared.repeating.Block.TheVariants.{Plain}
-use Rattle.scenario_text.specs.declared.scenario.Action.{Action}
-use Rattle.scenario_text.specs.declared.scenario.Action.TheVariants.{Expect}
+use Rattle.scenario_steps.specs.declared.scenario.Action.{Action}
+use Rattle.scenario_steps.specs.declared.scenario.Action.TheVariants.{Expect}
 use Rattle.text.specs.Class.{is_name, is_word}
 use Rattle.text.specs.Spaced.{ArePlain, IsPlain, spaced}
 

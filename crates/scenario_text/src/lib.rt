@@ -2,11 +2,8 @@
 //! their texts.
 #![tactic(auto)]
 
-pub mod judging;
 pub mod parse;
 mod quick;
 pub mod reading;
 pub mod repeating;
-pub mod scenario;
-pub mod steps;
 mod together;

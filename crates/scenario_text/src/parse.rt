@@ -10,12 +10,12 @@ ghost use Rattle.scenario_text.specs.Listing.{IsFaultOf, closed, ends, given_aft
 use crate::quick::usual_line;
 use crate::reading::{Said, line_of};
 use crate::repeating::{Block, Numbered, Open, block_in};
-use crate::scenario::{MAX_STEPS, Scenario, Step};
-use crate::steps::Steps;
 use interleave::read::opening_line;
 use interleave::schedule::{ScheduleFault, ScheduleKind};
 use scenario_names::issued::Issued;
 use scenario_names::names::Names;
+use scenario_steps::scenario::{MAX_STEPS, Scenario, Step};
+use scenario_steps::steps::Steps;
 use std::alloc::{AllocError, Global};
 use std::marker::Model;
 use text::cut::{Lines, is_clean};

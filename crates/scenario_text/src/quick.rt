@@ -4,12 +4,12 @@ ghost use Rattle.std.specs.Prelude.{◌≡◌, IfSome};
 ghost use Rattle.scenario_text.specs.Line.{dpc_line, interrupt_line, run_line};
 ghost use Rattle.scenario_text.specs.Usual.{Reads, SaysUsually, TakesDevice, TakesPacket, TakesStatus, TakesThread, expects, is_packet_name};
 
-use crate::scenario::Action;
 use model::status::Status;
 use scenario_expected::expectation::{Expectation, PacketState};
 use scenario_names::issued::Issued;
 use scenario_names::names::Names;
 use scenario_names::operands::{device_of, packet_of, status_named};
+use scenario_steps::scenario::Action;
 use text::class::{is, is_name, is_word};
 use text::head::{Numbered, after_word, short_number, word_at_head};
 

@@ -3,7 +3,6 @@
 ghost use Rattle.std.specs.Prelude.{◌≡◌};
 ghost use Rattle.scenario_text.specs.Line.{action_line, begins, cancel_line, cancels, dpc_line, interrupt_line, issue_line, issues, line_of, may_line, request_line, run_line, run_of, saying, startio_line, starts, steps_line, steps_of, to_label, to_number, to_release, until_line};
 
-use crate::scenario::Action;
 use crate::together::together_line;
 use interleave::schedule::ScheduleKind;
 use scenario_expected::expecting::expect_line;
@@ -12,6 +11,7 @@ use scenario_names::names::Names;
 use scenario_names::operands::{
     byte_of, device_of, major_from, number_of, packet_of, spin_lock_of, spot_labelled, spot_on_line,
 };
+use scenario_steps::scenario::Action;
 use text::class::{is, is_name};
 use text::piece::Piece;
 use text::token::Tokens;

@@ -3,9 +3,9 @@
 ghost use Rattle.std.specs.Prelude.{◌≡◌, [], OnOk};
 ghost use Rattle.scenario_text.specs.Repeating.{block_in, ending, opening, with_line};
 
-use crate::scenario::MAX_STEPS;
 use interleave::schedule::ScheduleKind;
 use scenario_names::operands::number_of;
+use scenario_steps::scenario::MAX_STEPS;
 use std::alloc::{AllocError, Global};
 use std::marker::Model;
 use text::class::is;

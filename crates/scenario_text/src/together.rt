@@ -3,9 +3,9 @@
 ghost use Rattle.std.specs.Prelude.{◌≡◌};
 ghost use Rattle.scenario_text.specs.Together.{bound_line, bounded, threads_line, together_line};
 
-use crate::scenario::{Action, MAX_WORLDS, USUAL_WORLDS};
 use interleave::schedule::ScheduleKind;
 use scenario_names::operands::number_of;
+use scenario_steps::scenario::{Action, MAX_WORLDS, USUAL_WORLDS};
 use text::class::is;
 use text::token::Tokens;
 

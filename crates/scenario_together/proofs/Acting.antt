@@ -6,7 +6,7 @@ use Rattle.std.proofs.lemmas.Option.{slice_get_within}
 use Rattle.scenario_run.specs.Acting.{acted, passes}
 use Rattle.scenario_run.specs.declared.playing.Outcome.{Outcome}
 use Rattle.scenario_run.specs.Playing.{Playing, Went}
-use Rattle.scenario_text.specs.declared.scenario.Step.{Step}
+use Rattle.scenario_steps.specs.declared.scenario.Step.{Step}
 use Rattle.scenario_together.specs.Joining.{ActedOn, ActsUpTo, FailsIn}
 
 set_here : (xs : List Playing) (i : ℕ) (y : Playing) → i < length xs

@@ -11,7 +11,7 @@ use Rattle.scenario_run.specs.Acting.{acted, passes}
 use Rattle.scenario_run.specs.Alike.{GoAlike}
 use Rattle.scenario_run.specs.declared.playing.Outcome.{Outcome}
 use Rattle.scenario_run.specs.Playing.{Playing}
-use Rattle.scenario_text.specs.declared.scenario.Step.{Step}
+use Rattle.scenario_steps.specs.declared.scenario.Step.{Step}
 use Rattle.scenario_together.proofs.Alike.{fails_same, may_same}
 use Rattle.scenario_together.proofs.Ways.{WentAlike, acted_alike}
 use Rattle.scenario_together.specs.Interleaving.{IsEnd, behind, fails_with, may_step, steps_of}

@@ -8,10 +8,10 @@ use Rattle.model.specs.Set.{Set}
 use Rattle.scenario_run.specs.Acting.{acted}
 use Rattle.scenario_run.specs.Alike.{GoAlike}
 use Rattle.scenario_run.specs.Playing.{Playing}
-use Rattle.scenario_text.specs.declared.scenario.Step.{Step}
+use Rattle.scenario_steps.specs.declared.scenario.Step.{Step}
 use Rattle.scenario_together.proofs.Covering.{moves_alone, moves_together}
 use Rattle.std.specs.Prelude.{option_map}
-use Rattle.scenario_text.specs.declared.scenario.Action.{Action}
+use Rattle.scenario_steps.specs.declared.scenario.Action.{Action}
 use Rattle.scenario_together.specs.declared.play.Crew.{Crew}
 use Rattle.scenario_together.specs.declared.play.Joined.{Joined}
 use Rattle.scenario_together.specs.declared.play.Played.{Played}

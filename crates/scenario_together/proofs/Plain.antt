@@ -4,11 +4,11 @@ use Rattle.std.specs.Prelude.{option_map}
 use Rattle.std.specs.List.{list_any}
 use Rattle.scenario_run.specs.Acting.{Played, acted, passes, played}
 use Rattle.scenario_run.specs.Playing.{Playing, Went}
-use Rattle.scenario_text.specs.Steps.{is_of, runs_together}
-use Rattle.scenario_text.specs.declared.scenario.Action.{Action}
-use Rattle.scenario_text.specs.declared.scenario.Action.TheVariants.{Issue, Cancel, Interrupt, Dpc, StartIo, Steps, Run as RunAction, RunTo, RunToRelease, RunAll, Together, Expect}
-use Rattle.scenario_text.specs.declared.scenario.Step.{Step}
-use Rattle.scenario_text.specs.declared.steps.Kind.TheVariants.{Together as TogetherKind}
+use Rattle.scenario_steps.specs.Steps.{is_of, runs_together}
+use Rattle.scenario_steps.specs.declared.scenario.Action.{Action}
+use Rattle.scenario_steps.specs.declared.scenario.Action.TheVariants.{Issue, Cancel, Interrupt, Dpc, StartIo, Steps, Run as RunAction, RunTo, RunToRelease, RunAll, Together, Expect}
+use Rattle.scenario_steps.specs.declared.scenario.Step.{Step}
+use Rattle.scenario_steps.specs.declared.steps.Kind.TheVariants.{Together as TogetherKind}
 use Rattle.scenario_together.specs.declared.play.Failure.{Failure}
 use Rattle.scenario_together.specs.Plays.{AllPass, ArePlain, Comes, ComesIf, FailsAt, FailsBy, FailsSo, Leads, LeadsBy, PassesBy, PlaysTo, together_of}
 

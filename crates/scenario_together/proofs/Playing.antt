@@ -9,9 +9,9 @@ use Rattle.laws_worlds.specs.SameWorlds.{SameWorldsGoOnAlike}
 use Rattle.model.specs.Set.{Set}
 use Rattle.model.specs.Sound.{IsSound}
 use Rattle.model.specs.Typable.{IsTypable}
-use Rattle.scenario_text.specs.Judging.{expects_audit}
+use Rattle.scenario_steps.specs.Judging.{expects_audit}
 use Rattle.scenario_run.specs.Playing.{Playing}
-use Rattle.scenario_text.specs.declared.scenario.Step.{Step}
+use Rattle.scenario_steps.specs.declared.scenario.Step.{Step}
 use Rattle.scenario_together.proofs.Covering.{covers_on, fails_there}
 use Rattle.scenario_together.proofs.Sets.{acted_over}
 use Rattle.scenario_together.specs.declared.play.Failure.{Failure}

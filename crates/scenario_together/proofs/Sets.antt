@@ -12,8 +12,8 @@ use Rattle.scenario_world.specs.States.{stands_at}
 use Rattle.scenario_run.specs.Turns.{any_goes_on, goes_on, round, rounds, running_to_release, turn}
 use Rattle.scenario_world.specs.Releases.{stands_before_release}
 use Rattle.scenario_names.specs.declared.names.Spot.{Spot}
-use Rattle.scenario_text.specs.declared.scenario.Action.{Action}
-use Rattle.scenario_text.specs.declared.scenario.Action.TheVariants.{Issue, Cancel, Interrupt, Dpc, StartIo, Steps, Run as RunAction, RunTo, RunToRelease, RunAll, Together, Expect}
+use Rattle.scenario_steps.specs.declared.scenario.Action.{Action}
+use Rattle.scenario_steps.specs.declared.scenario.Action.TheVariants.{Issue, Cancel, Interrupt, Dpc, StartIo, Steps, Run as RunAction, RunTo, RunToRelease, RunAll, Together, Expect}
 
 -- a play that went is over a set
 abbrev Over : Set → Went → Type 0

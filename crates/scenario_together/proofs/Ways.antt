@@ -18,7 +18,7 @@ use Rattle.laws_locks.specs.Waiting.{waits_for}
 use Rattle.model.specs.World.{World, owner_of}
 use Rattle.scenario_run.proofs.Alike.{go_alike, reply_alike}
 use Rattle.scenario_run.specs.Acting.{acted, expected}
-use Rattle.scenario_text.specs.Judging.{expects_audit}
+use Rattle.scenario_steps.specs.Judging.{expects_audit}
 use Rattle.scenario_run.specs.Alike.{GoAlike}
 use Rattle.scenario_run.specs.declared.playing.Outcome.{Outcome}
 use Rattle.scenario_run.specs.declared.playing.Outcome.TheVariants.{Done, Waits, Fails}
@@ -30,8 +30,8 @@ use Rattle.scenario_run.specs.Turns.{any_goes_on, goes_on, round, rounds, run_al
 use Rattle.scenario_world.specs.Releases.{stands_before_release}
 use Rattle.scenario_names.specs.declared.names.Spot.{Spot}
 use Rattle.scenario_world.specs.Expected.{entries_of, has_entries, is_owned}
-use Rattle.scenario_text.specs.declared.scenario.Action.{Action}
-use Rattle.scenario_text.specs.declared.scenario.Action.TheVariants.{Issue, Cancel, Interrupt, Dpc, StartIo, Steps, Run as RunAction, RunTo, RunToRelease, RunAll, Together, Expect}
+use Rattle.scenario_steps.specs.declared.scenario.Action.{Action}
+use Rattle.scenario_steps.specs.declared.scenario.Action.TheVariants.{Issue, Cancel, Interrupt, Dpc, StartIo, Steps, Run as RunAction, RunTo, RunToRelease, RunAll, Together, Expect}
 use Rattle.scenario_expected.specs.declared.expectation.Expectation.{Expectation}
 use Rattle.scenario_expected.specs.declared.expectation.Expectation.TheVariants.{Clean, Bug, Packet, Thread, Device, Lock, Listed, Verdict, Judged}
 use Rattle.scenario_expected.specs.declared.expectation.PacketState.{PacketState}

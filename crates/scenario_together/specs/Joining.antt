@@ -3,9 +3,9 @@ use Rattle.std.specs.Prelude.{ℕ, ◌≡◌, ◌<◌, ◌≤◌, ◌⊎◌, Boo
 use Rattle.model.specs.Sound.{IsSound}
 use Rattle.model.specs.Typable.{IsTypable}
 use Rattle.scenario_run.specs.Acting.{acted, passes}
-use Rattle.scenario_text.specs.Judging.{expects_audit}
+use Rattle.scenario_steps.specs.Judging.{expects_audit}
 use Rattle.scenario_run.specs.Playing.{Playing}
-use Rattle.scenario_text.specs.declared.scenario.Step.{Step}
+use Rattle.scenario_steps.specs.declared.scenario.Step.{Step}
 use Rattle.scenario_together.specs.Interleaving.{IsEnd, behind}
 use Rattle.scenario_together.specs.Likeness.{IsLike}
 use Rattle.scenario_together.specs.Plays.{AllPass, AreThere, Comes, FailsBy, FailsSo, IsMissing, Leads, Passes}

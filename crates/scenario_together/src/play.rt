@@ -3,7 +3,7 @@
 ghost use Rattle.std.specs.Prelude.{◌≡◌, Bool, IfOk, IsTrue, List, Some, false, option_map};
 ghost use Rattle.model.specs.Typable.{IsTypable};
 ghost use Rattle.scenario_run.specs.Playing.{Playing};
-ghost use Rattle.scenario_text.specs.declared.scenario.Step.{Step};
+ghost use Rattle.scenario_steps.specs.declared.scenario.Step.{Step};
 ghost use Rattle.scenario_together.specs.Joining.{ActedAll, IsFirstOr, JoinedAll, JoinedOne, Leaves, MayMerge, ThereIf};
 ghost use Rattle.scenario_together.specs.Plays.{ArePlain, Plays, PlaysPlainly, together_of};
 
@@ -14,8 +14,8 @@ use laws_worlds::same_worlds_go_on_alike;
 use scenario_run::holding::events_of;
 use scenario_run::play::{act, passes, play as play_each};
 use scenario_run::playing::Playing;
-use scenario_text::scenario::{Action, Step};
-use scenario_text::steps::{Kind, Steps};
+use scenario_steps::scenario::{Action, Step};
+use scenario_steps::steps::{Kind, Steps};
 use std::alloc::{AllocError, Global};
 use tell_uses::laws::accepted_runs_show_no_disagreement;
 use verifier::verify;

@@ -1,6 +1,6 @@
 use Rattle.std.proofs.Common.{◌≡◌, ◌∙◌, false, rules, sym}
 use Rattle.std.specs.List.{list_any}
-use Rattle.scenario_text.specs.Judging.{expects_verdict}
+use Rattle.scenario_steps.specs.Judging.{expects_verdict}
 use Rattle.drvhost_scenarios.proofs.Judging.{none_judged}
 use Rattle.drvhost_scenarios.proofs.telling.play_judged.Goals as goal
 

@@ -3,7 +3,7 @@ use Rattle.std.proofs.lemmas.List.{take_all}
 use Rattle.model.specs.Set.{Set}
 use Rattle.model.specs.Sound.{IsSound}
 use Rattle.scenario_run.specs.Playing.{Playing}
-use Rattle.scenario_text.specs.declared.scenario.Step.{Step}
+use Rattle.scenario_steps.specs.declared.scenario.Step.{Step}
 use Rattle.scenario_together.specs.Joining.{Covers}
 use Rattle.scenario_together.proofs.Covering.{covers_begun}
 use Rattle.scenario_together.proofs.Playing.{covers_next, ends_at, ends_nowhere, stops_there}

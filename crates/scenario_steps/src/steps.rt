@@ -2,8 +2,8 @@
 
 ghost use Rattle.std.specs.Prelude.{◌≡◌, ◌∷◌, ◌++◌, ◌<◌, [], IfOk, IfSome, List, MatchOption, OnErr, OnOk, get_or, length, ℕ};
 ghost use Rattle.std.specs.List.{list_any};
-ghost use Rattle.scenario_text.specs.Steps.{IsIn, action_of, is_of, no_step, unfolded};
-ghost use Rattle.scenario_text.specs.declared.scenario.Step.{Step};
+ghost use Rattle.scenario_steps.specs.Steps.{IsIn, action_of, is_of, no_step, unfolded};
+ghost use Rattle.scenario_steps.specs.declared.scenario.Step.{Step};
 
 use crate::judging::expects_verdict;
 use crate::scenario::{Action, Step};
@@ -67,8 +67,8 @@ pub struct Steps {
 
 impl Model for Steps {
     ghost use Rattle.std.specs.Prelude.{List, length, map};
-    ghost use Rattle.scenario_text.specs.Steps.{AreIn, unfolded};
-    ghost use Rattle.scenario_text.specs.declared.scenario.Step.{Step};
+    ghost use Rattle.scenario_steps.specs.Steps.{AreIn, unfolded};
+    ghost use Rattle.scenario_steps.specs.declared.scenario.Step.{Step};
 
     ghost Value = { List Step };
 

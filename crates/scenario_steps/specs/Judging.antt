@@ -4,9 +4,9 @@ use Rattle.std.specs.Prelude.{◌&&◌, not, nat_eq, Bool, true, false, List, le
 use Rattle.std.specs.List.{list_all}
 use Rattle.model.specs.declared.abs.Refusal.{Refusal}
 use Rattle.scenario_expected.specs.declared.expectation.Expectation.TheVariants.{Clean, Verdict, Judged}
-use Rattle.scenario_text.specs.declared.scenario.Action.{Action}
-use Rattle.scenario_text.specs.declared.scenario.Action.TheVariants.{Expect}
-use Rattle.scenario_text.specs.declared.scenario.Step.{Step}
+use Rattle.scenario_steps.specs.declared.scenario.Action.{Action}
+use Rattle.scenario_steps.specs.declared.scenario.Action.TheVariants.{Expect}
+use Rattle.scenario_steps.specs.declared.scenario.Step.{Step}
 
 -- a step that expects a verdict
 abbrev pub is_of_verdict : Action → Bool

@@ -1,6 +1,6 @@
 use Rattle.std.proofs.Common.{length}
-use Rattle.scenario_text.proofs.Keeping.{in_pushed}
-use Rattle.scenario_text.proofs.steps.Steps.push_brief.Goals as goal
+use Rattle.scenario_steps.proofs.Keeping.{in_pushed}
+use Rattle.scenario_steps.proofs.steps.Steps.push_brief.Goals as goal
 
 pub invariant_of-self-2 : goal.invariant_of-self-2
 invariant_of-self-2 c =

@@ -2,16 +2,16 @@
 use Rattle.std.specs.Prelude.{◌<◌, ℕ, ⊤, Bool, true, false, List, [], ◌∷◌, None, Some, get_or}
 use Rattle.scenario_expected.specs.declared.expectation.Expectation.TheVariants.{Packet}
 use Rattle.scenario_expected.specs.declared.expectation.PacketState.TheVariants.{Topped}
-use Rattle.scenario_text.specs.declared.scenario.Action.{Action}
-use Rattle.scenario_text.specs.declared.scenario.Action.TheVariants.{Issue, Interrupt, Dpc, Run, RunAll, Together, Expect}
-use Rattle.scenario_text.specs.declared.scenario.Step.{Step}
-use Rattle.scenario_text.specs.Judging.{expects_audit, is_of_verdict}
-use Rattle.scenario_text.specs.declared.steps.Kept.{Kept}
-use Rattle.scenario_text.specs.declared.steps.Kept.TheVariants.{Brief, Whole}
-use Rattle.scenario_text.specs.declared.steps.Kind.{Kind}
-use Rattle.scenario_text.specs.declared.steps.Kind.TheVariants.{Verdict, Audit, Together as TogetherKind}
-use Rattle.scenario_text.specs.declared.steps.Usual.{Usual}
-use Rattle.scenario_text.specs.declared.steps.Usual.TheVariants.{Request, Interruption, Deferred, Running, ToppedAs}
+use Rattle.scenario_steps.specs.declared.scenario.Action.{Action}
+use Rattle.scenario_steps.specs.declared.scenario.Action.TheVariants.{Issue, Interrupt, Dpc, Run, RunAll, Together, Expect}
+use Rattle.scenario_steps.specs.declared.scenario.Step.{Step}
+use Rattle.scenario_steps.specs.Judging.{expects_audit, is_of_verdict}
+use Rattle.scenario_steps.specs.declared.steps.Kept.{Kept}
+use Rattle.scenario_steps.specs.declared.steps.Kept.TheVariants.{Brief, Whole}
+use Rattle.scenario_steps.specs.declared.steps.Kind.{Kind}
+use Rattle.scenario_steps.specs.declared.steps.Kind.TheVariants.{Verdict, Audit, Together as TogetherKind}
+use Rattle.scenario_steps.specs.declared.steps.Usual.{Usual}
+use Rattle.scenario_steps.specs.declared.steps.Usual.TheVariants.{Request, Interruption, Deferred, Running, ToppedAs}
 
 -- what a step does, where that is usual
 abbrev pub action_of : Usual → Action

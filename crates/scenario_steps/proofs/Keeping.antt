@@ -1,11 +1,11 @@
 -- Steps as they are kept: what stands among those that are kept as they are, and stays so.
-use Rattle.std.proofs.Common.{◌≡◌, ◌∙◌, ◌<◌, ◌+◌, ◌++◌, ℕ, List, [], ◌∷◌, ap, arith, length, refl, subst, sym}
-use Rattle.std.specs.Prelude.{get_or, map}
+use Rattle.std.proofs.Common.{◌≡◌, ◌∙◌, ◌+◌, ◌++◌, ℕ, List, [], ◌∷◌, ap, arith, length, refl, subst, sym}
+use Rattle.std.specs.Prelude.{map}
 use Rattle.std.proofs.lemmas.List.{get_or_append_left, get_or_push, length-append, map_push}
-use Rattle.scenario_text.specs.Steps.{AreIn, IsIn, no_step, unfolded}
-use Rattle.scenario_text.specs.declared.scenario.Step.{Step}
-use Rattle.scenario_text.specs.declared.steps.Kept.{Kept}
-use Rattle.scenario_text.specs.declared.steps.Kept.TheVariants.{Brief, Whole}
+use Rattle.scenario_steps.specs.Steps.{AreIn, IsIn, no_step, unfolded}
+use Rattle.scenario_steps.specs.declared.scenario.Step.{Step}
+use Rattle.scenario_steps.specs.declared.steps.Kept.{Kept}
+use Rattle.scenario_steps.specs.declared.steps.Kept.TheVariants.{Brief, Whole}
 
 one_in_more : (n : ℕ) (one : Kept) → IsIn n one → IsIn (n + 1) one
 one_in_more n (Brief line usual) inside = inside

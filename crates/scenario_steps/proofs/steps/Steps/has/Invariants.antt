@@ -1,7 +1,7 @@
 use Rattle.std.proofs.Common.{◌≡◌, false, take}
 use Rattle.std.specs.List.{list_any}
-use Rattle.scenario_text.specs.Steps.{is_of}
-use Rattle.scenario_text.proofs.steps.Steps.has.Given as goal
+use Rattle.scenario_steps.specs.Steps.{is_of}
+use Rattle.scenario_steps.proofs.steps.Steps.has.Given as goal
 
 -- none so far is of the kind
 abbrev pub invariant-loop-place : goal.invariant-loop-place

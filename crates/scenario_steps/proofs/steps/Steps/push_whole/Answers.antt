@@ -1,8 +1,7 @@
-use Rattle.std.proofs.Common.{rules, ◌≡◌, ◌∙◌, ◌++◌, ◌∷◌, [], ap, length, sym}
-use Rattle.scenario_text.proofs.Keeping.{whole_in, whole_pushed}
-use Rattle.scenario_text.specs.declared.scenario.Step.{Step}
-use Rattle.scenario_text.specs.declared.steps.Kept.TheVariants.{Whole}
-use Rattle.scenario_text.proofs.steps.Steps.push_whole.Goals as goal
+use Rattle.std.proofs.Common.{rules, ◌≡◌, ◌∙◌, ◌++◌, ◌∷◌, [], ap, length}
+use Rattle.scenario_steps.proofs.Keeping.{whole_in, whole_pushed}
+use Rattle.scenario_steps.specs.declared.steps.Kept.TheVariants.{Whole}
+use Rattle.scenario_steps.proofs.steps.Steps.push_whole.Goals as goal
 
 pub invariant_of-self-2 : goal.invariant_of-self-2
 invariant_of-self-2 c =

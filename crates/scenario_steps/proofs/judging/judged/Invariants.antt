@@ -1,6 +1,6 @@
 use Rattle.std.proofs.Common.{◌≡◌, take}
-use Rattle.scenario_text.specs.Judging.{judged}
-use Rattle.scenario_text.proofs.judging.judged.Given as goal
+use Rattle.scenario_steps.specs.Judging.{judged}
+use Rattle.scenario_steps.proofs.judging.judged.Given as goal
 
 -- so many are
 abbrev pub invariant-loop-place : goal.invariant-loop-place

@@ -1,7 +1,6 @@
-use Rattle.std.proofs.Common.{length, subst}
-use Rattle.scenario_text.proofs.Keeping.{in_popped}
-use Rattle.scenario_text.specs.Steps.{AreIn}
-use Rattle.scenario_text.proofs.steps.Steps.pop.Goals as goal
+use Rattle.std.proofs.Common.{length}
+use Rattle.scenario_steps.proofs.Keeping.{in_popped}
+use Rattle.scenario_steps.proofs.steps.Steps.pop.Goals as goal
 
 pub invariant_of-self-2 : goal.invariant_of-self-2
 invariant_of-self-2 c =

@@ -1,0 +1,6 @@
+//! The steps of a scenario: what happens in them, and what is expected.
+#![tactic(auto)]
+
+pub mod judging;
+pub mod scenario;
+pub mod steps;
