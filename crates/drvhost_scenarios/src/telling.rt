@@ -1,7 +1,6 @@
 //! A scenario that is played, and what is told of it.
 
 ghost use Rattle.std.specs.Prelude.{◌≡◌, ◌≢◌, ◌≤◌, ◌+◌, ◌⊎◌, IfErr, IfOk, Some, option_map};
-ghost use Rattle.std.specs.List.{list_any};
 ghost use Rattle.drvhost_devices.specs.Answer.{IsIfAccepted, IsOfFile, IsTraced, ended};
 ghost use Rattle.drvhost_devices.specs.Device.{Bytes, CanCount};
 ghost use Rattle.drvhost_devices.specs.Ends.{HoldsRun};
@@ -9,7 +8,6 @@ ghost use Rattle.drvhost_devices.specs.Fault.{reads_failed, writes_failed};
 ghost use Rattle.model.specs.declared.limits.TheConstants.{MAX_THREADS};
 ghost use Rattle.model.specs.Typable.{IsTypable};
 ghost use Rattle.report.specs.Verdict.{refusal_line};
-ghost use Rattle.scenario_steps.specs.Judging.{expects_verdict};
 ghost use Rattle.scenario_text.specs.Listing.{scenario_in};
 ghost use Rattle.drvhost_scenarios.specs.Scenarios.{IsFound, IsOfScenario, IsPlayedOf, PlaysJudged, listed, names_in, right_of, right_of_play};
 ghost use Rattle.drvhost_scenarios.specs.Telling.{Tells};
@@ -28,6 +26,7 @@ use scenario_names::names::Names;
 use scenario_run::playing::Playing;
 use scenario_steps::judging::judged;
 use scenario_steps::scenario::{Scenario, Step};
+use scenario_steps::steps::{Kind, Steps};
 use scenario_text::parse::parse_scenario;
 use scenario_together::play::{Failure, Played, play};
 use std::alloc::{AllocError, Global};
