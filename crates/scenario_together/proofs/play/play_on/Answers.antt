@@ -1,10 +1,10 @@
-use Rattle.std.proofs.Common.{◌∙◌, ◌++◌, ◌∷◌, [], List, ap, arith, inl, inr, subst, sym}
+use Rattle.std.proofs.Common.{◌∙◌, ◌<◌, ◌++◌, ◌∷◌, [], List, ap, arith, inl, inr, length, subst, sym}
 use Rattle.std.proofs.lemmas.List.{take_all}
 use Rattle.model.specs.Set.{Set}
 use Rattle.model.specs.Sound.{IsSound}
 use Rattle.scenario_run.specs.Playing.{Playing}
 use Rattle.scenario_steps.specs.declared.scenario.Step.{Step}
-use Rattle.scenario_together.specs.Joining.{Covers}
+use Rattle.scenario_together.specs.Joining.{Covers, Moves, StopsAt}
 use Rattle.scenario_together.proofs.Covering.{covers_begun}
 use Rattle.scenario_together.proofs.Playing.{covers_next, ends_at, ends_nowhere, stops_there}
 use Rattle.scenario_together.proofs.play.play_on.Goals as goal
@@ -21,24 +21,31 @@ loop-place-init c =
 pub loop-place-preserved : goal.loop-place-preserved
 loop-place-preserved c =
     let at = c.loop-place in
+    let inside : at.place < length c.args.steps.now =
+    omega (arith, c.len-place-end.ensures, c.loop-place-test.true, at.auto.place-end) in
     let sound =
     subst (λ (s : Set). IsSound s) (c.set.ensures ∙ c.machine.ensures.set)
     c.devices-devices.ensures.sound in
     covers_next c.same_worlds_go_on_alike.ensures c.accepted_runs_show_no_disagreement.ensures
-    c.args.merges c.args.home sound c.args.steps.now c.requires at.place _
-    c.loop-place-test.true at.plays.items c.in-On.next.items at.invariant
-    (rw c.in-On.is at c.in_ok-next.ensures)
+    c.args.merges c.args.home sound c.args.steps.now c.requires at.place c.at.result inside
+    at.plays.items c.in-On.next.items at.invariant
+    (subst (λ (x : Step). Moves c.args.merges x at.plays.items c.in-On.next.items) c.at.ensures
+    (rw c.in-On.is at c.in_ok-next.ensures))
 
 pub returns-in-Over : goal.returns-in-Over
 returns-in-Over c =
     let at = c.loop-place in
+    let inside : at.place < length c.args.steps.now =
+    omega (arith, c.len-place-end.ensures, c.loop-place-test.true, at.auto.place-end) in
     let sound =
     subst (λ (s : Set). IsSound s) (c.set.ensures ∙ c.machine.ensures.set)
     c.devices-devices.ensures.sound in
     stops_there c.same_worlds_go_on_alike.ensures c.accepted_runs_show_no_disagreement.ensures
-    c.args.merges c.args.home sound c.args.steps.now c.requires at.place _
-    c.loop-place-test.true at.plays.items c.in-Over.played.now c.in-Over.played.failed at.invariant
-    (rw c.in-Over.is at c.in_ok-next.ensures)
+    c.args.merges c.args.home sound c.args.steps.now c.requires at.place c.at.result inside
+    at.plays.items c.in-Over.played.now c.in-Over.played.failed at.invariant
+    (subst (λ (x : Step).
+    StopsAt x at.plays.items c.in-Over.played.now c.in-Over.played.failed) c.at.ensures
+    (rw c.in-Over.is at c.in_ok-next.ensures))
 
 pub returns : goal.returns
 returns c =
