@@ -1,8 +1,8 @@
 -- Lines of instructions in their usual form are read as the exact reading says.
-use Rattle.std.proofs.Common.{◌≡◌, ℕ, ◌+◌, ◌-◌, ◌<◌, ◌≤◌, ◌^◌, nat_eq, nat_le, true, false, ◌||◌, ◌&&◌, List, [], ◌∷◌, ◌++◌, length, is_some, Option, Some, None, Ok, refl, sym, arith, append_assoc, codes, length-append}
+use Rattle.std.proofs.Common.{◌≡◌, ℕ, ◌+◌, ◌-◌, ◌<◌, ◌≤◌, ◌^◌, nat_eq, nat_le, true, ◌||◌, List, [], ◌∷◌, ◌++◌, length, is_some, Option, Some, None, Ok, refl, sym, arith, append_assoc, codes, length-append}
 use Rattle.std.proofs.Math.Seq.{get_or-append_seam, take-append_seam}
 use Rattle.std.proofs.lemmas.List.Folds.{list_all-append}
-use Rattle.std.proofs.lemmas.Bool.{and_from, and_parts, ne_eqb, lt-ltb, le-leb, or_right}
+use Rattle.std.proofs.lemmas.Bool.{and_from, ne_eqb, lt-ltb, le-leb, or_right}
 use Rattle.std.proofs.lemmas.Bool.Decides.{nat_tests}
 use Rattle.std.specs.List.{list_all}
 use Rattle.std.specs.Option.{ok_or}
@@ -14,12 +14,13 @@ use Rattle.model.specs.declared.instr.Field.TheVariants.{Major as MajorField, Ar
 use Rattle.model.specs.declared.instr.Return.TheVariants.{WithStatus, Lower, Continue, Stop, Void}
 use Rattle.model.specs.declared.status.Status.{Status}
 use Rattle.model.specs.declared.status.Status.TheVariants.{Success, Pending, Busy, Unsuccessful, InvalidParameter, InvalidDeviceRequest, Cancelled}
-use Rattle.text.specs.Class.{begins_name, is_name, is_name_byte, is_name_start, is_word, is_number, label_name}
+use Rattle.text.specs.Class.{is_name, is_name_start, is_word, is_number, label_name}
 use Rattle.text.specs.Number.{numbered_in}
 use Rattle.text.specs.Digits.{BeginsWith, Digits}
 use Rattle.text.specs.Spaced.{is_inner, spaced, ArePlain, IsPlain}
 use Rattle.text.proofs.Digits.{all_digits, all_inner, digits_number, digits_plain, some_bytes}
 use Rattle.text.proofs.Spaced.{plain_word, plain_lexical, plain_tokens}
+use Rattle.text.proofs.Words.{name_plain}
 use Rattle.text.specs.declared.class.TheConstants.{MAX_NAME}
 use Rattle.asm_line.specs.Cursor.{Reading, called, capped, cell, cell_of, constant, constant_of, field, label, lock_of, number, numbered, one, paged_cell, queue, ranged, register, register_of, returned, returned_by, so_far, spin_lock, status, then_read, three, turns, turns_of, two}
 use Rattle.asm_line.specs.Line.{body, if_in_range, line_of, read_line}
@@ -50,25 +51,6 @@ unlabelled_line line step is =
     rw (is.parts, read_plain is.word is.words is.first is.plain, step_of line step is) refl
 
 -- a step with a label
-no_name : (name : List ℕ) → is_name name ≡ true → nat_eq (length name) 0 ≡ false
-no_name [] is = cc
-no_name (b ∷ bs) is = ne_eqb (length (b ∷ bs)) 0 (λ e. omega (arith, e))
-
-name_byte_inner : (b : ℕ) → is_name_byte b ≡ true → is_inner b ≡ true
-name_byte_inner b is = grind (arith, nat_tests)
-
-name_inner : (bs : List ℕ) → list_all is_name_byte bs ≡ true → list_all is_inner bs ≡ true
-name_inner [] is = refl
-name_inner (b ∷ bs) is =
-    let parts = and_parts (is_name_byte b) (list_all is_name_byte bs) is in
-    and_from (is_inner b) (list_all is_inner bs) (name_byte_inner b parts.0) (name_inner bs parts.1)
-
-name_plain : (name : List ℕ) → is_name name ≡ true → IsPlain name
-name_plain name is =
-    let parts = and_parts (begins_name name && nat_le (length name) MAX_NAME)
-    (list_all is_name_byte name) is in
-    record { some = no_name name is; inner = name_inner name parts.1; token = rw is refl }
-
 label_is : (name : List ℕ) → is_name name ≡ true → label_name (name ++ 58 ∷ []) ≡ Some name
 label_is name is =
     let long : length (name ++ 58 ∷ []) - 1 ≡ length name =

@@ -1,10 +1,9 @@
 -- Lines in their usual form are read as the exact reading says.
-use Rattle.std.proofs.Common.{◌≡◌, ℕ, ◌<◌, ◌≤◌, ◌&&◌, ◌||◌, Bool, is_some, nat_eq, nat_le, true, false, List, [], ◌∷◌, ◌++◌, length, codes, Option, Some, None, Ok, Result, IfSome, refl, ◌∙◌, arith, sym}
+use Rattle.std.proofs.Common.{◌≡◌, ℕ, ◌<◌, ◌≤◌, ◌||◌, Bool, nat_eq, true, false, List, [], ◌∷◌, ◌++◌, length, codes, Option, Some, None, Ok, Result, IfSome, refl, ◌∙◌, arith}
 use Rattle.std.proofs.lemmas.List.{append-nil}
 use Rattle.std.proofs.Math.Bool.{and-false}
-use Rattle.std.proofs.lemmas.Bool.{and_from, and_parts, le-leb, ne_eqb, true≢false}
+use Rattle.std.proofs.lemmas.Bool.{and_parts, le-leb, true≢false}
 use Rattle.std.proofs.lemmas.Bool.Decides.{nat_tests}
-use Rattle.std.specs.List.{list_all}
 use Rattle.std.specs.Prelude.{bytes_eq, not}
 use Rattle.interleave.specs.Line.{number_within}
 use Rattle.interleave.specs.declared.schedule.ScheduleKind.{ScheduleKind}
@@ -20,24 +19,16 @@ use Rattle.scenario_text.specs.Usual.{Reads, SaysUsually, TakesDevice, TakesPack
 use Rattle.scenario_text.specs.declared.repeating.Block.TheVariants.{Plain}
 use Rattle.scenario_steps.specs.declared.scenario.Action.{Action}
 use Rattle.scenario_steps.specs.declared.scenario.Action.TheVariants.{Dpc, Expect, Interrupt, Run}
-use Rattle.text.specs.Class.{begins_name, is_name, is_name_byte, is_number, is_word, is_word_byte, label_name}
+use Rattle.text.specs.Class.{is_name, is_word}
 use Rattle.text.specs.Digits.{BeginsWith, Digits}
 use Rattle.text.specs.Number.{number_in}
-use Rattle.text.specs.Spaced.{IsPlain, is_inner}
-use Rattle.text.specs.declared.class.TheConstants.{MAX_NAME}
+use Rattle.text.specs.Spaced.{IsPlain}
 use Rattle.text.specs.declared.number.Numeral.TheVariants.{Number}
 use Rattle.text.proofs.Digits.{digits_form, digits_number, digits_plain}
-use Rattle.text.proofs.Spaced.{plain_clean, plain_tokens}
+use Rattle.text.proofs.Spaced.{not_true, plain_clean, plain_tokens}
+use Rattle.text.proofs.Words.{name_plain, word_plain}
 
 -- tests
-not_true : (b : Bool) → not b ≡ true → b ≡ false
-not_true false is = refl
-not_true true is = sym is
-
-second_true : (a b c e : Bool) → b ≡ true → (a || b || c || e) ≡ true
-second_true true b c e is = refl
-second_true false b c e is = rw is refl
-
 none_true : (a b c : Bool) → (a || b || c) ≡ false → (a ≡ false) × (b ≡ false) × (c ≡ false)
 none_true false false false is = (refl, refl, refl)
 none_true true b c is = absurd (true≢false is)
@@ -73,27 +64,10 @@ thread_taken {bytes} {rest} {later} {n} here found few = record {
 }
 
 -- the name of a device
-some_name : (name : List ℕ) → is_name name ≡ true → nat_eq (length name) 0 ≡ false
-some_name [] is = sym is
-some_name (b ∷ bs) is = ne_eqb (length (b ∷ bs)) 0 (λ e. omega (arith, e))
-
-inner_name : (bs : List ℕ) → list_all is_name_byte bs ≡ true → list_all is_inner bs ≡ true
-inner_name [] is = refl
-inner_name (b ∷ bs) is =
-    let parts = and_parts (is_name_byte b) (list_all is_name_byte bs) is in
-    let first : is_inner b ≡ true = grind (arith, nat_tests) in
-    and_from (is_inner b) (list_all is_inner bs) first (inner_name bs parts.1)
-
-plain_name : (name : List ℕ) → is_name name ≡ true → IsPlain name
-plain_name name is =
-    let parts = and_parts (begins_name name && nat_le (length name) MAX_NAME)
-    (list_all is_name_byte name) is in
-    record { some = some_name name is; inner = inner_name name parts.1; token = rw is refl }
-
 pub device_taken : {devices : List (List ℕ)} {bytes word : List ℕ} {d : ℕ} → bytes ≡ 32 ∷ word
     → is_name word ≡ true → device_of devices word ≡ Ok d → TakesDevice devices bytes d
 device_taken {devices} {bytes} {word} {d} here is says =
-    record { word = word; parts = here; plain = plain_name word is; says = says }
+    record { word = word; parts = here; plain = name_plain word is; says = says }
 
 pub no_bytes : (bytes : List ℕ) → length bytes ≡ 0 → bytes ≡ []
 no_bytes [] none = refl
@@ -131,23 +105,6 @@ interrupt_read names {a} {d} device = record {
 }
 
 -- the word of a status
-inner_word : (bs : List ℕ) → list_all is_word_byte bs ≡ true → list_all is_inner bs ≡ true
-inner_word [] is = refl
-inner_word (b ∷ bs) is =
-    let parts = and_parts (is_word_byte b) (list_all is_word_byte bs) is in
-    let first : is_inner b ≡ true = grind (arith, nat_tests) in
-    and_from (is_inner b) (list_all is_inner bs) first (inner_word bs parts.1)
-
-plain_word : (word : List ℕ) → is_word word ≡ true → IsPlain word
-plain_word word is =
-    let parts = and_parts (not (nat_eq (length word) 0)) (list_all is_word_byte word) is in
-    record {
-      some = not_true (nat_eq (length word) 0) parts.0;
-      inner = inner_word word parts.1;
-      token = second_true (is_name word) (is_word word) (is_number word)
-          (is_some (label_name word)) is;
-    }
-
 pub status_taken : {bytes word : List ℕ} {s : Status} → bytes ≡ 32 ∷ word → is_word word ≡ true
     → status_named word ≡ Some s → TakesStatus bytes s
 status_taken {bytes} {word} {s} here is says =
@@ -168,7 +125,7 @@ of_packet word is =
     let parts = and_parts (is_name word) (not (thread || bug || refused)) is in
     let none = none_true thread bug refused (not_true (thread || bug || refused) parts.1) in
     record {
-      plain = plain_name word parts.0;
+      plain = name_plain word parts.0;
       thread = none.0;
       bug = none.1;
       refused = none.2;
@@ -183,7 +140,7 @@ expect_read names {packets} {a} {b} {c} {p} {s} packet topped status =
       parts = rw (packet.parts, topped, status.parts, append-nil status.word) refl;
       plain = (
         is.plain,
-        (record { some = refl; inner = refl; token = refl }, (plain_word status.word status.form, tt)),
+        (record { some = refl; inner = refl; token = refl }, (word_plain status.word status.form, tt)),
       );
       says = rw (
         is.thread,

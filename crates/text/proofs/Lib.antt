@@ -2,3 +2,4 @@ pub mod Cuts
 pub mod Places
 pub mod Spaced
 pub mod Digits
+pub mod Words

@@ -20,7 +20,7 @@ pub record Inner (b : ℕ) : Type 0 where
   pub held : is_blank b ≡ false
   pub written : is_written b ≡ true
 
-not_true : (b : Bool) → not b ≡ true → b ≡ false
+pub not_true : (b : Bool) → not b ≡ true → b ≡ false
 not_true false is = refl
 not_true true is = sym is
 
@@ -70,9 +70,9 @@ clean_on [] rest is later = later
 clean_on (b ∷ bs) rest is later =
     let first = first_inner b bs is in rw (first.0.written) (clean_on bs rest first.1 later)
 
-closed_plain : (word : List ℕ) → IsPlain word → closed word ≡ word ∷ []
-closed_plain [] is = let no = is.some in cc
-closed_plain (b ∷ bs) is = refl
+closed_some : (word : List ℕ) → nat_eq (length word) 0 ≡ false → closed word ≡ word ∷ []
+closed_some [] some = cc
+closed_some (b ∷ bs) some = refl
 
 -- words that each stand after a space
 spaced_code : (words : List (List ℕ)) → ArePlain words → IsCode (spaced words)
@@ -85,14 +85,14 @@ spaced_clean [] are = refl
 spaced_clean (word ∷ words) (is, are) =
     clean_on word (spaced words) is.inner (spaced_clean words are)
 
-spaced_parts : (word : List ℕ) (words : List (List ℕ)) → IsPlain word → ArePlain words
-    → parts_from word (spaced words) ≡ word ∷ words
-spaced_parts word [] is are = closed_plain word is
-spaced_parts word (next ∷ words) is (next_is, are) =
+spaced_parts : (word : List ℕ) (words : List (List ℕ)) → nat_eq (length word) 0 ≡ false
+    → ArePlain words → parts_from word (spaced words) ≡ word ∷ words
+spaced_parts word [] some are = closed_some word some
+spaced_parts word (next ∷ words) some (is, are) =
     rw (
-      closed_plain word is,
-      part_on [] next (spaced words) next_is.inner,
-      spaced_parts next words next_is are,
+      closed_some word some,
+      part_on [] next (spaced words) is.inner,
+      spaced_parts next words is.some are,
     ) refl
 
 all_tokens : (words : List (List ℕ)) → ArePlain words → list_all is_token words ≡ true
@@ -113,13 +113,38 @@ plain_tokens word words is are =
     let code : code_of line ≡ line =
     all_code line (code_on word (spaced words) is.inner (spaced_code words are)) in
     let parts : parts_from [] line ≡ word ∷ words =
-    part_on [] word (spaced words) is.inner ∙ spaced_parts word words is are in
+    part_on [] word (spaced words) is.inner ∙ spaced_parts word words is.some are in
     rw code parts
 
 -- its bytes and its tokens are all of a form
 pub plain_clean : (word : List ℕ) (words : List (List ℕ)) → IsPlain word → ArePlain words
     → is_clean (word ++ spaced words) ≡ true
 plain_clean word words is are = clean_on word (spaced words) is.inner (spaced_clean words are)
+
+-- the same where the second word is of no form of a token, as `=` is
+module _ (word next : List ℕ) (words : List (List ℕ)) (is : IsPlain word)
+    (some : nat_eq (length next) 0 ≡ false) (held : list_all is_inner next ≡ true)
+    (are : ArePlain words) where
+  abbrev behind : List ℕ
+  behind = next ++ spaced words
+
+  pub formless_tokens : tokens_of (word ++ 32 ∷ behind) ≡ word ∷ next ∷ words
+  formless_tokens =
+      let later : IsCode behind = code_on next (spaced words) held (spaced_code words are) in
+      let rest : IsCode (32 ∷ behind) = omega (arith, later) in
+      let code = all_code (word ++ 32 ∷ behind) (code_on word (32 ∷ behind) is.inner rest) in
+      rw (
+        code,
+        part_on [] word (32 ∷ behind) is.inner,
+        closed_some word is.some,
+        part_on [] next (spaced words) held,
+        spaced_parts next words some are,
+      ) refl
+
+  pub formless_clean : is_clean (word ++ 32 ∷ behind) ≡ true
+  formless_clean =
+      clean_on word (32 ∷ behind) is.inner
+      (clean_on next (spaced words) held (spaced_clean words are))
 
 pub plain_lexical : (word : List ℕ) (words : List (List ℕ)) → IsPlain word → ArePlain words
     → is_lexical (word ++ spaced words) ≡ true
