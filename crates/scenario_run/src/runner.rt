@@ -77,6 +77,7 @@ impl Runner {
     }
 
     /// The same where the ledger is kept.
+    #[inline(never)]
     #[tactic(auto, using(crate::proofs::Running::runs_plain, crate::proofs::Running::runs_noted))]
     fn apply_noted(&mut self, event: &Event) -> Reply
         requires { self.old.keeping ≡ Keeping.Ledger }

@@ -1,11 +1,16 @@
 -- Steps as they are kept: what stands among those that are kept as they are, and stays so.
-use Rattle.std.proofs.Common.{◌≡◌, ◌∙◌, ◌+◌, ◌++◌, ℕ, List, [], ◌∷◌, ap, arith, length, refl, subst, sym}
+use Rattle.std.proofs.Common.{◌≡◌, ◌∙◌, ◌+◌, ◌++◌, ℕ, false, List, [], ◌∷◌, ap, arith, is_some, length, refl, subst, sym}
 use Rattle.std.specs.Prelude.{map}
 use Rattle.std.proofs.lemmas.List.{get_or_append_left, get_or_push, length-append, map_push}
-use Rattle.scenario_steps.specs.Steps.{AreIn, IsIn, no_step, unfolded}
+use Rattle.scenario_steps.specs.Judging.{expects_audit, is_of_verdict}
+use Rattle.scenario_steps.specs.Steps.{AreIn, IsIn, action_of, is_of, no_step, together_of, unfolded}
 use Rattle.scenario_steps.specs.declared.scenario.Step.{Step}
 use Rattle.scenario_steps.specs.declared.steps.Kept.{Kept}
 use Rattle.scenario_steps.specs.declared.steps.Kept.TheVariants.{Brief, Whole}
+use Rattle.scenario_steps.specs.declared.steps.Kind.{Kind}
+use Rattle.scenario_steps.specs.declared.steps.Kind.TheVariants.{Verdict, Audit, Together}
+use Rattle.scenario_steps.specs.declared.steps.Usual.{Usual}
+use Rattle.scenario_steps.specs.declared.steps.Usual.TheVariants.{Request, Interruption, Deferred, Running, ToppedAs}
 
 one_in_more : (n : ℕ) (one : Kept) → IsIn n one → IsIn (n + 1) one
 one_in_more n (Brief line usual) inside = inside
@@ -64,3 +69,18 @@ module _ (whole : List Step) (step : Step) where
       ∙ map_push (unfolded more) kept (Whole (length whole))
       ∙ ap (λ (steps : List Step). steps ++ unfolded more (Whole (length whole)) ∷ []) (same kept all)
       ∙ ap (λ (s : Step). map (unfolded whole) kept ++ s ∷ []) last_whole
+
+-- none of those that do what is usual is of a kind that is looked for
+no_kind : (usual : Usual) → (is_of_verdict (action_of usual) ≡ false)
+    × (expects_audit (action_of usual) ≡ false) × (is_some (together_of (action_of usual)) ≡ false)
+no_kind (Request thread device major argument) = (refl, refl, refl)
+no_kind (Interruption device) = (refl, refl, refl)
+no_kind (Deferred thread device) = (refl, refl, refl)
+no_kind (Running thread) = (refl, refl, refl)
+no_kind (ToppedAs packet status) = (refl, refl, refl)
+
+pub usual_of : (kind : Kind) (line : ℕ) (usual : Usual) (whole : List Step)
+    → is_of kind (unfolded whole (Brief line usual)) ≡ false
+usual_of Verdict line usual whole = (no_kind usual).0
+usual_of Audit line usual whole = (no_kind usual).1
+usual_of Together line usual whole = (no_kind usual).2

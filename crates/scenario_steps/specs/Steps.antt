@@ -1,5 +1,5 @@
 -- Steps as they are kept: those that do what is usual in a few bytes, each other one as it is.
-use Rattle.std.specs.Prelude.{◌<◌, ℕ, ⊤, Bool, true, false, List, [], ◌∷◌, None, Some, get_or}
+use Rattle.std.specs.Prelude.{◌<◌, ℕ, ⊤, Bool, true, false, List, [], ◌∷◌, Option, None, Some, get_or, is_some}
 use Rattle.scenario_expected.specs.declared.expectation.Expectation.TheVariants.{Packet}
 use Rattle.scenario_expected.specs.declared.expectation.PacketState.TheVariants.{Topped}
 use Rattle.scenario_steps.specs.declared.scenario.Action.{Action}
@@ -39,13 +39,13 @@ abbrev pub AreIn : ℕ → List Kept → Type 0
 AreIn n [] = ⊤
 AreIn n (one ∷ kept) = IsIn n one × AreIn n kept
 
--- a step runs threads in every interleaving
-abbrev pub runs_together : Action → Bool
-runs_together (Together threads worlds) = true
-runs_together action = false
+-- the threads that a step runs in every interleaving, if it does
+abbrev pub together_of : Action → Option (List Bool)
+together_of (Together threads worlds) = Some threads
+together_of action = None
 
 -- a step is of a kind
 abbrev pub is_of : Kind → Step → Bool
 is_of Verdict step = is_of_verdict step.action
 is_of Audit step = expects_audit step.action
-is_of TogetherKind step = runs_together step.action
+is_of TogetherKind step = is_some (together_of step.action)

@@ -1,6 +1,6 @@
 //! Steps in a row, of which those that do what is usual are kept in a few bytes.
 
-ghost use Rattle.std.specs.Prelude.{◌≡◌, ◌∷◌, ◌++◌, ◌<◌, [], IfOk, IfSome, List, MatchOption, OnErr, OnOk, get_or, length, ℕ};
+ghost use Rattle.std.specs.Prelude.{◌≡◌, ◌∷◌, ◌++◌, ◌<◌, [], IfOk, IfSome, List, MatchOption, OnErr, OnOk, false, get_or, length, ℕ};
 ghost use Rattle.std.specs.List.{list_any};
 ghost use Rattle.scenario_steps.specs.Steps.{IsIn, action_of, is_of, no_step, unfolded};
 ghost use Rattle.scenario_steps.specs.declared.scenario.Step.{Step};
@@ -34,7 +34,7 @@ pub(crate) enum Kept {
 
 /// What a step does, where that is usual.
 #[derive(Clone, Copy)]
-pub(crate) enum Usual {
+pub enum Usual {
     /// A request arrives.
     Request {
         thread: u8,
@@ -113,11 +113,22 @@ impl Steps {
         ensures { result ≡ list_any (is_of kind) self.now }
     {
         for place in 0..self.len() {
-            if is_of(kind, &self.at(place)) {
+            if self.is_of(kind, place) {
                 return true;
             }
         }
         false
+    }
+
+    /// Whether the step at a place is of a kind: none is that does what is usual.
+    fn is_of(&self, kind: Kind, place: usize) -> bool
+        requires { place < length self.now }
+        ensures { result ≡ is_of kind (get_or self.now place no_step) }
+    {
+        match self.kept[place] {
+            Kept::Brief { .. } => false,
+            Kept::Whole(_) => is_of(kind, &self.at(place)),
+        }
     }
 
     /// Adds a step.
@@ -133,6 +144,30 @@ impl Steps {
             Some(kept) => self.push_brief(kept),
             None => self.push_whole(step),
         }
+    }
+
+    /// Adds the step of a line, counted from 1, that does what is usual and may not be refused.
+    ///
+    /// # Errors
+    ///
+    /// When memory runs out, or the number of the line is no `u32`, and 65,536 steps that are kept
+    /// as they are are there.
+    pub fn push_usual(&mut self, line: u64, usual: Usual) -> Result<(), AllocError>
+        ensures pushed { OnOk result (self.new ≡ self.old
+            ++ record { line = line; may = false; action = action_of usual } ∷ []) }
+        ensures same { OnErr result (self.new ≡ self.old) }
+    {
+        if line > u64::from(u32::MAX) {
+            return self.push_whole(Step {
+                line,
+                may: false,
+                action: action_of(usual),
+            });
+        }
+        self.push_brief(Kept::Brief {
+            line: line as u32,
+            usual,
+        })
     }
 
     /// Takes the last one away.

@@ -1,13 +1,14 @@
 //! The text of a scenario.
 
-ghost use Rattle.std.specs.Prelude.{◌≡◌, ◌+◌, ◌<◌, ◌≤◌, ◌^◌, IfOk, IfSome, MatchResult, OnOk, Ok, Err, Some, length};
+ghost use Rattle.std.specs.Prelude.{◌≡◌, ◌+◌, ◌++◌, ◌<◌, ◌≤◌, ◌^◌, IfOk, IfSome, MatchResult, OnOk, Ok, Err, Some, length, option_to_list};
 ghost use Rattle.interleave.specs.Line.{opening_line};
 ghost use Rattle.text.specs.Cut.{tokens_of};
 ghost use Rattle.model.specs.declared.limits.TheConstants.{MAX_THREADS};
 ghost use Rattle.scenario_text.specs.Repeating.{kept};
-ghost use Rattle.scenario_text.specs.Listing.{IsFaultOf, closed, ends, given_after, lengthened, listing, nothing, opening, opens, repeated, scenario_in, with_line, with_lines, with_said, with_threads, with_tokens};
+ghost use Rattle.scenario_text.specs.Usual.{exactly};
+ghost use Rattle.scenario_text.specs.Listing.{IsFaultOf, closed, ends, given_after, lengthened, listing, nothing, opening, opens, repeated, scenario_in, with_line, with_lines, with_threads, with_tokens};
 
-use crate::quick::usual_line;
+use crate::quick::{SaidUsually, usual_line};
 use crate::reading::{Said, line_of};
 use crate::repeating::{Block, Numbered, Open, block_in};
 use interleave::read::opening_line;
@@ -19,6 +20,7 @@ use scenario_steps::steps::Steps;
 use std::alloc::{AllocError, Global};
 use std::marker::Model;
 use text::cut::{Lines, is_clean};
+use text::piece::Piece;
 use text::token::Tokens;
 
 /// The fewest bytes that a line with a step has, with the one that ends it.
@@ -204,13 +206,8 @@ impl<'a> Given<'a> {
             (λ _. given_after names.now self.old number line.now ≡ Ok self.new)
             (λ kind. given_after names.now self.old number line.now ≡ Err kind)) }
     {
-        if let Some(action) = usual_line(names, &self.packets, line) {
-            let said = Said {
-                name: None,
-                may: false,
-                action,
-            };
-            return self.add_said(number, line, said);
+        if let Some(said) = usual_line(names, &self.packets, line) {
+            return self.add_usual(number, line, said);
         }
         if !is_clean(line) {
             return Ok(Err(ScheduleKind::Lex));
@@ -341,21 +338,49 @@ impl<'a> Given<'a> {
         if self.steps.len() >= MAX_STEPS {
             return Ok(Err(ScheduleKind::TooLong));
         }
-        self.add(number, line, said)?;
-        Ok(Ok(()))
-    }
-
-    /// Adds a step, the name of the packet that it issues, and its line to the block that is open.
-    fn add(&mut self, number: u64, line: &'a [u8], said: Said<'a>) -> Result<(), AllocError>
-        requires { length self.old.steps < 2 ^ 16 }
-        ensures { OnOk result (self.new ≡ with_said self.old number line.now said.entry) }
-    {
         self.steps.push(Step {
             line: number,
             may: said.may,
             action: said.action,
         })?;
-        if let Some(name) = said.name {
+        self.add(number, line, said.name)?;
+        Ok(Ok(()))
+    }
+
+    /// The same where the line has its usual form.
+    fn add_usual(
+        &mut self,
+        number: u64,
+        line: &'a [u8],
+        said: SaidUsually<'a>,
+    ) -> Result<Result<(), ScheduleKind>, AllocError>
+        ensures { IfOk result (λ r. MatchResult r
+            (λ _. lengthened self.old number line.now (Some (exactly said.entry)) ≡ Ok self.new)
+            (λ kind. lengthened self.old number line.now (Some (exactly said.entry)) ≡ Err kind)) }
+    {
+        if self.steps.len() >= MAX_STEPS {
+            return Ok(Err(ScheduleKind::TooLong));
+        }
+        self.steps.push_usual(number, said.usual)?;
+        self.add(number, line, said.name)?;
+        Ok(Ok(()))
+    }
+
+    /// Adds the name of the packet that the last step issues, and its line to the block that is open.
+    fn add(
+        &mut self,
+        number: u64,
+        line: &'a [u8],
+        name: Option<Piece<'a>>,
+    ) -> Result<(), AllocError>
+        requires behind { length self.old.packets < length self.old.steps }
+        requires few { length self.old.packets < 2 ^ 16 }
+        ensures { OnOk result (self.new ≡ record self.old {
+          packets = self.old.packets ++ option_to_list name.entry;
+          block = kept self.old.block number line.now;
+        }) }
+    {
+        if let Some(name) = name {
             self.packets.add(name)?;
         }
         self.keep(number, line)

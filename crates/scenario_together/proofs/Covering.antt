@@ -17,7 +17,8 @@ use Rattle.scenario_together.proofs.Ways.{WentAlike, acted_alike}
 use Rattle.scenario_together.specs.Interleaving.{IsEnd, behind, fails_with, may_step, steps_of}
 use Rattle.scenario_together.specs.Joining.{ActedOn, Covers, HasLike, IsAmong, JoinedOn, Known, Moves}
 use Rattle.scenario_together.specs.Likeness.{IsLike, SameWay, same_way}
-use Rattle.scenario_together.specs.Plays.{AllPass, Comes, FailsAt, FailsSo, Leads, LeadsBy, Passes, PassesBy, together_of}
+use Rattle.scenario_steps.specs.Steps.{together_of}
+use Rattle.scenario_together.specs.Plays.{AllPass, Comes, FailsAt, FailsSo, Leads, LeadsBy, Passes, PassesBy}
 use Rattle.scenario_together.specs.Together.{GoWell}
 use Rattle.tell_uses.specs.Pending.{AcceptedRunsShowNoDisagreement}
 use Rattle.hunt_walks.specs.Walks.{IsWalk, goes, rests}

@@ -19,7 +19,8 @@ use Rattle.scenario_together.specs.declared.play.Joined.TheVariants as joined
 use Rattle.scenario_together.specs.Interleaving.{IsEnd, LeadIf, behind}
 use Rattle.scenario_together.specs.Joining.{ActedAll, ActedOn, FailsIn, FailsJoined, HasLike, IsAmong, JoinedAll, JoinedOn, JoinedOne, Moves, StopsAt, StopsIn}
 use Rattle.scenario_together.specs.Likeness.{IsLike, same_way}
-use Rattle.scenario_together.specs.Plays.{AreThere, FailsBy, together_of}
+use Rattle.scenario_steps.specs.Steps.{together_of}
+use Rattle.scenario_together.specs.Plays.{AreThere, FailsBy}
 use Rattle.scenario_together.specs.Together.{AreEnds, GoWell, IsReached}
 
 -- what goes alike does so the other way round

@@ -1,16 +1,15 @@
 -- Where no threads run together, steps play one after another, each with what it does alone.
-use Rattle.std.proofs.Common.{◌≡◌, ◌∙◌, ◌||◌, Bool, true, false, List, [], ◌∷◌, Option, None, Some, ap, inl, inr, is_some, refl, subst, sym, if◌then◌else◌}
+use Rattle.std.proofs.Common.{◌≡◌, ◌∙◌, Bool, true, false, List, [], ◌∷◌, Option, None, Some, ap, inl, inr, is_some, refl, subst, sym, if◌then◌else◌}
+use Rattle.std.proofs.lemmas.Bool.{or_parts}
 use Rattle.std.specs.Prelude.{option_map}
 use Rattle.std.specs.List.{list_any}
 use Rattle.scenario_run.specs.Acting.{Played, acted, passes, played}
 use Rattle.scenario_run.specs.Playing.{Playing, Went}
-use Rattle.scenario_steps.specs.Steps.{is_of, runs_together}
-use Rattle.scenario_steps.specs.declared.scenario.Action.{Action}
-use Rattle.scenario_steps.specs.declared.scenario.Action.TheVariants.{Issue, Cancel, Interrupt, Dpc, StartIo, Steps, Run as RunAction, RunTo, RunToRelease, RunAll, Together, Expect}
+use Rattle.scenario_steps.specs.Steps.{is_of, together_of}
 use Rattle.scenario_steps.specs.declared.scenario.Step.{Step}
 use Rattle.scenario_steps.specs.declared.steps.Kind.TheVariants.{Together as TogetherKind}
 use Rattle.scenario_together.specs.declared.play.Failure.{Failure}
-use Rattle.scenario_together.specs.Plays.{AllPass, ArePlain, Comes, ComesIf, FailsAt, FailsBy, FailsSo, Leads, LeadsBy, PassesBy, PlaysTo, together_of}
+use Rattle.scenario_together.specs.Plays.{AllPass, ArePlain, Comes, ComesIf, FailsAt, FailsBy, FailsSo, Leads, LeadsBy, PassesBy, PlaysTo}
 
 -- how a step plays, and those behind it
 abbrev Behind : Step → List Step → Went → Bool → Played
@@ -154,26 +153,12 @@ plain_plays p steps now failed plain is =
     (played_plays p steps plain)
 
 -- none of some steps does
-both_false : (a b : Bool) → a || b ≡ false → (a ≡ false) × (b ≡ false)
-both_false true b h = cc
-both_false false b h = (refl, h)
-
-alone_if : (action : Action) → runs_together action ≡ false → together_of action ≡ None
-alone_if (Together threads worlds) h = cc
-alone_if (Issue t d major argument) h = refl
-alone_if (Cancel t packet level) h = refl
-alone_if (Interrupt d) h = refl
-alone_if (Dpc t d) h = refl
-alone_if (StartIo t d) h = refl
-alone_if (Steps t count) h = refl
-alone_if (RunAction t) h = refl
-alone_if (RunTo t spot) h = refl
-alone_if (RunToRelease t lock) h = refl
-alone_if RunAll h = refl
-alone_if (Expect expectation) h = refl
+alone_if : (found : Option (List Bool)) → is_some found ≡ false → found ≡ None
+alone_if None h = refl
+alone_if (Some named) h = cc
 
 pub all_alone : (steps : List Step) → list_any (is_of TogetherKind) steps ≡ false → ArePlain steps
 all_alone [] none = tt
 all_alone (step ∷ steps) none =
-    let both = both_false (runs_together step.action) (list_any (is_of TogetherKind) steps) none in
-    (alone_if step.action both.0, all_alone steps both.1)
+    let both = or_parts (is_some (together_of step.action)) (list_any (is_of TogetherKind) steps) none in
+    (alone_if (together_of step.action) both.0, all_alone steps both.1)

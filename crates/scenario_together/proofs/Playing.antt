@@ -18,7 +18,8 @@ use Rattle.scenario_together.specs.declared.play.Failure.{Failure}
 use Rattle.scenario_together.specs.Joining.{Covers, HasLike, IsAmong, Known, MayMerge, Moves, StopsAt, StopsIn}
 use Rattle.scenario_together.proofs.Plain.{plays_plain}
 use Rattle.scenario_together.specs.declared.play.Played.{Played}
-use Rattle.scenario_together.specs.Plays.{Plays, PlaysPlainly, Comes, FailsAt, LeadsBy, PlaysTo, together_of}
+use Rattle.scenario_steps.specs.Steps.{together_of}
+use Rattle.scenario_together.specs.Plays.{Plays, PlaysPlainly, Comes, FailsAt, LeadsBy, PlaysTo}
 use Rattle.tell_uses.specs.Pending.{AcceptedRunsShowNoDisagreement}
 
 -- what steps lead to is over the same set

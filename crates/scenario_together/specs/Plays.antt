@@ -3,18 +3,12 @@
 use Rattle.std.specs.Prelude.{ℕ, ◌≡◌, ◌≤◌, ◌<◌, ◌⊎◌, ⊤, Bool, true, false, List, [], ◌∷◌, Option, None, Some, is_some, option_map}
 use Rattle.scenario_run.specs.Acting.{acted, passes, played}
 use Rattle.scenario_run.specs.Playing.{Playing}
-use Rattle.scenario_steps.specs.declared.scenario.Action.{Action}
-use Rattle.scenario_steps.specs.declared.scenario.Action.TheVariants.{Together}
+use Rattle.scenario_steps.specs.Steps.{together_of}
 use Rattle.scenario_steps.specs.declared.scenario.Step.{Step}
 use Rattle.scenario_together.specs.Interleaving.{IsEnd, behind, is_named}
 use Rattle.scenario_together.specs.Together.{GoWell, IsFailing}
 use Rattle.scenario_together.specs.declared.play.Failure.{Failure}
 use Rattle.scenario_together.specs.declared.play.Played.{Played}
-
--- the threads that a step runs together, if it does
-abbrev pub together_of : Action → Option (List Bool)
-together_of (Together threads worlds) = Some threads
-together_of action = None
 
 -- a step leads from one play to another: to what it does, or to the end of each interleaving
 abbrev pub LeadsBy : Playing → Step → Option (List Bool) → Playing → Type 0

@@ -5,7 +5,8 @@ ghost use Rattle.model.specs.Typable.{IsTypable};
 ghost use Rattle.scenario_run.specs.Playing.{Playing};
 ghost use Rattle.scenario_steps.specs.declared.scenario.Step.{Step};
 ghost use Rattle.scenario_together.specs.Joining.{ActedAll, IsFirstOr, JoinedAll, JoinedOne, Leaves, MayMerge, ThereIf};
-ghost use Rattle.scenario_together.specs.Plays.{ArePlain, Plays, PlaysPlainly, together_of};
+ghost use Rattle.scenario_steps.specs.Steps.{together_of};
+ghost use Rattle.scenario_together.specs.Plays.{ArePlain, Plays, PlaysPlainly};
 
 use crate::interleaving::is_named;
 use crate::together::{MOVES, Together, run_together};

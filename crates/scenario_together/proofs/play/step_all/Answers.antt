@@ -1,5 +1,5 @@
 use Rattle.std.proofs.Common.{◌≡◌, ◌<◌, None, false, rules, subst, sym}
-use Rattle.scenario_together.specs.Plays.{together_of}
+use Rattle.scenario_steps.specs.Steps.{together_of}
 use Rattle.scenario_together.proofs.Joining.{acted_in, acted_is, crew_is, fails_inside, left_alone, left_one, over_by, taken_at}
 use Rattle.scenario_together.proofs.play.step_all.Goals as goal
 
