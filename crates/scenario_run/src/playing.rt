@@ -30,6 +30,9 @@ use scenario_world::states::stands_at;
 use std::alloc::{AllocError, Global};
 use std::marker::Model;
 
+/// How many steps a packet is reckoned to take, where room is made.
+const STEPS_EACH: usize = 4;
+
 /// How a step of a scenario went.
 #[derive(Clone, Copy)]
 pub enum Outcome {
@@ -167,7 +170,7 @@ impl Playing {
     }
 
     /// Makes room for what so many steps make happen, where each makes one event happen, as often as
-    /// it does.
+    /// it does, and each fourth issues a packet.
     ///
     /// # Errors
     ///
@@ -175,7 +178,9 @@ impl Playing {
     pub(crate) fn make_room(&mut self, steps: usize) -> Result<(), AllocError>
         ensures { self.new ≡ self.old }
     {
-        self.past.reserve(steps)
+        self.past.reserve(steps)?;
+        self.packets.reserve(steps / STEPS_EACH)?;
+        self.told.make_room_for(steps / STEPS_EACH)
     }
 
     /// An event happens.

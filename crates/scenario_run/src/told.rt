@@ -49,7 +49,14 @@ impl Told {
         ensures same { (told : List Reply) → AreTold self.old told → AreTold self.new told }
     {
         self.bugs.reserve(1)?;
-        make_room(&mut self.tops)
+        make_room(&mut self.tops, 1)
+    }
+
+    /// Makes room for how so many packets more top out.
+    pub(crate) fn make_room_for(&mut self, packets: usize) -> Result<(), AllocError>
+        ensures { (told : List Reply) → AreTold self.old told → AreTold self.new told }
+    {
+        make_room(&mut self.tops, packets)
     }
 
     /// Notes a reply more.

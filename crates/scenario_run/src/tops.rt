@@ -1,6 +1,6 @@
 //! How packets have topped out.
 
-ghost use Rattle.std.specs.Prelude.{◌<◌, ◌≡◌, IsTrue, List, OnOk, slice_get};
+ghost use Rattle.std.specs.Prelude.{◌<◌, ◌≤◌, ◌≡◌, IsTrue, List, OnOk, slice_get};
 ghost use Rattle.indexmap.specs.IndexMap.{spare};
 ghost use Rattle.model.specs.declared.event.Reply.{Reply};
 ghost use Rattle.model.specs.History.{top_out_of};
@@ -43,13 +43,13 @@ fn top_of(reply: &Reply) -> Option<TopOut>
     }
 }
 
-/// Makes room for one more of them.
+/// Makes room for so many more of them.
 #[tactic(auto, using(crate::proofs::Topping::tops_same))]
-pub(crate) fn make_room(tops: &mut IndexMap<u64, TopOut>) -> Result<(), AllocError>
-    ensures room { OnOk result (0 < spare tops.new) }
+pub(crate) fn make_room(tops: &mut IndexMap<u64, TopOut>, more: usize) -> Result<(), AllocError>
+    ensures room { OnOk result (more ≤ spare tops.new) }
     ensures same { (told : List Reply) → AreTops tops.old told → AreTops tops.new told }
 {
-    tops.reserve(1)
+    tops.reserve(more)
 }
 
 /// How the packet of a number has topped out, if it has.
