@@ -24,6 +24,10 @@ def cases():
     yield 'steps of loops', loops, runs
     yield 'the same, and its audit', loops, [*runs, 'expect clean']
     yield 'the same, and a hundred audits', loops, [*runs, *['expect clean'] * 100]
+    issued = runs[:2]
+    yield 'the same, up to an instruction behind them', loops, [*issued, 'run 0 until line %d' % (loops.index('end') + 3), 'run 0']
+    yield 'the same, all threads of one in turn', loops, [*issued, 'run all']
+    yield 'the same, all threads of two in turn', loops, ['threads 2', *issued[1:], 'b = issue 1 v READ 0', 'run all']
     yield '1,000 requests through a queue', *through_a_queue(1_000)
     yield '10,000 requests through a queue', *through_a_queue(10_000)
 
