@@ -1,9 +1,10 @@
 -- A routine that has gone on by itself has made steps of its thread.
-use Rattle.std.proofs.Common.{◌≡◌, ◌<◌, ℕ, suc, List, [], ◌∷◌, ◌++◌, Option, Some, false, ap, refl, sym, ◌∙◌, subst, length}
+use Rattle.std.proofs.Common.{◌≡◌, ◌<◌, ℕ, suc, List, [], ◌∷◌, ◌++◌, Option, None, Some, false, ap, refl, sym, ◌∙◌, subst, length}
 use Rattle.std.specs.Prelude.{slice_get, slice_set}
 use Rattle.std.proofs.lemmas.List.{get_or-set_same, length-set, set-set}
 use Rattle.std.proofs.lemmas.Option.{slice_get_within, slice_get-get_or}
 use Rattle.model.specs.declared.event.Event.TheVariants.{Step}
+use Rattle.model.specs.declared.event.Place.{Place}
 use Rattle.model.specs.declared.event.Reply.TheVariants.{Stepped}
 use Rattle.model.specs.declared.instr.Instr.{Instr}
 use Rattle.model.specs.declared.world.Activation.{Activation}
@@ -12,43 +13,44 @@ use Rattle.model.specs.declared.world.Frame.TheVariants.{Routine}
 use Rattle.model.specs.declared.world.Thread.{Thread}
 use Rattle.model.specs.Effect.{goes_on, instruction_effect, routine_effect, top_of}
 use Rattle.model.specs.Events.{with_thread}
+use Rattle.model.specs.Machine.{Machine}
 use Rattle.model.specs.Set.{Set, instruction_at}
 use Rattle.model.specs.Sound.{IsSound}
 use Rattle.model.specs.World.{Shared, World}
 use Rattle.irql_locks.specs.Owns.{OwningTells}
 use Rattle.laws_runs.specs.PastTells.{PastTellsOfTheWorld}
 use Rattle.laws_runs.proofs.Lists.{before_last, last_of}
-use Rattle.checked.specs.GoingOn.{FrameGoes, GoesAlone, GoesOn, RoutineGoes, SameRoutine, ThreadGoes, WorldGoes, frame_rests, frame_runs, more, none, rests, runs, stays, steps, with_top, world_rests, world_runs}
+use Rattle.checked.specs.GoingOn.{FrameGoes, GoesAlone, GoesOn, GoesUpTo, RoutineGoes, SameRoutine, ThreadGoes, WorldGoes, frame_rests, frame_runs, here, is_there, more, nearer, none, rests, runs, stays, steps, with_top, world_rests, world_runs}
 use Rattle.checked.specs.Step.{State, machine_of, state_now}
 use Rattle.checked.proofs.Compare.{put_back}
 use Rattle.checked.proofs.Runs.{applies, taken_as}
 use Rattle.checked.proofs.Stacks.{finished_more, root_more, with_items}
 
 -- by its code
-module _ (set : Set) (a : Activation) (code : List Instr)
+module _ (until : Option Place) (set : Set) (a : Activation) (code : List Instr)
     (coded : (p : ℕ) → instruction_at set a.driver a.routine p ≡ slice_get code p)
-    (k : ℕ) (b : Activation) (goes : RoutineGoes set a k b)
+    (k : ℕ) (b : Activation) (goes : RoutineGoes until set a k b) (short : is_there until b ≡ false)
     (driver : b.driver ≡ a.driver) (routine : b.routine ≡ a.routine) where
   pub goes_more : (i : Instr) → slice_get code b.position ≡ Some i → (c : Activation)
       → ((s : Shared) (t : ℕ) (under : Option Frame)
       → instruction_effect set s t under b i ≡ goes_on s c [])
-      → SameRoutine b c → RoutineGoes set a (suc k) c
-  goes_more i here c is same =
+      → SameRoutine b c → RoutineGoes until set a (suc k) c
+  goes_more i found c is same =
       let at : instruction_at set b.driver b.routine b.position ≡ Some i =
-      rw (driver, routine) (coded b.position ∙ here) in
-      steps k b c goes
+      rw (driver, routine) (coded b.position ∙ found) in
+      steps k b c goes short
       (record {
         goes = λ s t under. ap (routine_effect set s t under b) at ∙ is s t under;
         same = same;
       })
 
 -- what a frame does on top, its thread does
-pub thread_goes : (set : Set) (x : Thread) (below : List Frame) (f g : Frame) (k : ℕ)
-    → x.frames.items ≡ below ++ f ∷ [] → FrameGoes set f k g
-    → ThreadGoes set x k (with_items x (below ++ g ∷ []))
-thread_goes set x below f g k split frame_rests =
-    subst (λ (items : List Frame). ThreadGoes set x 0 (with_items x items)) split rests
-thread_goes set x below f g k split (frame_runs a b j is goes) =
+pub thread_goes : (until : Option Place) (set : Set) (x : Thread) (below : List Frame)
+    (f g : Frame) (k : ℕ) → x.frames.items ≡ below ++ f ∷ [] → FrameGoes until set f k g
+    → ThreadGoes until set x k (with_items x (below ++ g ∷ []))
+thread_goes until set x below f g k split frame_rests =
+    subst (λ (items : List Frame). ThreadGoes until set x 0 (with_items x items)) split rests
+thread_goes until set x below f g k split (frame_runs a b j is goes) =
     runs below a b j (split ∙ ap (λ (h : Frame). below ++ h ∷ []) is) goes
 
 -- what is written at a place is found there
@@ -65,8 +67,15 @@ found_set threads t x y found =
 abbrev pub going : World → State
 going w = record { world = w; stopped = false }
 
-module _ (law : PastTellsOfTheWorld) (owning : OwningTells) (set : Set) (sound : IsSound set)
-    (w : World) (t : ℕ) where
+-- steps up to there are steps
+pub steps_up_to : (until : Option Place) (t : ℕ) (m : Machine) (k : ℕ) (n : Machine)
+    → GoesUpTo until t m k n → GoesOn t m k n
+steps_up_to until t m j n here = none
+steps_up_to until t m j o (nearer k n p before applies alone short) =
+    more k n o (steps_up_to until t m k n before) applies alone
+
+module _ (law : PastTellsOfTheWorld) (owning : OwningTells) (until : Option Place) (set : Set)
+    (sound : IsSound set) (w : World) (t : ℕ) where
   module _ (x : Thread) (below : List Frame) (a : Activation)
       (found : slice_get w.threads t ≡ Some x)
       (stack : x.frames.items ≡ below ++ Routine a ∷ []) where
@@ -92,11 +101,12 @@ module _ (law : PastTellsOfTheWorld) (owning : OwningTells) (set : Set) (sound :
           set-set w.threads t (with_top x below b) (with_top x below c),
         ) refl
 
-    chained : (k : ℕ) (b : Activation) → RoutineGoes set a k b
-        → GoesOn t (machine_of set (going (world_of a))) k (machine_of set (going (world_of b)))
-    chained m e stays = none
-    chained m e (steps k b c goes alone) =
-        more k (machine_of set (going (world_of b))) (machine_of set (going (world_of c)))
+    chained : (k : ℕ) (b : Activation) → RoutineGoes until set a k b
+        → GoesUpTo until t (machine_of set (going (world_of a))) k
+        (machine_of set (going (world_of b)))
+    chained m e stays = here
+    chained m e (steps k b c goes short alone) =
+        nearer k (machine_of set (going (world_of b))) (machine_of set (going (world_of c)))
         (chained k b goes)
         (applies law owning set (going (world_of b)) (going (world_of c)) sound (Step t) Stepped
         (one_more b c alone))
@@ -112,15 +122,17 @@ module _ (law : PastTellsOfTheWorld) (owning : OwningTells) (set : Set) (sound :
               ap (λ (threads : List Thread). record w { threads = threads })
               (sym (set-set w.threads t (with_top x below b) (with_top x below c)));
         })
+        short
 
   -- a world whose thread has gone on is that of a state to which its steps were applied
-  pub goes_state : (k : ℕ) (v : World) → WorldGoes set w t k v
-      → GoesOn t (machine_of set (going w)) k (machine_of set (going v))
-  goes_state m v world_rests = none
+  pub goes_state : (k : ℕ) (v : World) → WorldGoes until set w t k v
+      → GoesUpTo until t (machine_of set (going w)) k (machine_of set (going v))
+  goes_state m v world_rests = here
   goes_state m v (world_runs x y k found rests) =
-      subst (λ (u : World). GoesOn t (machine_of set (going w)) 0 (machine_of set (going u)))
-      (sym (put_back w t x found)) none
+      subst (λ (u : World). GoesUpTo until t (machine_of set (going w)) 0
+      (machine_of set (going u)))
+      (sym (put_back w t x found)) here
   goes_state m v (world_runs x y k found (runs below a b j stack goes)) =
-      subst (λ (u : World). GoesOn t (machine_of set (going u)) j
+      subst (λ (u : World). GoesUpTo until t (machine_of set (going u)) j
       (machine_of set (going (with_thread w t w.shared (with_top x below b)))))
       (sym (first x below a found stack)) (chained x below a found stack j b goes)

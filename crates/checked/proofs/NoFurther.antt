@@ -5,6 +5,7 @@ use Rattle.std.specs.Prelude.{nat_lt, slice_get}
 use Rattle.std.proofs.lemmas.Bool.Decides.{leb_tells}
 use Rattle.std.proofs.lemmas.Option.{slice_get_past}
 use Rattle.model.specs.declared.event.Lock.TheVariants.{SystemCancel}
+use Rattle.model.specs.declared.event.Place.{Place}
 use Rattle.model.specs.declared.event.Reply.TheVariants.{Stepped}
 use Rattle.model.specs.declared.instr.Instr.{Instr}
 use Rattle.model.specs.declared.instr.Instr.TheVariants.{Const, Move, Clear, Add, Subtract, JumpIfZero, JumpIfLess, Jump, Loop, End, Load, Store, LoadPaged, StorePaged, Get, Put, Mark, Acquire, Release, AcquireCancel, ReleaseCancel, Insert, Remove, Unlink, Arm, Disarm, IfCancel, Start, Take, Begin, Next, Dequeue, Pass, Call, Complete, IfPending, Ret}
@@ -163,26 +164,29 @@ module _ (set : Set) (a b : Activation) where
       rw is at (goes (unused 0) 0 None) in wrong (sym (makes.0 (unused 0)) ∙ made)
 
 -- where an activation stands
-module _ (set : Set) (a : Activation) where
+module _ (until : Option Place) (set : Set) (a : Activation) where
   stays_at : (i : Option Instr) → instruction_at set a.driver a.routine a.position ≡ i
       → ((b : Activation) → routine_effect set (unused 0) 0 None a i ≡ goes_on (unused 0) b [] → ⊥)
-      → RoutineGoesNoFurther set a
+      → RoutineGoesNoFurther until set a
   stays_at i here other b alone =
-      other b
+      absurd (other b
       (ap (λ (j : Option Instr). routine_effect set (unused 0) 0 None a j) (sym here)
-      ∙ alone.goes (unused 0) 0 None)
+      ∙ alone.goes (unused 0) 0 None))
 
-  past_end : instruction_at set a.driver a.routine a.position ≡ None → RoutineGoesNoFurther set a
+  past_end : instruction_at set a.driver a.routine a.position ≡ None
+      → RoutineGoesNoFurther until set a
   past_end none = stays_at None none (wrong set a)
 
   at_other : (i : Instr) → instruction_at set a.driver a.routine a.position ≡ Some i
-      → ((b : Activation) → MakesAlone set i a b → ⊥) → RoutineGoesNoFurther set a
+      → ((b : Activation) → MakesAlone set i a b → ⊥) → RoutineGoesNoFurther until set a
   at_other i here other b alone =
-      other b (λ s t under. ap (λ (j : Option Instr). routine_effect set s t under a j) (sym here)
-      ∙ alone.goes s t under)
+      absurd (other b (λ s t under.
+      ap (λ (j : Option Instr). routine_effect set s t under a j) (sym here)
+      ∙ alone.goes s t under))
 
   -- the default routine completes its packet and returns
-  in_default : (p : ℕ) → a.position ≡ p → a.routine ≡ default_number → RoutineGoesNoFurther set a
+  in_default : (p : ℕ) → a.position ≡ p → a.routine ≡ default_number
+      → RoutineGoesNoFurther until set a
   in_default zero is default =
       stays_at (Some (Complete 0 InvalidDeviceRequest)) (rw (default, is) refl)
       (λ b. completes set a b 0 InvalidDeviceRequest)
@@ -193,48 +197,51 @@ module _ (set : Set) (a : Activation) where
 
   -- where there is no code but the default routine's
   pub without_code : (a.routine ≡ default_number) ⊎ (routine_of set a.driver a.routine ≡ None)
-      → RoutineGoesNoFurther set a
+      → RoutineGoesNoFurther until set a
   without_code (inl default) = in_default a.position refl default
   without_code (inr none) = past_end (rw none refl)
 
 -- by its code
-module _ (set : Set) (a : Activation) (code : List Instr)
+module _ (until : Option Place) (set : Set) (a : Activation) (code : List Instr)
     (coded : (p : ℕ) → instruction_at set a.driver a.routine p ≡ slice_get code p)
     (b : Activation) (driver : b.driver ≡ a.driver) (routine : b.routine ≡ a.routine) where
   stands : instruction_at set b.driver b.routine b.position ≡ slice_get code b.position
   stands = rw (driver, routine) (coded b.position)
 
-  pub past_code : nat_lt b.position (length code) ≡ false → RoutineGoesNoFurther set b
+  pub past_code : nat_lt b.position (length code) ≡ false → RoutineGoesNoFurther until set b
   past_code past =
       elim (leb_tells (suc b.position) (length code)) [
         | inl l ↦ let no : true ≡ false = sym l.0 ∙ past in cc
         | inr l ↦
             let low : length code < suc b.position = l.1 in
-            past_end set b (stands ∙ slice_get_past code b.position (omega arith))
+            past_end until set b (stands ∙ slice_get_past code b.position (omega arith))
       ]
 
   pub before_other : (i : Instr) → slice_get code b.position ≡ Some i
-      → ((c : Activation) → MakesAlone set i b c → ⊥) → RoutineGoesNoFurther set b
-  before_other i here other = at_other set b i (stands ∙ here) other
+      → ((c : Activation) → MakesAlone set i b c → ⊥) → RoutineGoesNoFurther until set b
+  before_other i here other = at_other until set b i (stands ∙ here) other
 
 -- a frame of a routine
-pub frame_far : (set : Set) (a : Activation) → RoutineGoesNoFurther set a
-    → FrameGoesNoFurther set (Routine a)
-frame_far set a far b is =
-    let same : a ≡ b = cc in subst (λ (c : Activation). RoutineGoesNoFurther set c) same far
+pub frame_far : (until : Option Place) (set : Set) (a : Activation)
+    → RoutineGoesNoFurther until set a → FrameGoesNoFurther until set (Routine a)
+frame_far until set a far b is =
+    let same : a ≡ b = cc in
+    subst (λ (c : Activation). RoutineGoesNoFurther until set c) same far
 
 -- a thread with a frame on top
-pub thread_far : (set : Set) (x : Thread) (below : List Frame) (f : Frame)
-    → x.frames.items ≡ below ++ f ∷ [] → FrameGoesNoFurther set f → ThreadGoesNoFurther set x
-thread_far set x below f is far under a stack =
+pub thread_far : (until : Option Place) (set : Set) (x : Thread) (below : List Frame) (f : Frame)
+    → x.frames.items ≡ below ++ f ∷ [] → FrameGoesNoFurther until set f
+    → ThreadGoesNoFurther until set x
+thread_far until set x below f is far under a stack =
     let on_top : Some f ≡ Some (Routine a) =
     sym (last_of below f) ∙ ap top_of (sym is ∙ stack) ∙ last_of under (Routine a) in
     let same : f ≡ Routine a = cc in far a same
 
 -- a world with the thread
-pub world_far : (set : Set) (w : World) (t : ℕ) (x y : Thread) → slice_get w.threads t ≡ Some x
-    → ThreadGoesNoFurther set y → WorldGoesNoFurther set (with_thread w t w.shared y) t
-world_far set w t x y found far v step =
+pub world_far : (until : Option Place) (set : Set) (w : World) (t : ℕ) (x y : Thread)
+    → slice_get w.threads t ≡ Some x → ThreadGoesNoFurther until set y
+    → WorldGoesNoFurther until set (with_thread w t w.shared y) t
+world_far until set w t x y found far v step =
     let there : Some y ≡ Some step.thread = sym (found_set w.threads t x y found) ∙ step.there in
     let same : y ≡ step.thread = cc in
     far step.below step.before (ap (λ (z : Thread). z.frames.items) same ∙ step.stack) step.now

@@ -11,6 +11,7 @@ use crate::{routine, running};
 use checked_frames::{Frame, Managing, Ran, Runner};
 use checked_parts::Shared;
 use driver_set::{DriverSet, Instr};
+use model::event::Place;
 use model::status::Status;
 use model::world::{Activation, Value};
 
@@ -32,17 +33,17 @@ pub fn step(
     }
 }
 
-/// Lets a frame go on by itself, where it is a routine's, for at most so many steps, and answers how
-/// many. Fewer only where it can't go on.
-pub fn go_on(frame: &mut Frame, set: &DriverSet, count: usize) -> usize
+/// Lets a frame go on by itself, where it is a routine's, for at most so many steps, up to a place, if
+/// one is given, and answers how many. Fewer only where it is there or can't go on.
+pub fn go_on(frame: &mut Frame, set: &DriverSet, count: usize, until: &Option<Place>) -> usize
     ensures few { result ≤ count }
-    ensures goes { FrameGoes set.now frame.old result frame.new }
-    ensures far { result < count → FrameGoesNoFurther set.now frame.new }
+    ensures goes { FrameGoes until.now set.now frame.old result frame.new }
+    ensures far { result < count → FrameGoesNoFurther until.now set.now frame.new }
 {
     if frame.manager().is_some() {
         return 0;
     }
-    running::run(set, frame.activation_mut(), count)
+    running::run(set, frame.activation_mut(), count, until)
 }
 
 /// A frame is told the status that a lower driver returned, if it is a routine's.

@@ -1,7 +1,7 @@
 //! The reference machine.
 
-ghost use Rattle.std.specs.Prelude.{◌≡◌, ◌<◌, ◌≤◌, [], IfOk, IfErr};
-ghost use Rattle.checked.specs.GoingOn.{GoesNoFurther, GoesOn};
+ghost use Rattle.std.specs.Prelude.{◌≡◌, ◌<◌, ◌≤◌, [], None, Some, IfOk, IfErr};
+ghost use Rattle.checked.specs.GoingOn.{GoesNoFurther, GoesOn, GoesUpTo};
 ghost use Rattle.model.specs.declared.limits.TheConstants.{MAX_THREADS};
 ghost use Rattle.model.specs.Machine.{ShowsWhole, AppliesWhole};
 ghost use Rattle.model.specs.Sound.{IsSound};
@@ -14,7 +14,7 @@ use crate::thread::Thread;
 use checked_parts::Shared;
 use driver_set::DriverSet;
 use laws_runs::accepted_runs_keep_the_rules;
-use model::event::{Event, Reply};
+use model::event::{Event, Place, Reply};
 use model::memory::OutOfMemory;
 use model::view::{PacketView, ThreadView};
 use std::alloc::Global;
@@ -79,9 +79,21 @@ impl Checked {
     pub fn go_on(&mut self, thread: u8, count: usize) -> usize
         ensures few { result ≤ count }
         ensures goes { GoesOn thread self.old result self.new }
-        ensures far { result < count → GoesNoFurther thread self.new }
+        ensures far { result < count → GoesNoFurther None thread self.new }
     {
-        self.state.go_on(&self.driver_set, thread, count)
+        self.state.go_on(&self.driver_set, thread, count, &None)
+    }
+
+    /// The same up to a place: it makes no step of the instruction there, and fewer than `count` also
+    /// where the routine has come to it.
+    pub fn go_up_to(&mut self, thread: u8, count: usize, place: Place) -> usize
+        ensures few { result ≤ count }
+        ensures goes { GoesOn thread self.old result self.new }
+        ensures short { GoesUpTo (Some place) thread self.old result self.new }
+        ensures far { result < count → GoesNoFurther (Some place) thread self.new }
+    {
+        self.state
+            .go_on(&self.driver_set, thread, count, &Some(place))
     }
 
     /// Whether it has stopped, at a bug check or a wrong operand.

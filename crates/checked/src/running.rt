@@ -3,10 +3,11 @@
 ghost use Rattle.std.specs.Prelude.{◌≡◌, ◌<◌, ◌≤◌, ◌⊎◌, None, ℕ, IfSome, length, slice_get};
 ghost use Rattle.model.specs.declared.limits.TheConstants.{MAX_INSTRUCTIONS};
 ghost use Rattle.model.specs.Set.{default_number, instruction_at, routine_of};
-ghost use Rattle.checked.specs.GoingOn.{RoutineGoes, RoutineGoesNoFurther};
+ghost use Rattle.checked.specs.GoingOn.{RoutineGoes, RoutineGoesNoFurther, is_there};
 
 use crate::local;
 use driver_set::{DriverSet, Instr};
+use model::event::Place;
 use model::limits::DEFAULT_ROUTINE;
 use model::world::Activation;
 
@@ -26,17 +27,34 @@ fn code_of(set: &DriverSet, driver: u8, routine: u8) -> Option<&[Instr]>
     Some(routine.code.as_slice())
 }
 
+/// Whether the instruction at this place is the next one, if a place is given.
+#[inline]
+fn is_there(until: &Option<Place>, a: &Activation) -> bool
+    ensures { result ≡ is_there until.now a.now }
+{
+    match until {
+        Some(place) => {
+            a.position == place.position && a.routine == place.routine && a.driver == place.driver
+        }
+        None => false,
+    }
+}
+
 /// Executes instructions of a routine that change nothing but its activation, one after another, at
-/// most so many: up to the first other one, or one whose operands are wrong. It answers how many.
-pub fn run(set: &DriverSet, a: &mut Activation, count: usize) -> usize
+/// most so many: up to the first other one, one whose operands are wrong, or the one at a place, if
+/// one is given. It answers how many.
+pub fn run(set: &DriverSet, a: &mut Activation, count: usize, until: &Option<Place>) -> usize
     ensures few { result ≤ count }
-    ensures goes { RoutineGoes set.now a.old result a.new }
-    ensures far { result < count → RoutineGoesNoFurther set.now a.new }
+    ensures goes { RoutineGoes until.now set.now a.old result a.new }
+    ensures far { result < count → RoutineGoesNoFurther until.now set.now a.new }
 {
     let Some(code) = code_of(set, a.driver, a.routine) else {
         return 0;
     };
     for made in 0..count {
+        if is_there(until, a) {
+            return made;
+        }
         let Some(instruction) = code.get(a.position as usize) else {
             return made;
         };

@@ -1,7 +1,7 @@
 //! What a machine holds beside the set that it runs.
 
 ghost use Rattle.std.specs.Prelude.{◌≡◌, ◌<◌, ◌≤◌, false, length, IfOk};
-ghost use Rattle.checked.specs.GoingOn.{GoesNoFurther, GoesOn};
+ghost use Rattle.checked.specs.GoingOn.{GoesNoFurther, GoesUpTo};
 ghost use Rattle.checked.specs.Step.{machine_of, state_now};
 ghost use Rattle.model.specs.Machine.{AppliesWhole};
 ghost use Rattle.model.specs.Sound.{IsSound};
@@ -14,7 +14,7 @@ use checked_parts::Shared;
 use driver_set::DriverSet;
 use irql_locks::owning_tells;
 use laws_runs::the_past_tells_of_the_world;
-use model::event::{Event, Reply};
+use model::event::{Event, Place, Reply};
 use model::memory::OutOfMemory;
 use model::view::{PacketView, ThreadView};
 use std::alloc::Global;
@@ -64,21 +64,29 @@ impl State {
         self.advance(set, event)
     }
 
-    /// Lets the routine on the top of a thread go on by itself for at most so many steps, and answers
-    /// how many. Fewer only where it can't go on, and none after the run has stopped.
-    pub fn go_on(&mut self, set: &DriverSet, thread: u8, count: usize) -> usize
+    /// Lets the routine on the top of a thread go on by itself for at most so many steps, up to a
+    /// place, if one is given, and answers how many. Fewer only where it is there or can't go on, and
+    /// none after the run has stopped.
+    pub fn go_on(
+        &mut self,
+        set: &DriverSet,
+        thread: u8,
+        count: usize,
+        until: &Option<Place>,
+    ) -> usize
         requires { IsSound set.now }
         ensures few { result ≤ count }
-        ensures goes { GoesOn thread (machine_of set.now self.old) result
+        ensures goes { GoesUpTo until.now thread (machine_of set.now self.old) result
             (machine_of set.now self.new) }
-        ensures far { result < count → GoesNoFurther thread (machine_of set.now self.new) }
+        ensures far { result < count
+            → GoesNoFurther until.now thread (machine_of set.now self.new) }
     {
         if self.halted {
             return 0;
         }
         the_past_tells_of_the_world();
         owning_tells();
-        self.current.go_on(set, thread, count)
+        self.current.go_on(set, thread, count, until)
     }
 
     /// The same by what the state holds, and not by the trace of its run.

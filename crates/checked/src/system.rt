@@ -14,7 +14,7 @@ use checked_parts::Shared;
 use driver_devices::{device_of, driver_of};
 use driver_set::DriverSet;
 use irql_locks::irql_of;
-use model::event::{Event, Reply};
+use model::event::{Event, Place, Reply};
 use model::status::Major;
 use model::view::{PacketView, ThreadView};
 use model::world::{CancelStep, Irql, Value};
@@ -235,17 +235,24 @@ impl System {
         Reply::Started(n)
     }
 
-    /// Lets the routine on the top of a thread go on by itself for at most so many steps, and answers
-    /// how many. Fewer only where there is no such thread, or no routine that can go on on its top.
-    pub fn go_on(&mut self, set: &DriverSet, thread: u8, count: usize) -> usize
+    /// Lets the routine on the top of a thread go on by itself for at most so many steps, up to a
+    /// place, if one is given, and answers how many. Fewer only where it is there, or there is no
+    /// such thread, or no routine that can go on on its top.
+    pub fn go_on(
+        &mut self,
+        set: &DriverSet,
+        thread: u8,
+        count: usize,
+        until: &Option<Place>,
+    ) -> usize
         ensures few { result ≤ count }
-        ensures goes { WorldGoes set.now self.old thread result self.new }
-        ensures far { result < count → WorldGoesNoFurther set.now self.new thread }
+        ensures goes { WorldGoes until.now set.now self.old thread result self.new }
+        ensures far { result < count → WorldGoesNoFurther until.now set.now self.new thread }
     {
         let Some(runner) = self.thread_list.get_mut(thread as usize) else {
             return 0;
         };
-        runner.go_on(set, count)
+        runner.go_on(set, count, until)
     }
 
     /// A step of a thread's top frame.

@@ -12,7 +12,7 @@ use crate::frame;
 use checked_frames::{Frame, Over, Ran, Runner};
 use checked_parts::Shared;
 use driver_set::DriverSet;
-use model::event::Reply;
+use model::event::{Place, Reply};
 use model::limits::MAX_FRAMES;
 use model::status::Status;
 use model::view::ThreadView;
@@ -154,17 +154,18 @@ impl Thread {
         }
     }
 
-    /// Lets the routine on top, if one stands there, go on by itself for at most so many steps, and
-    /// answers how many. Fewer only where no routine that can go on stands there.
-    pub fn go_on(&mut self, set: &DriverSet, count: usize) -> usize
+    /// Lets the routine on top, if one stands there, go on by itself for at most so many steps, up to
+    /// a place, if one is given, and answers how many. Fewer only where it is there, or no routine
+    /// that can go on stands on top.
+    pub fn go_on(&mut self, set: &DriverSet, count: usize, until: &Option<Place>) -> usize
         ensures few { result ≤ count }
-        ensures goes { ThreadGoes set.now self.old result self.new }
-        ensures far { result < count → ThreadGoesNoFurther set.now self.new }
+        ensures goes { ThreadGoes until.now set.now self.old result self.new }
+        ensures far { result < count → ThreadGoesNoFurther until.now set.now self.new }
     {
         let Some((top, _below)) = self.places[..self.depth].split_last_mut() else {
             return 0;
         };
-        frame::go_on(top, set, count)
+        frame::go_on(top, set, count, until)
     }
 
     /// A step of the top frame of the thread of this number, if it has one.

@@ -11,7 +11,7 @@ use report::lines::Lines;
 use std::alloc::{AllocError, Global};
 
 /// Bytes read a call, at most.
-const BLOCK: usize = 16_384;
+const BLOCK: usize = 4_096;
 
 /// The bytes of a source, up to its end.
 pub fn read_whole<S: Source>(alloc: Global, source: &mut S) -> Result<Vec<u8>, Fault>

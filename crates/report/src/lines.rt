@@ -15,7 +15,7 @@ use std::alloc::{AllocError, Global};
 use std::marker::Model;
 
 /// Bytes that gather before they are written.
-pub const ROOM: usize = 65_536;
+pub const ROOM: usize = 16_384;
 
 /// Bytes of a line, at most.
 pub const LONGEST_LINE: usize = 128;

@@ -12,4 +12,4 @@ returns-clause-goes c =
 
 pub returns-clause-far : goal.returns-clause-far
 returns-clause-far c = λ short.
-    frame_far c.args.set.now c.run.new.a (c.run.ensures.far short)
+    frame_far c.args.until.now c.args.set.now c.run.new.a (c.run.ensures.far short)

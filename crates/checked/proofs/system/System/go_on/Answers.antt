@@ -26,7 +26,7 @@ returns-clause-far c = λ short.
       shared = c.self.inside.shared;
     } in
     let x : Thread = c.in-Some.runner.now in
-    world_far c.args.set.now w c.args.thread x c.go_on.new.self
+    world_far c.args.until.now c.args.set.now w c.args.thread x c.go_on.new.self
     (slice_get_read w.threads (length w.threads) c.args.thread x refl c.in-Some.ensures.item.3.0
     c.in-Some.ensures.value)
     (c.go_on.ensures.far short)

@@ -27,9 +27,9 @@ returns-clause-goes c =
     let back : take depth ((below ++ g ∷ []) ++ drop depth places) ≡ below ++ g ∷ [] =
     standing c.args.set.now (unused 0) 0 thread below c.in-Some.top.now split depth places g refl in
     rw (← c.self.view_is)
-    (subst (λ (frames : List Frame). ThreadGoes c.args.set.now thread c.go_on.result
+    (subst (λ (frames : List Frame). ThreadGoes c.args.until.now c.args.set.now thread c.go_on.result
     (with_items thread frames)) (sym back)
-    (thread_goes c.args.set.now thread below c.in-Some.top.now g c.go_on.result split.0
+    (thread_goes c.args.until.now c.args.set.now thread below c.in-Some.top.now g c.go_on.result split.0
     c.go_on.ensures.goes))
 
 pub returns-clause-far : goal.returns-clause-far
@@ -44,6 +44,6 @@ returns-clause-far c = λ short.
     c.in-Some.ensures.cases in
     let back : take depth ((below ++ g ∷ []) ++ drop depth places) ≡ below ++ g ∷ [] =
     standing c.args.set.now (unused 0) 0 thread below c.in-Some.top.now split depth places g refl in
-    thread_far c.args.set.now
+    thread_far c.args.until.now c.args.set.now
     (with_items thread (take depth ((below ++ g ∷ []) ++ drop depth places))) below g back
     (c.go_on.ensures.far short)
