@@ -1,5 +1,5 @@
 -- Steps that a thread makes by itself, in its run and in a scenario.
-use Rattle.std.proofs.Common.{◌≡◌, ◌∙◌, ◌+◌, ◌-◌, ◌≤◌, ℕ, suc, Bool, true, List, [], ◌∷◌, ◌++◌, Option, Some, append_assoc, ap, arith, if◌then◌else◌, length, refl, replicate, subst, sym}
+use Rattle.std.proofs.Common.{◌≡◌, ◌∙◌, ◌+◌, ◌-◌, ◌≤◌, ℕ, suc, Bool, true, List, [], ◌∷◌, ◌++◌, Option, Some, false, append_assoc, ap, arith, if◌then◌else◌, length, refl, replicate, subst, sym}
 use Rattle.std.specs.Prelude.{nat_lt, option_map, slice_get}
 use Rattle.std.proofs.lemmas.Bool.{lt-ltb}
 use Rattle.std.proofs.lemmas.List.{append-nil, length-append, length-replicate, replicate_more}
@@ -19,8 +19,10 @@ use Rattle.model.specs.Set.{Set}
 use Rattle.model.specs.View.{busy_at, has_frames, thread_view}
 use Rattle.model.specs.World.{World}
 use Rattle.scenario_run.specs.declared.playing.Outcome.TheVariants.{Done}
-use Rattle.scenario_run.specs.Going.{GoesAhead, moves, rests, with_steps}
-use Rattle.scenario_run.specs.Playing.{Playing, Went, has_room, if_done, one, outcome_of, reply_in, running, stepping, unless_failed, with_event, world_of}
+use Rattle.scenario_run.specs.Going.{GoesAhead, Strides, halts, moves, rests, strides, with_steps}
+use Rattle.scenario_run.specs.Playing.{Playing, Went, has_room, if_done, if_going, one, outcome_of, reply_in, running, running_to, stays, stepping, unless_failed, with_event, world_of}
+use Rattle.scenario_world.specs.declared.until.Until.{Until}
+use Rattle.scenario_world.specs.Until.{MaySteps, is_before, wakes}
 
 step_added : (t k : ℕ) (events : List Event)
     → (events ++ replicate k (Step t)) ++ Step t ∷ [] ≡ events ++ replicate (suc k) (Step t)
@@ -57,6 +59,13 @@ shown_along t m j p threads events (more k n o before applies alone) shows =
       same = applies.set ∙ so_far.same;
       shows = applies.shows threads past so_far.shows;
     })
+
+-- strides are steps that a thread makes by itself
+pub strides_on : (until : Until) (t : ℕ) (m : Machine) (k : ℕ) (n : Machine)
+    → Strides until t m k n → GoesOn t m k n
+strides_on until t m j n halts = none
+strides_on until t m j p (strides k n o before applies alone short still) =
+    more k n o (strides_on until t m k n before) applies alone
 
 -- each of them replies that the thread stepped
 stepped_to : (m n o : Machine) (t k threads : ℕ) (events : List Event)
@@ -140,60 +149,97 @@ module _ (p : Playing) (t : ℕ) (m : Machine) (same : m.set ≡ p.set)
       record { now = record p { events = es }; outcome = Done } in
       ap went (sym (step_added t k p.events)) ∙ one_stepped q (Step t) fits stepped
 
-  pub goes_ahead : (k : ℕ) (n : Machine) → length p.events + k ≤ 1000000 → GoesOn t m k n
-      → GoesAhead t p k (with_steps p t k)
-  goes_ahead j n room none =
-      let still : List Event → Playing = λ es. record p { events = es } in
-      subst (λ (q : Playing). GoesAhead t p 0 q) (ap still (sym (append-nil p.events))) rests
-  goes_ahead j n room (more k before_last o before applies alone) =
-      let past : List Event = p.events ++ replicate k (Step t) in
-      let so_far : Shown m before_last p.threads past =
-      shown_along t m k before_last p.threads p.events before shows in
-      let seen : before_last.world ≡ world_of (with_steps p t k) =
+  -- the world that a machine shows then
+  seen_at : (k : ℕ) (n : Machine) → Shown m n p.threads (p.events ++ replicate k (Step t))
+      → n.world ≡ world_of (with_steps p t k)
+  seen_at k n so_far =
       so_far.shows.world
-      ∙ ap (λ (s : Set). (run s p.threads past).world) (so_far.same ∙ same) in
-      let busy : busy_at (world_of (with_steps p t k)) t ≡ true =
-      subst (λ (w : World). busy_at w t ≡ true) seen
-      (busy_by before_last.world t alone.thread alone.below alone.before alone.there alone.stack) in
+      ∙ ap (λ (s : Set). (run s p.threads (p.events ++ replicate k (Step t))).world)
+      (so_far.same ∙ same)
+
+  pub goes_ahead : (until : Until) (k : ℕ) (n : Machine) → length p.events + k ≤ 1000000
+      → Strides until t m k n → GoesAhead until t p k (with_steps p t k)
+  goes_ahead until j n room halts =
+      let still : List Event → Playing = λ es. record p { events = es } in
+      subst (λ (q : Playing). GoesAhead until t p 0 q) (ap still (sym (append-nil p.events))) rests
+  goes_ahead until j n room (strides k last o before applies alone short still) =
+      let steps : GoesOn t m k last = strides_on until t m k last before in
+      let so_far : Shown m last p.threads (p.events ++ replicate k (Step t)) =
+      shown_along t m k last p.threads p.events steps shows in
+      let behind : Shown m o p.threads (p.events ++ replicate (suc k) (Step t)) =
+      shown_along t m (suc k) o p.threads p.events (more k last o steps applies alone) shows in
+      let may : MaySteps until last.set last.world t =
+      record {
+        busy =
+            busy_by last.world t alone.thread alone.below alone.before alone.there alone.stack;
+        short = short;
+      } in
       moves k (with_steps p t k) (with_steps p t (suc k))
-      (goes_ahead k before_last (omega (arith, room)) before) busy
-      (one_made k before_last o room so_far applies)
+      (goes_ahead until k last (omega (arith, room)) before)
+      (subst (λ (s : Set). MaySteps until s (world_of (with_steps p t k)) t) (so_far.same ∙ same)
+      (subst (λ (w : World). MaySteps until last.set w t) (seen_at k last so_far) may))
+      (one_made k last o room so_far applies)
+      (subst (λ (s : Set). wakes until s (world_of (with_steps p t (suc k))) t ≡ false)
+      (behind.same ∙ same)
+      (subst (λ (w : World). wakes until o.set w t ≡ false) (seen_at (suc k) o behind) still))
 
 -- what is left then goes as all did
-steps_moved : (t : ℕ) (p : Playing) (k left : ℕ) (q : Playing) → GoesAhead t p k q
-    → stepping t left q ≡ stepping t (left + k) p
-steps_moved t p j left q rests =
+steps_moved : (until : Until) (t : ℕ) (p : Playing) (k left : ℕ) (q : Playing)
+    → GoesAhead until t p k q → stepping t left q ≡ stepping t (left + k) p
+steps_moved until t p j left q rests =
     let same : left ≡ left + 0 = omega arith in ap (λ (n : ℕ). stepping t n p) same
-steps_moved t p j left o (moves k q n before busy gone) =
+steps_moved until t p j left o (moves k q n before may gone still) =
     let next : suc left + k ≡ left + suc k = omega arith in
     ap (λ (w : Went). unless_failed w.outcome w (stepping t left w.now)) gone
-    ∙ steps_moved t p k (suc left) q before
+    ∙ steps_moved until t p k (suc left) q before
     ∙ ap (λ (i : ℕ). stepping t i p) next
 
-pub steps_ahead : (t left rest : ℕ) (p q : Playing) → rest ≤ left
-    → GoesAhead t p (left - rest) q → stepping t rest q ≡ stepping t left p
-steps_ahead t left rest p q less goes =
+pub steps_ahead : (until : Until) (t left rest : ℕ) (p q : Playing) → rest ≤ left
+    → GoesAhead until t p (left - rest) q → stepping t rest q ≡ stepping t left p
+steps_ahead until t left rest p q less goes =
     let all : rest + (left - rest) ≡ left = omega (arith, less) in
-    steps_moved t p (left - rest) rest q goes ∙ ap (λ (i : ℕ). stepping t i p) all
+    steps_moved until t p (left - rest) rest q goes ∙ ap (λ (i : ℕ). stepping t i p) all
 
 abbrev Next : ℕ → ℕ → Bool → Playing → Went → Went
 Next t left busy p w =
     if busy then if_done w.outcome w (running t left w.now)
     else record { now = p; outcome = Done }
 
-runs_moved : (t : ℕ) (p : Playing) (k left : ℕ) (q : Playing) → GoesAhead t p k q
-    → running t left q ≡ running t (left + k) p
-runs_moved t p j left q rests =
+runs_moved : (until : Until) (t : ℕ) (p : Playing) (k left : ℕ) (q : Playing)
+    → GoesAhead until t p k q → running t left q ≡ running t (left + k) p
+runs_moved until t p j left q rests =
     let same : left ≡ left + 0 = omega arith in ap (λ (n : ℕ). running t n p) same
-runs_moved t p j left o (moves k q n before busy gone) =
+runs_moved until t p j left o (moves k q n before may gone still) =
     let next : suc left + k ≡ left + suc k = omega arith in
     ap (λ (w : Went). if_done w.outcome w (running t left w.now)) gone
-    ∙ ap (λ (b : Bool). Next t left b q (one q (Step t))) (sym busy)
-    ∙ runs_moved t p k (suc left) q before
+    ∙ ap (λ (b : Bool). Next t left b q (one q (Step t))) (sym may.busy)
+    ∙ runs_moved until t p k (suc left) q before
     ∙ ap (λ (i : ℕ). running t i p) next
 
-pub runs_ahead : (t left rest : ℕ) (p q : Playing) → rest ≤ left
-    → GoesAhead t p (left - rest) q → running t rest q ≡ running t left p
-runs_ahead t left rest p q less goes =
+pub runs_ahead : (until : Until) (t left rest : ℕ) (p q : Playing) → rest ≤ left
+    → GoesAhead until t p (left - rest) q → running t rest q ≡ running t left p
+runs_ahead until t left rest p q less goes =
     let all : rest + (left - rest) ≡ left = omega (arith, less) in
-    runs_moved t p (left - rest) rest q goes ∙ ap (λ (i : ℕ). running t i p) all
+    runs_moved until t p (left - rest) rest q goes ∙ ap (λ (i : ℕ). running t i p) all
+
+abbrev NextTo : ℕ → Until → ℕ → Bool → Playing → Went → Went
+NextTo t until left ends p w =
+    if ends then stays p Done else if_going w.outcome w.now (running_to t until left w.now)
+
+to_moved : (until : Until) (t : ℕ) (p : Playing) (k left : ℕ) (q : Playing)
+    → GoesAhead until t p k q → running_to t until left q ≡ running_to t until (left + k) p
+to_moved until t p j left q rests =
+    let same : left ≡ left + 0 = omega arith in ap (λ (n : ℕ). running_to t until n p) same
+to_moved until t p j left o (moves k q n before may gone still) =
+    let next : suc left + k ≡ left + suc k = omega arith in
+    ap (λ (w : Went). if_going w.outcome w.now (running_to t until left w.now)) gone
+    ∙ ap (λ (b : Bool). NextTo t until left b q (one q (Step t))) (sym may.short)
+    ∙ to_moved until t p k (suc left) q before
+    ∙ ap (λ (i : ℕ). running_to t until i p) next
+
+pub to_ahead : (until : Until) (t left rest : ℕ) (p q : Playing) → rest ≤ left
+    → GoesAhead until t p (left - rest) q → running_to t until rest q ≡ running_to t until left p
+to_ahead until t left rest p q less goes =
+    let all : rest + (left - rest) ≡ left = omega (arith, less) in
+    to_moved until t p (left - rest) rest q goes
+    ∙ ap (λ (i : ℕ). running_to t until i p) all

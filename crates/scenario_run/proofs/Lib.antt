@@ -5,6 +5,7 @@ pub mod Pasts
 pub mod Playings
 pub mod Running
 pub mod Stepping
+pub mod Striding
 pub mod Telling
 pub mod Topping
 pub mod Turning

@@ -1,5 +1,5 @@
 -- Steps that a thread makes one after another, in its run and in a scenario.
-use Rattle.std.proofs.Common.{◌≡◌, ◌∙◌, ◌+◌, ◌≤◌, ℕ, suc, Bool, true, List, [], ◌∷◌, ◌++◌, None, Some, append_assoc, ap, arith, if◌then◌else◌, length, refl, replicate, subst, sym}
+use Rattle.std.proofs.Common.{◌≡◌, ◌∙◌, ◌+◌, ◌≤◌, ℕ, suc, Bool, true, false, List, [], ◌∷◌, ◌++◌, None, Some, append_assoc, ap, arith, if◌then◌else◌, length, refl, replicate, subst, sym}
 use Rattle.std.proofs.lemmas.Bool.{false≢true, lt-ltb}
 use Rattle.std.proofs.lemmas.List.{append-nil, length-append, length-replicate, replicate-append-replicate, replicate_more}
 use Rattle.checked.specs.GoingOn.{GoesOn, more, none}
@@ -11,16 +11,17 @@ use Rattle.model.specs.History.{replies}
 use Rattle.model.specs.Machine.{Machine}
 use Rattle.model.specs.Run.{begun, run}
 use Rattle.model.specs.Set.{Set}
-use Rattle.model.specs.View.{busy_at}
 use Rattle.model.specs.World.{World}
 use Rattle.scenario_run.specs.declared.playing.Outcome.TheVariants.{Done}
+use Rattle.scenario_world.specs.declared.until.Until.{Until}
+use Rattle.scenario_world.specs.Until.{MaySteps, wakes}
 use Rattle.scenario_run.specs.declared.runner.Runner.{Runner}
 use Rattle.scenario_run.specs.declared.walking.Walked.{Walked}
-use Rattle.scenario_run.specs.Going.{Ends, GoesAhead, moves, rests, with_steps}
+use Rattle.scenario_run.specs.Going.{Ends, GoesAhead, Strides, moves, rests, with_steps}
 use Rattle.scenario_run.specs.Playing.{Playing, Went, has_room, outcome_of, reply_in, with_event, world_of}
 use Rattle.scenario_run.specs.Running.{Runs, RunsOn}
 use Rattle.scenario_run.specs.Walking.{WalksOn, is_stepped}
-use Rattle.scenario_run.proofs.Going.{goes_ahead, replies_along, replies_more}
+use Rattle.scenario_run.proofs.Going.{goes_ahead, replies_along, replies_more, strides_on}
 use Rattle.scenario_run.proofs.Running.{runs_gone}
 
 -- so many steps, of which each only stepped; and with one behind them
@@ -44,22 +45,22 @@ one_joined t k events =
     append_assoc events (replicate k (Step t)) (Step t ∷ [])
     ∙ ap (λ (es : List Event). events ++ es) (replicate_more k (Step t))
 
-ahead_joined : (t : ℕ) (p : Playing) (k : ℕ) (q : Playing) (j : ℕ) (o : Playing)
-    → GoesAhead t p k q → GoesAhead t q j o → GoesAhead t p (k + j) o
-ahead_joined t p k q i o before rests =
-    let same : k ≡ k + 0 = omega arith in subst (λ (n : ℕ). GoesAhead t p n q) same before
-ahead_joined t p k q i o before (moves j last now goes busy gone) =
+ahead_joined : (until : Until) (t : ℕ) (p : Playing) (k : ℕ) (q : Playing) (j : ℕ) (o : Playing)
+    → GoesAhead until t p k q → GoesAhead until t q j o → GoesAhead until t p (k + j) o
+ahead_joined until t p k q i o before rests =
+    let same : k ≡ k + 0 = omega arith in subst (λ (n : ℕ). GoesAhead until t p n q) same before
+ahead_joined until t p k q i o before (moves j last now goes may gone still) =
     let next : suc (k + j) ≡ k + suc j = omega arith in
-    subst (λ (n : ℕ). GoesAhead t p n o) next
-    (moves (k + j) last o (ahead_joined t p k q j last before goes) busy gone)
+    subst (λ (n : ℕ). GoesAhead until t p n o) next
+    (moves (k + j) last o (ahead_joined until t p k q j last before goes) may gone still)
 
 alone_set : (t : ℕ) (m : Machine) (k : ℕ) (n : Machine) → GoesOn t m k n → n.set ≡ m.set
 alone_set t m k n none = refl
 alone_set t m j n (more k before o goes applies alone) =
     applies.set ∙ alone_set t m k before goes
 
-pub walks_none : (t : ℕ) (r : Runner) → WalksOn t r (stepped 0) r
-walks_none t r =
+pub walks_none : (until : Until) (t : ℕ) (r : Runner) → WalksOn until t r (stepped 0) r
+walks_none until t r =
     let still : Playing → List Event → Playing = λ p es. record p { events = es } in
     record {
       set = refl;
@@ -69,15 +70,16 @@ walks_none t r =
           ap (λ (es : List Event). replies r.machine.set threads es) (append-nil events)
           ∙ sym (append-nil (replies r.machine.set threads events));
       goes = λ p same h room.
-          subst (λ (q : Playing). GoesAhead t p 0 q) (ap (still p) (sym (append-nil p.events)))
+          subst (λ (q : Playing). GoesAhead until t p 0 q) (ap (still p) (sym (append-nil p.events)))
           rests;
     }
 
 -- steps that a routine makes by itself, behind others
-pub walks_alone : (t k j : ℕ) (r n o : Runner) → WalksOn t r (stepped k) n
-    → GoesOn t n.machine j o.machine → o.ledger ≡ n.ledger → o.keeping ≡ n.keeping
-    → WalksOn t r (stepped (k + j)) o
-walks_alone t k j r n o w goes ledger keeping =
+pub walks_alone : (until : Until) (t k j : ℕ) (r n o : Runner) → WalksOn until t r (stepped k) n
+    → Strides until t n.machine j o.machine → o.ledger ≡ n.ledger → o.keeping ≡ n.keeping
+    → WalksOn until t r (stepped (k + j)) o
+walks_alone until t k j r n o w far ledger keeping =
+    let goes : GoesOn t n.machine j o.machine = strides_on until t n.machine j o.machine far in
     let past : List Event → List Event = λ events. events ++ replicate k (Step t) in
     record {
       set = alone_set t n.machine j o.machine goes ∙ w.set;
@@ -101,11 +103,11 @@ walks_alone t k j r n o w goes ledger keeping =
           let times : length (replicate k (Step t)) ≡ k = length-replicate k (Step t) in
           let here : length p.events + k ≤ 1000000 = omega (arith, room) in
           let there : length q.events + j ≤ 1000000 = omega (arith, room, long, times) in
-          subst (λ (es : List Event). GoesAhead t p (k + j) (record p { events = es }))
+          subst (λ (es : List Event). GoesAhead until t p (k + j) (record p { events = es }))
           (joined t k j p.events)
-          (ahead_joined t p k q j (with_steps q t j) (w.goes p same h here)
-          (goes_ahead q t n.machine (w.set ∙ sym same) (w.runs p.threads p.events h).shows j
-          o.machine there goes));
+          (ahead_joined until t p k q j (with_steps q t j) (w.goes p same h here)
+          (goes_ahead q t n.machine (w.set ∙ sym same) (w.runs p.threads p.events h).shows until j
+          o.machine there far));
     }
 
 -- an event for which there is room, and that replies so
@@ -117,10 +119,10 @@ Made p e b r =
     }
 
 -- a step behind others, whatever it replies
-pub walks_end : (t k : ℕ) (r n o : Runner) (reply : Reply) → WalksOn t r (stepped k) n
-    → busy_at n.machine.world t ≡ true → RunsOn n (Step t) o reply
-    → WalksOn t r (ended k reply) o
-walks_end t k r n o reply w busy on =
+pub walks_end : (until : Until) (t k : ℕ) (r n o : Runner) (reply : Reply)
+    → WalksOn until t r (stepped k) n → MaySteps until n.machine.set n.machine.world t
+    → RunsOn n (Step t) o reply → WalksOn until t r (ended k reply) o
+walks_end until t k r n o reply w may on =
     let past : List Event → List Event = λ events. events ++ replicate k (Step t) in
     record {
       set = on.set ∙ w.set;
@@ -157,7 +159,9 @@ walks_end t k r n o reply w busy on =
           record {
             before = q;
             ahead = w.goes p same h here;
-            busy = subst (λ (v : World). busy_at v t ≡ true) seen busy;
+            may =
+                subst (λ (s : Set). MaySteps until s (world_of q) t) over
+                (subst (λ (v : World). MaySteps until n.machine.set v t) seen may);
             ends =
                 ap went (sym (one_joined t k p.events))
                 ∙ ap (λ (y : Reply). Made q (Step t) true y) said
@@ -166,12 +170,14 @@ walks_end t k r n o reply w busy on =
     }
 
 -- one that only steps
-pub walks_step : (t k : ℕ) (r n o : Runner) (reply : Reply) → reply ≡ Stepped
-    → WalksOn t r (stepped k) n → busy_at n.machine.world t ≡ true → RunsOn n (Step t) o reply
-    → WalksOn t r (stepped (k + 1)) o
-walks_step t k r n o reply is w busy on =
-    let e : WalksOn t r (ended k Stepped) o =
-    subst (λ (y : Reply). WalksOn t r (ended k y) o) is (walks_end t k r n o reply w busy on) in
+pub walks_step : (until : Until) (t k : ℕ) (r n o : Runner) (reply : Reply) → reply ≡ Stepped
+    → WalksOn until t r (stepped k) n → MaySteps until n.machine.set n.machine.world t
+    → RunsOn n (Step t) o reply → wakes until o.machine.set o.machine.world t ≡ false
+    → WalksOn until t r (stepped (k + 1)) o
+walks_step until t k r n o reply is w may on still =
+    let e : WalksOn until t r (ended k Stepped) o =
+    subst (λ (y : Reply). WalksOn until t r (ended k y) o) is
+    (walks_end until t k r n o reply w may on) in
     let next : suc k ≡ k + 1 = omega arith in
     record {
       set = e.set;
@@ -181,9 +187,17 @@ walks_step t k r n o reply is w busy on =
           ∙ ap (λ (rs : List Reply). replies r.machine.set threads events ++ rs)
           (replicate_more k Stepped);
       goes = λ p same h room.
-          let ends : Ends t p k Done (with_steps p t (k + 1)) = e.goes p same h room in
-          subst (λ (i : ℕ). GoesAhead t p i (with_steps p t (k + 1))) next
-          (moves k ends.before (with_steps p t (k + 1)) ends.ahead ends.busy ends.ends);
+          let ends : Ends until t p k Done (with_steps p t (k + 1)) = e.goes p same h room in
+          let over : o.machine.set ≡ p.set = e.set ∙ sym same in
+          let shown : Runs o p.threads (with_steps p t (k + 1)).events =
+          e.runs p.threads p.events h in
+          let seen : o.machine.world ≡ world_of (with_steps p t (k + 1)) =
+          shown.shows.world
+          ∙ ap (λ (s : Set). (run s p.threads (with_steps p t (k + 1)).events).world) over in
+          subst (λ (i : ℕ). GoesAhead until t p i (with_steps p t (k + 1))) next
+          (moves k ends.before (with_steps p t (k + 1)) ends.ahead ends.may ends.ends
+          (subst (λ (s : Set). wakes until s (world_of (with_steps p t (k + 1))) t ≡ false) over
+          (subst (λ (v : World). wakes until o.machine.set v t ≡ false) seen still)));
     }
 
 -- a reply that tells that the thread stepped

@@ -4,8 +4,9 @@ use Rattle.model.specs.declared.event.Event.TheVariants as event
 use Rattle.scenario_run.specs.declared.playing.Outcome.{Outcome}
 use Rattle.scenario_run.specs.declared.playing.Outcome.TheVariants.{Done, Waits, Fails}
 use Rattle.scenario_run.specs.Holding.{holds}
-use Rattle.scenario_run.specs.Turns.{run_all, running_to_release}
+use Rattle.scenario_run.specs.Turns.{run_all}
 use Rattle.scenario_run.specs.Playing.{Playing, Went, cancelled, issued, most_of, number_of, one, run_thread, running_to, stays, stepping}
+use Rattle.scenario_world.specs.declared.until.Until.TheVariants.{At, Release}
 use Rattle.scenario_steps.specs.declared.scenario.Action.{Action}
 use Rattle.scenario_steps.specs.declared.scenario.Action.TheVariants.{Issue, Cancel, Interrupt, Dpc, StartIo, Steps, Run as RunAction, RunTo, RunToRelease, RunAll, Together, Expect}
 use Rattle.scenario_steps.specs.declared.scenario.Step.{Step}
@@ -23,8 +24,8 @@ acted p (Dpc t d) = one p (event.Dpc t d)
 acted p (StartIo t d) = one p (event.StartIo t d)
 acted p (Steps t count) = stepping t count p
 acted p (RunAction t) = run_thread t p
-acted p (RunTo t spot) = running_to t spot (most_of p) p
-acted p (RunToRelease t lock) = running_to_release t lock (most_of p) p
+acted p (RunTo t spot) = running_to t (At spot) (most_of p) p
+acted p (RunToRelease t lock) = running_to t (Release lock) (most_of p) p
 acted p RunAll = run_all p
 acted p (Together threads worlds) = stays p Fails
 acted p (Expect expectation) = expected p (holds p expectation)

@@ -8,10 +8,10 @@ use Rattle.model.specs.History.{replies, started_by}
 use Rattle.model.specs.Machine.{reply_to}
 use Rattle.model.specs.Run.{Run, run}
 use Rattle.model.specs.Set.{Set}
-use Rattle.model.specs.View.{busy_at, thread_at}
+use Rattle.model.specs.View.{busy_at}
 use Rattle.model.specs.World.{World}
-use Rattle.scenario_names.specs.declared.names.Spot.{Spot}
-use Rattle.scenario_world.specs.States.{stands_at}
+use Rattle.scenario_world.specs.declared.until.Until.{Until}
+use Rattle.scenario_world.specs.Until.{is_before}
 use Rattle.scenario_run.specs.declared.playing.Outcome.{Outcome}
 use Rattle.scenario_run.specs.declared.playing.Outcome.TheVariants.{Done, Waits, Fails}
 
@@ -124,18 +124,18 @@ running t (suc count) p =
 abbrev pub run_thread : ℕ → Playing → Went
 run_thread t p = if nat_lt t p.threads then running t (most_of p) p else stays p Fails
 
--- steps of a thread up to there; it fails where the thread waits before
+-- steps of a thread up to where they are to end; it fails where the thread waits before
 abbrev pub if_going : Outcome → Playing → Went → Went
 if_going Done now later = later
 if_going Waits now later = stays now Fails
 if_going Fails now later = stays now Fails
 
-abbrev pub running_to : ℕ → Spot → ℕ → Playing → Went
-running_to t spot zero p = stays p Fails
-running_to t spot (suc count) p =
-    if stands_at spot (thread_at (world_of p) t) then stays p Done
+abbrev pub running_to : ℕ → Until → ℕ → Playing → Went
+running_to t until zero p = stays p Fails
+running_to t until (suc count) p =
+    if is_before until p.set (world_of p) t then stays p Done
     else (let first = one p (event.Step t) in
-    if_going first.outcome first.now (running_to t spot count first.now))
+    if_going first.outcome first.now (running_to t until count first.now))
 
 -- a request: its packet is the next one of the scenario
 abbrev pub with_packet : Went → Option ℕ → Went

@@ -1,15 +1,16 @@
--- Threads that make steps in turn, and a run up to the release of a lock.
-use Rattle.std.specs.Prelude.{ℕ, zero, suc, ◌&&◌, ◌||◌, Bool, false, is_none, if◌then◌else◌}
-use Rattle.laws_locks.specs.Waiting.{waits_for}
+-- Threads that make steps in turn.
+use Rattle.std.specs.Prelude.{ℕ, zero, suc, ◌≡◌, ◌<◌, ◌-◌, Bool, if◌then◌else◌}
 use Rattle.model.specs.declared.event.Event.TheVariants as event
-use Rattle.model.specs.View.{busy_at}
-use Rattle.scenario_world.specs.Releases.{stands_before_release}
-use Rattle.scenario_run.specs.declared.playing.Outcome.TheVariants.{Done, Fails}
-use Rattle.scenario_run.specs.Playing.{Playing, Went, if_going, most_of, one, stays, unless_failed, world_of}
+use Rattle.scenario_world.specs.Going.{any_goes_on as any_in, goes_on as goes_on_in}
+use Rattle.scenario_run.specs.declared.playing.Outcome.{Outcome}
+use Rattle.scenario_run.specs.declared.playing.Outcome.TheVariants.{Done, Waits, Fails}
+use Rattle.scenario_run.specs.declared.turns.Rounds.{Rounds}
+use Rattle.scenario_run.specs.declared.turns.Rounds.TheVariants.{Over, Left}
+use Rattle.scenario_run.specs.Playing.{Playing, Went, most_of, one, stays, unless_failed, world_of}
 
 -- a thread has frames and waits for no lock
 abbrev pub goes_on : Playing → ℕ → Bool
-goes_on p t = busy_at (world_of p) t && is_none (waits_for p.set (world_of p) t)
+goes_on p t = goes_on_in p.set (world_of p) t
 
 -- then it makes a step when its turn comes
 abbrev pub turn : Playing → ℕ → Went
@@ -22,10 +23,9 @@ round (suc count) t p =
     let first = turn p t in
     unless_failed first.outcome first (round count (suc t) first.now)
 
--- one of so many threads goes on
+-- one of so many threads does
 abbrev pub any_goes_on : Playing → ℕ → Bool
-any_goes_on p zero = false
-any_goes_on p (suc t) = any_goes_on p t || goes_on p t
+any_goes_on p threads = any_in p.set (world_of p) threads
 
 -- rounds until no thread goes on: each is idle or waits. It fails where so many don't suffice
 abbrev pub rounds : ℕ → Playing → Went
@@ -39,10 +39,13 @@ rounds (suc count) p =
 abbrev pub run_all : Playing → Went
 run_all p = rounds (most_of p) p
 
--- steps of a thread up to there; it fails where the thread waits before
-abbrev pub running_to_release : ℕ → ℕ → ℕ → Playing → Went
-running_to_release t lock zero p = stays p Fails
-running_to_release t lock (suc count) p =
-    if stands_before_release p.set (world_of p) t lock then stays p Done
-    else (let first = one p (event.Step t) in
-    if_going first.outcome first.now (running_to_release t lock count first.now))
+-- behind a round that went so, where so many were left
+abbrev pub after_round : Outcome → ℕ → Rounds
+after_round Fails left = Over Fails
+after_round Done left = Left (left - 1)
+after_round Waits left = Left (left - 1)
+
+-- they go so, or what is left of them, some, goes as all do
+abbrev pub AreRounds : ℕ → Playing → Playing → Rounds → Type 0
+AreRounds most p q (Over outcome) = record { now = q; outcome = outcome } ≡ rounds most p
+AreRounds most p q (Left rest) = (rest < most) × (rounds rest q ≡ rounds most p)

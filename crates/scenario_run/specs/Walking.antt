@@ -2,6 +2,7 @@
 use Rattle.std.specs.Prelude.{ℕ, ◌≡◌, ◌+◌, ◌≤◌, ◌++◌, Bool, true, false, List, [], ◌∷◌, length, replicate, Option, None, Some, option_map}
 use Rattle.model.specs.declared.event.Event.{Event}
 use Rattle.model.specs.declared.event.Event.TheVariants.{Step}
+use Rattle.model.specs.declared.event.Place.{Place}
 use Rattle.model.specs.declared.event.Reply.{Reply}
 use Rattle.model.specs.declared.event.Reply.TheVariants.{Started, Stepped, Finished, Topped, Waited, Idle, Refused, Bug, Wrong}
 use Rattle.model.specs.History.{replies}
@@ -10,6 +11,8 @@ use Rattle.scenario_run.specs.declared.walking.Walked.{Walked}
 use Rattle.scenario_run.specs.Going.{Gone, with_steps}
 use Rattle.scenario_run.specs.Playing.{Playing, outcome_of}
 use Rattle.scenario_run.specs.Running.{Runs}
+use Rattle.scenario_names.specs.declared.names.Spot.{Spot}
+use Rattle.scenario_world.specs.declared.until.Until.{Until}
 
 -- whether a reply tells that the thread stepped
 abbrev pub is_stepped : Reply → Bool
@@ -37,7 +40,8 @@ steps_in w = counted w.made w.last
 
 -- whatever run is shown before them, the run with them is shown behind, which replied so; and so
 -- they go in a scenario with room for them
-pub record WalksOn (t : ℕ) (before : Runner) (w : Walked) (after : Runner) : Type 0 where
+pub record WalksOn (until : Until) (t : ℕ) (before : Runner) (w : Walked) (after : Runner)
+    : Type 0 where
   pub set : after.machine.set ≡ before.machine.set
   pub runs : (threads : ℕ) (events : List Event) → Runs before threads events
       → Runs after threads (events ++ replicate (steps_in w) (Step t))
@@ -46,4 +50,10 @@ pub record WalksOn (t : ℕ) (before : Runner) (w : Walked) (after : Runner) : T
       ≡ replies before.machine.set threads events ++ replied w.made w.last
   pub goes : (p : Playing) → p.set ≡ before.machine.set → Runs before p.threads p.events
       → length p.events + steps_in w ≤ 1000000
-      → Gone t p w.made (option_map outcome_of w.last) (with_steps p t (steps_in w))
+      → Gone until t p w.made (option_map outcome_of w.last) (with_steps p t (steps_in w))
+
+-- the place of an instruction, as the machine has it
+abbrev pub fits : Spot → Place → Type 0
+fits spot place =
+    (place.driver ≡ spot.driver) × (place.routine ≡ spot.routine)
+    × (place.position ≡ spot.position)

@@ -6,11 +6,12 @@ ghost use Rattle.scenario_run.specs.Holding.{holds};
 
 use crate::holding::holds;
 use crate::playing::{Outcome, Playing};
-use crate::turns::{run_all, run_to_release};
+use crate::turns::run_all;
 use model::event::Event;
 use scenario_expected::expectation::Expectation;
 use scenario_steps::scenario::{Action, Step};
 use scenario_steps::steps::{Kind, Steps};
+use scenario_world::until::Until;
 use std::alloc::{AllocError, Global};
 
 /// Plays the steps of a scenario, up to the first that fails, and answers that one, if there is one.
@@ -86,8 +87,8 @@ pub fn act(alloc: Global, playing: &mut Playing, action: &Action) -> Result<Outc
         Action::StartIo { thread, device } => playing.one(Event::StartIo { thread, device }),
         Action::Steps { thread, count } => playing.steps(thread, count),
         Action::Run(thread) => playing.run(thread),
-        Action::RunTo { thread, spot } => playing.run_to(thread, spot),
-        Action::RunToRelease { thread, lock } => run_to_release(playing, thread, lock),
+        Action::RunTo { thread, spot } => playing.run_to(thread, Until::At(spot)),
+        Action::RunToRelease { thread, lock } => playing.run_to(thread, Until::Release(lock)),
         Action::RunAll => run_all(playing),
         Action::Together { .. } => Ok(Outcome::Fails),
         Action::Expect(expectation) => expect(alloc, playing, &expectation),

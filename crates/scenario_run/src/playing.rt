@@ -3,7 +3,6 @@
 ghost use Rattle.std.specs.Prelude.{◌≡◌, ◌≤◌, ◌<◌, ◌-◌, [], IfOk, IfSome, IsTrue, is_none, length, option_map, true};
 ghost use Rattle.model.specs.declared.limits.TheConstants.{MAX_THREADS};
 ghost use Rattle.model.specs.History.{started_by, top_out_of};
-ghost use Rattle.model.specs.View.{busy_at, thread_at};
 ghost use Rattle.hunt_ends.specs.Ends.{amiss_in};
 ghost use Rattle.std.specs.List.{list_any};
 ghost use Rattle.scenario_run.specs.Alike.{AreAlike};
@@ -12,12 +11,11 @@ ghost use Rattle.scenario_run.specs.Holding.{is_bug};
 ghost use Rattle.scenario_run.specs.Past.{events_of};
 ghost use Rattle.scenario_run.specs.Told.{last_of};
 ghost use Rattle.scenario_run.specs.Playing.{begun, cancelled, happened, has_room, issued, most_of, number_of, one, outcome_of, outcome_of_cancel, replies_of, reply_in, reply_of, run_of, run_thread, running, running_to, stepping, with_event, world_of};
-ghost use Rattle.scenario_world.specs.States.{stands_at};
 
 use crate::past::add_past;
 use crate::runner::{Keeping, Runner};
 use crate::told::Told;
-use crate::walking::{is_busy, walk};
+use crate::walking::walk;
 use checked::Checked;
 use driver_set::DriverSet;
 use hunt_worlds::world::same_world;
@@ -25,8 +23,8 @@ use interleave::read::Repeated;
 use interleave::schedule::MAX_EVENTS;
 use model::event::{Event, Reply};
 use model::history::TopOut;
-use scenario_names::names::Spot;
-use scenario_world::states::stands_at;
+use scenario_world::going::is_busy_at;
+use scenario_world::until::{Until, is_before};
 use std::alloc::{AllocError, Global};
 use std::marker::Model;
 
@@ -46,11 +44,11 @@ pub enum Outcome {
 
 /// How far a thread has gone by steps one after another.
 #[derive(Clone, Copy)]
-struct Ahead {
+pub(crate) struct Ahead {
     /// How many of its steps are left, without those that only stepped.
-    left: usize,
+    pub left: usize,
     /// How the one behind these went, if one was made.
-    last: Option<Outcome>,
+    pub last: Option<Outcome>,
 }
 
 /// A scenario as it plays.
@@ -255,10 +253,15 @@ impl Playing {
     }
 
     /// A thread makes steps one after another while it has frames and each only steps, and the one
-    /// behind these, at most so many.
-    fn go_ahead(&mut self, thread: u8, most: usize) -> Result<Ahead, AllocError>
+    /// behind these, at most so many, and up to where they are to end.
+    pub(crate) fn go_ahead(
+        &mut self,
+        thread: u8,
+        most: usize,
+        until: Until,
+    ) -> Result<Ahead, AllocError>
         ensures { IfOk result (λ ahead. (ahead.left ≤ most) × IfSome ahead.last (λ _. 0 < ahead.left)
-            × Gone thread self.old (most - ahead.left) ahead.last self.new) }
+            × Gone until thread self.old (most - ahead.left) ahead.last self.new) }
     {
         let room = MAX_EVENTS.saturating_sub(self.count);
         if room == 0 {
@@ -269,7 +272,7 @@ impl Playing {
         }
         self.told.make_room()?;
         self.past.reserve(1)?;
-        let walked = walk(&mut self.runner, thread, most.min(room));
+        let walked = walk(&mut self.runner, thread, most.min(room), until);
         let event = Event::Step { thread };
         let count = walked.count();
         add_past(&mut self.past, Repeated { event, count });
@@ -289,7 +292,7 @@ impl Playing {
     {
         let mut left = count as usize;
         while left > 0 {
-            let ahead = self.go_ahead(thread, left)?;
+            let ahead = self.go_ahead(thread, left, Until::Never)?;
             if ahead.left == 0 {
                 return Ok(Outcome::Done);
             }
@@ -333,14 +336,14 @@ impl Playing {
     {
         let mut left = most;
         while left > 0 {
-            let ahead = self.go_ahead(thread, left)?;
+            let ahead = self.go_ahead(thread, left, Until::Never)?;
             if ahead.left == 0 {
                 return Ok(Outcome::Fails);
             }
             let outcome = match ahead.last {
                 Some(outcome) => outcome,
                 None => {
-                    if !self.is_busy(thread) {
+                    if !is_busy_at(&self.runner.machine, thread) {
                         return Ok(Outcome::Done);
                     }
                     self.one(Event::Step { thread })?
@@ -356,47 +359,43 @@ impl Playing {
         Ok(Outcome::Fails)
     }
 
-    /// Steps of a thread until its next one is that of an instruction.
-    pub(crate) fn run_to(&mut self, thread: u8, spot: Spot) -> Result<Outcome, AllocError>
+    /// Steps of a thread up to where they are to end.
+    pub(crate) fn run_to(&mut self, thread: u8, until: Until) -> Result<Outcome, AllocError>
         ensures { IfOk result (λ outcome. record { now = self.new; outcome = outcome }
-            ≡ running_to thread spot (most_of self.old) self.old) }
+            ≡ running_to thread until (most_of self.old) self.old) }
     {
         let most = self.most();
-        self.run_up_to(thread, spot, most)
+        self.run_up_to(thread, until, most)
     }
 
     /// The same by at most so many steps.
-    #[tactic(auto, using(crate::proofs::Stepping::to_there, crate::proofs::Stepping::to_done, crate::proofs::Stepping::to_waited, crate::proofs::Stepping::to_failed))]
-    fn run_up_to(&mut self, thread: u8, spot: Spot, most: usize) -> Result<Outcome, AllocError>
+    #[tactic(auto, using(crate::proofs::Going::to_ahead, crate::proofs::Stepping::to_there, crate::proofs::Stepping::to_done, crate::proofs::Stepping::to_waited, crate::proofs::Stepping::to_failed, crate::proofs::Stepping::to_end_done, crate::proofs::Stepping::to_end_waited, crate::proofs::Stepping::to_end_failed))]
+    fn run_up_to(&mut self, thread: u8, until: Until, most: usize) -> Result<Outcome, AllocError>
         ensures { IfOk result (λ outcome. record { now = self.new; outcome = outcome }
-            ≡ running_to thread spot most self.old) }
+            ≡ running_to thread until most self.old) }
     {
         let mut left = most;
         while left > 0 {
-            if self.stands_at(thread, spot) {
-                return Ok(Outcome::Done);
+            let ahead = self.go_ahead(thread, left, until)?;
+            if ahead.left == 0 {
+                return Ok(Outcome::Fails);
             }
-            match self.one(Event::Step { thread })? {
+            let outcome = match ahead.last {
+                Some(outcome) => outcome,
+                None => {
+                    if is_before(&self.runner.machine, thread, until) {
+                        return Ok(Outcome::Done);
+                    }
+                    self.one(Event::Step { thread })?
+                }
+            };
+            match outcome {
                 Outcome::Done => {}
                 Outcome::Waits | Outcome::Fails => return Ok(Outcome::Fails),
             }
-            left -= 1;
+            left = ahead.left - 1;
         }
         Ok(Outcome::Fails)
-    }
-
-    /// Whether a thread's next step is that of an instruction.
-    pub(crate) fn stands_at(&self, thread: u8, spot: Spot) -> bool
-        ensures { result ≡ stands_at spot (thread_at (world_of self.now) thread) }
-    {
-        stands_at(&self.runner.machine, thread, spot)
-    }
-
-    /// Whether a thread has frames.
-    pub(crate) fn is_busy(&self, thread: u8) -> bool
-        ensures { result ≡ busy_at (world_of self.now) thread }
-    {
-        is_busy(&self.runner, thread)
     }
 
     /// The number of a packet of the scenario, if it was issued.

@@ -1,13 +1,13 @@
 //! A machine that runs events, with the ledger of its run where an audit is to come.
 
-ghost use Rattle.std.specs.Prelude.{◌≡◌, ◌≤◌, [], IfOk};
-ghost use Rattle.checked.specs.GoingOn.{GoesOn};
+ghost use Rattle.std.specs.Prelude.{◌≡◌, ◌≤◌, [], IfOk, Some};
+ghost use Rattle.checked.specs.GoingOn.{GoesOn, GoesUpTo};
 ghost use Rattle.model.specs.declared.limits.TheConstants.{MAX_THREADS};
 ghost use Rattle.scenario_run.specs.Running.{Begins, IsFine, RunsOn, StaysBegun};
 
 use checked::Checked;
 use driver_set::DriverSet;
-use model::event::{Event, Reply};
+use model::event::{Event, Place, Reply};
 use std::alloc::{AllocError, Global};
 use tell_audit::findings::Findings;
 use tell_uses::acts::use_step;
@@ -102,6 +102,16 @@ impl Runner {
         ensures keeping { self.new.keeping ≡ self.old.keeping }
     {
         self.machine.go_on(thread, count)
+    }
+
+    /// The same up to a place.
+    pub(crate) fn go_up_to(&mut self, thread: u8, count: usize, place: Place) -> usize
+        ensures few { result ≤ count }
+        ensures goes { GoesUpTo (Some place) thread self.old.machine result self.new.machine }
+        ensures ledger { self.new.ledger ≡ self.old.ledger }
+        ensures keeping { self.new.keeping ≡ self.old.keeping }
+    {
+        self.machine.go_up_to(thread, count, place)
     }
 
     /// Whether an audit finds nothing amiss, where the ledger is kept.

@@ -1,15 +1,24 @@
-//! Threads that make steps in turn, and a run up to the release of a lock.
+//! Threads that make steps in turn.
 
-ghost use Rattle.std.specs.Prelude.{◌≡◌, ◌≤◌, IfOk};
-ghost use Rattle.model.specs.declared.limits.TheConstants.{MAX_THREADS};
-ghost use Rattle.scenario_run.specs.Playing.{most_of, world_of};
-ghost use Rattle.scenario_run.specs.Turns.{any_goes_on, goes_on, round, rounds, run_all, running_to_release, turn};
+ghost use Rattle.std.specs.Prelude.{◌≡◌, ◌<◌, ◌≤◌, ◌-◌, IfOk};
+ghost use Rattle.scenario_run.specs.Playing.{world_of};
+ghost use Rattle.scenario_run.specs.Turns.{AreRounds, after_round, round, rounds, run_all, turn};
+ghost use Rattle.scenario_world.specs.Going.{IsLone};
 
 use crate::playing::{Outcome, Playing};
 use model::event::Event;
-use scenario_world::releases::stands_before_release;
+use scenario_world::going::{Going, goes_on, who_goes_on};
+use scenario_world::until::Until;
 use std::alloc::AllocError;
-use tell_audit::ring::waits_for;
+
+/// How far rounds have gone.
+#[derive(Clone, Copy)]
+pub(crate) enum Rounds {
+    /// They are over, and went so.
+    Over(Outcome),
+    /// So many are left.
+    Left(usize),
+}
 
 /// The threads make steps in turn, the lowest first, until each is idle or waits.
 ///
@@ -25,23 +34,62 @@ pub(crate) fn run_all(playing: &mut Playing) -> Result<Outcome, AllocError>
 }
 
 /// The same by at most so many rounds.
-#[tactic(auto, using(crate::proofs::Turning::rounds_over, crate::proofs::Turning::rounds_done, crate::proofs::Turning::rounds_waited, crate::proofs::Turning::rounds_failed))]
 fn rounds(playing: &mut Playing, most: usize) -> Result<Outcome, AllocError>
     ensures { IfOk result (λ outcome.
         record { now = playing.new; outcome = outcome } ≡ rounds most playing.old) }
 {
     let mut left = most;
     while left > 0 {
-        if !any_goes_on(playing) {
-            return Ok(Outcome::Done);
+        match some_rounds(playing, left)? {
+            Rounds::Over(outcome) => return Ok(outcome),
+            Rounds::Left(rest) => left = rest,
         }
-        match round(playing)? {
-            Outcome::Fails => return Ok(Outcome::Fails),
-            Outcome::Done | Outcome::Waits => {}
-        }
-        left -= 1;
     }
     Ok(Outcome::Fails)
+}
+
+/// One of so many rounds, or more.
+#[tactic(auto, using(crate::proofs::Turning::rounds_over))]
+fn some_rounds(playing: &mut Playing, most: usize) -> Result<Rounds, AllocError>
+    requires { 0 < most }
+    ensures { IfOk result (AreRounds most playing.old playing.new) }
+{
+    match who_goes_on(playing.machine(), playing.threads()) {
+        Going::Nobody => Ok(Rounds::Over(Outcome::Done)),
+        Going::One(thread) => lone_rounds(playing, thread, most),
+        Going::Several => {
+            let outcome = round(playing)?;
+            Ok(after_round(outcome, most))
+        }
+    }
+}
+
+/// Those in which one thread alone goes on, and the one in which another does so too.
+fn lone_rounds(playing: &mut Playing, thread: u8, most: usize) -> Result<Rounds, AllocError>
+    requires some { 0 < most }
+    requires lone { IsLone playing.old.set (world_of playing.old) playing.old.threads thread }
+    ensures { IfOk result (AreRounds most playing.old playing.new) }
+{
+    let threads = playing.threads();
+    let ahead = playing.go_ahead(thread, most, Until::Alone(threads))?;
+    let outcome = match ahead.last {
+        Some(Outcome::Fails) => Outcome::Fails,
+        Some(Outcome::Done | Outcome::Waits) => turns(playing, thread + 1, threads)?,
+        None if ahead.left < most => return Ok(Rounds::Left(ahead.left)),
+        None => round(playing)?,
+    };
+    Ok(after_round(outcome, ahead.left))
+}
+
+/// How far rounds have gone behind one that went so, where so many were left.
+fn after_round(outcome: Outcome, left: usize) -> Rounds
+    requires { 0 < left }
+    ensures { result ≡ after_round outcome left }
+{
+    match outcome {
+        Outcome::Fails => Rounds::Over(Outcome::Fails),
+        Outcome::Done | Outcome::Waits => Rounds::Left(left - 1),
+    }
 }
 
 /// A round: the turn of each thread, the lowest first.
@@ -50,16 +98,17 @@ fn round(playing: &mut Playing) -> Result<Outcome, AllocError>
         ≡ round playing.old.threads 0 playing.old) }
 {
     let threads = playing.threads();
-    turns(playing, threads)
+    turns(playing, 0, threads)
 }
 
-/// The turns of so many threads.
+/// The turns of the threads from one on, of so many.
 #[tactic(auto, using(crate::proofs::Turning::turns_over, crate::proofs::Turning::turns_done, crate::proofs::Turning::turns_waited, crate::proofs::Turning::turns_failed))]
-fn turns(playing: &mut Playing, threads: u8) -> Result<Outcome, AllocError>
+fn turns(playing: &mut Playing, first: u8, threads: u8) -> Result<Outcome, AllocError>
+    requires { first ≤ threads }
     ensures { IfOk result (λ outcome. record { now = playing.new; outcome = outcome }
-        ≡ round threads 0 playing.old) }
+        ≡ round (threads - first) first playing.old) }
 {
-    for thread in 0..threads {
+    for thread in first..threads {
         match turn(playing, thread)? {
             Outcome::Fails => return Ok(Outcome::Fails),
             Outcome::Done | Outcome::Waits => {}
@@ -73,77 +122,8 @@ fn turn(playing: &mut Playing, thread: u8) -> Result<Outcome, AllocError>
     ensures { IfOk result (λ outcome.
         record { now = playing.new; outcome = outcome } ≡ turn playing.old thread) }
 {
-    if goes_on(playing, thread) {
-        playing.one(Event::Step { thread })
-    } else {
-        Ok(Outcome::Done)
+    if !goes_on(playing.machine(), thread) {
+        return Ok(Outcome::Done);
     }
-}
-
-/// Whether a thread has frames and waits for no lock.
-fn goes_on(playing: &Playing, thread: u8) -> bool
-    ensures { result ≡ goes_on playing.now thread }
-{
-    playing.is_busy(thread) && waits_for(playing.machine(), thread).is_none()
-}
-
-/// Whether one of the threads goes on.
-fn any_goes_on(playing: &Playing) -> bool
-    ensures { result ≡ any_goes_on playing.now playing.now.threads }
-{
-    let threads = playing.threads();
-    any_below(playing, threads)
-}
-
-/// Whether one of so many threads does.
-fn any_below(playing: &Playing, threads: u8) -> bool
-    ensures { result ≡ any_goes_on playing.now threads }
-{
-    let mut found = false;
-    for thread in 0..threads {
-        found = found || goes_on(playing, thread);
-    }
-    found
-}
-
-/// Steps of a thread until its next one releases a spin lock of its device.
-///
-/// # Errors
-///
-/// When memory runs out.
-pub(crate) fn run_to_release(
-    playing: &mut Playing,
-    thread: u8,
-    lock: u8,
-) -> Result<Outcome, AllocError>
-    ensures { IfOk result (λ outcome. record { now = playing.new; outcome = outcome }
-        ≡ running_to_release thread lock (most_of playing.old) playing.old) }
-{
-    let most = playing.most();
-    run_up_to_release(playing, thread, lock, most)
-}
-
-/// The same by at most so many steps.
-#[tactic(auto, using(crate::proofs::Turning::release_there, crate::proofs::Turning::release_done, crate::proofs::Turning::release_waited, crate::proofs::Turning::release_failed))]
-fn run_up_to_release(
-    playing: &mut Playing,
-    thread: u8,
-    lock: u8,
-    most: usize,
-) -> Result<Outcome, AllocError>
-    ensures { IfOk result (λ outcome. record { now = playing.new; outcome = outcome }
-        ≡ running_to_release thread lock most playing.old) }
-{
-    let mut left = most;
-    while left > 0 {
-        if stands_before_release(playing.machine(), thread, lock) {
-            return Ok(Outcome::Done);
-        }
-        match playing.one(Event::Step { thread })? {
-            Outcome::Done => {}
-            Outcome::Waits | Outcome::Fails => return Ok(Outcome::Fails),
-        }
-        left -= 1;
-    }
-    Ok(Outcome::Fails)
+    playing.one(Event::Step { thread })
 }

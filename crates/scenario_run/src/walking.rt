@@ -1,12 +1,13 @@
 //! Steps that a thread makes one after another, on a machine with the ledger of its run.
 
-ghost use Rattle.std.specs.Prelude.{◌≡◌, ◌≤◌, ◌+◌, ◌<◌, ◌^◌};
-ghost use Rattle.checked.specs.GoingOn.{GoesOn};
-ghost use Rattle.model.specs.View.{busy_at};
-ghost use Rattle.scenario_run.specs.Walking.{WalksOn, is_stepped, steps_in};
+ghost use Rattle.std.specs.Prelude.{◌≡◌, ◌≤◌, ◌+◌, ◌<◌, ◌^◌, IfSome};
+ghost use Rattle.scenario_run.specs.Going.{Strides};
+ghost use Rattle.scenario_run.specs.Walking.{WalksOn, fits, is_stepped, steps_in};
 
 use crate::runner::Runner;
-use model::event::{Event, Reply};
+use model::event::{Event, Place, Reply};
+use scenario_names::names::Spot;
+use scenario_world::until::{Until, may_step, wakes};
 
 /// Steps that aren't tried as such of the routine by itself, behind one that wasn't.
 const PAUSE: u8 = 7;
@@ -34,22 +35,22 @@ impl Walked {
 }
 
 /// Lets a thread make steps while it has frames and each only steps, and the one behind these, at
-/// most so many.
-pub(crate) fn walk(runner: &mut Runner, thread: u8, most: usize) -> Walked
+/// most so many, and up to where they are to end.
+pub(crate) fn walk(runner: &mut Runner, thread: u8, most: usize, until: Until) -> Walked
     ensures few { steps_in result ≤ most }
-    ensures walks { WalksOn thread runner.old result runner.new }
+    ensures walks { WalksOn until thread runner.old result runner.new }
 {
     let mut made = 0;
     let mut pause = 0;
     while made < most {
-        let alone = stride(runner, thread, most - made, pause);
+        let alone = stride(runner, thread, most - made, pause, until);
         pause = pause_behind(pause, alone);
         made += alone;
-        if made == most || !is_busy(runner, thread) {
+        if made == most || !may_step(&runner.machine, thread, until) {
             return Walked { made, last: None };
         }
         let reply = runner.apply(&Event::Step { thread });
-        if !is_stepped(&reply) {
+        if !is_stepped(&reply) || wakes(&runner.machine, thread, until) {
             return Walked {
                 made,
                 last: Some(reply),
@@ -62,16 +63,36 @@ pub(crate) fn walk(runner: &mut Runner, thread: u8, most: usize) -> Walked
 
 /// Lets the routine of a thread go on by itself, at most so many steps, unless that isn't tried, and
 /// answers how many it made.
-fn stride(runner: &mut Runner, thread: u8, most: usize, pause: u8) -> usize
+fn stride(runner: &mut Runner, thread: u8, most: usize, pause: u8, until: Until) -> usize
     ensures few { result ≤ most }
-    ensures goes { GoesOn thread runner.old.machine result runner.new.machine }
+    ensures goes { Strides until thread runner.old.machine result runner.new.machine }
     ensures ledger { runner.new.ledger ≡ runner.old.ledger }
     ensures keeping { runner.new.keeping ≡ runner.old.keeping }
 {
-    if pause > 0 {
+    if pause > 0 || wakes(&runner.machine, thread, until) {
         return 0;
     }
-    runner.go_on(thread, most)
+    match until {
+        Until::Never | Until::Release(_) | Until::Alone(_) => runner.go_on(thread, most),
+        Until::At(spot) => match place_of(spot) {
+            Some(place) => runner.go_up_to(thread, most, place),
+            None => 0,
+        },
+    }
+}
+
+/// The place of an instruction as the machine has it.
+fn place_of(spot: Spot) -> Option<Place>
+    ensures { IfSome result (fits spot) }
+{
+    let driver = u8::try_from(spot.driver).ok()?;
+    let routine = u8::try_from(spot.routine).ok()?;
+    let position = u16::try_from(spot.position).ok()?;
+    Some(Place {
+        driver,
+        routine,
+        position,
+    })
 }
 
 /// For how many steps more it isn't tried, where the routine has made so many by itself.
@@ -80,16 +101,6 @@ fn pause_behind(pause: u8, alone: usize) -> u8 {
         return pause - 1;
     }
     if alone > 0 { 0 } else { PAUSE }
-}
-
-/// Whether a thread has frames.
-pub(crate) fn is_busy(runner: &Runner, thread: u8) -> bool
-    ensures { result ≡ busy_at runner.now.machine.world thread }
-{
-    match runner.machine.thread(thread) {
-        Some(view) => view.frames > 0,
-        None => false,
-    }
 }
 
 /// Whether a reply tells that the thread stepped.

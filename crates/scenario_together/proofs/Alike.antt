@@ -1,14 +1,12 @@
 -- Interleavings that lead to one world go on alike.
-use Rattle.std.proofs.Common.{◌≡◌, ◌∙◌, ◌++◌, ◌&&◌, ◌<◌, ◌≤◌, ◌+◌, ℕ, Bool, true, false, not, List, [], ◌∷◌, append_assoc, ap, get_or, is_none, length, nat_lt, refl, subst, sym, take, if◌then◌else◌}
+use Rattle.std.proofs.Common.{◌≡◌, ◌∙◌, ◌++◌, ◌&&◌, ◌<◌, ◌≤◌, ◌+◌, ℕ, Bool, true, false, not, List, [], ◌∷◌, append_assoc, ap, get_or, length, nat_lt, refl, subst, sym, take, if◌then◌else◌}
 use Rattle.std.proofs.lemmas.List.{take_all, take_more}
-use Rattle.laws_locks.specs.Waiting.{waits_for}
 use Rattle.laws_worlds.specs.SameWorlds.{SameWorldsGoOnAlike}
 use Rattle.model.specs.declared.event.Event.{Event}
 use Rattle.model.specs.declared.event.Event.TheVariants.{Step}
 use Rattle.model.specs.declared.event.Reply.{Reply}
 use Rattle.model.specs.declared.event.Reply.TheVariants.{Refused}
 use Rattle.model.specs.Sound.{IsSound}
-use Rattle.model.specs.View.{busy_at}
 use Rattle.model.specs.World.{World}
 use Rattle.scenario_run.proofs.Alike.{alike_in_turn, go_alike, reply_alike}
 use Rattle.scenario_run.specs.Acting.{passes}
@@ -16,6 +14,7 @@ use Rattle.scenario_run.specs.Alike.{GoAlike}
 use Rattle.scenario_run.specs.Playing.{Playing, one, outcome_of, reply_in, run_of, world_of}
 use Rattle.scenario_together.specs.Interleaving.{LeadAlike, LeadIf, behind, fails_with, goes_on, is_named, may_step, steps_of}
 use Rattle.hunt_walks.specs.Walks.{AreAlike}
+use Rattle.scenario_world.specs.Going.{goes_on as goes_on_in}
 
 -- with one step more
 steps_more : (path : List ℕ) (t : ℕ) → steps_of (path ++ t ∷ []) ≡ steps_of path ++ Step t ∷ []
@@ -51,7 +50,7 @@ module _ (law : SameWorldsGoOnAlike) (named : List Bool) (p : Playing) (sound : 
     abbrev may_by : ℕ → World → Bool → Bool
     may_by t w stopped =
         is_named named t
-        && (not stopped && busy_at w t && is_none (waits_for p.set w t))
+        && (not stopped && goes_on_in p.set w t)
 
     pub may_same : (t : ℕ) (a b : List Event) → GoAlike p.set p.threads a b
         → (is_named named t && goes_on (record p { events = a }) t)

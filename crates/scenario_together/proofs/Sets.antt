@@ -8,10 +8,10 @@ use Rattle.scenario_run.specs.Acting.{acted}
 use Rattle.scenario_run.specs.declared.playing.Outcome.{Outcome}
 use Rattle.scenario_run.specs.declared.playing.Outcome.TheVariants.{Done, Waits, Fails}
 use Rattle.scenario_run.specs.Playing.{Playing, Went, cancelled, happened, has_room, if_done, if_going, most_of, number_of, one, running, running_to, stays, stepping, unless_failed, with_event, world_of}
-use Rattle.scenario_world.specs.States.{stands_at}
-use Rattle.scenario_run.specs.Turns.{any_goes_on, goes_on, round, rounds, running_to_release, turn}
-use Rattle.scenario_world.specs.Releases.{stands_before_release}
-use Rattle.scenario_names.specs.declared.names.Spot.{Spot}
+use Rattle.scenario_world.specs.declared.until.Until.{Until}
+use Rattle.scenario_world.specs.declared.until.Until.TheVariants.{At, Release}
+use Rattle.scenario_world.specs.Until.{is_before}
+use Rattle.scenario_run.specs.Turns.{any_goes_on, goes_on, round, rounds, turn}
 use Rattle.scenario_steps.specs.declared.scenario.Action.{Action}
 use Rattle.scenario_steps.specs.declared.scenario.Action.TheVariants.{Issue, Cancel, Interrupt, Dpc, StartIo, Steps, Run as RunAction, RunTo, RunToRelease, RunAll, Together, Expect}
 
@@ -63,15 +63,15 @@ running_over t (suc count) p =
     (done_over p.set (one p e).outcome (one p e) (running t count (happened p e)) (one_over p e)
     (running_over t count (happened p e) ∙ one_over p e)) refl
 
-running_to_over : (t : ℕ) (spot : Spot) (count : ℕ) (p : Playing)
-    → Over p.set (running_to t spot count p)
-running_to_over t spot zero p = refl
-running_to_over t spot (suc count) p =
+running_to_over : (t : ℕ) (until : Until) (count : ℕ) (p : Playing)
+    → Over p.set (running_to t until count p)
+running_to_over t until zero p = refl
+running_to_over t until (suc count) p =
     let e : Event = event.Step t in
-    if_over p.set (stands_at spot (thread_at (world_of p) t)) (stays p Done)
-    (if_going (one p e).outcome (happened p e) (running_to t spot count (happened p e))) refl
-    (going_over p.set (one p e).outcome (happened p e) (running_to t spot count (happened p e))
-    (one_over p e) (running_to_over t spot count (happened p e) ∙ one_over p e))
+    if_over p.set (is_before until p.set (world_of p) t) (stays p Done)
+    (if_going (one p e).outcome (happened p e) (running_to t until count (happened p e))) refl
+    (going_over p.set (one p e).outcome (happened p e) (running_to t until count (happened p e))
+    (one_over p e) (running_to_over t until count (happened p e) ∙ one_over p e))
 
 turn_over : (p : Playing) (t : ℕ) → Over p.set (turn p t)
 turn_over p t =
@@ -95,17 +95,6 @@ rounds_over (suc count) p =
     (unless_over p.set first.outcome first (rounds count first.now) over
     (rounds_over count first.now ∙ over)) refl
 
-to_release_over : (t lock count : ℕ) (p : Playing)
-    → Over p.set (running_to_release t lock count p)
-to_release_over t lock zero p = refl
-to_release_over t lock (suc count) p =
-    let e : Event = event.Step t in
-    let later : Went = running_to_release t lock count (happened p e) in
-    if_over p.set (stands_before_release p.set (world_of p) t lock) (stays p Done)
-    (if_going (one p e).outcome (happened p e) later) refl
-    (going_over p.set (one p e).outcome (happened p e) later (one_over p e)
-    (to_release_over t lock count (happened p e) ∙ one_over p e))
-
 cancelled_over : (t level : ℕ) (n : Option ℕ) (p : Playing) → Over p.set (cancelled p t level n)
 cancelled_over t level None p = refl
 cancelled_over t level (Some n) p = one_over p (event.Cancel t n level)
@@ -120,8 +109,8 @@ acted_over (Steps t count) p = stepping_over t count p
 acted_over (RunAction t) p =
     if_over p.set (nat_lt t p.threads) (running t (most_of p) p) (stays p Fails)
     (running_over t (most_of p) p) refl
-acted_over (RunTo t spot) p = running_to_over t spot (most_of p) p
-acted_over (RunToRelease t lock) p = to_release_over t lock (most_of p) p
+acted_over (RunTo t spot) p = running_to_over t (At spot) (most_of p) p
+acted_over (RunToRelease t lock) p = running_to_over t (Release lock) (most_of p) p
 acted_over RunAll p = rounds_over (most_of p) p
 acted_over (Together threads worlds) p = refl
 acted_over (Expect e) p = refl

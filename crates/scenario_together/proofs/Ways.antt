@@ -26,8 +26,10 @@ use Rattle.scenario_run.specs.Holding.{holds, is_clean, numbers_of, packet_holds
 use Rattle.scenario_world.specs.States.{device_holds, thread_holds, topped_as}
 use Rattle.scenario_run.specs.Playing.{Playing, Went, cancelled, happened, has_room, if_done, if_going, issued, most_of, number_of, one, outcome_of, outcome_of_cancel, replies_of, reply_in, reply_of, run_of, run_thread, running, running_to, stays, stepping, unless_failed, with_event, world_of}
 use Rattle.scenario_world.specs.States.{stands_at}
-use Rattle.scenario_run.specs.Turns.{any_goes_on, goes_on, round, rounds, run_all, running_to_release, turn}
-use Rattle.scenario_world.specs.Releases.{stands_before_release}
+use Rattle.scenario_run.specs.Turns.{any_goes_on, goes_on, round, rounds, run_all, turn}
+use Rattle.scenario_world.specs.declared.until.Until.{Until}
+use Rattle.scenario_world.specs.declared.until.Until.TheVariants.{At, Release}
+use Rattle.scenario_world.specs.Until.{is_before}
 use Rattle.scenario_names.specs.declared.names.Spot.{Spot}
 use Rattle.scenario_world.specs.Expected.{entries_of, has_entries, is_owned}
 use Rattle.scenario_steps.specs.declared.scenario.Action.{Action}
@@ -113,11 +115,10 @@ any_way (suc t) p q way =
     ap (λ (b : Bool). b || goes_on p t) (any_way t p q way)
     ∙ ap (λ (b : Bool). any_goes_on q t || b) (goes_way t p q way)
 
-release_way : (t lock : ℕ) (p q : Playing) → SameWay p q
-    → stands_before_release p.set (world_of p) t lock
-    ≡ stands_before_release q.set (world_of q) t lock
-release_way t lock _ _ (same_way p others alike) =
-    ap (λ (w : World). stands_before_release p.set w t lock) alike.stand.world
+until_way : (t : ℕ) (until : Until) (p q : Playing) → SameWay p q
+    → is_before until p.set (world_of p) t ≡ is_before until q.set (world_of q) t
+until_way t until _ _ (same_way p others alike) =
+    ap (λ (w : World). is_before until p.set w t) alike.stand.world
 
 module _ (law : SameWorldsGoOnAlike) where
   -- one event more
@@ -220,25 +221,20 @@ module _ (law : SameWorldsGoOnAlike) where
       (done_by (one p e).outcome (one p e) (one q e) ours its first later))
       (stays_alike p q Done way)
 
-  spot_way : (t : ℕ) (spot : Spot) (p q : Playing) → SameWay p q
-      → stands_at spot (thread_at (world_of p) t) ≡ stands_at spot (thread_at (world_of q) t)
-  spot_way t spot _ _ (same_way p others alike) =
-      ap (λ (w : World). stands_at spot (thread_at w t)) alike.stand.world
-
-  running_to_alike : (t : ℕ) (spot : Spot) (count : ℕ) (p q : Playing) → IsSound p.set
-      → SameWay p q → WentAlike (running_to t spot count p) (running_to t spot count q)
-  running_to_alike t spot zero p q sound way = stays_alike p q Fails way
-  running_to_alike t spot (suc count) p q sound way =
+  running_to_alike : (t : ℕ) (until : Until) (count : ℕ) (p q : Playing) → IsSound p.set
+      → SameWay p q → WentAlike (running_to t until count p) (running_to t until count q)
+  running_to_alike t until zero p q sound way = stays_alike p q Fails way
+  running_to_alike t until (suc count) p q sound way =
       let e : Event = event.Step t in
       let first : WentAlike (one p e) (one q e) = one_alike p q e sound way in
-      let ours : Went = running_to t spot count (one p e).now in
-      let its : Went = running_to t spot count (one q e).now in
+      let ours : Went = running_to t until count (one p e).now in
+      let its : Went = running_to t until count (one q e).now in
       let later : WentAlike ours its =
-      running_to_alike t spot count (one p e).now (one q e).now (sound_on p e sound) first.now in
-      if_alike (stands_at spot (thread_at (world_of p) t))
-      (stands_at spot (thread_at (world_of q) t)) (stays p Done) (stays q Done)
+      running_to_alike t until count (one p e).now (one q e).now (sound_on p e sound) first.now in
+      if_alike (is_before until p.set (world_of p) t) (is_before until q.set (world_of q) t)
+      (stays p Done) (stays q Done)
       (if_going (one p e).outcome (one p e).now ours)
-      (if_going (one q e).outcome (one q e).now its) (spot_way t spot p q way)
+      (if_going (one q e).outcome (one q e).now its) (until_way t until p q way)
       (stays_alike p q Done way)
       (subst (λ (o : Outcome). WentAlike (if_going (one p e).outcome (one p e).now ours)
       (if_going o (one q e).now its)) first.outcome
@@ -284,12 +280,12 @@ module _ (law : SameWorldsGoOnAlike) where
       (running_alike t (most_of p) p (record p { events = others }) sound way))
       (stays_alike p (record p { events = others }) Fails way)
 
-  to_alike : (t : ℕ) (spot : Spot) (p q : Playing) → IsSound p.set → SameWay p q
-      → WentAlike (running_to t spot (most_of p) p) (running_to t spot (most_of q) q)
-  to_alike t spot _ _ sound (same_way p others alike) =
-      subst (λ (k : ℕ). WentAlike (running_to t spot (most_of p) p)
-      (running_to t spot k (record p { events = others }))) (most_alike p others sound alike)
-      (running_to_alike t spot (most_of p) p (record p { events = others }) sound
+  to_alike : (t : ℕ) (until : Until) (p q : Playing) → IsSound p.set → SameWay p q
+      → WentAlike (running_to t until (most_of p) p) (running_to t until (most_of q) q)
+  to_alike t until _ _ sound (same_way p others alike) =
+      subst (λ (k : ℕ). WentAlike (running_to t until (most_of p) p)
+      (running_to t until k (record p { events = others }))) (most_alike p others sound alike)
+      (running_to_alike t until (most_of p) p (record p { events = others }) sound
       (same_way p others alike))
 
   -- threads in turn
@@ -341,35 +337,6 @@ module _ (law : SameWorldsGoOnAlike) where
       subst (λ (k : ℕ). WentAlike (rounds (most_of p) p) (rounds k q))
       (most_alike p others sound alike)
       (rounds_alike (most_of p) p q sound (same_way p others alike))
-
-  -- and a run up to the release of a lock
-  to_release_by : (t lock count : ℕ) (p q : Playing) → IsSound p.set → SameWay p q
-      → WentAlike (running_to_release t lock count p) (running_to_release t lock count q)
-  to_release_by t lock zero p q sound way = stays_alike p q Fails way
-  to_release_by t lock (suc count) p q sound way =
-      let e : Event = event.Step t in
-      let first : WentAlike (one p e) (one q e) = one_alike p q e sound way in
-      let ours : Went = running_to_release t lock count (one p e).now in
-      let its : Went = running_to_release t lock count (one q e).now in
-      let later : WentAlike ours its =
-      to_release_by t lock count (one p e).now (one q e).now (sound_on p e sound) first.now in
-      if_alike (stands_before_release p.set (world_of p) t lock)
-      (stands_before_release q.set (world_of q) t lock) (stays p Done) (stays q Done)
-      (if_going (one p e).outcome (one p e).now ours)
-      (if_going (one q e).outcome (one q e).now its) (release_way t lock p q way)
-      (stays_alike p q Done way)
-      (subst (λ (o : Outcome). WentAlike (if_going (one p e).outcome (one p e).now ours)
-      (if_going o (one q e).now its)) first.outcome
-      (going_by (one p e).outcome (one p e).now (one q e).now ours its first.now later))
-
-  to_release_alike : (t lock : ℕ) (p q : Playing) → IsSound p.set → SameWay p q
-      → WentAlike (running_to_release t lock (most_of p) p)
-      (running_to_release t lock (most_of q) q)
-  to_release_alike t lock _ _ sound (same_way p others alike) =
-      let q : Playing = record p { events = others } in
-      subst (λ (k : ℕ). WentAlike (running_to_release t lock (most_of p) p)
-      (running_to_release t lock k q)) (most_alike p others sound alike)
-      (to_release_by t lock (most_of p) p q sound (same_way p others alike))
 
 -- the packets that a line names have the same numbers in both
 numbers_alike : (p : Playing) (others : List Event) (packets : List (Option ℕ))
@@ -473,8 +440,9 @@ module _ (law : SameWorldsGoOnAlike) (agreed : AcceptedRunsShowNoDisagreement) w
       one_alike law p q (event.StartIo t d) sound way
   acted_alike (Steps t count) p q sound way accepted = stepping_alike law t count p q sound way
   acted_alike (RunAction t) p q sound way accepted = run_alike law t p q sound way
-  acted_alike (RunTo t spot) p q sound way accepted = to_alike law t spot p q sound way
-  acted_alike (RunToRelease t lock) p q sound way accepted = to_release_alike law t lock p q sound way
+  acted_alike (RunTo t spot) p q sound way accepted = to_alike law t (At spot) p q sound way
+  acted_alike (RunToRelease t lock) p q sound way accepted =
+      to_alike law t (Release lock) p q sound way
   acted_alike RunAll p q sound way accepted = all_alike law p q sound way
   acted_alike (Together threads worlds) p q sound way accepted = stays_alike p q Fails way
   acted_alike (Expect e) _ _ sound (same_way p others alike) accepted =

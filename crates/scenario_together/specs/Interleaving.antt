@@ -1,19 +1,17 @@
 -- Interleavings of threads: each step is one of a named thread that isn't idle and waits for no
 -- lock.
-use Rattle.std.specs.Prelude.{ℕ, ◌≡◌, ◌++◌, ◌&&◌, not, Bool, true, false, List, map, is_none, slice_index_or}
-use Rattle.laws_locks.specs.Waiting.{waits_for}
+use Rattle.std.specs.Prelude.{ℕ, ◌≡◌, ◌++◌, ◌&&◌, not, Bool, true, false, List, map, slice_index_or}
 use Rattle.model.specs.declared.event.Event.{Event}
 use Rattle.model.specs.declared.event.Event.TheVariants as event
-use Rattle.model.specs.View.{busy_at}
 use Rattle.scenario_run.specs.Acting.{passes}
 use Rattle.scenario_run.specs.Alike.{GoAlike}
 use Rattle.scenario_run.specs.Playing.{Playing, one, run_of, world_of}
 use Rattle.hunt_walks.specs.Walks.{IsWalk}
+use Rattle.scenario_world.specs.Going.{goes_on as goes_on_in}
 
 -- a thread goes on: the run hasn't stopped, and the thread has frames and waits for no lock
 abbrev pub goes_on : Playing → ℕ → Bool
-goes_on p t =
-    not (run_of p).stopped && busy_at (world_of p) t && is_none (waits_for p.set (world_of p) t)
+goes_on p t = not (run_of p).stopped && goes_on_in p.set (world_of p) t
 
 -- a scenario behind steps of threads, one after another
 abbrev pub steps_of : List ℕ → List Event

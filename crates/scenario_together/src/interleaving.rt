@@ -1,7 +1,6 @@
 //! One interleaving of the threads that a step of a scenario names.
 
 ghost use Rattle.std.specs.Prelude.{◌≡◌, ◌&&◌, ◌++◌, IfOk, OnOk};
-ghost use Rattle.model.specs.View.{busy_at};
 ghost use Rattle.scenario_run.specs.Playing.{world_of};
 ghost use Rattle.scenario_together.specs.Interleaving.{goes_on, is_named, steps_of};
 
@@ -11,8 +10,8 @@ use model::view::FrameView;
 use scenario_run::holding::events_of;
 use scenario_run::play::passes;
 use scenario_run::playing::Playing;
+use scenario_world::going;
 use std::alloc::{AllocError, Global};
-use tell_audit::ring::waits_for;
 
 /// A scenario behind steps of threads of which each is named.
 #[derive(Drop)]
@@ -23,23 +22,11 @@ pub(crate) struct Interleaving {
     pub(crate) merges: bool,
 }
 
-/// Whether a thread has frames.
-fn is_busy(playing: &Playing, thread: u8) -> bool
-    ensures { result ≡ busy_at (world_of playing.now) thread }
-{
-    match playing.machine().thread(thread) {
-        Some(view) => view.frames > 0,
-        None => false,
-    }
-}
-
 /// Whether a thread goes on: the run hasn't stopped, and it has frames and waits for no lock.
 pub(crate) fn goes_on(playing: &Playing, thread: u8) -> bool
     ensures { result ≡ goes_on playing.now thread }
 {
-    !playing.machine().stopped()
-        && is_busy(playing, thread)
-        && waits_for(playing.machine(), thread).is_none()
+    !playing.machine().stopped() && going::goes_on(playing.machine(), thread)
 }
 
 /// Whether a thread is named.

@@ -1,3 +1,5 @@
 pub mod Expected
+pub mod Going
 pub mod Releases
 pub mod States
+pub mod Until

@@ -3,9 +3,11 @@
 #![tactic(auto)]
 
 pub mod cells;
+pub mod going;
 pub mod holders;
 pub mod lists;
 pub mod locks;
 pub mod marks;
 pub mod releases;
 pub mod states;
+pub mod until;

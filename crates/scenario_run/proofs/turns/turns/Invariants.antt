@@ -5,4 +5,5 @@ use Rattle.scenario_run.proofs.turns.turns.Given as goal
 -- the turns that are left go as all did
 abbrev pub invariant-loop-thread : goal.invariant-loop-thread
 invariant-loop-thread l =
-    round (l.threads - l.thread) l.thread l.playing ≡ round l.threads 0 l.initial.playing
+    round (l.threads - l.thread) l.thread l.playing
+    ≡ round (l.threads - l.first) l.first l.initial.playing

@@ -32,7 +32,7 @@ returns-then-room-eq0 c =
     let zero : 0 ≡ c.args.most - c.args.most = omega arith in (
       omega arith,
       tt,
-      subst (λ (k : ℕ). GoesAhead c.args.thread c.args.self.now k c.args.self.now) zero rests,
+      subst (λ (k : ℕ). GoesAhead c.args.until c.args.thread c.args.self.now k c.args.self.now) zero rests,
     )
 
 pub invariant_of-self-2 : goal.invariant_of-self-2
@@ -85,13 +85,13 @@ returns c =
     let how : Option Outcome = option_map outcome_of w.last in
     let now_how : Option Outcome → Type 0 = λ o.
     IfSome o (λ _. 0 < most - w.made) in
-    let gone : Gone t p w.made how q =
-    subst (λ (o : Playing). Gone t p w.made how o) (sym here)
+    let gone : Gone c.args.until t p w.made how q =
+    subst (λ (o : Playing). Gone c.args.until t p w.made how o) (sym here)
     (c.walk-walked.ensures.walks.goes p refl c.self.invariant.runs room) in (
       omega arith,
       subst now_how (sym c.outcome_if.ensures) (one_left w.made most w.last few),
-      subst (λ (o : Option Outcome). Gone t c.args.self.now (most - (most - w.made)) o q)
+      subst (λ (o : Option Outcome). Gone c.args.until t c.args.self.now (most - (most - w.made)) o q)
           (sym c.outcome_if.ensures)
-          (subst (λ (o : Playing). Gone t o (most - (most - w.made)) how q) c.self.view_is
-          (subst (λ (k : ℕ). Gone t p k how q) counts gone)),
+          (subst (λ (o : Playing). Gone c.args.until t o (most - (most - w.made)) how q) c.self.view_is
+          (subst (λ (k : ℕ). Gone c.args.until t p k how q) counts gone)),
     )

@@ -1,4 +1,5 @@
 use Rattle.std.proofs.Common.{◌<◌, ◌≤◌, ◌-◌, ◌∙◌, rules, subst, sym, Option}
+use Rattle.scenario_world.specs.declared.until.Until.TheVariants.{Never}
 use Rattle.scenario_run.specs.declared.playing.Outcome.{Outcome}
 use Rattle.scenario_run.specs.Going.{Ends, Gone}
 use Rattle.scenario_run.specs.Playing.{Playing}
@@ -15,26 +16,26 @@ returns-in-Waits c =
     let q : Playing = c.match-ahead.self in
     let some : 0 < rest = search rules in
     let less : rest ≤ left = search rules in
-    let e : Ends t p (left - rest) c.match-ahead.outcome q =
+    let e : Ends Never t p (left - rest) c.match-ahead.outcome q =
     elim c.match-ahead.branch [
-      | in-Some w ↦ subst (λ (o : Outcome). Ends t p (left - rest) o q) (sym w.outcome-is)
-          (subst (λ (s : Playing). Ends t p (left - rest) w.in-Some.outcome s) (sym w.self-is)
-          (subst (λ (o : Option Outcome). Gone t p (left - rest) o c.go_ahead.new.self) w.in-Some.is
+      | in-Some w ↦ subst (λ (o : Outcome). Ends Never t p (left - rest) o q) (sym w.outcome-is)
+          (subst (λ (s : Playing). Ends Never t p (left - rest) w.in-Some.outcome s) (sym w.self-is)
+          (subst (λ (o : Option Outcome). Gone Never t p (left - rest) o c.go_ahead.new.self) w.in-Some.is
           c.in_ok-ahead.ensures.2))
       | in-None+else-not-is_busy+in_ok-outcome-in-None w ↦ subst
-          (λ (o : Outcome). Ends t p (left - rest) o q) (sym w.outcome-is)
-          (subst (λ (s : Playing). Ends t p (left - rest) w.in_ok-outcome-in-None.outcome s)
+          (λ (o : Outcome). Ends Never t p (left - rest) o q) (sym w.outcome-is)
+          (subst (λ (s : Playing). Ends Never t p (left - rest) w.in_ok-outcome-in-None.outcome s)
           (sym w.self-is) (record {
             before = c.go_ahead.new.self;
             ahead =
-                subst (λ (o : Option Outcome). Gone t p (left - rest) o c.go_ahead.new.self)
+                subst (λ (o : Option Outcome). Gone Never t p (left - rest) o c.go_ahead.new.self)
                 w.in-None.is c.in_ok-ahead.ensures.2;
-            busy = search rules;
+            may = record { busy = search rules; short = refl };
             ends = w.in_ok-outcome-in-None.ensures;
           }))
     ] in
-    run_end_waited t left rest p q some less
-    (subst (λ (o : Outcome). Ends t p (left - rest) o q) c.in-Waits.is e)
+    run_end_waited Never t left rest p q some less
+    (subst (λ (o : Outcome). Ends Never t p (left - rest) o q) c.in-Waits.is e)
     ∙ c.loop-left.invariant
 
 pub returns-in-Fails : goal.returns-in-Fails
@@ -46,24 +47,24 @@ returns-in-Fails c =
     let q : Playing = c.match-ahead.self in
     let some : 0 < rest = search rules in
     let less : rest ≤ left = search rules in
-    let e : Ends t p (left - rest) c.match-ahead.outcome q =
+    let e : Ends Never t p (left - rest) c.match-ahead.outcome q =
     elim c.match-ahead.branch [
-      | in-Some w ↦ subst (λ (o : Outcome). Ends t p (left - rest) o q) (sym w.outcome-is)
-          (subst (λ (s : Playing). Ends t p (left - rest) w.in-Some.outcome s) (sym w.self-is)
-          (subst (λ (o : Option Outcome). Gone t p (left - rest) o c.go_ahead.new.self) w.in-Some.is
+      | in-Some w ↦ subst (λ (o : Outcome). Ends Never t p (left - rest) o q) (sym w.outcome-is)
+          (subst (λ (s : Playing). Ends Never t p (left - rest) w.in-Some.outcome s) (sym w.self-is)
+          (subst (λ (o : Option Outcome). Gone Never t p (left - rest) o c.go_ahead.new.self) w.in-Some.is
           c.in_ok-ahead.ensures.2))
       | in-None+else-not-is_busy+in_ok-outcome-in-None w ↦ subst
-          (λ (o : Outcome). Ends t p (left - rest) o q) (sym w.outcome-is)
-          (subst (λ (s : Playing). Ends t p (left - rest) w.in_ok-outcome-in-None.outcome s)
+          (λ (o : Outcome). Ends Never t p (left - rest) o q) (sym w.outcome-is)
+          (subst (λ (s : Playing). Ends Never t p (left - rest) w.in_ok-outcome-in-None.outcome s)
           (sym w.self-is) (record {
             before = c.go_ahead.new.self;
             ahead =
-                subst (λ (o : Option Outcome). Gone t p (left - rest) o c.go_ahead.new.self)
+                subst (λ (o : Option Outcome). Gone Never t p (left - rest) o c.go_ahead.new.self)
                 w.in-None.is c.in_ok-ahead.ensures.2;
-            busy = search rules;
+            may = record { busy = search rules; short = refl };
             ends = w.in_ok-outcome-in-None.ensures;
           }))
     ] in
-    run_end_failed t left rest p q some less
-    (subst (λ (o : Outcome). Ends t p (left - rest) o q) c.in-Fails.is e)
+    run_end_failed Never t left rest p q some less
+    (subst (λ (o : Outcome). Ends Never t p (left - rest) o q) c.in-Fails.is e)
     ∙ c.loop-left.invariant

@@ -1,5 +1,6 @@
 use Rattle.std.proofs.Common.{◌≡◌, ◌<◌, ◌≤◌, ◌-◌, ◌∙◌, rules, subst, sym, Option}
 use Rattle.model.specs.declared.event.Event.TheVariants as event
+use Rattle.scenario_world.specs.declared.until.Until.TheVariants.{Never}
 use Rattle.scenario_run.specs.declared.playing.Outcome.{Outcome}
 use Rattle.scenario_run.specs.Going.{Ends, Gone}
 use Rattle.scenario_run.specs.Playing.{Playing, one}
@@ -18,10 +19,10 @@ returns-in-Fails c =
     let some : 0 < rest = search rules in
     let less : rest ≤ left = search rules in
     elim c.match-ahead.branch [
-      | in-Some w ↦ steps_end_failed t left rest p q some less
-          (subst (λ (o : Outcome). Ends t p (left - rest) o q) (sym w.outcome-is ∙ c.in-Fails.is)
-          (subst (λ (s : Playing). Ends t p (left - rest) w.in-Some.outcome s) (sym w.self-is)
-          (subst (λ (o : Option Outcome). Gone t p (left - rest) o c.go_ahead.new.self) w.in-Some.is
+      | in-Some w ↦ steps_end_failed Never t left rest p q some less
+          (subst (λ (o : Outcome). Ends Never t p (left - rest) o q) (sym w.outcome-is ∙ c.in-Fails.is)
+          (subst (λ (s : Playing). Ends Never t p (left - rest) w.in-Some.outcome s) (sym w.self-is)
+          (subst (λ (o : Option Outcome). Gone Never t p (left - rest) o c.go_ahead.new.self) w.in-Some.is
           c.in_ok-ahead.ensures.2)))
       | in-None+in_ok-outcome-in-None w ↦ steps_failed t rest c.go_ahead.new.self q some
           (subst (λ (o : Outcome).
@@ -29,8 +30,8 @@ returns-in-Fails c =
           (sym w.outcome-is ∙ c.in-Fails.is)
           (subst (λ (s : Playing). record { now = s; outcome = w.in_ok-outcome-in-None.outcome }
           ≡ one c.go_ahead.new.self (event.Step t)) (sym w.self-is) w.in_ok-outcome-in-None.ensures))
-          ∙ steps_ahead t left rest p c.go_ahead.new.self less
-          (subst (λ (o : Option Outcome). Gone t p (left - rest) o c.go_ahead.new.self) w.in-None.is
+          ∙ steps_ahead Never t left rest p c.go_ahead.new.self less
+          (subst (λ (o : Option Outcome). Gone Never t p (left - rest) o c.go_ahead.new.self) w.in-None.is
           c.in_ok-ahead.ensures.2)
     ]
     ∙ c.loop-left.invariant

@@ -1,0 +1,30 @@
+-- Where the steps that a thread makes one after another are to end.
+use Rattle.std.specs.Prelude.{ℕ, ◌≡◌, Bool, true, false, is_some}
+use Rattle.laws_locks.specs.Waiting.{waits_for}
+use Rattle.model.specs.Set.{Set}
+use Rattle.model.specs.View.{busy_at, thread_at}
+use Rattle.model.specs.World.{World}
+use Rattle.scenario_world.specs.declared.until.Until.{Until}
+use Rattle.scenario_world.specs.declared.until.Until.TheVariants.{Never, At, Release, Alone}
+use Rattle.scenario_world.specs.Going.{other_goes_on}
+use Rattle.scenario_world.specs.Releases.{stands_before_release}
+use Rattle.scenario_world.specs.States.{stands_at}
+
+-- the steps of a thread end before its next one
+abbrev pub is_before : Until → Set → World → ℕ → Bool
+is_before Never set w t = false
+is_before (At spot) set w t = stands_at spot (thread_at w t)
+is_before (Release lock) set w t = stands_before_release set w t lock
+is_before (Alone threads) set w t = is_some (waits_for set w t)
+
+-- they end behind a step that leads to this world, since another thread goes on in it
+abbrev pub wakes : Until → Set → World → ℕ → Bool
+wakes Never set w t = false
+wakes (At spot) set w t = false
+wakes (Release lock) set w t = false
+wakes (Alone threads) set w t = other_goes_on set w t threads
+
+-- the thread has frames, and its next step is made
+pub record MaySteps (until : Until) (set : Set) (w : World) (t : ℕ) : Type 0 where
+  pub busy : busy_at w t ≡ true
+  pub short : is_before until set w t ≡ false
