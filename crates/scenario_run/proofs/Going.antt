@@ -22,7 +22,7 @@ use Rattle.scenario_run.specs.declared.playing.Outcome.TheVariants.{Done}
 use Rattle.scenario_run.specs.Going.{GoesAhead, Strides, halts, moves, rests, strides, with_steps}
 use Rattle.scenario_run.specs.Playing.{Playing, Went, has_room, if_done, if_going, one, outcome_of, reply_in, running, running_to, stays, stepping, unless_failed, with_event, world_of}
 use Rattle.scenario_world.specs.declared.until.Until.{Until}
-use Rattle.scenario_world.specs.Until.{MaySteps, is_before, wakes}
+use Rattle.scenario_world.specs.Until.{MaySteps, wakes}
 
 step_added : (t k : ℕ) (events : List Event)
     → (events ++ replicate k (Step t)) ++ Step t ∷ [] ≡ events ++ replicate (suc k) (Step t)

@@ -9,6 +9,7 @@ use Rattle.model.specs.History.{replies}
 use Rattle.model.specs.Machine.{Machine}
 use Rattle.model.specs.Run.{begun}
 use Rattle.model.specs.Set.{Set}
+use Rattle.scenario_world.specs.declared.until.Until.{Until}
 use Rattle.scenario_run.specs.declared.runner.Runner.{Runner}
 use Rattle.scenario_run.specs.declared.told.Told.{Told}
 use Rattle.scenario_run.specs.declared.walking.Walked.{Walked}
@@ -128,11 +129,11 @@ past_more r n threads count past later told now e reply all on adds is =
     (sym (on.replies threads events is.runs))) adds
 
 -- steps that a thread made
-pub past_walked : (r n : Runner) (t threads count : ℕ) (w : Walked) (past later : List Repeated)
-    (told now : Told) → events_of later ≡ events_of past ++ replicate (steps_in w) (Step t)
-    → WalksOn t r w n → Adds told (replied w.made w.last) now → IsPast r threads count past told
+pub past_walked : (until : Until) (r n : Runner) (t threads count : ℕ) (w : Walked)
+    (past later : List Repeated) (told now : Told) → events_of later ≡ events_of past ++ replicate (steps_in w) (Step t)
+    → WalksOn until t r w n → Adds told (replied w.made w.last) now → IsPast r threads count past told
     → IsPast n threads (count + steps_in w) later now
-past_walked r n t threads count w past later told now all walks adds is =
+past_walked until r n t threads count w past later told now all walks adds is =
     let events : List Event = events_of past in
     let h : Repeated = record { event = Step t; count = steps_in w } in
     past_longer r n threads count past later told now walks.set is h (replied w.made w.last) all

@@ -112,54 +112,54 @@ to_failed t until (suc left) p q some there h =
 -- where steps were made, of which the one behind went so
 module _ (until : Until) (t left rest : ℕ) (p q : Playing) (some : 0 < rest) (less : rest ≤ left)
   where
-  pub steps_end_failed : Ends until t p (left - rest) Fails q
-      → record { now = q; outcome = Fails } ≡ stepping t left p
-  steps_end_failed e =
-      steps_failed t rest e.before q some e.ends
-      ∙ steps_ahead until t left rest p e.before less e.ahead
+    pub steps_end_failed : Ends until t p (left - rest) Fails q
+        → record { now = q; outcome = Fails } ≡ stepping t left p
+    steps_end_failed e =
+        steps_failed t rest e.before q some e.ends
+        ∙ steps_ahead until t left rest p e.before less e.ahead
 
-  pub steps_end_done : Ends until t p (left - rest) Done q → stepping t (rest - 1) q ≡ stepping t left p
-  steps_end_done e =
-      steps_done t rest e.before q some e.ends
-      ∙ steps_ahead until t left rest p e.before less e.ahead
+    pub steps_end_done : Ends until t p (left - rest) Done q → stepping t (rest - 1) q ≡ stepping t left p
+    steps_end_done e =
+        steps_done t rest e.before q some e.ends
+        ∙ steps_ahead until t left rest p e.before less e.ahead
 
-  pub steps_end_waited : Ends until t p (left - rest) Waits q
-      → stepping t (rest - 1) q ≡ stepping t left p
-  steps_end_waited e =
-      steps_waited t rest e.before q some e.ends
-      ∙ steps_ahead until t left rest p e.before less e.ahead
+    pub steps_end_waited : Ends until t p (left - rest) Waits q
+        → stepping t (rest - 1) q ≡ stepping t left p
+    steps_end_waited e =
+        steps_waited t rest e.before q some e.ends
+        ∙ steps_ahead until t left rest p e.before less e.ahead
 
-  pub run_end_failed : Ends until t p (left - rest) Fails q
-      → record { now = q; outcome = Fails } ≡ running t left p
-  run_end_failed e =
-      run_failed t rest e.before q some e.may.busy e.ends
-      ∙ runs_ahead until t left rest p e.before less e.ahead
+    pub run_end_failed : Ends until t p (left - rest) Fails q
+        → record { now = q; outcome = Fails } ≡ running t left p
+    run_end_failed e =
+        run_failed t rest e.before q some e.may.busy e.ends
+        ∙ runs_ahead until t left rest p e.before less e.ahead
 
-  pub run_end_done : Ends until t p (left - rest) Done q → running t (rest - 1) q ≡ running t left p
-  run_end_done e =
-      run_done t rest e.before q some e.may.busy e.ends
-      ∙ runs_ahead until t left rest p e.before less e.ahead
+    pub run_end_done : Ends until t p (left - rest) Done q → running t (rest - 1) q ≡ running t left p
+    run_end_done e =
+        run_done t rest e.before q some e.may.busy e.ends
+        ∙ runs_ahead until t left rest p e.before less e.ahead
 
-  pub run_end_waited : Ends until t p (left - rest) Waits q
-      → record { now = q; outcome = Waits } ≡ running t left p
-  run_end_waited e =
-      run_waited t rest e.before q some e.may.busy e.ends
-      ∙ runs_ahead until t left rest p e.before less e.ahead
+    pub run_end_waited : Ends until t p (left - rest) Waits q
+        → record { now = q; outcome = Waits } ≡ running t left p
+    run_end_waited e =
+        run_waited t rest e.before q some e.may.busy e.ends
+        ∙ runs_ahead until t left rest p e.before less e.ahead
 
-  pub to_end_failed : Ends until t p (left - rest) Fails q
-      → stays q Fails ≡ running_to t until left p
-  to_end_failed e =
-      to_failed t until rest e.before q some e.may.short e.ends
-      ∙ to_ahead until t left rest p e.before less e.ahead
+    pub to_end_failed : Ends until t p (left - rest) Fails q
+        → stays q Fails ≡ running_to t until left p
+    to_end_failed e =
+        to_failed t until rest e.before q some e.may.short e.ends
+        ∙ to_ahead until t left rest p e.before less e.ahead
 
-  pub to_end_done : Ends until t p (left - rest) Done q
-      → running_to t until (rest - 1) q ≡ running_to t until left p
-  to_end_done e =
-      to_done t until rest e.before q some e.may.short e.ends
-      ∙ to_ahead until t left rest p e.before less e.ahead
+    pub to_end_done : Ends until t p (left - rest) Done q
+        → running_to t until (rest - 1) q ≡ running_to t until left p
+    to_end_done e =
+        to_done t until rest e.before q some e.may.short e.ends
+        ∙ to_ahead until t left rest p e.before less e.ahead
 
-  pub to_end_waited : Ends until t p (left - rest) Waits q
-      → stays q Fails ≡ running_to t until left p
-  to_end_waited e =
-      to_waited t until rest e.before q some e.may.short e.ends
-      ∙ to_ahead until t left rest p e.before less e.ahead
+    pub to_end_waited : Ends until t p (left - rest) Waits q
+        → stays q Fails ≡ running_to t until left p
+    to_end_waited e =
+        to_waited t until rest e.before q some e.may.short e.ends
+        ∙ to_ahead until t left rest p e.before less e.ahead

@@ -1,9 +1,9 @@
 -- Steps that a thread makes by itself don't end where they are to end.
-use Rattle.std.proofs.Common.{◌≡◌, ◌≢◌, ◌∙◌, ◌++◌, ◌∷◌, [], ℕ, zero, suc, Bool, true, false, List, Option, None, Some, ap, inl, inr, refl, subst, sym}
-use Rattle.std.specs.Prelude.{◌&&◌, ◌||◌, not, is_none, is_some, nat_eq, option_and_then, option_map, slice_get}
+use Rattle.std.proofs.Common.{◌≡◌, ◌≢◌, ◌∙◌, ◌∷◌, [], ℕ, zero, suc, Bool, true, false, List, Option, None, Some, ap, inl, inr, refl, sym}
+use Rattle.std.specs.Prelude.{◌&&◌, ◌||◌, not, is_none, is_some, nat_eq, option_and_then, option_map}
 use Rattle.std.proofs.lemmas.Bool.Decides.{eqb_tells}
 use Rattle.checked.specs.GoingOn.{GoesAlone, GoesOn, GoesUpTo, StepsAlone, here, is_there, more, nearer, none, with_top}
-use Rattle.laws_locks.specs.Waiting.{acquired_by, other_owner, sought_by, sought_on, waits_for}
+use Rattle.laws_locks.specs.Waiting.{acquired_by, other_owner, sought_by, waits_for}
 use Rattle.laws_runs.proofs.Lists.{last_of, set_other}
 use Rattle.model.specs.declared.event.Lock.{Lock}
 use Rattle.model.specs.declared.event.Lock.TheVariants.{SystemCancel}
@@ -28,6 +28,7 @@ use Rattle.scenario_world.specs.declared.until.Until.TheVariants.{Never, At, Rel
 use Rattle.scenario_world.specs.Releases.{is_release, releases, stands_before_release}
 use Rattle.scenario_world.specs.States.{is_at, stands_at}
 use Rattle.scenario_world.specs.Going.{goes_on as goes_on_in, other_goes_on}
+use Rattle.scenario_world.specs.Until.{wakes}
 use Rattle.scenario_run.specs.Going.{Strides, halts, strides}
 use Rattle.scenario_run.specs.Walking.{fits}
 
@@ -73,14 +74,14 @@ module _ (set : Set) (w : World) (t : ℕ) (v : World) (alone : StepsAlone set w
       ap (λ (o : Option Thread). top_of (frames_of o)) alone.there
       ∙ ap top_of alone.stack ∙ last_of alone.below (Routine running)
 
-  pub no_release : (lock : ℕ) → stands_before_release set w t lock ≡ false
+  no_release : (lock : ℕ) → stands_before_release set w t lock ≡ false
   no_release lock =
       ap (λ (f : Option Frame). releases set lock f) on_top
       ∙ releases_none set running alone.now lock
       (instruction_at set running.driver running.routine running.position)
       (makes_here set running alone.now alone.alone)
 
-  pub no_wait : is_some (waits_for set w t) ≡ false
+  no_wait : is_some (waits_for set w t) ≡ false
   no_wait =
       ap (λ (f : Option Frame). is_some (option_and_then (λ lock.
       other_owner t (owner_of w.shared.locks lock)) (option_and_then (λ g. sought_by set g) f)))
@@ -105,7 +106,7 @@ module _ (set : Set) (w : World) (t : ℕ) (v : World) (alone : StepsAlone set w
   turned false false true = refl
   turned false false false = refl
 
-  pub not_there : (spot : Spot) (place : Place) → fits spot place
+  not_there : (spot : Spot) (place : Place) → fits spot place
       → is_there (Some place) running ≡ false → stands_at spot (thread_at w t) ≡ false
   not_there spot place same short =
       ap (λ (o : Option Thread). stands_at spot (option_map thread_view o)) alone.there
@@ -146,7 +147,7 @@ module _ (set : Set) (w : World) (t : ℕ) (v : World) (alone : StepsAlone set w
         | inr apart ↦ ap (λ (b : Bool). not (nat_eq u t) && b) (looks_so u apart.1)
       ]
 
-  pub others_kept : (threads : ℕ)
+  others_kept : (threads : ℕ)
       → other_goes_on set v t threads ≡ other_goes_on set w t threads
   others_kept zero = refl
   others_kept (suc u) =
@@ -154,13 +155,13 @@ module _ (set : Set) (w : World) (t : ℕ) (v : World) (alone : StepsAlone set w
       ∙ ap (λ (b : Bool). other_goes_on set w t u || b) (counts_so u)
 
 -- so many of them, wherever they are to end
-pub never_strides : (t : ℕ) (m : Machine) (k : ℕ) (n : Machine) → GoesOn t m k n
+never_strides : (t : ℕ) (m : Machine) (k : ℕ) (n : Machine) → GoesOn t m k n
     → Strides Never t m k n
 never_strides t m j n none = halts
 never_strides t m j p (more k n o before applies alone) =
     strides k n o (never_strides t m k n before) applies alone refl refl
 
-pub release_strides : (lock t : ℕ) (m : Machine) (k : ℕ) (n : Machine) → GoesOn t m k n
+release_strides : (lock t : ℕ) (m : Machine) (k : ℕ) (n : Machine) → GoesOn t m k n
     → Strides (ReleaseUntil lock) t m k n
 release_strides lock t m j n none = halts
 release_strides lock t m j p (more k n o before applies alone) =
@@ -183,10 +184,18 @@ still_alone threads t m lone j p (more k n o before applies alone) =
     ∙ others_kept n.set n.world t o.world alone threads
     ∙ still_alone threads t m lone k n before
 
-pub lone_strides : (threads t : ℕ) (m : Machine) → other_goes_on m.set m.world t threads ≡ false
+lone_strides : (threads t : ℕ) (m : Machine) → other_goes_on m.set m.world t threads ≡ false
     → (k : ℕ) (n : Machine) → GoesOn t m k n → Strides (Alone threads) t m k n
 lone_strides threads t m lone j n none = halts
 lone_strides threads t m lone j p (more k n o before applies alone) =
     strides k n o (lone_strides threads t m lone k n before) applies alone
     (no_wait n.set n.world t o.world alone)
     (still_alone threads t m lone (suc k) o (more k n o before applies alone))
+
+pub other_strides : (until : Until) (t : ℕ) (m : Machine) → ((spot : Spot) → until ≢ At spot)
+    → wakes until m.set m.world t ≡ false → (k : ℕ) (n : Machine) → GoesOn t m k n
+    → Strides until t m k n
+other_strides Never t m other lone k n goes = never_strides t m k n goes
+other_strides (At spot) t m other lone k n goes = absurd (other spot refl)
+other_strides (ReleaseUntil lock) t m other lone k n goes = release_strides lock t m k n goes
+other_strides (Alone threads) t m other lone k n goes = lone_strides threads t m lone k n goes

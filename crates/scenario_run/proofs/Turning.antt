@@ -1,13 +1,11 @@
 -- Threads in turn.
 use Rattle.std.proofs.Common.{◌≡◌, ◌≢◌, ◌∙◌, ◌<◌, ◌≤◌, ◌+◌, ◌-◌, ℕ, zero, suc, true, false, Bool, Option, None, Some, refl, sym, subst, ap, arith, inl, inr, if◌then◌else◌}
-use Rattle.std.specs.Prelude.{◌&&◌, ◌||◌, is_none, is_some, nat_eq, not}
+use Rattle.std.specs.Prelude.{◌&&◌, is_none, is_some, nat_eq, not}
 use Rattle.std.proofs.lemmas.Bool.{ne_eqb, or_parts}
 use Rattle.std.proofs.lemmas.Bool.Decides.{eqb_tells}
 use Rattle.laws_locks.specs.Waiting.{waits_for}
 use Rattle.model.specs.declared.event.Event.{Event}
 use Rattle.model.specs.declared.event.Event.TheVariants as event
-use Rattle.model.specs.Set.{Set}
-use Rattle.model.specs.View.{busy_at}
 use Rattle.scenario_world.specs.declared.until.Until.TheVariants.{Alone}
 use Rattle.scenario_world.specs.Going.{IsLone, other_goes_on}
 use Rattle.scenario_world.specs.Until.{MaySteps}
@@ -16,6 +14,8 @@ use Rattle.scenario_run.specs.declared.playing.Outcome.{Outcome}
 use Rattle.scenario_run.specs.declared.playing.Outcome.TheVariants.{Done, Waits, Fails}
 use Rattle.scenario_run.specs.Going.{Ends, GoesAhead, moves, rests}
 use Rattle.scenario_run.specs.Playing.{Playing, Went, has_room, one, stays, unless_failed, with_event, world_of}
+use Rattle.scenario_run.specs.declared.turns.Progress.{Progress}
+use Rattle.scenario_run.specs.declared.turns.Progress.TheVariants.{Over, Left}
 use Rattle.scenario_run.specs.Turns.{AreRounds, after_round, any_goes_on, goes_on, round, rounds, turn}
 
 -- where no thread goes on
@@ -54,7 +54,7 @@ rounds_behind (suc left) p q Waits some on h =
     )
 
 -- rounds of what goes as all does
-pub rounds_of : (most left : ℕ) (p b q : Playing) (gone : Rounds) → left ≤ most
+pub rounds_of : (most left : ℕ) (p b q : Playing) (gone : Progress) → left ≤ most
     → rounds left b ≡ rounds most p → AreRounds left b q gone → AreRounds most p q gone
 rounds_of most left p b q (Over outcome) less same are = are ∙ same
 rounds_of most left p b q (Left rest) less same are =
@@ -123,15 +123,19 @@ module _ (p : Playing) where
   skipped : (count more u : ℕ) → ((v : ℕ) → u ≤ v → v < u + count → goes_on p v ≡ false)
       → round (count + more) u p ≡ round more (u + count) p
   skipped zero more u rest =
-      let same : u ≡ u + 0 = omega arith in ap (λ (v : ℕ). round more v p) same
+      let none : 0 + more ≡ more = omega arith in
+      let same : u ≡ u + 0 = omega arith in
+      ap (λ (k : ℕ). round k u p) none ∙ ap (λ (v : ℕ). round more v p) same
   skipped (suc count) more u rest =
+      let grown : suc count + more ≡ suc (count + more) = omega arith in
       let next : suc u + count ≡ u + suc count = omega arith in
       let here : goes_on p u ≡ false = rest u (omega arith) (omega arith) in
       let first : turn p u ≡ stays p Done =
       ap (λ (b : Bool). if b then one p (event.Step u) else stays p Done) here in
       let later : (v : ℕ) → suc u ≤ v → v < suc u + count → goes_on p v ≡ false =
       λ v low high. rest v (omega (arith, low)) (omega (arith, high)) in
-      ap (λ (w : Went). unless_failed w.outcome w (round (count + more) (suc u) w.now)) first
+      ap (λ (k : ℕ). round k u p) grown
+      ∙ ap (λ (w : Went). unless_failed w.outcome w (round (count + more) (suc u) w.now)) first
       ∙ skipped count more (suc u) later
       ∙ ap (λ (v : ℕ). round more v p) next
 
@@ -226,10 +230,10 @@ lone_moved p t is j o (moves k q n before may gone still) =
 stays_put : (p : Playing) (t threads k : ℕ) (q : Playing) → GoesAhead (Alone threads) t p k q
     → k ≡ 0 → q ≡ p
 stays_put p t threads j q rests none = refl
-stays_put p t threads j o (moves k q n before may gone still) none = absurd (omega none)
+stays_put p t threads j o (moves k q n before may gone still) none = absurd (omega (arith, none))
 
-module _ (p : Playing) (t most rest : ℕ) (is : IsLone p.set (world_of p) p.threads t) (some : 0 < rest) (less : rest ≤ most)
-  where
+module _ (p : Playing) (t most rest : ℕ) (is : IsLone p.set (world_of p) p.threads t)
+    (less : rest ≤ most) where
   gone_so : (q : Playing) → GoesAhead (Alone p.threads) t p (most - rest) q
       → rounds rest q ≡ rounds most p
   gone_so q goes =
@@ -242,11 +246,11 @@ module _ (p : Playing) (t most rest : ℕ) (is : IsLone p.set (world_of p) p.thr
   lone_left q goes fewer = (fewer, gone_so q goes)
 
   -- none was made, and then one of all threads
-  pub lone_round_of_all : (q o : Playing) (outcome : Outcome)
+  pub lone_round_of_all : (q o : Playing) (outcome : Outcome) → 0 < rest
       → GoesAhead (Alone p.threads) t p (most - rest) q → most ≤ rest
       → record { now = o; outcome = outcome } ≡ round q.threads 0 q
       → AreRounds most p o (after_round outcome rest)
-  lone_round_of_all q o outcome goes all h =
+  lone_round_of_all q o outcome some goes all h =
       let none : most - rest ≡ 0 = omega (arith, all) in
       let same : q ≡ p = stays_put p t p.threads (most - rest) q goes none in
       let on : any_goes_on q q.threads ≡ true =
@@ -256,13 +260,13 @@ module _ (p : Playing) (t most rest : ℕ) (is : IsLone p.set (world_of p) p.thr
       (rounds_behind rest q o outcome some on h)
 
   -- one more was made, and its round ended by the turns of those behind it
-  pub lone_ends : (q o : Playing) (outcome last : Outcome)
+  pub lone_ends : (q o : Playing) (outcome last : Outcome) → 0 < rest
       → Ends (Alone p.threads) t p (most - rest) outcome q
       → record { now = o; outcome = last }
       ≡ unless_failed outcome (record { now = q; outcome = outcome })
       (round (p.threads - suc t) (suc t) q)
       → AreRounds most p o (after_round last rest)
-  lone_ends q o outcome last e h =
+  lone_ends q o outcome last some e h =
       let b : Playing = e.before in
       let m : Moved p t (most - rest) b = lone_moved p t is (most - rest) b e.ahead in
       let on : goes_on b t ≡ true = going_by p.threads b t e.may in

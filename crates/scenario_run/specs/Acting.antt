@@ -1,5 +1,5 @@
 -- What the steps of a scenario do, one after another.
-use Rattle.std.specs.Prelude.{Bool, true, false, List, [], ◌∷◌, Option, None, Some, if◌then◌else◌}
+use Rattle.std.specs.Prelude.{Bool, true, List, [], ◌∷◌, Option, None, Some, if◌then◌else◌}
 use Rattle.model.specs.declared.event.Event.TheVariants as event
 use Rattle.scenario_run.specs.declared.playing.Outcome.{Outcome}
 use Rattle.scenario_run.specs.declared.playing.Outcome.TheVariants.{Done, Waits, Fails}

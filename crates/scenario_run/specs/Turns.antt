@@ -4,8 +4,8 @@ use Rattle.model.specs.declared.event.Event.TheVariants as event
 use Rattle.scenario_world.specs.Going.{any_goes_on as any_in, goes_on as goes_on_in}
 use Rattle.scenario_run.specs.declared.playing.Outcome.{Outcome}
 use Rattle.scenario_run.specs.declared.playing.Outcome.TheVariants.{Done, Waits, Fails}
-use Rattle.scenario_run.specs.declared.turns.Rounds.{Rounds}
-use Rattle.scenario_run.specs.declared.turns.Rounds.TheVariants.{Over, Left}
+use Rattle.scenario_run.specs.declared.turns.Progress.{Progress}
+use Rattle.scenario_run.specs.declared.turns.Progress.TheVariants.{Over, Left}
 use Rattle.scenario_run.specs.Playing.{Playing, Went, most_of, one, stays, unless_failed, world_of}
 
 -- a thread has frames and waits for no lock
@@ -40,12 +40,12 @@ abbrev pub run_all : Playing → Went
 run_all p = rounds (most_of p) p
 
 -- behind a round that went so, where so many were left
-abbrev pub after_round : Outcome → ℕ → Rounds
+abbrev pub after_round : Outcome → ℕ → Progress
 after_round Fails left = Over Fails
 after_round Done left = Left (left - 1)
 after_round Waits left = Left (left - 1)
 
 -- they go so, or what is left of them, some, goes as all do
-abbrev pub AreRounds : ℕ → Playing → Playing → Rounds → Type 0
+abbrev pub AreRounds : ℕ → Playing → Playing → Progress → Type 0
 AreRounds most p q (Over outcome) = record { now = q; outcome = outcome } ≡ rounds most p
 AreRounds most p q (Left rest) = (rest < most) × (rounds rest q ≡ rounds most p)

@@ -11,6 +11,7 @@ ghost use Rattle.scenario_run.specs.Holding.{is_bug};
 ghost use Rattle.scenario_run.specs.Past.{events_of};
 ghost use Rattle.scenario_run.specs.Told.{last_of};
 ghost use Rattle.scenario_run.specs.Playing.{begun, cancelled, happened, has_room, issued, most_of, number_of, one, outcome_of, outcome_of_cancel, replies_of, reply_in, reply_of, run_of, run_thread, running, running_to, stepping, with_event, world_of};
+ghost use Rattle.scenario_world.specs.Until.{is_before};
 
 use crate::past::add_past;
 use crate::runner::{Keeping, Runner};
@@ -383,7 +384,7 @@ impl Playing {
             let outcome = match ahead.last {
                 Some(outcome) => outcome,
                 None => {
-                    if is_before(&self.runner.machine, thread, until) {
+                    if self.ends_before(thread, until) {
                         return Ok(Outcome::Done);
                     }
                     self.one(Event::Step { thread })?
@@ -396,6 +397,13 @@ impl Playing {
             left = ahead.left - 1;
         }
         Ok(Outcome::Fails)
+    }
+
+    /// Whether the steps of a thread end before its next one.
+    fn ends_before(&self, thread: u8, until: Until) -> bool
+        ensures { result ≡ is_before until self.now.set (world_of self.now) thread }
+    {
+        is_before(&self.runner.machine, thread, until)
     }
 
     /// The number of a packet of the scenario, if it was issued.

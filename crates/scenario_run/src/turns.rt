@@ -1,7 +1,7 @@
 //! Threads that make steps in turn.
 
-ghost use Rattle.std.specs.Prelude.{◌≡◌, ◌<◌, ◌≤◌, ◌-◌, IfOk};
-ghost use Rattle.scenario_run.specs.Playing.{world_of};
+ghost use Rattle.std.specs.Prelude.{◌≡◌, ◌<◌, ◌≤◌, ◌-◌, suc, IfOk};
+ghost use Rattle.scenario_run.specs.Playing.{unless_failed, world_of};
 ghost use Rattle.scenario_run.specs.Turns.{AreRounds, after_round, round, rounds, run_all, turn};
 ghost use Rattle.scenario_world.specs.Going.{IsLone};
 
@@ -13,7 +13,7 @@ use std::alloc::AllocError;
 
 /// How far rounds have gone.
 #[derive(Clone, Copy)]
-pub(crate) enum Rounds {
+pub(crate) enum Progress {
     /// They are over, and went so.
     Over(Outcome),
     /// So many are left.
@@ -21,10 +21,6 @@ pub(crate) enum Rounds {
 }
 
 /// The threads make steps in turn, the lowest first, until each is idle or waits.
-///
-/// # Errors
-///
-/// When memory runs out.
 pub(crate) fn run_all(playing: &mut Playing) -> Result<Outcome, AllocError>
     ensures { IfOk result (λ outcome.
         record { now = playing.new; outcome = outcome } ≡ run_all playing.old) }
@@ -41,8 +37,8 @@ fn rounds(playing: &mut Playing, most: usize) -> Result<Outcome, AllocError>
     let mut left = most;
     while left > 0 {
         match some_rounds(playing, left)? {
-            Rounds::Over(outcome) => return Ok(outcome),
-            Rounds::Left(rest) => left = rest,
+            Progress::Over(outcome) => return Ok(outcome),
+            Progress::Left(rest) => left = rest,
         }
     }
     Ok(Outcome::Fails)
@@ -50,12 +46,12 @@ fn rounds(playing: &mut Playing, most: usize) -> Result<Outcome, AllocError>
 
 /// One of so many rounds, or more.
 #[tactic(auto, using(crate::proofs::Turning::rounds_over))]
-fn some_rounds(playing: &mut Playing, most: usize) -> Result<Rounds, AllocError>
+fn some_rounds(playing: &mut Playing, most: usize) -> Result<Progress, AllocError>
     requires { 0 < most }
     ensures { IfOk result (AreRounds most playing.old playing.new) }
 {
     match who_goes_on(playing.machine(), playing.threads()) {
-        Going::Nobody => Ok(Rounds::Over(Outcome::Done)),
+        Going::Nobody => Ok(Progress::Over(Outcome::Done)),
         Going::One(thread) => lone_rounds(playing, thread, most),
         Going::Several => {
             let outcome = round(playing)?;
@@ -65,7 +61,7 @@ fn some_rounds(playing: &mut Playing, most: usize) -> Result<Rounds, AllocError>
 }
 
 /// Those in which one thread alone goes on, and the one in which another does so too.
-fn lone_rounds(playing: &mut Playing, thread: u8, most: usize) -> Result<Rounds, AllocError>
+fn lone_rounds(playing: &mut Playing, thread: u8, most: usize) -> Result<Progress, AllocError>
     requires some { 0 < most }
     requires lone { IsLone playing.old.set (world_of playing.old) playing.old.threads thread }
     ensures { IfOk result (AreRounds most playing.old playing.new) }
@@ -73,22 +69,39 @@ fn lone_rounds(playing: &mut Playing, thread: u8, most: usize) -> Result<Rounds,
     let threads = playing.threads();
     let ahead = playing.go_ahead(thread, most, Until::Alone(threads))?;
     let outcome = match ahead.last {
-        Some(Outcome::Fails) => Outcome::Fails,
-        Some(Outcome::Done | Outcome::Waits) => turns(playing, thread + 1, threads)?,
-        None if ahead.left < most => return Ok(Rounds::Left(ahead.left)),
+        Some(outcome) => end_round(playing, thread, threads, outcome)?,
+        None if ahead.left < most => return Ok(Progress::Left(ahead.left)),
         None => round(playing)?,
     };
     Ok(after_round(outcome, ahead.left))
 }
 
+/// The turns behind that of a thread, of so many, which went so, unless that failed.
+fn end_round(
+    playing: &mut Playing,
+    thread: u8,
+    threads: u8,
+    outcome: Outcome,
+) -> Result<Outcome, AllocError>
+    requires { thread < threads }
+    ensures { IfOk result (λ last. record { now = playing.new; outcome = last }
+        ≡ unless_failed outcome (record { now = playing.old; outcome = outcome })
+        (round (threads - suc thread) (suc thread) playing.old)) }
+{
+    match outcome {
+        Outcome::Fails => Ok(Outcome::Fails),
+        Outcome::Done | Outcome::Waits => turns(playing, thread + 1, threads),
+    }
+}
+
 /// How far rounds have gone behind one that went so, where so many were left.
-fn after_round(outcome: Outcome, left: usize) -> Rounds
+fn after_round(outcome: Outcome, left: usize) -> Progress
     requires { 0 < left }
     ensures { result ≡ after_round outcome left }
 {
     match outcome {
-        Outcome::Fails => Rounds::Over(Outcome::Fails),
-        Outcome::Done | Outcome::Waits => Rounds::Left(left - 1),
+        Outcome::Fails => Progress::Over(Outcome::Fails),
+        Outcome::Done | Outcome::Waits => Progress::Left(left - 1),
     }
 }
 

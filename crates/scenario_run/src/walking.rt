@@ -51,10 +51,8 @@ pub(crate) fn walk(runner: &mut Runner, thread: u8, most: usize, until: Until) -
         }
         let reply = runner.apply(&Event::Step { thread });
         if !is_stepped(&reply) || wakes(&runner.machine, thread, until) {
-            return Walked {
-                made,
-                last: Some(reply),
-            };
+            let last = Some(reply);
+            return Walked { made, last };
         }
         made += 1;
     }
@@ -73,11 +71,11 @@ fn stride(runner: &mut Runner, thread: u8, most: usize, pause: u8, until: Until)
         return 0;
     }
     match until {
-        Until::Never | Until::Release(_) | Until::Alone(_) => runner.go_on(thread, most),
         Until::At(spot) => match place_of(spot) {
             Some(place) => runner.go_up_to(thread, most, place),
             None => 0,
         },
+        _ => runner.go_on(thread, most),
     }
 }
 

@@ -29,5 +29,5 @@ loop-made-preserved c = (
       (walks_alone c.args.until c.args.thread c.loop-made.made c.stride-alone.result c.args.runner.now
       c.loop-made.runner c.stride-alone.new.runner c.loop-made.invariant.1
       c.stride-alone.ensures.goes c.stride-alone.ensures.ledger c.stride-alone.ensures.keeping)
-      (search rules) c.apply-reply.ensures,
+      (search rules) c.apply-reply.ensures (search rules),
 )

@@ -49,7 +49,7 @@ invariant_of-self-2 c =
     (Step c.args.thread) n (steps_in w) c.count-count.ensures added in
     subst (λ (k : ℕ). IsPast c.walk-walked.new.runner was.threads (was.count + k)
     c.add_past.new.past.items c.note_walk.new.self) (sym c.count-count.ensures)
-    (past_walked was.runner c.walk-walked.new.runner c.args.thread was.threads was.count w
+    (past_walked c.args.until was.runner c.walk-walked.new.runner c.args.thread was.threads was.count w
     was.past.items c.add_past.new.past.items was.told c.note_walk.new.self all
     c.walk-walked.ensures.walks adds c.self.invariant)
 

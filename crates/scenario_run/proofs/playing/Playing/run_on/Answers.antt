@@ -1,11 +1,11 @@
-use Rattle.std.proofs.Common.{◌<◌, ◌≤◌, ◌-◌, ◌∙◌, rules, subst, sym, Option}
+use Rattle.std.proofs.Common.{◌<◌, ◌≤◌, ◌-◌, ◌∙◌, refl, rules, subst, sym, Option}
 use Rattle.scenario_world.specs.declared.until.Until.TheVariants.{Never}
 use Rattle.scenario_run.specs.declared.playing.Outcome.{Outcome}
 use Rattle.scenario_run.specs.Going.{Ends, Gone}
 use Rattle.scenario_run.specs.Playing.{Playing}
 use Rattle.scenario_run.proofs.Stepping.{run_end_failed, run_end_waited}
 use Rattle.scenario_run.proofs.playing.Playing.run_on.Goals as goal
-use Rattle.scenario_run.proofs.playing.Playing.run_on.Goals.{in-Some, in-None+else-not-is_busy+in_ok-outcome-in-None}
+use Rattle.scenario_run.proofs.playing.Playing.run_on.Goals.{in-Some, in-None+else-not-is_busy_at+in_ok-outcome-in-None}
 
 pub returns-in-Waits : goal.returns-in-Waits
 returns-in-Waits c =
@@ -22,7 +22,7 @@ returns-in-Waits c =
           (subst (λ (s : Playing). Ends Never t p (left - rest) w.in-Some.outcome s) (sym w.self-is)
           (subst (λ (o : Option Outcome). Gone Never t p (left - rest) o c.go_ahead.new.self) w.in-Some.is
           c.in_ok-ahead.ensures.2))
-      | in-None+else-not-is_busy+in_ok-outcome-in-None w ↦ subst
+      | in-None+else-not-is_busy_at+in_ok-outcome-in-None w ↦ subst
           (λ (o : Outcome). Ends Never t p (left - rest) o q) (sym w.outcome-is)
           (subst (λ (s : Playing). Ends Never t p (left - rest) w.in_ok-outcome-in-None.outcome s)
           (sym w.self-is) (record {
@@ -53,7 +53,7 @@ returns-in-Fails c =
           (subst (λ (s : Playing). Ends Never t p (left - rest) w.in-Some.outcome s) (sym w.self-is)
           (subst (λ (o : Option Outcome). Gone Never t p (left - rest) o c.go_ahead.new.self) w.in-Some.is
           c.in_ok-ahead.ensures.2))
-      | in-None+else-not-is_busy+in_ok-outcome-in-None w ↦ subst
+      | in-None+else-not-is_busy_at+in_ok-outcome-in-None w ↦ subst
           (λ (o : Outcome). Ends Never t p (left - rest) o q) (sym w.outcome-is)
           (subst (λ (s : Playing). Ends Never t p (left - rest) w.in_ok-outcome-in-None.outcome s)
           (sym w.self-is) (record {
