@@ -1,9 +1,10 @@
 #!/usr/bin/env python3
 """tools/measure many [--sets N] [--lines N] [PROGRAM]: what the program (crates/drvhost/out/drvhost, if none is named) takes to
 check N sets (1,000 if left out) of N lines (60) in one folder, by one process with one job and by a process for each set; with 2,
-4 and 8 jobs; by four processes at once, each with one job and a quarter of the sets: that is what the machine has to give; and the
+4 and 8 jobs; by four processes at once, each with one job and a quarter of the sets: that is what the machine has to give; where
+valgrind is there, the instructions of one job, and of the busiest thread of four, which no other work on the machine changes; and the
 most memory of one job and of four, also for a tenth of the sets: it doesn't grow with their number, but for their names."""
-import argparse, os, subprocess, tempfile, time
+import argparse, glob, os, re, shutil, subprocess, tempfile, time
 
 TOP = os.path.dirname(os.path.dirname(os.path.dirname(os.path.abspath(__file__))))
 
@@ -24,6 +25,16 @@ def spent(program, *commands):
         took = time.monotonic() - begun
     assert not any(ended), commands
     return took
+
+def instructions(folder, program, words):
+    """How many instructions each thread of a run executes, the most first, by valgrind."""
+    out = os.path.join(folder, 'threads')
+    subprocess.run(['valgrind', '--tool=callgrind', '--separate-threads=yes', '--callgrind-out-file=' + out, program, *words],
+                   stdout=subprocess.DEVNULL, stderr=subprocess.DEVNULL, check=True)
+    found = [open(name).read() for name in glob.glob(out + '-*')]
+    for name in glob.glob(out + '*'):
+        os.remove(name)
+    return sorted((int(re.search('^(?:summary|totals): *([0-9]+)', text, re.M)[1]) for text in found), reverse=True)
 
 def most_memory(program, words):
     """The most memory of a run, in KiB, by `time`: a child of this process would count what this one has."""
@@ -63,6 +74,10 @@ def main():
         apart = [['check', '--jobs', '1', quarter] for quarter in quarters]
         took = min(spent(asked.program, *apart) for _ in range(9))
         print('four processes at once, a quarter each: %.1f ms (%.1f times as fast as one)' % (took * 1000, together / took))
+        if shutil.which('valgrind'):
+            (one,), four = (instructions(folder, asked.program, ['check', '--jobs', jobs, *every_one]) for jobs in '14')
+            print('instructions: %.1f million with one job, %.1f in the busiest thread of four (%.1f times as fast)'
+                  % (one / 1e6, four[0] / 1e6, one / four[0]))
         for jobs in '1', '4':
             print('memory with %s: %d KiB for %d sets, %d KiB for %d' % (jobs,
                   most_memory(asked.program, ['check', '--jobs', jobs, *every_one]), asked.sets,

@@ -17,9 +17,12 @@ def through_a_queue(requests):
                   'expect %s topped SUCCESS' % name]
     return text, lines
 
+LOOPS = ['loop 255', 'loop 255', 'clear r1', 'end', 'end']
+CELLS = ['const r1 5', 'loop 255', 'loop 100', 'store c0 r1', 'load r1 c0', 'end', 'end']
+DONE = ['complete r0 SUCCESS', 'ret SUCCESS']
+
 def cases():
-    loops = measure.one_routine(['loop 255', 'loop 255', 'clear r1', 'end', 'end',
-                                 'complete r0 SUCCESS', 'ret SUCCESS'])
+    loops = measure.one_routine([*LOOPS, *DONE])
     runs = ['threads 1', 'a = issue 0 v READ 0', 'run 0', 'expect a topped SUCCESS']
     yield 'steps of loops', loops, runs
     yield 'the same, and its audit', loops, [*runs, 'expect clean']
@@ -27,8 +30,15 @@ def cases():
     issued = runs[:2]
     yield 'the same, up to an instruction behind them', loops, [*issued, 'run 0 until line %d' % (loops.index('end') + 3), 'run 0']
     yield 'the same, all threads of one in turn', loops, [*issued, 'run all']
-    yield 'the same, all threads of two in turn', loops, ['threads 2', *issued[1:], 'b = issue 1 v READ 0', 'run all']
+    both = ['threads 2', issued[1], 'b = issue 1 v READ 0']
+    yield 'the same, all threads of two in turn', loops, [*both, 'run all']
+    locked = measure.one_routine(['acquire l0', *LOOPS, 'release l0', *DONE])
+    yield 'the same under a lock, up to its release', locked, [*issued, 'run 0 until release l0', 'run 0']
+    yield 'the same, all threads of two, of which one waits', locked, [*both, 'step 0', 'run 1', 'run all']
+    yield 'loads and stores of cells, all threads of one in turn', measure.one_routine([*CELLS, *DONE]), [*issued, 'run all']
     yield '1,000 requests through a queue', *through_a_queue(1_000)
+    text, lines = through_a_queue(1_000)
+    yield 'the same, all threads in turn', text, ['run all' if line.startswith('run') else line for line in lines]
     yield '10,000 requests through a queue', *through_a_queue(10_000)
 
 def written(folder, name, lines):
