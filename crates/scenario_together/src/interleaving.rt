@@ -1,7 +1,6 @@
 //! One interleaving of the threads that a step of a scenario names.
 
-ghost use Rattle.std.specs.Prelude.{◌≡◌, ◌&&◌, ◌++◌, IfOk, OnOk};
-ghost use Rattle.scenario_run.specs.Playing.{world_of};
+ghost use Rattle.std.specs.Prelude.{◌≡◌, ◌&&◌, ◌++◌, OnOk};
 ghost use Rattle.scenario_together.specs.Interleaving.{goes_on, is_named, steps_of};
 
 use hunt_walks::walker::Walker;
