@@ -1,4 +1,5 @@
 pub mod Alike
+pub mod Apart
 pub mod Going
 pub mod Numbers
 pub mod Pasts

@@ -24,13 +24,12 @@ use Rattle.model.specs.View.{frame_view, has_frames, thread_at, thread_view}
 use Rattle.model.specs.World.{World, owner_of, unused}
 use Rattle.scenario_names.specs.declared.names.Spot.{Spot}
 use Rattle.scenario_world.specs.declared.until.Until.{Until}
-use Rattle.scenario_world.specs.declared.until.Until.TheVariants.{Never, At, Release as ReleaseUntil, Alone}
+use Rattle.scenario_world.specs.declared.until.Until.TheVariants.{Never, At, Release as ReleaseUntil, Waiting, Alone}
 use Rattle.scenario_world.specs.Releases.{is_release, releases, stands_before_release}
 use Rattle.scenario_world.specs.States.{is_at, stands_at}
 use Rattle.scenario_world.specs.Going.{goes_on as goes_on_in, other_goes_on}
-use Rattle.scenario_world.specs.Until.{wakes}
+use Rattle.scenario_world.specs.Until.{fits, wakes}
 use Rattle.scenario_run.specs.Going.{Strides, halts, strides}
-use Rattle.scenario_run.specs.Walking.{fits}
 
 -- what a step that changes nothing but its activation doesn't do
 module _ (set : Set) (a b : Activation) where
@@ -175,6 +174,13 @@ spot_strides spot place same t m j p (nearer k n o before applies alone short) =
     strides k n o (spot_strides spot place same t m k n before) applies alone
     (not_there n.set n.world t o.world alone spot place same short) refl
 
+waiting_strides : (t : ℕ) (m : Machine) (k : ℕ) (n : Machine) → GoesOn t m k n
+    → Strides Waiting t m k n
+waiting_strides t m j n none = halts
+waiting_strides t m j p (more k n o before applies alone) =
+    strides k n o (waiting_strides t m k n before) applies alone
+    (no_wait n.set n.world t o.world alone) refl
+
 still_alone : (threads t : ℕ) (m : Machine) → other_goes_on m.set m.world t threads ≡ false
     → (k : ℕ) (n : Machine) → GoesOn t m k n
     → other_goes_on n.set n.world t threads ≡ false
@@ -198,4 +204,5 @@ pub other_strides : (until : Until) (t : ℕ) (m : Machine) → ((spot : Spot) �
 other_strides Never t m other lone k n goes = never_strides t m k n goes
 other_strides (At spot) t m other lone k n goes = absurd (other spot refl)
 other_strides (ReleaseUntil lock) t m other lone k n goes = release_strides lock t m k n goes
+other_strides Waiting t m other lone k n goes = waiting_strides t m k n goes
 other_strides (Alone threads) t m other lone k n goes = lone_strides threads t m lone k n goes

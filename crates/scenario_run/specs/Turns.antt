@@ -1,11 +1,12 @@
 -- Threads that make steps in turn.
-use Rattle.std.specs.Prelude.{ℕ, zero, suc, ◌≡◌, ◌<◌, ◌-◌, Bool, if◌then◌else◌}
+use Rattle.std.specs.Prelude.{ℕ, zero, suc, ◌≡◌, ◌<◌, ◌≤◌, ◌+◌, ◌-◌, ◌⊎◌, Bool, true, false, if◌then◌else◌}
 use Rattle.model.specs.declared.event.Event.TheVariants as event
 use Rattle.scenario_world.specs.Going.{any_goes_on as any_in, goes_on as goes_on_in}
 use Rattle.scenario_run.specs.declared.playing.Outcome.{Outcome}
 use Rattle.scenario_run.specs.declared.playing.Outcome.TheVariants.{Done, Waits, Fails}
 use Rattle.scenario_run.specs.declared.turns.Progress.{Progress}
 use Rattle.scenario_run.specs.declared.turns.Progress.TheVariants.{Over, Left}
+use Rattle.scenario_run.specs.declared.turns.Turned.{Turned}
 use Rattle.scenario_run.specs.Playing.{Playing, Went, most_of, one, stays, unless_failed, world_of}
 
 -- a thread has frames and waits for no lock
@@ -49,3 +50,18 @@ after_round Waits left = Left (left - 1)
 abbrev pub AreRounds : ℕ → Playing → Playing → Progress → Type 0
 AreRounds most p q (Over outcome) = record { now = q; outcome = outcome } ≡ rounds most p
 AreRounds most p q (Left rest) = (rest < most) × (rounds rest q ≡ rounds most p)
+
+-- the turn of a thread, behind so many that were made: it is made, or the thread doesn't go on
+abbrev pub IsTurn : Playing → ℕ → ℕ → Playing → Turned → Type 0
+IsTurn p t made q turned =
+    ((goes_on p t ≡ false) × (q ≡ p) × (turned ≡ record { made = made; outcome = Done }))
+    ⊎ ((goes_on p t ≡ true) × (turned.made ≡ made + 1)
+    × (record { now = q; outcome = turned.outcome } ≡ one p (event.Step t)))
+
+-- the turns of threads from one on, of so many: where none was made, nothing has changed, and none of
+-- them goes on
+pub record AreTurns (first threads : ℕ) (p q : Playing) (turned : Turned) : Type 0 where
+  pub goes : record { now = q; outcome = turned.outcome } ≡ round (threads - first) first p
+  pub none : turned.made ≡ 0 → (q ≡ p)
+      × ((u : ℕ) → first ≤ u → u < threads → goes_on p u ≡ false)
+  pub some : 0 < turned.made → any_goes_on p threads ≡ true

@@ -2,7 +2,6 @@
 use Rattle.std.specs.Prelude.{ℕ, ◌≡◌, ◌+◌, ◌≤◌, ◌++◌, Bool, true, false, List, [], ◌∷◌, length, replicate, Option, None, Some, option_map}
 use Rattle.model.specs.declared.event.Event.{Event}
 use Rattle.model.specs.declared.event.Event.TheVariants.{Step}
-use Rattle.model.specs.declared.event.Place.{Place}
 use Rattle.model.specs.declared.event.Reply.{Reply}
 use Rattle.model.specs.declared.event.Reply.TheVariants.{Started, Stepped, Finished, Topped, Waited, Idle, Refused, Bug, Wrong}
 use Rattle.model.specs.History.{replies}
@@ -11,7 +10,6 @@ use Rattle.scenario_run.specs.declared.walking.Walked.{Walked}
 use Rattle.scenario_run.specs.Going.{Gone, with_steps}
 use Rattle.scenario_run.specs.Playing.{Playing, outcome_of}
 use Rattle.scenario_run.specs.Running.{Runs}
-use Rattle.scenario_names.specs.declared.names.Spot.{Spot}
 use Rattle.scenario_world.specs.declared.until.Until.{Until}
 
 -- whether a reply tells that the thread stepped
@@ -51,9 +49,3 @@ pub record WalksOn (until : Until) (t : ℕ) (before : Runner) (w : Walked) (aft
   pub goes : (p : Playing) → p.set ≡ before.machine.set → Runs before p.threads p.events
       → length p.events + steps_in w ≤ 1000000
       → Gone until t p w.made (option_map outcome_of w.last) (with_steps p t (steps_in w))
-
--- the place of an instruction, as the machine has it
-abbrev pub fits : Spot → Place → Type 0
-fits spot place =
-    (place.driver ≡ spot.driver) × (place.routine ≡ spot.routine)
-    × (place.position ≡ spot.position)

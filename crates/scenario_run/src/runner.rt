@@ -1,13 +1,12 @@
 //! A machine that runs events, with the ledger of its run where an audit is to come.
 
-ghost use Rattle.std.specs.Prelude.{◌≡◌, ◌≤◌, [], IfOk, Some};
-ghost use Rattle.checked.specs.GoingOn.{GoesOn, GoesUpTo};
+ghost use Rattle.std.specs.Prelude.{◌≡◌, ◌≤◌, [], IfOk};
 ghost use Rattle.model.specs.declared.limits.TheConstants.{MAX_THREADS};
 ghost use Rattle.scenario_run.specs.Running.{Begins, IsFine, RunsOn, StaysBegun};
 
 use checked::Checked;
 use driver_set::DriverSet;
-use model::event::{Event, Place, Reply};
+use model::event::{Event, Reply};
 use std::alloc::{AllocError, Global};
 use tell_audit::findings::Findings;
 use tell_uses::acts::use_step;
@@ -92,26 +91,6 @@ impl Runner {
             self.keeping = Keeping::Nothing;
         }
         reply
-    }
-
-    /// Lets a thread make steps by itself, at most so many, and answers how many it made.
-    pub(crate) fn go_on(&mut self, thread: u8, count: usize) -> usize
-        ensures few { result ≤ count }
-        ensures goes { GoesOn thread self.old.machine result self.new.machine }
-        ensures ledger { self.new.ledger ≡ self.old.ledger }
-        ensures keeping { self.new.keeping ≡ self.old.keeping }
-    {
-        self.machine.go_on(thread, count)
-    }
-
-    /// The same up to a place.
-    pub(crate) fn go_up_to(&mut self, thread: u8, count: usize, place: Place) -> usize
-        ensures few { result ≤ count }
-        ensures goes { GoesUpTo (Some place) thread self.old.machine result self.new.machine }
-        ensures ledger { self.new.ledger ≡ self.old.ledger }
-        ensures keeping { self.new.keeping ≡ self.old.keeping }
-    {
-        self.machine.go_up_to(thread, count, place)
     }
 
     /// Whether an audit finds nothing amiss, where the ledger is kept.

@@ -2,13 +2,13 @@
 
 ghost use Rattle.std.specs.Prelude.{◌≡◌, ◌<◌, ◌≤◌, ◌-◌, suc, IfOk};
 ghost use Rattle.scenario_run.specs.Playing.{unless_failed, world_of};
-ghost use Rattle.scenario_run.specs.Turns.{AreRounds, after_round, round, rounds, run_all, turn};
+ghost use Rattle.scenario_run.specs.Turns.{AreRounds, AreTurns, IsTurn, after_round, round, rounds, run_all};
 ghost use Rattle.scenario_world.specs.Going.{IsLone};
 
 use crate::playing::{Outcome, Playing};
 use model::event::Event;
 use scenario_world::going::{Going, goes_on, who_goes_on};
-use scenario_world::until::Until;
+use scenario_world::until::lone_until;
 use std::alloc::AllocError;
 
 /// How far rounds have gone.
@@ -18,6 +18,14 @@ pub(crate) enum Progress {
     Over(Outcome),
     /// So many are left.
     Left(usize),
+}
+
+/// How turns of threads went.
+#[derive(Clone, Copy)]
+pub(crate) struct Turned {
+    /// How many were made.
+    pub made: u8,
+    pub outcome: Outcome,
 }
 
 /// The threads make steps in turn, the lowest first, until each is idle or waits.
@@ -53,11 +61,30 @@ fn some_rounds(playing: &mut Playing, most: usize) -> Result<Progress, AllocErro
     match who_goes_on(playing.machine(), playing.threads()) {
         Going::Nobody => Ok(Progress::Over(Outcome::Done)),
         Going::One(thread) => lone_rounds(playing, thread, most),
-        Going::Several => {
-            let outcome = round(playing)?;
-            Ok(after_round(outcome, most))
+        Going::Several => several_rounds(playing, most),
+    }
+}
+
+/// Those in which more than one thread makes its turn, and the one behind them.
+fn several_rounds(playing: &mut Playing, most: usize) -> Result<Progress, AllocError>
+    requires { 0 < most }
+    ensures { IfOk result (AreRounds most playing.old playing.new) }
+{
+    let mut left = most;
+    while left > 0 {
+        let turned = round(playing)?;
+        if turned.made == 0 {
+            return Ok(Progress::Over(Outcome::Done));
+        }
+        if let Outcome::Fails = turned.outcome {
+            return Ok(Progress::Over(Outcome::Fails));
+        }
+        left -= 1;
+        if turned.made == 1 {
+            return Ok(Progress::Left(left));
         }
     }
+    Ok(Progress::Over(Outcome::Fails))
 }
 
 /// Those in which one thread alone goes on, and the one in which another does so too.
@@ -67,11 +94,12 @@ fn lone_rounds(playing: &mut Playing, thread: u8, most: usize) -> Result<Progres
     ensures { IfOk result (AreRounds most playing.old playing.new) }
 {
     let threads = playing.threads();
-    let ahead = playing.go_ahead(thread, most, Until::Alone(threads))?;
+    let until = lone_until(playing.machine(), thread, threads);
+    let ahead = playing.go_ahead(thread, most, until)?;
     let outcome = match ahead.last {
         Some(outcome) => end_round(playing, thread, threads, outcome)?,
         None if ahead.left < most => return Ok(Progress::Left(ahead.left)),
-        None => round(playing)?,
+        None => round(playing)?.outcome,
     };
     Ok(after_round(outcome, ahead.left))
 }
@@ -90,7 +118,7 @@ fn end_round(
 {
     match outcome {
         Outcome::Fails => Ok(Outcome::Fails),
-        Outcome::Done | Outcome::Waits => turns(playing, thread + 1, threads),
+        Outcome::Done | Outcome::Waits => Ok(turns(playing, thread + 1, threads)?.outcome),
     }
 }
 
@@ -106,37 +134,44 @@ fn after_round(outcome: Outcome, left: usize) -> Progress
 }
 
 /// A round: the turn of each thread, the lowest first.
-fn round(playing: &mut Playing) -> Result<Outcome, AllocError>
-    ensures { IfOk result (λ outcome. record { now = playing.new; outcome = outcome }
-        ≡ round playing.old.threads 0 playing.old) }
+fn round(playing: &mut Playing) -> Result<Turned, AllocError>
+    ensures { IfOk result (λ turned.
+        AreTurns 0 playing.old.threads playing.old playing.new turned) }
 {
     let threads = playing.threads();
     turns(playing, 0, threads)
 }
 
 /// The turns of the threads from one on, of so many.
-#[tactic(auto, using(crate::proofs::Turning::turns_over, crate::proofs::Turning::turns_done, crate::proofs::Turning::turns_waited, crate::proofs::Turning::turns_failed))]
-fn turns(playing: &mut Playing, first: u8, threads: u8) -> Result<Outcome, AllocError>
+fn turns(playing: &mut Playing, first: u8, threads: u8) -> Result<Turned, AllocError>
     requires { first ≤ threads }
-    ensures { IfOk result (λ outcome. record { now = playing.new; outcome = outcome }
-        ≡ round (threads - first) first playing.old) }
+    ensures { IfOk result (λ turned. AreTurns first threads playing.old playing.new turned) }
 {
+    let mut turned = Turned {
+        made: 0,
+        outcome: Outcome::Done,
+    };
     for thread in first..threads {
-        match turn(playing, thread)? {
-            Outcome::Fails => return Ok(Outcome::Fails),
-            Outcome::Done | Outcome::Waits => {}
+        turned = turn(playing, thread, turned.made)?;
+        if let Outcome::Fails = turned.outcome {
+            return Ok(turned);
         }
     }
-    Ok(Outcome::Done)
+    let made = turned.made;
+    let outcome = Outcome::Done;
+    Ok(Turned { made, outcome })
 }
 
-/// The turn of a thread.
-fn turn(playing: &mut Playing, thread: u8) -> Result<Outcome, AllocError>
-    ensures { IfOk result (λ outcome.
-        record { now = playing.new; outcome = outcome } ≡ turn playing.old thread) }
+/// The turn of a thread, behind so many that were made.
+fn turn(playing: &mut Playing, thread: u8, made: u8) -> Result<Turned, AllocError>
+    requires { made < 255 }
+    ensures { IfOk result (IsTurn playing.old thread made playing.new) }
 {
     if !goes_on(playing.machine(), thread) {
-        return Ok(Outcome::Done);
+        let outcome = Outcome::Done;
+        return Ok(Turned { made, outcome });
     }
-    playing.one(Event::Step { thread })
+    let made = made + 1;
+    let outcome = playing.one(Event::Step { thread })?;
+    Ok(Turned { made, outcome })
 }

@@ -1,13 +1,12 @@
 //! Steps that a thread makes one after another, on a machine with the ledger of its run.
 
-ghost use Rattle.std.specs.Prelude.{◌≡◌, ◌≤◌, ◌+◌, ◌<◌, ◌^◌, IfSome};
+ghost use Rattle.std.specs.Prelude.{◌≡◌, ◌≤◌, ◌+◌, ◌<◌, ◌^◌};
 ghost use Rattle.scenario_run.specs.Going.{Strides};
-ghost use Rattle.scenario_run.specs.Walking.{WalksOn, fits, is_stepped, steps_in};
+ghost use Rattle.scenario_run.specs.Walking.{WalksOn, is_stepped, steps_in};
 
 use crate::runner::Runner;
-use model::event::{Event, Place, Reply};
-use scenario_names::names::Spot;
-use scenario_world::until::{Until, may_step, wakes};
+use model::event::{Event, Reply};
+use scenario_world::until::{Until, may_step, place_of, wakes};
 
 /// Steps that aren't tried as such of the routine by itself, behind one that wasn't.
 const PAUSE: u8 = 7;
@@ -72,25 +71,11 @@ fn stride(runner: &mut Runner, thread: u8, most: usize, pause: u8, until: Until)
     }
     match until {
         Until::At(spot) => match place_of(spot) {
-            Some(place) => runner.go_up_to(thread, most, place),
+            Some(place) => runner.machine.go_up_to(thread, most, place),
             None => 0,
         },
-        _ => runner.go_on(thread, most),
+        _ => runner.machine.go_on(thread, most),
     }
-}
-
-/// The place of an instruction as the machine has it.
-fn place_of(spot: Spot) -> Option<Place>
-    ensures { IfSome result (fits spot) }
-{
-    let driver = u8::try_from(spot.driver).ok()?;
-    let routine = u8::try_from(spot.routine).ok()?;
-    let position = u16::try_from(spot.position).ok()?;
-    Some(Place {
-        driver,
-        routine,
-        position,
-    })
 }
 
 /// For how many steps more it isn't tried, where the routine has made so many by itself.

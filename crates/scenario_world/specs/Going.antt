@@ -22,6 +22,11 @@ other_goes_on set w t zero = false
 other_goes_on set w t (suc u) =
     other_goes_on set w t u || (not (nat_eq u t) && goes_on set w u)
 
+-- another one has frames
+abbrev pub other_is_busy : World → ℕ → ℕ → Bool
+other_is_busy w t zero = false
+other_is_busy w t (suc u) = other_is_busy w t u || (not (nat_eq u t) && busy_at w u)
+
 -- which do: none, this one alone, or some
 abbrev pub IsLone : Set → World → ℕ → ℕ → Type 0
 IsLone set w threads t =

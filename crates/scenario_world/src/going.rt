@@ -2,7 +2,7 @@
 
 ghost use Rattle.std.specs.Prelude.{◌≡◌, ◌<◌, IfSome, None, false, true};
 ghost use Rattle.model.specs.View.{busy_at};
-ghost use Rattle.scenario_world.specs.Going.{AreGoing, any_goes_on, goes_on, other_goes_on};
+ghost use Rattle.scenario_world.specs.Going.{AreGoing, any_goes_on, goes_on, other_goes_on, other_is_busy};
 
 use checked::Checked;
 use tell_audit::ring::waits_for;
@@ -57,6 +57,17 @@ pub fn other_goes_on(machine: &Checked, thread: u8, threads: u8) -> bool
     let mut found = false;
     for other in 0..threads {
         found = found || (other != thread && goes_on(machine, other));
+    }
+    found
+}
+
+/// Whether another one has frames.
+pub fn other_is_busy(machine: &Checked, thread: u8, threads: u8) -> bool
+    ensures { result ≡ other_is_busy machine.now.world thread threads }
+{
+    let mut found = false;
+    for other in 0..threads {
+        found = found || (other != thread && is_busy_at(machine, other));
     }
     found
 }

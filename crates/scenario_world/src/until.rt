@@ -1,12 +1,14 @@
 //! Where the steps that a thread makes one after another are to end.
 
-ghost use Rattle.std.specs.Prelude.{◌≡◌, IsTrue};
-ghost use Rattle.scenario_world.specs.Until.{MaySteps, is_before, wakes};
+ghost use Rattle.std.specs.Prelude.{◌≡◌, IfSome, IsTrue, false};
+ghost use Rattle.scenario_world.specs.Going.{other_goes_on};
+ghost use Rattle.scenario_world.specs.Until.{MaySteps, StaysLone, fits, is_before, wakes};
 
-use crate::going::{is_busy_at, other_goes_on};
+use crate::going::{is_busy_at, other_goes_on, other_is_busy};
 use crate::releases::stands_before_release;
 use crate::states::stands_at;
 use checked::Checked;
+use model::event::Place;
 use scenario_names::names::Spot;
 use tell_audit::ring::waits_for;
 
@@ -19,9 +21,38 @@ pub enum Until {
     At(Spot),
     /// One that releases a spin lock of its device.
     Release(u8),
+    /// One that waits for a lock.
+    Waiting,
     /// One that waits for a lock; and behind one after which another thread, of the first so many,
     /// goes on.
     Alone(u8),
+}
+
+/// Where the steps of a thread are to end, so that no other one of so many goes on before: they do so
+/// if another one has frames, and waits.
+pub fn lone_until(machine: &Checked, thread: u8, threads: u8) -> Until
+    requires { other_goes_on machine.now.set machine.now.world thread threads ≡ false }
+    ensures { StaysLone result machine.now.set machine.now.world thread threads }
+{
+    if other_is_busy(machine, thread, threads) {
+        Until::Alone(threads)
+    } else {
+        Until::Waiting
+    }
+}
+
+/// The place of an instruction as the machine has it.
+pub fn place_of(spot: Spot) -> Option<Place>
+    ensures { IfSome result (fits spot) }
+{
+    let driver = u8::try_from(spot.driver).ok()?;
+    let routine = u8::try_from(spot.routine).ok()?;
+    let position = u16::try_from(spot.position).ok()?;
+    Some(Place {
+        driver,
+        routine,
+        position,
+    })
 }
 
 /// Whether a thread has frames, and its next step is made.
@@ -39,7 +70,7 @@ pub fn is_before(machine: &Checked, thread: u8, until: Until) -> bool
         Until::Never => false,
         Until::At(spot) => stands_at(machine, thread, spot),
         Until::Release(lock) => stands_before_release(machine, thread, lock),
-        Until::Alone(_) => waits_for(machine, thread).is_some(),
+        Until::Waiting | Until::Alone(_) => waits_for(machine, thread).is_some(),
     }
 }
 
@@ -48,7 +79,7 @@ pub fn wakes(machine: &Checked, thread: u8, until: Until) -> bool
     ensures { result ≡ wakes until machine.now.set machine.now.world thread }
 {
     match until {
-        Until::Never | Until::At(_) | Until::Release(_) => false,
+        Until::Never | Until::At(_) | Until::Release(_) | Until::Waiting => false,
         Until::Alone(threads) => other_goes_on(machine, thread, threads),
     }
 }

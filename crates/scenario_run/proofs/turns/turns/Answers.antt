@@ -1,16 +1,18 @@
-use Rattle.std.proofs.Common.{◌≡◌, ◌<◌, ◌∙◌, rules}
-use Rattle.scenario_run.specs.declared.playing.Outcome.TheVariants.{Fails}
-use Rattle.scenario_run.specs.Playing.{Playing, Went}
-use Rattle.scenario_run.specs.Turns.{turn}
-use Rattle.scenario_run.proofs.Turning.{turns_failed}
+use Rattle.std.proofs.Common.{◌≡◌, ◌+◌, suc, ℕ, arith, rules, subst}
+use Rattle.scenario_run.proofs.Turning.{Turning, turning_fails, turning_on}
 use Rattle.scenario_run.proofs.turns.turns.Goals as goal
 
 pub returns-in-Fails : goal.returns-in-Fails
 returns-in-Fails c =
-    let t = c.loop-thread.thread in
-    let p : Playing = c.loop-thread.playing in
-    let q : Playing = c.turn.new.playing in
-    let less : t < c.args.threads = search rules in
-    let here : Went = record { now = q; outcome = Fails } in
-    let gone : here ≡ turn p t = rw (← c.in-Fails.is) c.in_ok-turn.ensures in
-    turns_failed c.args.threads t p q less gone ∙ c.loop-thread.invariant
+    turning_fails c.args.first c.args.threads c.loop-thread.thread c.args.playing.now
+    c.loop-thread.playing c.turn.new.playing c.loop-thread.turned.made c.in_ok-turned.turned
+    c.loop-thread.invariant (search rules) c.in_ok-turned.ensures c.in-Fails.is
+
+pub loop-thread-preserved : goal.loop-thread-preserved
+loop-thread-preserved c =
+    let next : suc c.loop-thread.thread ≡ c.loop-thread.thread + 1 = omega arith in
+    subst (λ (t : ℕ). Turning c.args.first c.args.threads t c.args.playing.now c.turn.new.playing
+    c.in_ok-turned.turned.made) next
+    (turning_on c.args.first c.args.threads c.loop-thread.thread c.args.playing.now
+    c.loop-thread.playing c.turn.new.playing c.loop-thread.turned.made c.in_ok-turned.turned
+    c.loop-thread.invariant (search rules) c.in_ok-turned.ensures c.in_default.not-Fails)

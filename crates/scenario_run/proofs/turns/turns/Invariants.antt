@@ -1,9 +1,6 @@
-use Rattle.std.proofs.Common.{◌≡◌, ◌-◌}
-use Rattle.scenario_run.specs.Turns.{round}
+use Rattle.scenario_run.proofs.Turning.{Turning}
 use Rattle.scenario_run.proofs.turns.turns.Given as goal
 
--- the turns that are left go as all did
 abbrev pub invariant-loop-thread : goal.invariant-loop-thread
 invariant-loop-thread l =
-    round (l.threads - l.thread) l.thread l.playing
-    ≡ round (l.threads - l.first) l.first l.initial.playing
+    Turning l.first l.threads l.thread l.initial.playing l.playing l.turned.made

@@ -1,4 +1,4 @@
-use Rattle.std.proofs.Common.{◌∙◌, subst, sym}
+use Rattle.std.proofs.Common.{◌∙◌, refl, subst, sym}
 use Rattle.scenario_run.specs.Going.{Strides, halts}
 use Rattle.scenario_run.proofs.Striding.{other_strides, spot_strides}
 use Rattle.scenario_run.proofs.walking.stride.Goals as goal
@@ -12,9 +12,9 @@ returns-in-None-clause-goes c = halts
 pub returns-in-Some-clause-goes : goal.returns-in-Some-clause-goes
 returns-in-Some-clause-goes c =
     subst (λ until. Strides until c.args.thread c.args.runner.now.machine c.go_up_to.result
-    c.go_up_to.new.self.machine) (sym c.in-At.is)
+    c.go_up_to.new.self) (sym c.in-At.is)
     (spot_strides c.in-At.spot c.in-Some.place c.in-Some.ensures c.args.thread
-    c.args.runner.now.machine c.go_up_to.result c.go_up_to.new.self.machine c.go_up_to.ensures.goes)
+    c.args.runner.now.machine c.go_up_to.result c.go_up_to.new.self c.go_up_to.ensures.short)
 
 pub returns-in_default : goal.returns-in_default
 returns-in_default c =
@@ -22,8 +22,8 @@ returns-in_default c =
       few = c.go_on.ensures.few;
       goes =
           other_strides c.args.until c.args.thread c.args.runner.now.machine c.in_default.not-At
-          (sym c.wakes.ensures ∙ c.if-wakes.false) c.go_on.result c.go_on.new.self.machine
+          (sym c.wakes.ensures ∙ c.if-wakes.false) c.go_on.result c.go_on.new.self
           c.go_on.ensures.goes;
-      ledger = c.go_on.ensures.ledger;
-      keeping = c.go_on.ensures.keeping;
+      ledger = refl;
+      keeping = refl;
     }
