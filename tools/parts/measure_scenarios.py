@@ -21,6 +21,18 @@ LOOPS = ['loop 255', 'loop 255', 'clear r1', 'end', 'end']
 CELLS = ['const r1 5', 'loop 255', 'loop 100', 'store c0 r1', 'load r1 c0', 'end', 'end']
 DONE = ['complete r0 SUCCESS', 'ret SUCCESS']
 
+def waiting():
+    """Two threads of 64 that go on, where the others wait for a lock that one of them owns."""
+    done = [*DONE, 'endr']
+    text = ['driver d', 'dispatch READ f', 'dispatch WRITE g', 'dispatch CONTROL h',
+            'routine f dispatch', 'acquire l0', *LOOPS, 'release l0', *done,
+            'routine g dispatch', *LOOPS, *done,
+            'routine h dispatch', 'acquire l0', 'release l0', *done, 'endd', 'device v d 1']
+    lines = ['threads 64', 'a = issue 0 v READ 0', 'step 0']
+    for thread in range(2, 64):
+        lines += ['p%d = issue %d v CONTROL 0' % (thread, thread), 'run %d' % thread]
+    return text, [*lines, 'b = issue 1 v WRITE 0', 'run all']
+
 def cases():
     loops = measure.one_routine([*LOOPS, *DONE])
     runs = ['threads 1', 'a = issue 0 v READ 0', 'run 0', 'expect a topped SUCCESS']
@@ -32,6 +44,9 @@ def cases():
     yield 'the same, all threads of one in turn', loops, [*issued, 'run all']
     both = ['threads 2', issued[1], 'b = issue 1 v READ 0']
     yield 'the same, all threads of two in turn', loops, [*both, 'run all']
+    apart = ['threads 64', issued[1], 'b = issue 63 v READ 0']
+    yield 'the same, all threads of 64, of which two go on', loops, [*apart, 'run all']
+    yield 'the same, all threads of 64, of which two go on and the others wait', *waiting()
     locked = measure.one_routine(['acquire l0', *LOOPS, 'release l0', *DONE])
     yield 'the same under a lock, up to its release', locked, [*issued, 'run 0 until release l0', 'run 0']
     yield 'the same, all threads of two, of which one waits', locked, [*both, 'step 0', 'run 1', 'run all']

@@ -4,6 +4,7 @@ use Rattle.std.specs.Prelude.{option_map, slice_get}
 use Rattle.laws_runs.proofs.History.Waits.{run_more}
 use Rattle.laws_runs.proofs.Lists.{set_other}
 use Rattle.laws_runs.proofs.Runs.Events.{Answers, answers, goes_on_with, refuses_over, refuses_stopped, stops_for, stops_wrong}
+use Rattle.model.specs.declared.event.Event.{Event}
 use Rattle.model.specs.declared.event.Event.TheVariants.{Step}
 use Rattle.model.specs.declared.world.Frame.{Frame}
 use Rattle.model.specs.declared.world.Thread.{Thread}
@@ -13,7 +14,8 @@ use Rattle.model.specs.Run.{Answered, Run, begun, step}
 use Rattle.model.specs.Set.{Set}
 use Rattle.model.specs.View.{busy_at, has_frames, thread_view}
 use Rattle.model.specs.World.{World}
-use Rattle.scenario_run.specs.Playing.{Playing, happened, has_room, run_of, with_event, world_of}
+use Rattle.scenario_run.specs.declared.playing.Outcome.{Outcome}
+use Rattle.scenario_run.specs.Playing.{Playing, Went, happened, has_room, one, run_of, with_event, world_of}
 
 module _ (set : Set) (t u : ℕ) (apart : t ≢ u) where
   top_apart : (w : World) (x : Thread) (below : List Frame) (f : Option Frame)
@@ -54,8 +56,29 @@ module _ (p : Playing) (t u : ℕ) (apart : t ≢ u) where
   happened_apart true = with_step_apart
   happened_apart false = refl
 
+  pub frames_apart : slice_get (world_of (happened p (Step t))).threads u
+      ≡ slice_get (world_of p).threads u
+  frames_apart = happened_apart (has_room p)
+
   -- so it is as busy as it was
   pub busy_apart : busy_at (world_of (happened p (Step t))) u ≡ busy_at (world_of p) u
   busy_apart =
       ap (λ (o : Option Thread). has_frames (option_map thread_view o))
-      (happened_apart (has_room p))
+      frames_apart
+
+-- an event leaves the threads
+pub same_threads : (p : Playing) (e : Event) (b : Bool)
+    → (if b then with_event p e else p).threads ≡ p.threads
+same_threads p e true = refl
+same_threads p e false = refl
+
+pub one_threads : (p q : Playing) (e : Event) (outcome : Outcome)
+    → record { now = q; outcome = outcome } ≡ one p e → q.threads ≡ p.threads
+one_threads p q e outcome gone =
+    ap (λ (w : Went). w.now.threads) gone ∙ same_threads p e (has_room p)
+
+-- and the set
+pub same_set : (p : Playing) (e : Event) (b : Bool)
+    → (if b then with_event p e else p).set ≡ p.set
+same_set p e true = refl
+same_set p e false = refl

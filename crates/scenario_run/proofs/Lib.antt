@@ -4,6 +4,7 @@ pub mod Going
 pub mod Numbers
 pub mod Pasts
 pub mod Playings
+pub mod Rounds
 pub mod Running
 pub mod Stepping
 pub mod Striding

@@ -4,7 +4,6 @@ use Rattle.std.specs.Prelude.{◌&&◌, ◌||◌, is_none, is_some, nat_eq, not}
 use Rattle.std.proofs.lemmas.Bool.{ne_eqb, or_parts}
 use Rattle.std.proofs.lemmas.Bool.Decides.{eqb_tells}
 use Rattle.laws_locks.specs.Waiting.{waits_for}
-use Rattle.model.specs.declared.event.Event.{Event}
 use Rattle.model.specs.declared.event.Event.TheVariants as event
 use Rattle.model.specs.Set.{Set}
 use Rattle.model.specs.View.{busy_at}
@@ -13,16 +12,15 @@ use Rattle.scenario_world.specs.declared.until.Until.{Until}
 use Rattle.scenario_world.specs.declared.until.Until.TheVariants.{Never, At, Release, Waiting, Alone}
 use Rattle.scenario_world.specs.Going.{IsLone, goes_on as goes_in, other_goes_on, other_is_busy}
 use Rattle.scenario_world.specs.Until.{MaySteps, StaysLone, wakes}
-use Rattle.scenario_world.proofs.Goers.{any_by}
+use Rattle.scenario_world.proofs.AnyGoes.{any_by}
 use Rattle.scenario_run.specs.declared.playing.Outcome.{Outcome}
 use Rattle.scenario_run.specs.declared.playing.Outcome.TheVariants.{Done, Waits, Fails}
 use Rattle.scenario_run.specs.Going.{Ends, GoesAhead, moves, rests}
-use Rattle.scenario_run.specs.Playing.{Playing, Went, happened, has_room, one, stays, unless_failed, with_event, world_of}
+use Rattle.scenario_run.specs.Playing.{Playing, Went, happened, one, stays, unless_failed, world_of}
 use Rattle.scenario_run.specs.declared.turns.Progress.{Progress}
 use Rattle.scenario_run.specs.declared.turns.Progress.TheVariants.{Over, Left}
-use Rattle.scenario_run.specs.declared.turns.Turned.{Turned}
-use Rattle.scenario_run.specs.Turns.{AreRounds, AreTurns, IsTurn, after_round, any_goes_on, goes_on, round, rounds, turn}
-use Rattle.scenario_run.proofs.Apart.{busy_apart}
+use Rattle.scenario_run.specs.Turns.{AreRounds, after_round, any_goes_on, goes_on, round, rounds, turn}
+use Rattle.scenario_run.proofs.Apart.{busy_apart, one_threads}
 
 -- where no thread goes on
 abbrev Later : ℕ → Bool → Playing → Went
@@ -66,197 +64,25 @@ rounds_of most left p b q (Over outcome) less same are = are ∙ same
 rounds_of most left p b q (Left rest) less same are =
     let fewer : rest < left = are.0 in (omega (arith, less, fewer), are.1 ∙ same)
 
--- the turns of the threads from one on, of so many
-abbrev TurnedSo : Playing → ℕ → Playing → Outcome → Type 0
-TurnedSo p t q outcome = record { now = q; outcome = outcome } ≡ turn p t
+-- behind a turn
+pub later_by : (outcome : Outcome) (here later : Went) → outcome ≢ Fails
+    → later ≡ unless_failed outcome here later
+later_by Done here later fine = refl
+later_by Waits here later fine = refl
+later_by Fails here later fine = absurd (fine refl)
 
-turned_by : (left t : ℕ) (p q : Playing) (outcome : Outcome) → TurnedSo p t q outcome
-    → unless_failed outcome (record { now = q; outcome = outcome }) (round left (suc t) q)
-    ≡ round (suc left) t p
-turned_by left t p q outcome h =
-    ap (λ (w : Went). unless_failed w.outcome w (round left (suc t) w.now)) h
+pub failed_by : (outcome : Outcome) (here later : Went) → outcome ≡ Fails
+    → here ≡ unless_failed outcome here later
+failed_by Fails here later fails = refl
+failed_by Done here later fails = cc
+failed_by Waits here later fails = cc
 
-pub turns_failed : (threads t : ℕ) (p q : Playing) → t < threads → TurnedSo p t q Fails
-    → record { now = q; outcome = Fails } ≡ round (threads - t) t p
-turns_failed threads t p q less h =
-    let more : suc (threads - suc t) ≡ threads - t = omega (arith, less) in
-    subst (λ (k : ℕ). record { now = q; outcome = Fails } ≡ round k t p) more
-    (turned_by (threads - suc t) t p q Fails h)
+pub rests_at : (p : Playing) (t : ℕ) → goes_on p t ≡ false → stays p Done ≡ turn p t
+rests_at p t off =
+    ap (λ (b : Bool). if b then one p (event.Step t) else stays p Done) (sym off)
 
-pub turns_done : (threads t u : ℕ) (p q : Playing) → t < threads → u ≡ suc t → TurnedSo p t q Done
-    → round (threads - u) u q ≡ round (threads - t) t p
-turns_done threads t u p q less next h =
-    let more : suc (threads - suc t) ≡ threads - t = omega (arith, less) in
-    subst (λ (v : ℕ). round (threads - v) v q ≡ round (threads - t) t p) (sym next)
-    (subst (λ (k : ℕ). round (threads - suc t) (suc t) q ≡ round k t p) more
-    (turned_by (threads - suc t) t p q Done h))
-
-pub turns_waited : (threads t u : ℕ) (p q : Playing) → t < threads → u ≡ suc t
-    → TurnedSo p t q Waits → round (threads - u) u q ≡ round (threads - t) t p
-turns_waited threads t u p q less next h =
-    let more : suc (threads - suc t) ≡ threads - t = omega (arith, less) in
-    subst (λ (v : ℕ). round (threads - v) v q ≡ round (threads - t) t p) (sym next)
-    (subst (λ (k : ℕ). round (threads - suc t) (suc t) q ≡ round k t p) more
-    (turned_by (threads - suc t) t p q Waits h))
-
-pub turns_over : (threads t : ℕ) (q : Playing) → threads ≤ t
-    → stays q Done ≡ round (threads - t) t q
-turns_over threads t q over =
-    let none : 0 ≡ threads - t = omega (arith, over) in
-    subst (λ (k : ℕ). stays q Done ≡ round k t q) none refl
-
-pub turns_made : (threads t : ℕ) (p q : Playing) (outcome : Outcome) → t < threads
-    → TurnedSo p t q outcome → outcome ≢ Fails
-    → round (threads - suc t) (suc t) q ≡ round (threads - t) t p
-turns_made threads t p q Done less h fine = turns_done threads t (suc t) p q less refl h
-turns_made threads t p q Waits less h fine = turns_waited threads t (suc t) p q less refl h
-turns_made threads t p q Fails less h fine = absurd (fine refl)
-
--- so far: the turns that are left go as all did
-pub record Turning (first threads t : ℕ) (p q : Playing) (made : ℕ) : Type 0 where
-  pub goes : round (threads - t) t q ≡ round (threads - first) first p
-  pub none : made ≡ 0 → (q ≡ p) × ((u : ℕ) → first ≤ u → u < t → goes_on p u ≡ false)
-  pub some : 0 < made → any_goes_on p threads ≡ true
-  pub few : first + made ≤ t
-
-pub turning_none : (first threads : ℕ) (p : Playing) → Turning first threads first p p 0
-turning_none first threads p =
-    record {
-      goes = refl;
-      none = λ _. (refl, λ u low high. absurd (omega (arith, low, high)));
-      some = λ more. absurd (omega (arith, more));
-      few = omega arith;
-    }
-
-module _ (first threads t : ℕ) (p q o : Playing) (made : ℕ) (x : Turned)
-    (so_far : Turning first threads t p q made) (less : t < threads) where
-  not_made : goes_on q t ≡ false → o ≡ q → x ≡ record { made = made; outcome = Done }
-      → Turning first threads (suc t) p o x.made
-  not_made off same is =
-      let stays_so : record { now = q; outcome = Done } ≡ turn q t =
-      ap (λ (b : Bool). if b then one q (event.Step t) else stays q Done) (sym off) in
-      subst (λ (y : Playing). Turning first threads (suc t) p y x.made) (sym same)
-      (subst (λ (y : Turned). Turning first threads (suc t) p q y.made) (sym is)
-      (record {
-        goes = turns_done threads t (suc t) q q less refl stays_so ∙ so_far.goes;
-        none = λ zero_made.
-            let before = so_far.none zero_made in (
-              before.0,
-              λ u low high.
-                  elim (eqb_tells u t) [
-                    | inl here ↦
-                        ap (λ (v : ℕ). goes_on p v) here.1
-                        ∙ ap (λ (y : Playing). goes_on y t) (sym before.0)
-                        ∙ off
-                    | inr apart ↦
-                        let other : u ≢ t = apart.1 in
-                        before.1 u low (omega (arith, high, other))
-                  ],
-            );
-        some = so_far.some;
-        few = let f = so_far.few in omega (arith, f);
-      }))
-
-  any_made : goes_on q t ≡ true → any_goes_on p threads ≡ true
-  any_made on =
-      elim (eqb_tells made 0) [
-        | inl zero_made ↦
-            any_by p.set (world_of p) t threads less
-            (ap (λ (y : Playing). goes_on y t) (sym (so_far.none zero_made.1).0) ∙ on)
-        | inr more ↦
-            let other : made ≢ 0 = more.1 in so_far.some (omega (arith, other))
-      ]
-
-  made_so : goes_on q t ≡ true → x.made ≡ made + 1
-      → record { now = o; outcome = x.outcome } ≡ one q (event.Step t) → (x.outcome ≢ Fails)
-      → Turning first threads (suc t) p o x.made
-  made_so on count gone fine =
-      let f = so_far.few in
-      let turned : record { now = o; outcome = x.outcome } ≡ turn q t =
-      gone ∙ ap (λ (b : Bool). if b then one q (event.Step t) else stays q Done) (sym on) in
-      record {
-        goes = turns_made threads t q o x.outcome less turned fine ∙ so_far.goes;
-        none = λ zero_made. absurd (omega (arith, zero_made, count));
-        some = λ _. any_made on;
-        few = omega (arith, f, count);
-      }
-
-  pub turning_on : IsTurn q t made o x → x.outcome ≢ Fails
-      → Turning first threads (suc t) p o x.made
-  turning_on (inl off) fine = not_made off.0 off.1 off.2
-  turning_on (inr on) fine = made_so on.0 on.1 on.2 fine
-
-  pub turning_fails : IsTurn q t made o x → x.outcome ≡ Fails → AreTurns first threads p o x
-  turning_fails (inl off) fails =
-      let is : x ≡ record { made = made; outcome = Done } = off.2 in
-      let no : Done ≡ Fails = sym (ap (λ (y : Turned). y.outcome) is) ∙ fails in cc
-  turning_fails (inr on) fails =
-      let count : x.made ≡ made + 1 = on.1 in
-      let turned : record { now = o; outcome = x.outcome } ≡ turn q t =
-      on.2 ∙ ap (λ (b : Bool). if b then one q (event.Step t) else stays q Done) (sym on.0) in
-      record {
-        goes =
-            ap (λ (y : Outcome). record { now = o; outcome = y }) fails
-            ∙ turns_failed threads t q o less
-            (ap (λ (y : Outcome). record { now = o; outcome = y }) (sym fails) ∙ turned)
-            ∙ so_far.goes;
-        none = λ zero_made. absurd (omega (arith, zero_made, count));
-        some = λ _. any_made on.0;
-      }
-
-pub turning_over : (first threads t : ℕ) (p q : Playing) (made : ℕ) → threads ≤ t → t ≤ threads
-    → Turning first threads t p q made
-    → AreTurns first threads p q (record { made = made; outcome = Done })
-turning_over first threads t p q made over within so_far =
-    record {
-      goes = turns_over threads t q over ∙ so_far.goes;
-      none = λ zero_made.
-          let before = so_far.none zero_made in
-          (before.0, λ u low high. before.1 u low (omega (arith, high, over)));
-      some = so_far.some;
-    }
-
--- of all threads
-none_at : (p : Playing) (n : ℕ) → ((u : ℕ) → u < n → goes_on p u ≡ false)
-    → any_goes_on p n ≡ false
-none_at p zero none = refl
-none_at p (suc n) none =
-    ap (λ (b : Bool). b || goes_on p n) (none_at p n (λ u less. none u (omega (arith, less))))
-    ∙ none n (omega arith)
-
-module _ (p q : Playing) (x : Turned) (turns : AreTurns 0 p.threads p q x) where
-  pub rounded : record { now = q; outcome = x.outcome } ≡ round p.threads 0 p
-  rounded =
-      let all : p.threads - 0 ≡ p.threads = omega arith in
-      turns.goes ∙ ap (λ (n : ℕ). round n 0 p) all
-
-  -- it is over, it failed, or what is left goes as all does
-  pub several_over : (left : ℕ) → 0 < left → x.made ≡ 0 → stays q Done ≡ rounds left p
-  several_over left some none =
-      let before = turns.none none in
-      ap (λ (y : Playing). stays y Done) before.0
-      ∙ rounds_over left p some
-      (none_at p p.threads (λ u less. before.1 u (omega arith) less))
-
-  pub several_failed : (left : ℕ) → 0 < left → x.made ≢ 0 → x.outcome ≡ Fails
-      → record { now = q; outcome = Fails } ≡ rounds left p
-  several_failed left some more fails =
-      let made : 0 < x.made = omega (arith, more) in
-      rounds_behind left p q Fails some (turns.some made)
-      (ap (λ (y : Outcome). record { now = q; outcome = y }) (sym fails) ∙ rounded)
-
-  several_by : (left : ℕ) (outcome : Outcome) → 0 < left → any_goes_on p p.threads ≡ true
-      → record { now = q; outcome = outcome } ≡ round p.threads 0 p → outcome ≢ Fails
-      → rounds (left - 1) q ≡ rounds left p
-  several_by left Done some on h fine = (rounds_behind left p q Done some on h).1
-  several_by left Waits some on h fine = (rounds_behind left p q Waits some on h).1
-  several_by left Fails some on h fine = absurd (fine refl)
-
-  pub several_on : (left : ℕ) → 0 < left → x.made ≢ 0 → x.outcome ≢ Fails
-      → rounds (left - 1) q ≡ rounds left p
-  several_on left some more fine =
-      let made : 0 < x.made = omega (arith, more) in
-      several_by left x.outcome some (turns.some made) rounded fine
+pub goes_at : (p : Playing) (t : ℕ) → goes_on p t ≡ true → one p (event.Step t) ≡ turn p t
+goes_at p t on = ap (λ (b : Bool). if b then one p (event.Step t) else stays p Done) (sym on)
 
 -- where no other one does, none of them makes its turn
 rests_by : (p : Playing) (t threads : ℕ) → other_goes_on p.set (world_of p) t threads ≡ false
@@ -279,7 +105,7 @@ rests_by p t (suc v) lone u less apart =
 
 module _ (p : Playing) where
   -- so many turns that aren't made
-  skipped : (count more u : ℕ) → ((v : ℕ) → u ≤ v → v < u + count → goes_on p v ≡ false)
+  pub skipped : (count more u : ℕ) → ((v : ℕ) → u ≤ v → v < u + count → goes_on p v ≡ false)
       → round (count + more) u p ≡ round more (u + count) p
   skipped zero more u rest =
       let none : 0 + more ≡ more = omega arith in
@@ -365,17 +191,6 @@ lone_rest (At spot) p t lone = absurd lone
 lone_rest (Release lock) p t lone = absurd lone
 lone_rest Waiting p t lone = idle_rest p.set (world_of p) t p.threads lone
 lone_rest (Alone threads) p t lone = lone.1
-
--- an event leaves the threads
-same_threads : (p : Playing) (e : Event) (b : Bool)
-    → (if b then with_event p e else p).threads ≡ p.threads
-same_threads p e true = refl
-same_threads p e false = refl
-
-one_threads : (p q : Playing) (e : Event) (outcome : Outcome)
-    → record { now = q; outcome = outcome } ≡ one p e → q.threads ≡ p.threads
-one_threads p q e outcome gone =
-    ap (λ (w : Went). w.now.threads) gone ∙ same_threads p e (has_room p)
 
 -- behind a step of it too
 idle_next : (p : Playing) (t n : ℕ)
@@ -476,23 +291,24 @@ module _ (until : Until) (p : Playing) (t most rest : ℕ)
   -- none was made, and then one of all threads
   pub lone_round_of_all : (q o : Playing) (outcome : Outcome) → 0 < rest
       → GoesAhead until t p (most - rest) q → most ≤ rest
-      → record { now = o; outcome = outcome } ≡ round q.threads 0 q
+      → record { now = o; outcome = outcome } ≡ round (q.threads - 0) 0 q
       → AreRounds most p o (after_round outcome rest)
   lone_round_of_all q o outcome some goes all h =
+      let every : q.threads - 0 ≡ q.threads = omega arith in
       let none : most - rest ≡ 0 = omega (arith, all) in
       let same : q ≡ p = stays_put until p t (most - rest) q goes none in
       let on : any_goes_on q q.threads ≡ true =
       subst (λ (x : Playing). any_goes_on x x.threads ≡ true) (sym same)
       (any_on p t is.0 is.1 is.2) in
       rounds_of most rest p q o (after_round outcome rest) less (gone_so q goes)
-      (rounds_behind rest q o outcome some on h)
+      (rounds_behind rest q o outcome some on (h ∙ ap (λ (n : ℕ). round n 0 q) every))
 
   -- one more was made, and its round ended by the turns of those behind it
-  pub lone_ends : (q o : Playing) (outcome last : Outcome) → 0 < rest
+  lone_ends : (q o : Playing) (outcome last : Outcome) → 0 < rest
       → Ends until t p (most - rest) outcome q
       → record { now = o; outcome = last }
       ≡ unless_failed outcome (record { now = q; outcome = outcome })
-      (round (p.threads - suc t) (suc t) q)
+      (round (q.threads - suc t) (suc t) q)
       → AreRounds most p o (after_round last rest)
   lone_ends q o outcome last some e h =
       let b : Playing = e.before in
@@ -505,7 +321,27 @@ module _ (until : Until) (p : Playing) (t most rest : ℕ)
       let round_so : record { now = o; outcome = last } ≡ round b.threads 0 b =
       h
       ∙ ap (λ (x : ℕ). unless_failed outcome (record { now = q; outcome = outcome })
-      (round (x - suc t) (suc t) q)) (sym m.threads)
+      (round (x - suc t) (suc t) q)) (one_threads b q (event.Step t) outcome e.ends)
       ∙ lone_round b t inside on alone q outcome e.ends in
       rounds_of most rest p b o (after_round last rest) less (gone_so b e.ahead)
       (rounds_behind rest b o last some (any_on b t inside on alone) round_so)
+
+  pub lone_fails : (q : Playing) (outcome : Outcome) → 0 < rest → outcome ≡ Fails
+      → Ends until t p (most - rest) outcome q → AreRounds most p q (after_round Fails rest)
+  lone_fails q outcome some fails e =
+      let later : Went = round (q.threads - suc t) (suc t) q in
+      lone_ends q q outcome Fails some e
+      (ap (λ (x : Outcome). record { now = q; outcome = x }) (sym fails)
+      ∙ failed_by outcome (record { now = q; outcome = outcome }) later fails)
+
+  pub lone_turned : (q o : Playing) (outcome last : Outcome) → 0 < rest → outcome ≢ Fails
+      → Ends until t p (most - rest) outcome q
+      → record { now = o; outcome = last } ≡ round (q.threads - (t + 1)) (t + 1) q
+      → AreRounds most p o (after_round last rest)
+  lone_turned q o outcome last some fine e h =
+      let next : t + 1 ≡ suc t = omega arith in
+      let later : Went = round (q.threads - suc t) (suc t) q in
+      lone_ends q o outcome last some e
+      (h
+      ∙ ap (λ (u : ℕ). round (q.threads - u) u q) next
+      ∙ later_by outcome (record { now = q; outcome = outcome }) later fine)

@@ -89,7 +89,7 @@ pub fn act(alloc: Global, playing: &mut Playing, action: &Action) -> Result<Outc
         Action::Run(thread) => playing.run(thread),
         Action::RunTo { thread, spot } => playing.run_to(thread, Until::At(spot)),
         Action::RunToRelease { thread, lock } => playing.run_to(thread, Until::Release(lock)),
-        Action::RunAll => run_all(playing),
+        Action::RunAll => run_all(alloc, playing),
         Action::Together { .. } => Ok(Outcome::Fails),
         Action::Expect(expectation) => expect(alloc, playing, &expectation),
     }

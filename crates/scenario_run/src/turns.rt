@@ -1,15 +1,16 @@
 //! Threads that make steps in turn.
 
-ghost use Rattle.std.specs.Prelude.{◌≡◌, ◌<◌, ◌≤◌, ◌-◌, suc, IfOk};
-ghost use Rattle.scenario_run.specs.Playing.{unless_failed, world_of};
-ghost use Rattle.scenario_run.specs.Turns.{AreRounds, AreTurns, IsTurn, after_round, round, rounds, run_all};
+ghost use Rattle.std.specs.Prelude.{◌≡◌, ◌<◌, ◌-◌, IfOk};
+ghost use Rattle.scenario_run.specs.Playing.{world_of};
+ghost use Rattle.scenario_run.specs.Turns.{AreRounds, IsRound, IsTurn, Rests, after_round, round, run_all};
 ghost use Rattle.scenario_world.specs.Going.{IsLone};
 
 use crate::playing::{Outcome, Playing};
 use model::event::Event;
+use scenario_world::goers::{Awaited, Goers, are_owned, goers_among};
 use scenario_world::going::{Going, goes_on, who_goes_on};
 use scenario_world::until::lone_until;
-use std::alloc::AllocError;
+use std::alloc::{AllocError, Global};
 
 /// How far rounds have gone.
 #[derive(Clone, Copy)]
@@ -20,31 +21,40 @@ pub(crate) enum Progress {
     Left(usize),
 }
 
-/// How turns of threads went.
+/// How a round went.
 #[derive(Clone, Copy)]
-pub(crate) struct Turned {
-    /// How many were made.
-    pub made: u8,
-    pub outcome: Outcome,
+pub(crate) enum Round {
+    /// No thread goes on.
+    Over,
+    /// A step failed.
+    Failed,
+    /// All made their turns, and who goes on is to be asked anew.
+    Changed,
+    /// All made their turns, and none goes on beside those that did before.
+    Same,
+}
+
+/// How the turn of a thread went.
+#[derive(Clone, Copy)]
+pub(crate) enum Turn {
+    /// It doesn't go on.
+    Skipped,
+    /// Its step failed.
+    Failed,
+    /// It made a step, behind which the locks that others wait for have the same owners.
+    Made,
+    /// It made one behind which one of these has another owner, or none.
+    Freed,
 }
 
 /// The threads make steps in turn, the lowest first, until each is idle or waits.
-pub(crate) fn run_all(playing: &mut Playing) -> Result<Outcome, AllocError>
+pub(crate) fn run_all(alloc: Global, playing: &mut Playing) -> Result<Outcome, AllocError>
     ensures { IfOk result (λ outcome.
         record { now = playing.new; outcome = outcome } ≡ run_all playing.old) }
 {
-    let most = playing.most();
-    rounds(playing, most)
-}
-
-/// The same by at most so many rounds.
-fn rounds(playing: &mut Playing, most: usize) -> Result<Outcome, AllocError>
-    ensures { IfOk result (λ outcome.
-        record { now = playing.new; outcome = outcome } ≡ rounds most playing.old) }
-{
-    let mut left = most;
+    let mut left = playing.most();
     while left > 0 {
-        match some_rounds(playing, left)? {
+        match some_rounds(alloc, playing, left)? {
             Progress::Over(outcome) => return Ok(outcome),
             Progress::Left(rest) => left = rest,
         }
@@ -54,34 +64,30 @@ fn rounds(playing: &mut Playing, most: usize) -> Result<Outcome, AllocError>
 
 /// One of so many rounds, or more.
 #[tactic(auto, using(crate::proofs::Turning::rounds_over))]
-fn some_rounds(playing: &mut Playing, most: usize) -> Result<Progress, AllocError>
+fn some_rounds(alloc: Global, playing: &mut Playing, most: usize) -> Result<Progress, AllocError>
     requires { 0 < most }
     ensures { IfOk result (AreRounds most playing.old playing.new) }
 {
     match who_goes_on(playing.machine(), playing.threads()) {
         Going::Nobody => Ok(Progress::Over(Outcome::Done)),
         Going::One(thread) => lone_rounds(playing, thread, most),
-        Going::Several => several_rounds(playing, most),
+        Going::Several => several_rounds(alloc, playing, most),
     }
 }
 
 /// Those in which more than one thread makes its turn, and the one behind them.
-fn several_rounds(playing: &mut Playing, most: usize) -> Result<Progress, AllocError>
+fn several_rounds(alloc: Global, playing: &mut Playing, most: usize) -> Result<Progress, AllocError>
     requires { 0 < most }
     ensures { IfOk result (AreRounds most playing.old playing.new) }
 {
+    let goers = goers_among(alloc, playing.machine(), playing.threads())?;
     let mut left = most;
     while left > 0 {
-        let turned = round(playing)?;
-        if turned.made == 0 {
-            return Ok(Progress::Over(Outcome::Done));
-        }
-        if let Outcome::Fails = turned.outcome {
-            return Ok(Progress::Over(Outcome::Fails));
-        }
-        left -= 1;
-        if turned.made == 1 {
-            return Ok(Progress::Left(left));
+        match make_round(playing, &goers)? {
+            Round::Over => return Ok(Progress::Over(Outcome::Done)),
+            Round::Failed => return Ok(Progress::Over(Outcome::Fails)),
+            Round::Changed => return Ok(Progress::Left(left - 1)),
+            Round::Same => left -= 1,
         }
     }
     Ok(Progress::Over(Outcome::Fails))
@@ -93,33 +99,15 @@ fn lone_rounds(playing: &mut Playing, thread: u8, most: usize) -> Result<Progres
     requires lone { IsLone playing.old.set (world_of playing.old) playing.old.threads thread }
     ensures { IfOk result (AreRounds most playing.old playing.new) }
 {
-    let threads = playing.threads();
-    let until = lone_until(playing.machine(), thread, threads);
+    let until = lone_until(playing.machine(), thread, playing.threads());
     let ahead = playing.go_ahead(thread, most, until)?;
     let outcome = match ahead.last {
-        Some(outcome) => end_round(playing, thread, threads, outcome)?,
+        Some(Outcome::Fails) => Outcome::Fails,
+        Some(Outcome::Done | Outcome::Waits) => turns_from(playing, thread + 1)?,
         None if ahead.left < most => return Ok(Progress::Left(ahead.left)),
-        None => round(playing)?.outcome,
+        None => turns_from(playing, 0)?,
     };
     Ok(after_round(outcome, ahead.left))
-}
-
-/// The turns behind that of a thread, of so many, which went so, unless that failed.
-fn end_round(
-    playing: &mut Playing,
-    thread: u8,
-    threads: u8,
-    outcome: Outcome,
-) -> Result<Outcome, AllocError>
-    requires { thread < threads }
-    ensures { IfOk result (λ last. record { now = playing.new; outcome = last }
-        ≡ unless_failed outcome (record { now = playing.old; outcome = outcome })
-        (round (threads - suc thread) (suc thread) playing.old)) }
-{
-    match outcome {
-        Outcome::Fails => Ok(Outcome::Fails),
-        Outcome::Done | Outcome::Waits => Ok(turns(playing, thread + 1, threads)?.outcome),
-    }
 }
 
 /// How far rounds have gone behind one that went so, where so many were left.
@@ -133,45 +121,57 @@ fn after_round(outcome: Outcome, left: usize) -> Progress
     }
 }
 
-/// A round: the turn of each thread, the lowest first.
-fn round(playing: &mut Playing) -> Result<Turned, AllocError>
-    ensures { IfOk result (λ turned.
-        AreTurns 0 playing.old.threads playing.old playing.new turned) }
+/// A round, where none goes on beside these while the locks that others wait for keep their owners.
+fn make_round(playing: &mut Playing, goers: &Goers) -> Result<Round, AllocError>
+    requires { Rests goers.now playing.old }
+    ensures { IfOk result (IsRound goers.now playing.old playing.new) }
 {
-    let threads = playing.threads();
-    turns(playing, 0, threads)
-}
-
-/// The turns of the threads from one on, of so many.
-fn turns(playing: &mut Playing, first: u8, threads: u8) -> Result<Turned, AllocError>
-    requires { first ≤ threads }
-    ensures { IfOk result (λ turned. AreTurns first threads playing.old playing.new turned) }
-{
-    let mut turned = Turned {
-        made: 0,
-        outcome: Outcome::Done,
-    };
-    for thread in first..threads {
-        turned = turn(playing, thread, turned.made)?;
-        if let Outcome::Fails = turned.outcome {
-            return Ok(turned);
+    let mut made = 0_usize;
+    for thread in goers.threads.as_slice() {
+        match make_turn(playing, *thread, goers.awaited.as_slice())? {
+            Turn::Skipped => {}
+            Turn::Failed => return Ok(Round::Failed),
+            Turn::Made => made += 1,
+            Turn::Freed => match turns_from(playing, *thread + 1)? {
+                Outcome::Fails => return Ok(Round::Failed),
+                Outcome::Done | Outcome::Waits => return Ok(Round::Changed),
+            },
         }
     }
-    let made = turned.made;
-    let outcome = Outcome::Done;
-    Ok(Turned { made, outcome })
+    Ok(match made {
+        0 => Round::Over,
+        1 => Round::Changed,
+        _ => Round::Same,
+    })
 }
 
-/// The turn of a thread, behind so many that were made.
-fn turn(playing: &mut Playing, thread: u8, made: u8) -> Result<Turned, AllocError>
-    requires { made < 255 }
-    ensures { IfOk result (IsTurn playing.old thread made playing.new) }
+/// The turns of the threads from one on, the lowest first.
+fn turns_from(playing: &mut Playing, first: u8) -> Result<Outcome, AllocError>
+    ensures { IfOk result (λ outcome. record { now = playing.new; outcome = outcome }
+        ≡ round (playing.old.threads - first) first playing.old) }
+{
+    let threads = playing.threads();
+    for thread in first..threads {
+        if let Turn::Failed = make_turn(playing, thread, &[])? {
+            return Ok(Outcome::Fails);
+        }
+    }
+    Ok(Outcome::Done)
+}
+
+/// The turn of a thread, where others wait for these locks.
+fn make_turn(playing: &mut Playing, thread: u8, awaited: &[Awaited]) -> Result<Turn, AllocError>
+    ensures { IfOk result (IsTurn awaited.now thread playing.old playing.new) }
 {
     if !goes_on(playing.machine(), thread) {
-        let outcome = Outcome::Done;
-        return Ok(Turned { made, outcome });
+        return Ok(Turn::Skipped);
     }
-    let made = made + 1;
-    let outcome = playing.one(Event::Step { thread })?;
-    Ok(Turned { made, outcome })
+    if let Outcome::Fails = playing.one(Event::Step { thread })? {
+        return Ok(Turn::Failed);
+    }
+    if are_owned(playing.machine(), awaited) {
+        Ok(Turn::Made)
+    } else {
+        Ok(Turn::Freed)
+    }
 }

@@ -1,2 +1,3 @@
+pub mod AnyGoes
+pub mod Awaited
 pub mod Entries
-pub mod Goers

@@ -1,4 +1,5 @@
 pub mod Expected
+pub mod Goers
 pub mod Going
 pub mod Releases
 pub mod States

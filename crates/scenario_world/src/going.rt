@@ -19,7 +19,7 @@ pub enum Going {
 }
 
 /// Which ones of so many threads go on.
-#[tactic(auto, using(crate::proofs::Goers::any_by))]
+#[tactic(auto, using(crate::proofs::AnyGoes::any_by))]
 pub fn who_goes_on(machine: &Checked, threads: u8) -> Going
     ensures { AreGoing machine.now.set machine.now.world threads result }
 {

@@ -3,6 +3,7 @@
 #![tactic(auto)]
 
 pub mod cells;
+pub mod goers;
 pub mod going;
 pub mod holders;
 pub mod lists;

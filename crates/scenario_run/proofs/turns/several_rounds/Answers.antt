@@ -1,29 +1,26 @@
-use Rattle.std.proofs.Common.{◌<◌, ◌≤◌, ◌∙◌, arith, rules}
-use Rattle.scenario_run.proofs.Turning.{several_on, several_over}
+use Rattle.std.proofs.Common.{◌≤◌, arith, rules, subst}
+use Rattle.scenario_run.specs.declared.turns.Round.{Round}
+use Rattle.scenario_run.specs.declared.turns.Round.TheVariants.{Changed, Same}
+use Rattle.scenario_run.specs.Turns.{IsRound}
+use Rattle.scenario_run.proofs.Rounds.{several_changed}
 use Rattle.scenario_run.proofs.turns.several_rounds.Goals as goal
 
-pub returns-then-turned-eq0 : goal.returns-then-turned-eq0
-returns-then-turned-eq0 c =
-    several_over c.loop-left.playing c.round.new.playing c.in_ok-turned.turned
-    c.in_ok-turned.ensures c.loop-left.left (search rules) c.if-turned-eq0.true
-    ∙ c.loop-left.invariant.1
-
-pub returns-then-turned-eq1 : goal.returns-then-turned-eq1
-returns-then-turned-eq1 c =
-    let some : 0 < c.loop-left.left = search rules in
-    let few : c.loop-left.left ≤ c.args.most = c.loop-left.invariant.0 in (
-      omega (arith, some, few),
-      several_on c.loop-left.playing c.round.new.playing c.in_ok-turned.turned
-          c.in_ok-turned.ensures c.loop-left.left some (search rules) c.in_default.not-Fails
-          ∙ c.loop-left.invariant.1,
-    )
+pub returns-in-Changed : goal.returns-in-Changed
+returns-in-Changed c =
+    let is : IsRound c.in_ok-goers.goers c.loop-left.playing c.make_round.new.playing Changed =
+    subst (λ (r : Round). IsRound c.in_ok-goers.goers c.loop-left.playing c.make_round.new.playing r)
+    c.in-Changed.is c.in_ok-make_round.ensures in
+    several_changed c.in_ok-goers.goers c.args.most c.loop-left.left c.args.playing.now
+    c.loop-left.playing c.make_round.new.playing (search rules) c.loop-left.invariant.0
+    c.loop-left.invariant.1 is
 
 pub loop-left-preserved : goal.loop-left-preserved
 loop-left-preserved c =
-    let some : 0 < c.loop-left.left = search rules in
-    let few : c.loop-left.left ≤ c.args.most = c.loop-left.invariant.0 in (
-      omega (arith, some, few),
-      several_on c.loop-left.playing c.round.new.playing c.in_ok-turned.turned
-          c.in_ok-turned.ensures c.loop-left.left some (search rules) c.in_default.not-Fails
-          ∙ c.loop-left.invariant.1,
-    )
+    let is : IsRound c.in_ok-goers.goers c.loop-left.playing c.make_round.new.playing Same =
+    subst (λ (r : Round). IsRound c.in_ok-goers.goers c.loop-left.playing c.make_round.new.playing r)
+    c.in-Same.is c.in_ok-make_round.ensures in
+    let so = several_changed c.in_ok-goers.goers c.args.most c.loop-left.left c.args.playing.now
+    c.loop-left.playing c.make_round.new.playing (search rules) c.loop-left.invariant.0
+    c.loop-left.invariant.1 is.0 in
+    let few : c.loop-left.left ≤ c.args.most = c.loop-left.invariant.0 in
+    (omega (arith, few), so.1, is.1)
