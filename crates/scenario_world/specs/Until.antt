@@ -1,5 +1,5 @@
 -- Where the steps that a thread makes one after another are to end.
-use Rattle.std.specs.Prelude.{ℕ, ◌≡◌, Bool, true, false, is_some}
+use Rattle.std.specs.Prelude.{ℕ, ◌≡◌, ◌≤◌, ◌⊎◌, Bool, true, false, if◌then◌else◌, is_some}
 use Rattle.laws_locks.specs.Waiting.{waits_for}
 use Rattle.model.specs.declared.event.Place.{Place}
 use Rattle.model.specs.Set.{Set}
@@ -17,6 +17,10 @@ abbrev pub fits : Spot → Place → Type 0
 fits spot place =
     (place.driver ≡ spot.driver) × (place.routine ≡ spot.routine)
     × (place.position ≡ spot.position)
+
+-- a part of it is above its range there
+abbrev pub IsBeyond : Spot → Type 0
+IsBeyond spot = (256 ≤ spot.driver) ⊎ (256 ≤ spot.routine) ⊎ (65536 ≤ spot.position)
 
 -- the steps of a thread end before its next one
 abbrev pub is_before : Until → Set → World → ℕ → Bool
@@ -47,3 +51,7 @@ StaysLone (Release lock) set w t threads = ⊥
 StaysLone Waiting set w t threads = other_is_busy w t threads ≡ false
 StaysLone (Alone n) set w t threads =
     (n ≡ threads) × (other_goes_on set w t threads ≡ false)
+
+-- where they are to end for that: others are looked at where one of them has frames
+abbrev pub lone_until : World → ℕ → ℕ → Until
+lone_until w t threads = if other_is_busy w t threads then Alone threads else Waiting

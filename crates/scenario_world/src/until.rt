@@ -1,8 +1,8 @@
 //! Where the steps that a thread makes one after another are to end.
 
-ghost use Rattle.std.specs.Prelude.{◌≡◌, IfSome, IsTrue, false};
+ghost use Rattle.std.specs.Prelude.{◌≡◌, IfSome, IsTrue, None, false};
 ghost use Rattle.scenario_world.specs.Going.{other_goes_on};
-ghost use Rattle.scenario_world.specs.Until.{MaySteps, StaysLone, fits, is_before, wakes};
+ghost use Rattle.scenario_world.specs.Until.{IsBeyond, MaySteps, StaysLone, fits, is_before, lone_until, wakes};
 
 use crate::going::{is_busy_at, other_goes_on, other_is_busy};
 use crate::releases::stands_before_release;
@@ -32,7 +32,8 @@ pub enum Until {
 /// if another one has frames, and waits.
 pub fn lone_until(machine: &Checked, thread: u8, threads: u8) -> Until
     requires { other_goes_on machine.now.set machine.now.world thread threads ≡ false }
-    ensures { StaysLone result machine.now.set machine.now.world thread threads }
+    ensures which { result ≡ lone_until machine.now.world thread threads }
+    ensures stays { StaysLone result machine.now.set machine.now.world thread threads }
 {
     if other_is_busy(machine, thread, threads) {
         Until::Alone(threads)
@@ -43,7 +44,8 @@ pub fn lone_until(machine: &Checked, thread: u8, threads: u8) -> Until
 
 /// The place of an instruction as the machine has it.
 pub fn place_of(spot: Spot) -> Option<Place>
-    ensures { IfSome result (fits spot) }
+    ensures some { IfSome result (fits spot) }
+    ensures none { result ≡ None → IsBeyond spot }
 {
     let driver = u8::try_from(spot.driver).ok()?;
     let routine = u8::try_from(spot.routine).ok()?;
@@ -57,7 +59,8 @@ pub fn place_of(spot: Spot) -> Option<Place>
 
 /// Whether a thread has frames, and its next step is made.
 pub fn may_step(machine: &Checked, thread: u8, until: Until) -> bool
-    ensures { IsTrue result → MaySteps until machine.now.set machine.now.world thread }
+    ensures may { IsTrue result → MaySteps until machine.now.set machine.now.world thread }
+    ensures only { MaySteps until machine.now.set machine.now.world thread → IsTrue result }
 {
     is_busy_at(machine, thread) && !is_before(machine, thread, until)
 }

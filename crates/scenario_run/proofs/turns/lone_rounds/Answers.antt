@@ -25,7 +25,7 @@ returns-in-None c =
     (subst (λ (w : World). StaysLone until c.machine.result.now.set w t p.threads)
     c.machine.ensures.world
     (subst (λ (n : ℕ). StaysLone until c.machine.result.now.set seen t n)
-    c.threads.ensures.threads c.lone_until-until.ensures)) in
+    c.threads.ensures.threads c.lone_until-until.ensures.stays)) in
     lone_left until p t c.args.most rest c.requires.lone lone c.in_ok-ahead.ensures.0 q
     (subst (λ (o : Option Outcome). Gone until t p (c.args.most - rest) o q) c.in-None.is
     c.in_ok-ahead.ensures.2)
@@ -47,7 +47,7 @@ returns c =
     (subst (λ (w : World). StaysLone until c.machine.result.now.set w t p.threads)
     c.machine.ensures.world
     (subst (λ (n : ℕ). StaysLone until c.machine.result.now.set seen t n)
-    c.threads.ensures.threads c.lone_until-until.ensures)) in
+    c.threads.ensures.threads c.lone_until-until.ensures.stays)) in
     let gone : Gone until t p (most - rest) c.in_ok-ahead.ahead.last q = c.in_ok-ahead.ensures.2 in
     let goal_at : Playing → Outcome → Type 0 = λ x last. AreRounds most p x (after_round last rest) in
     let so : goal_at o c.match-ahead.outcome =

@@ -13,7 +13,7 @@ pub returns-in-Some-clause-goes : goal.returns-in-Some-clause-goes
 returns-in-Some-clause-goes c =
     subst (λ until. Strides until c.args.thread c.args.runner.now.machine c.go_up_to.result
     c.go_up_to.new.self) (sym c.in-At.is)
-    (spot_strides c.in-At.spot c.in-Some.place c.in-Some.ensures c.args.thread
+    (spot_strides c.in-At.spot c.in-Some.place c.in-Some.ensures.some c.args.thread
     c.args.runner.now.machine c.go_up_to.result c.go_up_to.new.self c.go_up_to.ensures.short)
 
 pub returns-in_default : goal.returns-in_default
