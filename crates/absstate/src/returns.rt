@@ -4,7 +4,8 @@ ghost use Rattle.std.specs.Prelude.{◌≡◌};
 ghost use Rattle.std.specs.List.{list_any};
 ghost use Rattle.model.specs.LocalRule.{kind_of, is_given_down, is_settled};
 ghost use Rattle.model.specs.Kinds.{is_kept, is_lower};
-ghost use Rattle.model.specs.LocalRule.{is_fresh, is_taken_back, lent_fault, gives_back, is_dropped};
+ghost use Rattle.model.specs.LocalRule.{is_fresh, is_taken_back, lent_fault, gives_back};
+ghost use Rattle.model.specs.LocalRule.{is_dropped};
 ghost use Rattle.model.specs.LocalRule.{status_fault, duty_fault, form_fault, settled_fault};
 ghost use Rattle.model.specs.LocalRule.{left_packet, kept_fault, return_fault};
 

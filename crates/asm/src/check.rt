@@ -1,7 +1,8 @@
 //! A line in its context: what is wrong with it.
 
 ghost use Rattle.std.specs.Prelude.{◌≡◌};
-ghost use Rattle.asm.specs.Outline.{handler_of, draft_has_room, draft_is_again, is_out_of_range, is_stack_size, draft_misfit, stands};
+ghost use Rattle.asm.specs.Outline.{handler_of, draft_has_room, draft_is_again, is_out_of_range};
+ghost use Rattle.asm.specs.Outline.{is_stack_size, draft_misfit, stands};
 
 use crate::draft::{Draft, Place};
 use crate::fault::AsmKind;

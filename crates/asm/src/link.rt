@@ -1,7 +1,8 @@
 //! The labels of a routine put in place of their names, once all of them are known.
 
 ghost use Rattle.std.specs.Prelude.{◌≡◌, ◌++◌, [], ◌∷◌, IfOk, OnOk, map, Some};
-ghost use Rattle.asm.specs.Outline.{earliest, missed, missed_from, label_resolved, target_position, with_label};
+ghost use Rattle.asm.specs.Outline.{earliest, missed, missed_from, label_resolved, target_position};
+ghost use Rattle.asm.specs.Outline.{with_label};
 
 use crate::code::{Closed, ClosedCode, is_bare};
 use crate::draft::Step;

@@ -1,8 +1,14 @@
 //! What a line adds to what was read.
 
 ghost use Rattle.std.specs.Prelude.{◌≡◌, ◌≤◌, ◌<◌, false, true, length, OnOk};
-ghost use Rattle.model.specs.declared.limits.TheConstants.{MAX_DEVICES, MAX_DRIVERS, MAX_INSTRUCTIONS, MAX_QUEUES, MAX_ROUTINES};
-ghost use Rattle.asm.specs.Outline.{device_added, device_of, dpc_handled, driver_closed, driver_opened, handled, is_among, is_known_label, is_stack_size, label_added, noted, queue_added, routine_closed, routine_opened, startio_handled, step_added, stepped, IsFitting, IsOrderly};
+ghost use Rattle.model.specs.declared.limits.TheConstants.{MAX_DEVICES, MAX_DRIVERS};
+ghost use Rattle.model.specs.declared.limits.TheConstants.{MAX_INSTRUCTIONS, MAX_QUEUES};
+ghost use Rattle.model.specs.declared.limits.TheConstants.{MAX_ROUTINES};
+ghost use Rattle.asm.specs.Outline.{device_added, device_of, dpc_handled, driver_closed};
+ghost use Rattle.asm.specs.Outline.{driver_opened, handled, is_among, is_known_label};
+ghost use Rattle.asm.specs.Outline.{is_stack_size, label_added, noted, queue_added, routine_closed};
+ghost use Rattle.asm.specs.Outline.{routine_opened, startio_handled, step_added, stepped};
+ghost use Rattle.asm.specs.Outline.{IsFitting, IsOrderly};
 
 use crate::draft::{ClosedRoutine, Draft, Place, QueueLine, StartIoLine, Step};
 use asm_line::{Body, Line, UsedNames};

@@ -1,6 +1,7 @@
 //! The text read line by line, and the set that it names.
 
-ghost use Rattle.std.specs.Prelude.{◌≡◌, ◌⊎◌, ◌<◌, ◌^◌, ℕ, length, IfOk, MatchResult, OnOk, Ok, Err, Some};
+ghost use Rattle.std.specs.Prelude.{◌≡◌, ◌⊎◌, ◌<◌, ◌^◌, ℕ, length, IfOk, MatchResult, OnOk, Ok};
+ghost use Rattle.std.specs.Prelude.{Err, Some};
 ghost use Rattle.asm_line.specs.Plain.{plain_line};
 ghost use Rattle.asm.specs.Outline.{draft_misfit, nothing_read, IsOrderly};
 ghost use Rattle.asm.specs.declared.draft.Place.{Place};

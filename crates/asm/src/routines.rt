@@ -2,7 +2,11 @@
 
 ghost use Rattle.std.specs.Prelude.{◌≡◌, ◌≤◌, ◌++◌, length, map, IfOk, None};
 ghost use Rattle.model.specs.declared.limits.TheConstants.{MAX_QUEUES, MAX_ROUTINES};
-ghost use Rattle.asm.specs.Outline.{called, entry_in, finished, missed_calls, missed_cancels, missed_entry, missed_handler, missed_in_driver, missed_routine, missed_server, missed_startio, missed_use, finished_driver, routine_called, routine_named, startio_named, waiting_named, with_routine};
+ghost use Rattle.asm.specs.Outline.{called, entry_in, finished, missed_calls, missed_cancels};
+ghost use Rattle.asm.specs.Outline.{missed_entry, missed_handler, missed_in_driver, missed_routine};
+ghost use Rattle.asm.specs.Outline.{missed_server, missed_startio, missed_use, finished_driver};
+ghost use Rattle.asm.specs.Outline.{routine_called, routine_named, startio_named, waiting_named};
+ghost use Rattle.asm.specs.Outline.{with_routine};
 
 use crate::code::{ClosedCode, is_nameless};
 use crate::draft::{ClosedRoutine, Draft, Linked};

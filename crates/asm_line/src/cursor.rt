@@ -2,7 +2,11 @@
 
 ghost use Rattle.std.specs.Prelude.{◌≡◌, ◌≤◌, ◌<◌, IfSome, option_map};
 ghost use Rattle.model.specs.declared.limits.TheConstants.{CELLS, MAX_TURNS, REGISTERS, SPIN_LOCKS};
-ghost use Rattle.asm_line.specs.Cursor.{beginning, called, capped, cell, cell_of, constant, constant_of, field, label, lock_of, major, name, name_of, number, numbered, optional_name, paged_cell, queue, ranged, register, register_of, returned, returned_by, sort, spin_lock, status, token, turns, turns_of, Reads};
+ghost use Rattle.asm_line.specs.Cursor.{beginning, called, capped, cell, cell_of, constant};
+ghost use Rattle.asm_line.specs.Cursor.{constant_of, field, label, lock_of, major, name, name_of};
+ghost use Rattle.asm_line.specs.Cursor.{number, numbered, optional_name, paged_cell, queue, ranged};
+ghost use Rattle.asm_line.specs.Cursor.{register, register_of, returned, returned_by, sort};
+ghost use Rattle.asm_line.specs.Cursor.{spin_lock, status, token, turns, turns_of, Reads};
 
 use crate::line::UsedNames;
 use crate::words::{field_of, sort_of, status_of};

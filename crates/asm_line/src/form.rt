@@ -1,12 +1,14 @@
 //! One line read by its form.
 
-ghost use Rattle.std.specs.Prelude.{◌≡◌, ◌∷◌, Err, IfOk, IfSome, MatchResult, None, Ok, option_and_then, option_map};
+ghost use Rattle.std.specs.Prelude.{◌≡◌, ◌∷◌, Err, IfOk, IfSome, MatchResult, None, Ok};
+ghost use Rattle.std.specs.Prelude.{option_and_then, option_map};
 ghost use Rattle.std.specs.List.{list_all};
 ghost use Rattle.std.specs.Option.{ok_or};
 ghost use Rattle.text.specs.Class.{is_token};
 ghost use Rattle.text.specs.Cut.{tokens_of};
 ghost use Rattle.asm_line.specs.Cursor.{Reads};
-ghost use Rattle.asm_line.specs.Line.{body, body_of, labelled, line_of, queue, read_line, step, BodyFits};
+ghost use Rattle.asm_line.specs.Line.{body, body_of, labelled, line_of, queue, read_line, step};
+ghost use Rattle.asm_line.specs.Line.{BodyFits};
 ghost use Rattle.asm_line.specs.Plain.{blank_line};
 ghost use Rattle.asm_line.specs.declared.line.LineFault.{LineFault};
 

@@ -2,7 +2,8 @@
 
 ghost use Rattle.std.specs.Prelude.{◌≡◌, ◌++◌, All, OnOk, string_bytes};
 ghost use Rattle.model.specs.Sound.{DriverFits, RoutineFits};
-ghost use Rattle.asm_listing.specs.Listing.{driver_lines, listed, naming, queue_lines, routine_lines, starting, table_lines, text_of};
+ghost use Rattle.asm_listing.specs.Listing.{driver_lines, listed, naming, queue_lines};
+ghost use Rattle.asm_listing.specs.Listing.{routine_lines, starting, table_lines, text_of};
 ghost use Rattle.asm_listing.specs.declared.entry.Entry.TheVariants as Line;
 
 use crate::entry::Entry;

@@ -1,8 +1,10 @@
 //! Names, what they number, and the lines that use them.
 
-ghost use Rattle.std.specs.Prelude.{◌≡◌, ◌≤◌, ◌^◌, ◌++◌, [], ◌∷◌, false, length, IfOk, OnOk, Some, option_to_list};
+ghost use Rattle.std.specs.Prelude.{◌≡◌, ◌≤◌, ◌^◌, ◌++◌, [], ◌∷◌, false, length, IfOk, OnOk, Some};
+ghost use Rattle.std.specs.Prelude.{option_to_list};
 ghost use Rattle.asm_names.specs.Names.{is_among, number_of};
-ghost use Rattle.asm_names.specs.Uses.{earliest, is_known_label, missed, number_used, use_place, used_at};
+ghost use Rattle.asm_names.specs.Uses.{earliest, is_known_label, missed, number_used, use_place};
+ghost use Rattle.asm_names.specs.Uses.{used_at};
 
 use indexmap::IndexSet;
 use std::alloc::AllocError;

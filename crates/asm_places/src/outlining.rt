@@ -1,7 +1,8 @@
 //! The lines that a text is made of beside its instructions.
 
 ghost use Rattle.std.specs.Prelude.{◌≡◌, All, IfOk, false};
-ghost use Rattle.asm_places.specs.Outline.{begins_outline, is_outline_word, may_begin, outline_lines, outlines};
+ghost use Rattle.asm_places.specs.Outline.{begins_outline, is_outline_word, may_begin};
+ghost use Rattle.asm_places.specs.Outline.{outline_lines, outlines};
 ghost use Rattle.asm_places.specs.Source.{body_on};
 ghost use Rattle.text.specs.Places.{IsIn, numbers};
 

@@ -3,8 +3,10 @@
 ghost use Rattle.std.specs.Prelude.{◌≡◌, ◌<◌, ◌≤◌, ◌++◌, ◌∷◌, [], IfSome, None, if◌then◌else◌};
 ghost use Rattle.model.specs.declared.limits.TheConstants.{CELLS, MAX_TURNS, REGISTERS, SPIN_LOCKS};
 ghost use Rattle.model.specs.Sound.{FormFits};
-ghost use Rattle.asm_line.specs.Cursor.{called, cell, constant, field, label, paged_cell, queue, register, returned, spin_lock, turns};
-ghost use Rattle.asm_usual.specs.Usual.{same, with_label, with_queue, with_routine, Takes, TakesName, TakesStatus};
+ghost use Rattle.asm_line.specs.Cursor.{called, cell, constant, field, label, paged_cell, queue};
+ghost use Rattle.asm_line.specs.Cursor.{register, returned, spin_lock, turns};
+ghost use Rattle.asm_usual.specs.Usual.{same, with_label, with_queue, with_routine, Takes};
+ghost use Rattle.asm_usual.specs.Usual.{TakesName, TakesStatus};
 
 use model::instr::{Cell, Field, Register, Return, SpinLock, Turns};
 use model::status::Status;

@@ -33,8 +33,8 @@ pub fn step(
     }
 }
 
-/// Lets a frame go on by itself, where it is a routine's, for at most so many steps, up to a place, if
-/// one is given, and answers how many. Fewer only where it is there or can't go on.
+/// Lets a frame go on by itself, where it is a routine's, for at most so many steps, up to a place,
+/// if one is given, and answers how many. Fewer only where it is there or can't go on.
 pub fn go_on(frame: &mut Frame, set: &DriverSet, count: usize, until: &Option<Place>) -> usize
     ensures few { result ≤ count }
     ensures goes { FrameGoes until.now set.now frame.old result frame.new }

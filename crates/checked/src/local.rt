@@ -5,7 +5,8 @@ ghost use Rattle.std.specs.Prelude.{◌≡◌, ◌<◌, IsTrue, false};
 ghost use Rattle.model.specs.declared.limits.TheConstants.{MAX_INSTRUCTIONS};
 ghost use Rattle.model.specs.declared.world.Activation.{Activation};
 ghost use Rattle.checked.specs.GoingOn.{Makes, MakesAlone, SameRoutine};
-ghost use Rattle.model.specs.Effect.{difference_of, end_effect, is_less_at, is_zero_at, jump_effect, loop_effect, number_effect, sum_of};
+ghost use Rattle.model.specs.Effect.{difference_of, end_effect, is_less_at, is_zero_at};
+ghost use Rattle.model.specs.Effect.{jump_effect, loop_effect, number_effect, sum_of};
 ghost use Rattle.model.specs.Set.{Set};
 ghost use Rattle.model.specs.World.{at_label, innermost, next, with_register};
 

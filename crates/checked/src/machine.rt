@@ -71,11 +71,12 @@ impl Checked {
         self.state.apply(&self.driver_set, event)
     }
 
-    /// Lets the routine on the top of a thread make steps by itself, at most `count`, and answers how
-    /// many it made: the machine is then as after so many steps of the thread, each of which replies
-    /// that it stepped. It makes fewer only where no other step is like that: it ends before the
-    /// first instruction that may change anything but its activation, or whose operands are wrong;
-    /// it makes none where no routine stands on the top, or where the machine has stopped.
+    /// Lets the routine on the top of a thread make steps by itself, at most `count`, and answers
+    /// how many it made: the machine is then as after so many steps of the thread, each of which
+    /// replies that it stepped. It makes fewer only where no other step is like that: it ends
+    /// before the first instruction that may change anything but its activation, or whose operands
+    /// are wrong; it makes none where no routine stands on the top, or where the machine has
+    /// stopped.
     pub fn go_on(&mut self, thread: u8, count: usize) -> usize
         ensures few { result ≤ count }
         ensures goes { GoesOn thread self.old result self.new }
@@ -84,8 +85,8 @@ impl Checked {
         self.state.go_on(&self.driver_set, thread, count, &None)
     }
 
-    /// The same up to a place: it makes no step of the instruction there, and fewer than `count` also
-    /// where the routine has come to it.
+    /// The same up to a place: it makes no step of the instruction there, and fewer than `count`
+    /// also where the routine has come to it.
     pub fn go_up_to(&mut self, thread: u8, count: usize, place: Place) -> usize
         ensures few { result ≤ count }
         ensures goes { GoesOn thread self.old result self.new }

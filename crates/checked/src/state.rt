@@ -65,8 +65,8 @@ impl State {
     }
 
     /// Lets the routine on the top of a thread go on by itself for at most so many steps, up to a
-    /// place, if one is given, and answers how many. Fewer only where it is there or can't go on, and
-    /// none after the run has stopped.
+    /// place, if one is given, and answers how many. Fewer only where it is there or can't go on,
+    /// and none after the run has stopped.
     pub fn go_on(
         &mut self,
         set: &DriverSet,

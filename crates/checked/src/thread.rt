@@ -154,9 +154,9 @@ impl Thread {
         }
     }
 
-    /// Lets the routine on top, if one stands there, go on by itself for at most so many steps, up to
-    /// a place, if one is given, and answers how many. Fewer only where it is there, or no routine
-    /// that can go on stands on top.
+    /// Lets the routine on top, if one stands there, go on by itself for at most so many steps, up
+    /// to a place, if one is given, and answers how many. Fewer only where it is there, or no
+    /// routine that can go on stands on top.
     pub fn go_on(&mut self, set: &DriverSet, count: usize, until: &Option<Place>) -> usize
         ensures few { result ≤ count }
         ensures goes { ThreadGoes until.now set.now self.old result self.new }

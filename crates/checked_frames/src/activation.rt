@@ -6,7 +6,8 @@ ghost use Rattle.model.specs.declared.world.Frame.TheVariants.{Routine as Routin
 ghost use Rattle.model.specs.declared.world.Value.TheVariants.{Ref};
 ghost use Rattle.model.specs.Set.{cancel_routine_named};
 ghost use Rattle.model.specs.World.{entered as entered_of};
-ghost use Rattle.model.specs.Effect.{dispatched as dispatched_of, completes_with, routine_of_device};
+ghost use Rattle.model.specs.Effect.{dispatched as dispatched_of, completes_with};
+ghost use Rattle.model.specs.Effect.{routine_of_device};
 
 use crate::ran::Over;
 use arrayvec::ArrayVec;

@@ -1,6 +1,7 @@
 //! What the threads of a run share.
 
-ghost use Rattle.std.specs.Prelude.{◌≡◌, ◌≤◌, [], IfOk, IsSome, IsTrue, Some, nat_lt, option_map, replicate};
+ghost use Rattle.std.specs.Prelude.{◌≡◌, ◌≤◌, [], IfOk, IsSome, IsTrue, Some, nat_lt, option_map};
+ghost use Rattle.std.specs.Prelude.{replicate};
 ghost use Rattle.model.specs.declared.limits.TheConstants.{MAX_QUEUES, MAX_STACK};
 ghost use Rattle.model.specs.Queues.{StartState, idle, without_first_to_start};
 
@@ -84,7 +85,8 @@ fn idle_devices(alloc: Global, devices: usize) -> Result<Vec<DeviceQueue>, Alloc
 
 impl Shared {
     ghost use Rattle.model.specs.Events.{can_issue, with_new_packet};
-    ghost use Rattle.model.specs.World.{unused, owner_of, packet_in, packet_of, start_of, with_start, is_queued, with_dpc};
+    ghost use Rattle.model.specs.World.{unused, owner_of, packet_in, packet_of, start_of};
+    ghost use Rattle.model.specs.World.{with_start, is_queued, with_dpc};
     ghost use Rattle.checked_frames.specs.Left.{is_gone, is_raised};
     ghost use Rattle.model.specs.View.{packet_view, due_view};
 

@@ -1,6 +1,7 @@
 //! Lists of slots that are linked through the slots.
 
-ghost use Rattle.std.specs.Prelude.{◌≡◌, ◌+◌, ◌<◌, ◌^◌, ℕ, [], IfOk, IfSome, IsTrue, None, Some, false, length, replicate, slice_get, true};
+ghost use Rattle.std.specs.Prelude.{◌≡◌, ◌+◌, ◌<◌, ◌^◌, ℕ, [], IfOk, IfSome, IsTrue, None, Some};
+ghost use Rattle.std.specs.Prelude.{false, length, replicate, slice_get, true};
 ghost use Rattle.model.specs.Queues.{head_of, inserted, is_linked, unlinked, without_head};
 ghost use Rattle.devqueue.specs.Linked.{IsOnce, is_list};
 ghost use Rattle.devqueue.specs.Lists.{entries_of, is_free, with_entries};

@@ -1,6 +1,7 @@
 //! Packet numbers in a row, which are taken off its front or out of its middle.
 
-ghost use Rattle.std.specs.Prelude.{◌≡◌, ◌+◌, ◌≤◌, ◌<◌, ◌++◌, ◌∷◌, ◌-◌, [], IfOk, IfSome, IsTrue, drop, get_or, length, nat_eq, position, remove};
+ghost use Rattle.std.specs.Prelude.{◌≡◌, ◌+◌, ◌≤◌, ◌<◌, ◌++◌, ◌∷◌, ◌-◌, [], IfOk, IfSome, IsTrue};
+ghost use Rattle.std.specs.Prelude.{drop, get_or, length, nat_eq, position, remove};
 ghost use Rattle.std.specs.Vec.{vec_capacity};
 ghost use Rattle.model.specs.declared.limits.TheConstants.{MAX_ENTRIES};
 ghost use Rattle.model.specs.Queues.{head_of, without_head};

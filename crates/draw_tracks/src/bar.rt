@@ -1,5 +1,5 @@
-//! The locks that a thread owned: each has a track below the thread's, with a span for as long as it
-//! is owned.
+//! The locks that a thread owned: each has a track below the thread's, with a span for as long as
+//! it is owned.
 
 use crate::mark::{Kind, Mark, Marks};
 use crate::spans::{BELOW, place_of};

@@ -180,8 +180,8 @@ fn cancels_fit(routines: &[Routine], queues: &[Queue]) -> bool
     queues.iter().all(|queue| cancel_fits(routines, queue))
 }
 
-/// Whether what an instruction names is there: one of so many positions of its routine, a completion
-/// routine of its driver, one of so many queues.
+/// Whether what an instruction names is there: one of so many positions of its routine, a
+/// completion routine of its driver, one of so many queues.
 fn names_fit(positions: usize, routines: &[Routine], queues: usize, instr: &Instr) -> bool
     ensures { IsTrue result ↔ NamesFit positions routines.now queues instr.now }
 {

@@ -1,7 +1,8 @@
 //! Which part of a line is painted, by the line's form.
 
 ghost use Rattle.std.specs.Prelude.{◌≡◌, map};
-ghost use Rattle.drvhost_colors.specs.Forms.{beginning_in, color_of, color_within, has_any, has_part, span_of, up_to_end};
+ghost use Rattle.drvhost_colors.specs.Forms.{beginning_in, color_of, color_within, has_any};
+ghost use Rattle.drvhost_colors.specs.Forms.{has_part, span_of, up_to_end};
 
 use crate::paint::Color;
 

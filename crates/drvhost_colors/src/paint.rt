@@ -2,7 +2,8 @@
 
 ghost use Rattle.std.specs.Prelude.{◌≡◌, ◌++◌, ◌<◌, ◌==◌, IfOk, OnOk, length};
 ghost use Rattle.std.specs.List.{list_any};
-ghost use Rattle.drvhost_colors.specs.Painted.{AddsLine, AddsText, HasNoEscape, IsFirstLine, IsPainted, begins};
+ghost use Rattle.drvhost_colors.specs.Painted.{AddsLine, AddsText, HasNoEscape, IsFirstLine};
+ghost use Rattle.drvhost_colors.specs.Painted.{IsPainted, begins};
 
 use crate::form::{Span, span_of};
 use memchr::memchr;

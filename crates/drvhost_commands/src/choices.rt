@@ -2,7 +2,12 @@
 
 ghost use Rattle.std.specs.Prelude.{◌≡◌, ◌≤◌, IfNone, IfSome, option_map};
 ghost use Rattle.drvhost_arguments.specs.Given.{given_by};
-ghost use Rattle.drvhost_commands.specs.Choices.{IsReach, answer_format_of, any_number, coloring_of, detail_of, extent_of, figure_of, form_of, goal_of, jobs_of, manner_of, number_or, passes_of, report_of, strictness_of, tries_of, verbosity_of, verdict_format_of, verification_of, wanted_of};
+ghost use Rattle.drvhost_commands.specs.Choices.{IsReach, answer_format_of, any_number};
+ghost use Rattle.drvhost_commands.specs.Choices.{coloring_of, detail_of, extent_of, figure_of};
+ghost use Rattle.drvhost_commands.specs.Choices.{form_of, goal_of, jobs_of, manner_of, number_or};
+ghost use Rattle.drvhost_commands.specs.Choices.{passes_of, report_of, strictness_of, tries_of};
+ghost use Rattle.drvhost_commands.specs.Choices.{verbosity_of, verdict_format_of, verification_of};
+ghost use Rattle.drvhost_commands.specs.Choices.{wanted_of};
 
 use crate::job::{Form, Report};
 use clap::ArgMatches;

@@ -5,7 +5,8 @@ ghost use Rattle.clap.specs.Words.{subcommand_of, takes};
 ghost use Rattle.drvhost_devices.specs.Device.{CanCount, Says};
 ghost use Rattle.interleave.specs.Line.{number_within};
 ghost use Rattle.model.specs.declared.limits.TheConstants.{MAX_THREADS};
-ghost use Rattle.drvhost_commands.specs.CommandLine.{job_fault_status, job_fault_told, program, usage, Names, NamesJob};
+ghost use Rattle.drvhost_commands.specs.CommandLine.{job_fault_status, job_fault_told, program};
+ghost use Rattle.drvhost_commands.specs.CommandLine.{usage, Names, NamesJob};
 
 use crate::naming::named;
 use crate::usage::{USAGE, unnamed};

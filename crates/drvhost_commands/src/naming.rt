@@ -5,7 +5,8 @@ ghost use Rattle.clap.specs.Words.{all_of, first_of, subcommand_rows_of};
 ghost use Rattle.drvhost_arguments.specs.Given.{given_by};
 ghost use Rattle.drvhost_commands.specs.declared.job.Job.TheVariants.{OnPaths};
 ghost use Rattle.drvhost_commands.specs.declared.job.FileNames.{FileNames};
-ghost use Rattle.drvhost_commands.specs.CommandLine.{HasBoth, IsNamed, IsPageOf, Names, NamesJudged, NamesOf};
+ghost use Rattle.drvhost_commands.specs.CommandLine.{HasBoth, IsNamed, IsPageOf, Names};
+ghost use Rattle.drvhost_commands.specs.CommandLine.{NamesJudged, NamesOf};
 
 use crate::choices::{
     Format, answer_format, coloring, extent, figure, form, jobs, manner, passes, reach, report,

@@ -3,7 +3,9 @@
 ghost use Rattle.std.specs.Prelude.{◌≡◌, ◌++◌, IfOk};
 ghost use Rattle.drvhost_devices.specs.Answer.{end_status};
 ghost use Rattle.drvhost_devices.specs.Device.{CanCount, Says};
-ghost use Rattle.drvhost_devices.specs.Fault.{TellsLine, fault_status, fault_told, image_fault, schedule_fault, script_fault, status_of, text_fault, told_of};
+ghost use Rattle.drvhost_devices.specs.Fault.{TellsLine, fault_status, fault_told, image_fault};
+ghost use Rattle.drvhost_devices.specs.Fault.{schedule_fault, script_fault, status_of, text_fault};
+ghost use Rattle.drvhost_devices.specs.Fault.{told_of};
 
 use crate::device::Sink;
 use crate::transfer::write_whole;

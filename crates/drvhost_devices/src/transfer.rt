@@ -2,7 +2,8 @@
 
 ghost use Rattle.std.specs.Prelude.{◌≡◌, ◌+◌, ◌++◌, ◌⊎◌, [], IfErr, IfOk, OnErr, OnOk, vec_len};
 ghost use Rattle.report.specs.Lines.{HasRoom};
-ghost use Rattle.drvhost_devices.specs.Device.{Adds, CanCount, Counts, Holds, TakesBeginning, Writes};
+ghost use Rattle.drvhost_devices.specs.Device.{Adds, CanCount, Counts, Holds, TakesBeginning};
+ghost use Rattle.drvhost_devices.specs.Device.{Writes};
 ghost use Rattle.drvhost_devices.specs.Fault.{reads_failed, writes_failed};
 
 use crate::device::{Failed, Sink, Source};

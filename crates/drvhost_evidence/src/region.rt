@@ -3,7 +3,8 @@
 ghost use Rattle.std.specs.Prelude.{◌≡◌, ◌-◌, ◌≤◌, ◌<◌, ◌^◌, All, IfOk, length, slice_get};
 ghost use Rattle.std.specs.Option.{option_and_then};
 ghost use Rattle.text.specs.Places.{IsIn, numbers};
-ghost use Rattle.drvhost_evidence.specs.Regions.{indent, position_lines, refusal_region, region_at, region_on, units, units_of_byte};
+ghost use Rattle.drvhost_evidence.specs.Regions.{indent, position_lines, refusal_region, region_at};
+ghost use Rattle.drvhost_evidence.specs.Regions.{region_on, units, units_of_byte};
 
 use asm_places::routine_source;
 use drvhost_devices::reading::begins_image;

@@ -2,7 +2,8 @@
 
 ghost use Rattle.std.specs.Prelude.{◌≡◌, All, IfOk, Some, option_map};
 ghost use Rattle.text.specs.Places.{IsIn, numbers};
-ghost use Rattle.drvhost_evidence.specs.Shown.{AreStepsBy, AreStepsOf, IsShownBy, other_path, path_of, place_by, step_place};
+ghost use Rattle.drvhost_evidence.specs.Shown.{AreStepsBy, AreStepsOf, IsShownBy, other_path};
+ghost use Rattle.drvhost_evidence.specs.Shown.{path_of, place_by, step_place};
 
 use crate::region::{position_lines, region_by};
 use driver_set::DriverSet;
@@ -14,8 +15,8 @@ use verifier_evidence::{Evidence, Path, Step as PathStep};
 use verifier_names::Origin;
 use verifier_words::{RefusedRoutine, set_refused};
 
-/// What shows a refusal: the path to its place, if there is one, and the other one where two differ;
-/// and in words why the rule is broken, and how to mend it.
+/// What shows a refusal: the path to its place, if there is one, and the other one where two
+/// differ; and in words why the rule is broken, and how to mend it.
 #[derive(Drop)]
 pub struct Shown {
     pub path: Vec<Step>,

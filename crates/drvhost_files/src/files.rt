@@ -1,10 +1,12 @@
 //! Files by their names.
 
-ghost use Rattle.std.specs.Prelude.{◌≡◌, ◌+◌, ◌<◌, ◌^◌, ◌↔◌, ℕ, IfOk, IsTrue, List, None, OnErr, Option, length};
+ghost use Rattle.std.specs.Prelude.{◌≡◌, ◌+◌, ◌<◌, ◌^◌, ◌↔◌, ℕ, IfOk, IsTrue, List, None, OnErr};
+ghost use Rattle.std.specs.Prelude.{Option, length};
 ghost use Rattle.std.specs.Io.KnownBytes.{Keeps};
 ghost use denote.Param.Send.{IsSync};
 ghost use Rattle.drvhost_devices.specs.Device.{Closed, IsSuppliedAs, Supply, Unknown};
-ghost use Rattle.drvhost_files.specs.Files.{blank, contents_given, contents_of, failures_of, supply_of, Stores};
+ghost use Rattle.drvhost_files.specs.Files.{blank, contents_given, contents_of, failures_of};
+ghost use Rattle.drvhost_files.specs.Files.{supply_of, Stores};
 ghost use Rattle.drvhost_files.specs.Reading.{AreAnswered, AreHeld, Opens};
 
 use crate::reading::{
@@ -83,8 +85,8 @@ pub trait Files {
         ensures unwritten { unwritten self.new ≡ unwritten self.old }
         ensures supply { supply self.new ≡ supply self.old };
 
-    /// Reads the files of these names, each whole, by so many jobs at once: what was read of each, in
-    /// order, is what one job would have read of it.
+    /// Reads the files of these names, each whole, by so many jobs at once: what was read of each,
+    /// in order, is what one job would have read of it.
     ///
     /// # Errors
     ///
@@ -127,8 +129,8 @@ pub trait Files {
             (Self.Target.contents target) };
 }
 
-/// The files of a system. Where one is to be read, the name `-` is that of its standard input, which
-/// is read from where it stands: once it is at its end, there is nothing more to read.
+/// The files of a system. Where one is to be read, the name `-` is that of its standard input,
+/// which is read from where it stands: once it is at its end, there is nothing more to read.
 #[derive(Drop)]
 pub struct Disk<'r> {
     system: &'r HostRuntime,
@@ -169,8 +171,8 @@ impl<'r> Disk<'r> {
         self.failures
     }
 
-    /// Reads the files of these names, each whole, by so many jobs at once, and answers each where it
-    /// was read: for each, in order, what is answered for what one job would have read of it. No
+    /// Reads the files of these names, each whole, by so many jobs at once, and answers each where
+    /// it was read: for each, in order, what is answered for what one job would have read of it. No
     /// more is kept of it.
     ///
     /// # Errors

@@ -1,5 +1,5 @@
-//! Files by their names: those of a system, its standard input among them, and those that are opened
-//! once they are read or written.
+//! Files by their names: those of a system, its standard input among them, and those that are
+//! opened once they are read or written.
 #![tactic(auto)]
 
 pub mod files;

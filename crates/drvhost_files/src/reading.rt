@@ -3,7 +3,9 @@
 ghost use Rattle.std.specs.Prelude.{◌≡◌, ◌≤◌, ◌<◌, ◌↔◌, IfOk, IsTrue, length};
 ghost use Rattle.std.specs.List.{AllZip, sum_by};
 ghost use Rattle.drvhost_devices.specs.Device.{CanCount, Closed, Unknown};
-ghost use Rattle.drvhost_files.specs.Reading.{IsAnsweredBy, IsAnsweredFor, IsHeld, IsNamed, IsNamedSo, IsReadOf, failed_reads, held_reads, reads_of};
+ghost use Rattle.drvhost_files.specs.Reading.{IsAnsweredBy, IsAnsweredFor, IsHeld, IsNamed};
+ghost use Rattle.drvhost_files.specs.Reading.{IsNamedSo, IsReadOf, failed_reads, held_reads};
+ghost use Rattle.drvhost_files.specs.Reading.{reads_of};
 
 use crate::standard::{STANDARD_INPUT, open};
 use drvhost_devices::device::{Reader, Source};
@@ -182,8 +184,8 @@ fn answer_one<A: Answering>(
 }
 
 /// Has the C library keep memory that is given back to it: of what is free for a thread it keeps
-/// twice the largest block that it ever took from the system and gave back, and only 128 KiB before.
-/// So memory would go back to the system at each file, and be touched anew for the next.
+/// twice the largest block that it ever took from the system and gave back, and only 128 KiB
+/// before. So memory would go back to the system at each file, and be touched anew for the next.
 fn keep_memory(alloc: Global) {
     let _block = Vec::<u8>::with_capacity(alloc, BLOCK_KEPT);
 }

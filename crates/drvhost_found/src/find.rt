@@ -4,7 +4,8 @@ ghost use Rattle.std.specs.Prelude.{◌≡◌, ◌∷◌, ◌++◌, [], IfOk, Li
 ghost use Rattle.drvhost_found.specs.declared.folders.Listing.{Listing};
 ghost use Rattle.drvhost_found.specs.declared.sought.Sought.{Sought};
 ghost use Rattle.drvhost_found.specs.Found.{AreNamed, IsAlone, IsFound};
-ghost use Rattle.drvhost_found.specs.Below.{AreBelow, Knows, Lists, file_of, files_of, folder_of, folders_of};
+ghost use Rattle.drvhost_found.specs.Below.{AreBelow, Knows, Lists, file_of, files_of, folder_of};
+ghost use Rattle.drvhost_found.specs.Below.{folders_of};
 
 use crate::folders::{Entry, Folders, Kind, Listing, System};
 use crate::sought::{Search, Sought, is_name_of};

@@ -152,8 +152,8 @@ struct Looking<'r> {
     system: &'r HostRuntime,
 }
 
-/// Looks what each of these entries is, by so many jobs at once, at most. It is left to each to bring
-/// its part into order: then less is left to be sorted by one.
+/// Looks what each of these entries is, by so many jobs at once, at most. It is left to each to
+/// bring its part into order: then less is left to be sorted by one.
 fn look_at_each<T: Threads + Sync>(rt: &T, looking: Looking<'_>, jobs: u8, entries: &mut [Named]) {
     let part = entries_each(jobs, entries.len());
     thread::for_each_chunk_mut(
@@ -173,7 +173,8 @@ fn entries_each(jobs: u8, entries: usize) -> usize
     entries.div_ceil((jobs as usize).max(1)).max(ENTRIES_LEAST)
 }
 
-/// Looks at some entries, and brings them into the order of their paths, where there is memory for it.
+/// Looks at some entries, and brings them into the order of their paths, where there is memory for
+/// it.
 fn look_at_some(looking: Looking<'_>, some: &mut [Named]) {
     for one in 0..some.len() {
         some[one].found = some[one].look(looking);

@@ -53,10 +53,10 @@ impl<'n> Sets<'n> {
 /// Judges the set of each of these files, by so many jobs at once, and tells the answers in order,
 /// each with the name of its file: before each line of a verdict, in a line of JSON, or in a line
 /// above an explanation. With one job what is answered for a file goes out before the next is
-/// opened. Several are handed 256 files each at once, and each is judged where it was read, of which
-/// the answer alone is kept. The answer is the greatest
-/// exit status. A file that can't be read, or is faulty, doesn't keep from the others; a
-/// write that fails does, and want of memory. How many of the files are done is told meanwhile.
+/// opened. Several are handed 256 files each at once, and each is judged where it was read, of
+/// which the answer alone is kept. The answer is the greatest exit status. A file that can't be
+/// read, or is faulty, doesn't keep from the others; a write that fails does, and want of memory.
+/// How many of the files are done is told meanwhile.
 pub fn answer_each<R: Threads + Sync + Progress, F: JudgedFiles, O: Sink, E: Sink>(
     rt: &R,
     sets: Sets<'_>,
@@ -137,8 +137,8 @@ fn tell_behind<P: Progress>(progress: &P, left: usize, all: usize) {
     });
 }
 
-/// Some of these files, which are judged at once. What an error writer is told of them stands behind
-/// what it was told since it had failed so often.
+/// Some of these files, which are judged at once. What an error writer is told of them stands
+/// behind what it was told since it had failed so often.
 #[derive(Clone, Copy)]
 struct Window<'n> {
     sets: Sets<'n>,

@@ -52,9 +52,9 @@ pub(crate) fn explain_shown<S: Source, O: Sink, E: Sink>(
     }
 }
 
-/// Explains the set of a source, whose file has this name, in colour: with the paint taken out, what
-/// goes out is what [`explain_file`] writes, and the exit status is the same. It stands in memory
-/// before any of it goes out.
+/// Explains the set of a source, whose file has this name, in colour: with the paint taken out,
+/// what goes out is what [`explain_file`] writes, and the exit status is the same. It stands in
+/// memory before any of it goes out.
 fn explain_painted<S: Source, O: Sink, E: Sink>(
     alloc: Global,
     extent: Extent,

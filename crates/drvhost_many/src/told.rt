@@ -22,7 +22,8 @@ impl Model for Told {
 
     ghost Value = { Answer };
 
-    ghost view = { λ t. record { status = t.exit; output = t.written.items; told = t.errors.items } };
+    ghost view = {
+        λ t. record { status = t.exit; output = t.written.items; told = t.errors.items } };
 }
 
 impl Told {
@@ -91,7 +92,8 @@ pub fn collected(
 ) -> Result<Told, AllocError>
     ensures { IfOk result (Collects exit reads
         (⟦<Writer<Vec<u8>> as Sink>⟧.failures output) (⟦<Writer<Vec<u8>> as Sink>⟧.contents output)
-        (⟦<Writer<Vec<u8>> as Sink>⟧.failures errors) (⟦<Writer<Vec<u8>> as Sink>⟧.contents errors)) }
+        (⟦<Writer<Vec<u8>> as Sink>⟧.failures errors)
+        (⟦<Writer<Vec<u8>> as Sink>⟧.contents errors)) }
 {
     if exit == NO_MEMORY || reads > 0 || output.failures() > 0 || errors.failures() > 0 {
         return Err(AllocError);

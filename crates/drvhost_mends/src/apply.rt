@@ -6,7 +6,8 @@ ghost use Rattle.drvhost_devices.specs.Answer.{ended, is_image};
 ghost use Rattle.drvhost_devices.specs.Device.{CanCount, Says};
 ghost use Rattle.drvhost_devices.specs.Ends.{Answers};
 ghost use Rattle.drvhost_devices.specs.Fault.{Goes, reads_failed, status_of, writes_failed};
-ghost use Rattle.drvhost_mends.specs.Apply.{IsApply, IsAppliedTo, IsApplyOf, LeavesFor, Shows, Takes, TakesMade, applied_line, unapplied_line};
+ghost use Rattle.drvhost_mends.specs.Apply.{IsApply, IsAppliedTo, IsApplyOf, LeavesFor, Shows};
+ghost use Rattle.drvhost_mends.specs.Apply.{Takes, TakesMade, applied_line, unapplied_line};
 
 use crate::judged_offers::{Offered, offer};
 use crate::judging::verdict;

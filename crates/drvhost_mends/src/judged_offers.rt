@@ -2,7 +2,8 @@
 
 ghost use Rattle.std.specs.Prelude.{◌≡◌, ◌++◌, ◌||◌, IfOk, OnOk, Some, true};
 ghost use Rattle.text.specs.Cut.{lines_of};
-ghost use Rattle.drvhost_mends.specs.Mend.{AreOffers, are_words, diff_shown, extent_text, is_whole, offer_head, offer_text};
+ghost use Rattle.drvhost_mends.specs.Mend.{AreOffers, are_words, diff_shown, extent_text, is_whole};
+ghost use Rattle.drvhost_mends.specs.Mend.{offer_head, offer_text};
 ghost use Rattle.drvhost_mends.specs.Apply.{Applies, IsWanted};
 
 use crate::choosing::choices;

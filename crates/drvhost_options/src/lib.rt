@@ -1,5 +1,5 @@
-//! What the options of commands choose among: values alone, so that what reads a command line stands
-//! on no job.
+//! What the options of commands choose among: values alone, so that what reads a command line
+//! stands on no job.
 #![tactic(auto)]
 
 pub mod coloring;

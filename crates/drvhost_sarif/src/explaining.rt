@@ -68,8 +68,8 @@ fn explain_each(
     Ok(findings)
 }
 
-/// A fault, explained: behind its place in words why the rule is broken and how to mend it, the paths
-/// to it, and of the first one the edits that mend it, if they were judged.
+/// A fault, explained: behind its place in words why the rule is broken and how to mend it, the
+/// paths to it, and of the first one the edits that mend it, if they were judged.
 fn explain(
     alloc: Global,
     file: ReadFile<'_>,

@@ -5,7 +5,10 @@ ghost use Rattle.model.specs.Typable.{IsFirstFault, at_start};
 ghost use Rattle.model.specs.Words.{rule_word};
 ghost use Rattle.report.specs.Rule.{rule_name};
 ghost use Rattle.report_sarif.specs.declared.log.Region.{Region as PlacedRegion};
-ghost use Rattle.drvhost_sarif.specs.Found.{AreTold, IsFault, IsFaultFound, IsFoundIn, IsPass, IsPassed, IsRefused, IsRefusalFound, IsSaid, IsTextFaultFound, IsVerdictFound, refusal_print, refusal_words};
+ghost use Rattle.drvhost_sarif.specs.Found.{AreTold, IsFault, IsFaultFound, IsFoundIn, IsPass};
+ghost use Rattle.drvhost_sarif.specs.Found.{IsPassed, IsRefused, IsRefusalFound, IsSaid};
+ghost use Rattle.drvhost_sarif.specs.Found.{IsTextFaultFound, IsVerdictFound, refusal_print};
+ghost use Rattle.drvhost_sarif.specs.Found.{refusal_words};
 
 use crate::explaining::explained;
 use crate::found::{Found, only};
@@ -177,8 +180,8 @@ pub(crate) fn words_of(rule: Rule) -> (&'static str, &'static str)
     words
 }
 
-/// What is found in a faulty text: its first fault, at its line. Where verdicts are explained, so is
-/// that, in the words with which `explain` tells it.
+/// What is found in a faulty text: its first fault, at its line. Where verdicts are explained, so
+/// is that, in the words with which `explain` tells it.
 fn text_fault_in(
     alloc: Global,
     account: Account,

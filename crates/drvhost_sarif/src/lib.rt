@@ -1,5 +1,5 @@
-//! What is found in the driver sets of several files, as one log of SARIF, with the place in its text
-//! of each thing that is wrong.
+//! What is found in the driver sets of several files, as one log of SARIF, with the place in its
+//! text of each thing that is wrong.
 #![tactic(auto)]
 
 mod explaining;

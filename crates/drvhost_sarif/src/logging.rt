@@ -30,11 +30,11 @@ pub struct Log<'n> {
 
 /// Looks at the driver set of each file that one of these paths stands for, and writes what is
 /// found, in order, as one log of SARIF: the first fault of a refused set, or that of each routine,
-/// explained if asked for; the first fault of a text or an image, or that a file can't be read, each
-/// with its place where there is one; and, if asked for, that a set is accepted. The answer is the
-/// exit status: the greatest of those of the files, which is 0 for an accepted set, 1 for a refused
-/// one, and 2 for a file that is faulty or can't be read; 2 where a write failed, and 3 where memory
-/// ran out, which is told on the error writer.
+/// explained if asked for; the first fault of a text or an image, or that a file can't be read,
+/// each with its place where there is one; and, if asked for, that a set is accepted. The answer is
+/// the exit status: the greatest of those of the files, which is 0 for an accepted set, 1 for a
+/// refused one, and 2 for a file that is faulty or can't be read; 2 where a write failed, and 3
+/// where memory ran out, which is told on the error writer.
 pub fn log_paths<T: Threads + Sync, F: Files, O: Sink, E: Sink>(
     rt: &T,
     log: Log<'_>,

@@ -2,7 +2,8 @@
 //! a set is accepted.
 
 ghost use Rattle.std.specs.Prelude.{◌≡◌, IfOk, map, string_bytes};
-ghost use Rattle.drvhost_sarif.specs.Log.{IsLogOf, all_entries, entry_of, fault_entry, pass_entry, rule_entry};
+ghost use Rattle.drvhost_sarif.specs.Log.{IsLogOf, all_entries, entry_of, fault_entry, pass_entry};
+ghost use Rattle.drvhost_sarif.specs.Log.{rule_entry};
 
 use crate::finding::{ACCEPTED, words_of};
 use model::abs::Rule;

@@ -34,7 +34,8 @@ pub(crate) fn tell_schedule(
 
 /// That what was written lists something else.
 fn tell_unlisted(alloc: Global) -> Result<Told, AllocError>
-    ensures { IfOk result (λ told. ended told.end told.text.items ≡ ended End.Stopped unlisted_line) }
+    ensures { IfOk result
+        (λ told. ended told.end told.text.items ≡ ended End.Stopped unlisted_line) }
 {
     let mut text = Vec::new(alloc);
     add(&mut text, b"; the schedule, read back, is another one\n")?;

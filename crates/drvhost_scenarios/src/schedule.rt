@@ -64,8 +64,9 @@ fn write_told<S: Source, P: Source, O: Sink>(
     requires out { CanCount (O.failures out.old) }
     ensures unread { (scenario.new ≡ scenario.old)
         ⊎ HoldsRun plan.entry.verification (S.supply set.old) }
-    ensures goes { Goes (IsOfSources (right_of plan.entry.asked) plan.entry.verification (S.supply set.old)
-        (P.supply scenario.old)) (O.contents out.old) (O.contents out.new) [] [] result }
+    ensures goes { Goes (IsOfSources (right_of plan.entry.asked) plan.entry.verification
+        (S.supply set.old) (P.supply scenario.old)) (O.contents out.old) (O.contents out.new)
+        [] [] result }
     ensures reads { S.failures set.new + P.failures scenario.new
         ≡ S.failures set.old + P.failures scenario.old + reads_failed result }
     ensures writes { O.failures out.new ≡ O.failures out.old + writes_failed result }

@@ -9,7 +9,8 @@ ghost use Rattle.model.specs.declared.limits.TheConstants.{MAX_THREADS};
 ghost use Rattle.model.specs.Typable.{IsTypable};
 ghost use Rattle.report.specs.Verdict.{refusal_line};
 ghost use Rattle.scenario_text.specs.Listing.{scenario_in};
-ghost use Rattle.drvhost_scenarios.specs.Scenarios.{IsFound, IsOfScenario, IsPlayedOf, PlaysJudged, listed, names_in, right_of, right_of_play};
+ghost use Rattle.drvhost_scenarios.specs.Scenarios.{IsFound, IsOfScenario, IsPlayedOf, PlaysJudged};
+ghost use Rattle.drvhost_scenarios.specs.Scenarios.{listed, names_in, right_of, right_of_play};
 ghost use Rattle.drvhost_scenarios.specs.Telling.{Tells};
 
 use crate::listing::tell_schedule;
@@ -64,7 +65,8 @@ pub(crate) fn tell_file<P: Source>(
 ) -> Result<Told, Fault>
     requires { CanCount (P.failures scenario.old) }
     ensures tells { Tells (IsOfFile (IsTraced plan.entry.verification
-        (IsPlayedOf (right_of plan.entry.asked) bytes.now (P.supply scenario.old))) bytes.now) result }
+        (IsPlayedOf (right_of plan.entry.asked) bytes.now (P.supply scenario.old))) bytes.now)
+        result }
     ensures unread { (scenario.new ≡ scenario.old)
         ⊎ HoldsRun plan.entry.verification (Bytes bytes.now) }
     ensures reads { P.failures scenario.new ≡ P.failures scenario.old + reads_failed result }

@@ -24,13 +24,13 @@ pub(crate) fn image_words(
         ImageFault::Trailing => add_trailing(&mut prose)?,
         ImageFault::BadOpcode => add_number(
             &mut prose,
-            "a number that no instruction, sort or form of return has, or a byte that has to be zero \
-             and isn't",
+            "a number that no instruction, sort or form of return has, or a byte that has to be \
+             zero and isn't",
         )?,
         ImageFault::OverLimit => add_number(
             &mut prose,
-            "a number out of its range, one that names nothing, or that of a routine of another sort \
-             than is wanted there",
+            "a number out of its range, one that names nothing, or that of a routine of another \
+             sort than is wanted there",
         )?,
         ImageFault::Memory => {}
     }

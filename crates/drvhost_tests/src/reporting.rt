@@ -2,7 +2,9 @@
 
 ghost use Rattle.std.specs.Prelude.{◌≡◌, ◌++◌, IfOk, OnOk};
 ghost use Rattle.drvhost_many.specs.All.{joined};
-ghost use Rattle.drvhost_tests.specs.Reports.{alone, entry, escaped, escaped_byte, framed, outcome, problem, reported, sheet, suite, suite_head, tap_point, tap_sheet, test_case, words};
+ghost use Rattle.drvhost_tests.specs.Reports.{alone, entry, escaped, escaped_byte, framed, outcome};
+ghost use Rattle.drvhost_tests.specs.Reports.{problem, reported, sheet, suite, suite_head};
+ghost use Rattle.drvhost_tests.specs.Reports.{tap_point, tap_sheet, test_case, words};
 
 use drvhost_commands::job::Report;
 use drvhost_many::named::name_lines;

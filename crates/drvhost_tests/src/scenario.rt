@@ -4,7 +4,9 @@ ghost use Rattle.std.specs.Prelude.{◌≡◌, ◌↔◌, IfOk, IsTrue};
 ghost use Rattle.std.specs.List.{All, AllZip, list_any};
 ghost use Rattle.drvhost_many.specs.Held.{AreJoined};
 ghost use Rattle.drvhost_scenarios.specs.Scenarios.{names_in};
-ghost use Rattle.drvhost_tests.specs.Tests.{IsEntry, IsHeldTold, IsKept, IsScenarioShown, IsScenarioTold, IsShown, is_held_of_verdict, is_of_verdict};
+ghost use Rattle.drvhost_tests.specs.Tests.{IsEntry, IsHeldTold, IsKept, IsScenarioShown};
+ghost use Rattle.drvhost_tests.specs.Tests.{IsScenarioTold, IsShown, is_held_of_verdict};
+ghost use Rattle.drvhost_tests.specs.Tests.{is_of_verdict};
 ghost use Rattle.drvhost_tests.specs.Told.{asked_of, tested_of};
 ghost use Rattle.scenario_text.specs.Listing.{scenario_in};
 

@@ -3,7 +3,8 @@
 ghost use Rattle.std.specs.Prelude.{◌≡◌, ◌<◌, ◌≤◌, ◌^◌, IfOk};
 ghost use Rattle.drvhost_devices.specs.Device.{CanCount};
 ghost use Rattle.drvhost_tests.specs.Reports.{alone};
-ghost use Rattle.drvhost_tests.specs.Tests.{AreEntries, AreJudgedBy, AreOfBytes, AreOfFile, AreTested, AreToldBy, Gathers, refused};
+ghost use Rattle.drvhost_tests.specs.Tests.{AreEntries, AreJudgedBy, AreOfBytes, AreOfFile};
+ghost use Rattle.drvhost_tests.specs.Tests.{AreTested, AreToldBy, Gathers, refused};
 ghost use Rattle.drvhost_tests.specs.Told.{asked_of, tested_of};
 
 use crate::reporting::{alone, framed};

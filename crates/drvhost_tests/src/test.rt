@@ -35,14 +35,14 @@ pub struct Tests<'n> {
     pub jobs: u8,
 }
 
-/// Plays scenarios over a driver set, by several jobs at once, and writes a line for each, in order:
-/// that all that it expects holds, or the first step that fails, with what is there instead, and if
-/// it is wanted the run up to there. A folder stands for the scenarios in and below it, in the order
-/// of their paths. Where verification is required, a refused set isn't run: scenarios that expect
-/// nothing but a verdict are told, and for others the line of the refusal is. The answer is the exit
-/// status, the greatest of those of the scenarios: 0 where all holds, 1 where a step fails or the set
-/// is refused, 2 where a file is faulty or can't be read, which is told with its name; 2 where a
-/// write failed, and 3 where memory ran out.
+/// Plays scenarios over a driver set, by several jobs at once, and writes a line for each, in
+/// order: that all that it expects holds, or the first step that fails, with what is there instead,
+/// and if it is wanted the run up to there. A folder stands for the scenarios in and below it, in
+/// the order of their paths. Where verification is required, a refused set isn't run: scenarios
+/// that expect nothing but a verdict are told, and for others the line of the refusal is. The
+/// answer is the exit status, the greatest of those of the scenarios: 0 where all holds, 1 where a
+/// step fails or the set is refused, 2 where a file is faulty or can't be read, which is told with
+/// its name; 2 where a write failed, and 3 where memory ran out.
 pub fn test<R: Threads + Sync, F: Files, O: Sink, E: Sink>(
     rt: &R,
     alloc: Global,

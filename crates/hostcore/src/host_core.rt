@@ -1,11 +1,15 @@
 //! The core: a world, the history of what was done to it, and the seats of its threads.
 
-ghost use Rattle.std.specs.Prelude.{◌≡◌, ◌≢◌, ◌≤◌, ◌↔◌, ◌++◌, ◌∷◌, [], All, MatchBool, None, Some, false, true, length, nat_eq, replicate, option_map, slice_get, slice_set, IfErr, IfNone, IfOk, IfSome, IsErr, OnErr, OnOk};
+ghost use Rattle.std.specs.Prelude.{◌≡◌, ◌≢◌, ◌≤◌, ◌↔◌, ◌++◌, ◌∷◌, [], All, MatchBool, None, Some};
+ghost use Rattle.std.specs.Prelude.{false, true, length, nat_eq, replicate, option_map, slice_get};
+ghost use Rattle.std.specs.Prelude.{slice_set, IfErr, IfNone, IfOk, IfSome, IsErr, OnErr, OnOk};
 ghost use Rattle.model.specs.declared.limits.TheConstants.{MAX_HISTORY, MAX_THREADS};
-ghost use Rattle.hostcore.specs.Core.{IsOwed, count_of, counted, entered, performed, reply_in, event_in, world_of};
+ghost use Rattle.hostcore.specs.Core.{IsOwed, count_of, counted, entered, performed, reply_in};
+ghost use Rattle.hostcore.specs.Core.{event_in, world_of};
 ghost use Rattle.hostcore.specs.Stepping.{Steps, is_of_none};
 ghost use Rattle.machine.specs.Runs.{TellsOf};
-ghost use Rattle.model.specs.History.{IsLegal, entry_named, event_of, events_of, is_kept, outcome_named};
+ghost use Rattle.model.specs.History.{IsLegal, entry_named, event_of, events_of, is_kept};
+ghost use Rattle.model.specs.History.{outcome_named};
 ghost use Rattle.model.specs.Run.{thread_of};
 ghost use Rattle.model.specs.View.{busy_at, due_at};
 ghost use Rattle.laws_runs.specs.NeverStops.{LetsGoOn};
@@ -238,8 +242,8 @@ impl Core {
         self.apply(seat, Event::Step { thread })
     }
 
-    /// Steps the seat's thread, if it has frames. The step becomes an entry, unless the thread waits:
-    /// then nothing changes. At a full history nothing is done.
+    /// Steps the seat's thread, if it has frames. The step becomes an entry, unless the thread
+    /// waits: then nothing changes. At a full history nothing is done.
     pub fn step_if_busy(&mut self, seat: &mut Seat) -> Stepped
         ensures steps { Steps self.old seat.old self.new result }
         ensures seat { seat.new ≡ seat.old }

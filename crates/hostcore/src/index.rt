@@ -1,6 +1,7 @@
 //! The index.
 
-ghost use Rattle.std.specs.Prelude.{◌≡◌, ◌<◌, ◌≤◌, ◌^◌, ◌+◌, ◌++◌, ◌∷◌, ◌%◌, [], None, Some, ℕ, get_or, length, if◌then◌else◌, IfOk};
+ghost use Rattle.std.specs.Prelude.{◌≡◌, ◌<◌, ◌≤◌, ◌^◌, ◌+◌, ◌++◌, ◌∷◌, ◌%◌, [], None, Some, ℕ};
+ghost use Rattle.std.specs.Prelude.{get_or, length, if◌then◌else◌, IfOk};
 ghost use Rattle.std.specs.Option.{option_or};
 ghost use Rattle.std.specs.Vec.{vec_capacity};
 ghost use Rattle.hostcore.specs.Noted.{get, noted, room};

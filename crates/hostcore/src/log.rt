@@ -1,9 +1,11 @@
 //! The stored history of a core.
 
-ghost use Rattle.std.specs.Prelude.{◌≡◌, ◌≤◌, ◌<◌, ◌+◌, ◌++◌, ◌∷◌, [], false, length, nat_eq, option_map, IfOk, IfSome};
+ghost use Rattle.std.specs.Prelude.{◌≡◌, ◌≤◌, ◌<◌, ◌+◌, ◌++◌, ◌∷◌, [], false, length, nat_eq};
+ghost use Rattle.std.specs.Prelude.{option_map, IfOk, IfSome};
 ghost use Rattle.hostcore.specs.Noted.{get, noted, room};
 ghost use Rattle.model.specs.declared.limits.TheConstants.{MAX_HISTORY};
-ghost use Rattle.model.specs.History.{entry_named, is_name, outcome_named, packet_named, request_started};
+ghost use Rattle.model.specs.History.{entry_named, is_name, outcome_named, packet_named};
+ghost use Rattle.model.specs.History.{request_started};
 ghost use Rattle.model.specs.Run.{thread_of};
 ghost use Rattle.laws_runs.specs.NeverStops.{LetsGoOn};
 ghost use Rattle.hostcore.specs.Indexed.{IsPlaceOf, Notes, told_top};

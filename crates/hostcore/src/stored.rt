@@ -21,8 +21,8 @@ pub(crate) enum Happened {
     Step,
 }
 
-/// What was answered, but for the packet and the information that a reply has. No run of an accepted
-/// set answers otherwise.
+/// What was answered, but for the packet and the information that a reply has. No run of an
+/// accepted set answers otherwise.
 #[derive(Clone, Copy)]
 pub(crate) enum Answer {
     Started,

@@ -1,5 +1,5 @@
-//! How runs end: the reference machine runs events, and tells what is amiss behind the last one, and
-//! what isn't at rest there.
+//! How runs end: the reference machine runs events, and tells what is amiss behind the last one,
+//! and what isn't at rest there.
 #![tactic(auto)]
 
 pub mod amiss;

@@ -1,7 +1,8 @@
 //! What of a world isn't at rest.
 
 ghost use Rattle.std.specs.Prelude.{◌≡◌, ◌++◌, IfOk, OnOk};
-ghost use Rattle.hunt_ends.specs.Rest.{IsStanding, busy_device, busy_devices, busy_thread, busy_threads, is_rest, live_packet, live_packets};
+ghost use Rattle.hunt_ends.specs.Rest.{IsStanding, busy_device, busy_devices, busy_thread};
+ghost use Rattle.hunt_ends.specs.Rest.{busy_threads, is_rest, live_packet, live_packets};
 ghost use Rattle.model.specs.World.{packet_of, start_of};
 
 use checked::Checked;

@@ -1,5 +1,5 @@
-//! An index of worlds by their keys. Worlds of one key needn't be one: it only says with which others
-//! one is to be compared.
+//! An index of worlds by their keys. Worlds of one key needn't be one: it only says with which
+//! others one is to be compared.
 
 use checked::Checked;
 use hunt_facts::facts::Facts;

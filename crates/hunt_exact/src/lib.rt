@@ -1,5 +1,5 @@
-//! Exact hunts: a search of the runs within bounds that takes no world for another one. Where it has
-//! seen all, no run within the bounds ends amiss.
+//! Exact hunts: a search of the runs within bounds that takes no world for another one. Where it
+//! has seen all, no run within the bounds ends amiss.
 #![tactic(auto)]
 
 mod amiss;

@@ -1,7 +1,8 @@
 //! The events that an exact hunt tries, in a fixed order.
 
 ghost use Rattle.std.specs.Prelude.{◌≡◌, ◌++◌, IfOk, OnOk};
-ghost use Rattle.hunt_exact.specs.Moves.{begins_below, begins_on, cancels_of, cancels_on, interrupts, requests_on, routines_on, steps, tried_events};
+ghost use Rattle.hunt_exact.specs.Moves.{begins_below, begins_on, cancels_of, cancels_on};
+ghost use Rattle.hunt_exact.specs.Moves.{interrupts, requests_on, routines_on, steps, tried_events};
 
 use hunt_facts::requests::Request;
 use model::event::Event;

@@ -8,8 +8,8 @@ use hunt_facts::facts::Facts;
 use model::event::Event;
 use std::marker::Model;
 
-/// What is searched: the runs of a set on so many threads, 1 to `MAX_THREADS`, whose events are some
-/// of these, and which issue so many packets at most in all.
+/// What is searched: the runs of a set on so many threads, 1 to `MAX_THREADS`, whose events are
+/// some of these, and which issue so many packets at most in all.
 #[derive(Drop)]
 pub(crate) struct Scope {
     driver_set: DriverSet,

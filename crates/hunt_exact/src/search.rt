@@ -1,8 +1,9 @@
-//! An exact hunt: a search of the runs within bounds, breadth first, that takes no world for another
-//! one.
+//! An exact hunt: a search of the runs within bounds, breadth first, that takes no world for
+//! another one.
 
 ghost use Rattle.std.specs.Prelude.{◌≡◌, ◌≤◌, ◌++◌, ◌∷◌, [], IfOk, length};
-ghost use Rattle.hunt_exact.specs.Exact.{IsAmissBehind, IsEnded, IsExact, IsVisited, ended_by, scope_of};
+ghost use Rattle.hunt_exact.specs.Exact.{IsAmissBehind, IsEnded, IsExact, IsVisited, ended_by};
+ghost use Rattle.hunt_exact.specs.Exact.{scope_of};
 ghost use Rattle.hunt_exact.specs.Searched.{IsSearched};
 ghost use Rattle.hunt_exact.specs.Within.{AreWithin, FineUpTo, Scope};
 ghost use Rattle.model.specs.declared.limits.TheConstants.{MAX_THREADS};
@@ -122,7 +123,8 @@ fn copied(alloc: Global, events: &[Event]) -> Result<Vec<Event>, AllocError>
     Ok(copy)
 }
 
-/// Tells how far a search has come that has gone on from the run of a number, if that is told of it.
+/// Tells how far a search has come that has gone on from the run of a number, if that is told of
+/// it.
 fn tell<P: Progress>(progress: &P, seen: &Seen, number: usize) {
     if let Some(path) = seen.path(number) {
         tell_at(progress, number, seen.len(), path.len());
@@ -261,9 +263,9 @@ fn scope_of(
     Ok(Scope::of(copy, threads, trying.packets, moves, facts))
 }
 
-/// Searches the runs of a set on so many threads, 1 to 64, in which nothing else is tried: a shortest
-/// one that ends amiss; or that none does, of any length; or that none of up to so many events does.
-/// How far the search has come is told meanwhile.
+/// Searches the runs of a set on so many threads, 1 to 64, in which nothing else is tried: a
+/// shortest one that ends amiss; or that none does, of any length; or that none of up to so many
+/// events does. How far the search has come is told meanwhile.
 ///
 /// # Errors
 ///

@@ -1,7 +1,8 @@
 //! The events behind a run, and the worlds to which they lead.
 
 ghost use Rattle.std.specs.Prelude.{◌≡◌, ◌++◌, ◌∷◌, [], IfOk, IsTrue, OnOk, true};
-ghost use Rattle.hunt_exact.specs.Searched.{HasCome, HasExpanded, HasFollowed, HasFollowedEach, IsKeptFrom, IsThere};
+ghost use Rattle.hunt_exact.specs.Searched.{HasCome, HasExpanded, HasFollowed, HasFollowedEach};
+ghost use Rattle.hunt_exact.specs.Searched.{IsKeptFrom, IsThere};
 ghost use Rattle.hunt_exact.specs.Within.{is_open};
 
 use crate::amiss::is_amiss;
@@ -71,8 +72,8 @@ fn is_there(
     Ok(leads)
 }
 
-/// Whether one of the runs whose worlds have one key, the last of them first, leads to the world of a
-/// machine.
+/// Whether one of the runs whose worlds have one key, the last of them first, leads to the world of
+/// a machine.
 fn is_met(
     alloc: Global,
     scope: &Scope,
@@ -174,8 +175,8 @@ fn follow(
     Ok(false)
 }
 
-/// Follows each event behind a run, where a machine stands, up to the first behind which something is
-/// amiss: that one is answered.
+/// Follows each event behind a run, where a machine stands, up to the first behind which something
+/// is amiss: that one is answered.
 fn follow_each(
     alloc: Global,
     scope: &Scope,
@@ -197,8 +198,8 @@ fn follow_each(
     Ok(None)
 }
 
-/// Follows each event behind the run at the front of those that are kept, up to the first behind which
-/// something is amiss: that one is answered.
+/// Follows each event behind the run at the front of those that are kept, up to the first behind
+/// which something is amiss: that one is answered.
 pub(crate) fn expand(
     alloc: Global,
     scope: &Scope,

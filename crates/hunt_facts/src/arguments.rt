@@ -3,7 +3,9 @@
 
 ghost use Rattle.std.specs.Prelude.{◌≡◌, [], ◌∷◌, IfOk, OnOk};
 ghost use Rattle.std.specs.List.{list_any};
-ghost use Rattle.hunt_facts.specs.Requests.{arguments_of, asks, of_request, with_argument, with_code, with_constant, with_drivers, with_further, with_instr, with_routines};
+ghost use Rattle.hunt_facts.specs.Requests.{arguments_of, asks, of_request, with_argument};
+ghost use Rattle.hunt_facts.specs.Requests.{with_code, with_constant, with_drivers, with_further};
+ghost use Rattle.hunt_facts.specs.Requests.{with_instr, with_routines};
 
 use crate::reaching::Reaching;
 use crate::requests::MAJORS;

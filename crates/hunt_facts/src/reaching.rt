@@ -86,8 +86,8 @@ impl Reaching {
         }
     }
 
-    /// Whether a routine of a driver, with this code, reads the argument of a packet into a register
-    /// that matters.
+    /// Whether a routine of a driver, with this code, reads the argument of a packet into a
+    /// register that matters.
     pub(crate) fn reads_argument(&self, driver: u8, routine: u8, code: &[Instr]) -> bool {
         let Some(reached) = self.drivers.get(driver as usize) else {
             return false;

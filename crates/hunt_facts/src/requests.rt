@@ -1,5 +1,5 @@
-//! The requests that a hunt tries: to each device, with each major function that a driver serves and
-//! each argument that may matter.
+//! The requests that a hunt tries: to each device, with each major function that a driver serves
+//! and each argument that may matter.
 
 ghost use Rattle.std.specs.Prelude.{◌≡◌, ◌++◌, IfOk, OnOk, length};
 ghost use Rattle.std.specs.List.{list_any};

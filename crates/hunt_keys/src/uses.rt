@@ -1,5 +1,5 @@
-//! What a run tells of uses of stack locations, in the key of its world: worlds that differ there may
-//! differ in whether a status that is returned later disagrees with its mark.
+//! What a run tells of uses of stack locations, in the key of its world: worlds that differ there
+//! may differ in whether a status that is returned later disagrees with its mark.
 
 use crate::writer::Writer;
 use checked::Checked;
@@ -59,7 +59,8 @@ fn add_served(writer: &mut Writer, machine: &Checked, ledger: &Ledger, thread: u
     }
 }
 
-/// Adds a use that a frame serves: which one it is while it is open, and then how completion left it.
+/// Adds a use that a frame serves: which one it is while it is open, and then how completion left
+/// it.
 fn add_use(writer: &mut Writer, shared: &Shared, notes: &[Note], served: LocationUse) {
     let number = served.number() as usize;
     let Some(note) = notes.get(number) else {

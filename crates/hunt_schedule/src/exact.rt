@@ -17,9 +17,9 @@ use hunt_facts::facts::Facts;
 use report_progress::progress::Progress;
 use std::alloc::{AllocError, Global};
 
-/// Searches the runs of a set within bounds exactly, of which each issues so many packets at most in
-/// all, and tells what comes of it, with the names and the lines of the text that the set was read
-/// from. How far the search has come is told meanwhile.
+/// Searches the runs of a set within bounds exactly, of which each issues so many packets at most
+/// in all, and tells what comes of it, with the names and the lines of the text that the set was
+/// read from. How far the search has come is told meanwhile.
 ///
 /// # Errors
 ///

@@ -1,7 +1,9 @@
 //! How a run ends, in one line.
 
 ghost use Rattle.std.specs.Prelude.{◌≡◌, ◌++◌, IfOk, OnOk};
-ghost use Rattle.hunt_schedule.specs.Headline.{amiss_words, bug_words, each_between, ending_words, headline, lock_words, of_device, place_words, reply_words, standing_words, subject_words};
+ghost use Rattle.hunt_schedule.specs.Headline.{amiss_words, bug_words, each_between, ending_words};
+ghost use Rattle.hunt_schedule.specs.Headline.{headline, lock_words, of_device, place_words};
+ghost use Rattle.hunt_schedule.specs.Headline.{reply_words, standing_words, subject_words};
 
 use hunt_ends::amiss::Amiss;
 use hunt_ends::ending::Ending;

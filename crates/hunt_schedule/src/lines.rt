@@ -1,7 +1,8 @@
 //! The lines that are told of a hunt that has found no run, or tells none.
 
 ghost use Rattle.std.specs.Prelude.{◌≡◌, IfOk};
-ghost use Rattle.hunt_schedule.specs.Lines.{all_line, fine_line, more_line, never_line, unlisted_line, worlds_line};
+ghost use Rattle.hunt_schedule.specs.Lines.{all_line, fine_line, more_line, never_line};
+ghost use Rattle.hunt_schedule.specs.Lines.{unlisted_line, worlds_line};
 
 use crate::headline::headline;
 use hunt_bounds::bounds::Bounds;

@@ -60,8 +60,8 @@ fn is_within(bound: Option<u64>, run: &[Event]) -> bool
     }
 }
 
-/// Whether a text begins with the line of how the run of these events and a last one ends, if a hunt
-/// looks for such an end.
+/// Whether a text begins with the line of how the run of these events and a last one ends, if a
+/// hunt looks for such an end.
 fn tells_end(
     alloc: Global,
     set: &DriverSet,

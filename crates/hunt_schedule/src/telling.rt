@@ -18,16 +18,16 @@ use std::alloc::{AllocError, Global};
 pub enum Told {
     /// A schedule whose run was looked for, as a text.
     Found(Vec<u8>),
-    /// A line on a run that was looked for, of which no schedule is told: what was written, read back,
-    /// doesn't end so.
+    /// A line on a run that was looked for, of which no schedule is told: what was written, read
+    /// back, doesn't end so.
     Unlisted(Vec<u8>),
     /// A line that there is none among all worlds within the bounds, which are so many.
     All {
         line: Vec<u8>,
         worlds: usize,
     },
-    /// A line that there is none in runs of up to so many events: so many worlds were seen, and there
-    /// are more.
+    /// A line that there is none in runs of up to so many events: so many worlds were seen, and
+    /// there are more.
     More {
         line: Vec<u8>,
         worlds: usize,

@@ -18,7 +18,8 @@ struct Block {
     end: usize,
 }
 
-/// The events in an order with fewer turns of threads whose run ends with this line, as theirs does.
+/// The events in an order with fewer turns of threads whose run ends with this line, as theirs
+/// does.
 ///
 /// # Errors
 ///

@@ -21,10 +21,10 @@ use tell_names::Book;
 /// Where the comments of lines stand.
 const COMMENTS: usize = 24;
 
-/// The text of a schedule for the run of these events on the threads of a hunt: its first line tells
-/// how it ends, and comments what each line does, with the names of the text that the set was read
-/// from. Steps of a thread are told together where the run ends alike. None where the run of what
-/// the text lists doesn't end so.
+/// The text of a schedule for the run of these events on the threads of a hunt: its first line
+/// tells how it ends, and comments what each line does, with the names of the text that the set was
+/// read from. Steps of a thread are told together where the run ends alike. None where the run of
+/// what the text lists doesn't end so.
 ///
 /// # Errors
 ///

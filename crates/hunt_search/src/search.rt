@@ -33,7 +33,8 @@ pub enum Hunted {
     Found(Find),
     /// There is none among all worlds within the bounds, which are so many.
     All { worlds: usize },
-    /// None in runs of up to so many events ends amiss: so many worlds were seen, and there are more.
+    /// None in runs of up to so many events ends amiss: so many worlds were seen, and there are
+    /// more.
     More { worlds: usize, events: usize },
 }
 
@@ -59,8 +60,8 @@ pub fn is_wanted(goal: Goal, ending: &Ending) -> bool
 }
 
 /// Searches the worlds of a set within bounds, breadth first and in a fixed order, for a run that
-/// ends amiss. Where there is none, and all worlds were seen, a run that is stuck may be looked for.
-/// How far the search has come is told meanwhile.
+/// ends amiss. Where there is none, and all worlds were seen, a run that is stuck may be looked
+/// for. How far the search has come is told meanwhile.
 ///
 /// # Errors
 ///

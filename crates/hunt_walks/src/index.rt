@@ -1,5 +1,5 @@
-//! An index of places by their keys. Places of one key needn't be one: it only says with which others
-//! one is to be compared.
+//! An index of places by their keys. Places of one key needn't be one: it only says with which
+//! others one is to be compared.
 
 use indexmap::IndexMap;
 use std::alloc::{AllocError, Global};

@@ -1,5 +1,5 @@
-//! Every walk from one place, each place that one leads to once: a search, breadth first, that takes
-//! two places for one only where moves behind them go on alike.
+//! Every walk from one place, each place that one leads to once: a search, breadth first, that
+//! takes two places for one only where moves behind them go on alike.
 #![tactic(auto)]
 
 pub mod ends;

@@ -1,7 +1,8 @@
 //! A search of all walks, breadth first.
 
 ghost use Rattle.std.specs.Prelude.{◌≡◌, ◌<◌, ◌++◌, ◌∷◌, [], IfOk, IsTrue, List, OnOk, ℕ, length};
-ghost use Rattle.hunt_walks.specs.Searched.{HasTried, HasTriedAll, IsEnded, IsSearched, IsVisited, IsWalked, Keeps};
+ghost use Rattle.hunt_walks.specs.Searched.{HasTried, HasTriedAll, IsEnded, IsSearched, IsVisited};
+ghost use Rattle.hunt_walks.specs.Searched.{IsWalked, Keeps};
 ghost use Rattle.hunt_walks.specs.Walks.{IsMet, IsWalk};
 
 use crate::seen::Seen;
@@ -64,8 +65,8 @@ fn is_there<W: Walker + Drop>(
     Ok(same)
 }
 
-/// Whether one of the walks whose places have one key, the last of them first, leads to the place at
-/// which one stands.
+/// Whether one of the walks whose places have one key, the last of them first, leads to the place
+/// at which one stands.
 fn is_met<W: Walker + Drop>(
     alloc: Global,
     home: &W,
@@ -234,8 +235,8 @@ fn search<W: Walker + Drop>(
 }
 
 /// All walks by so many moves from where one stands, of which one is kept for each place, up to so
-/// many places; or a move that fails. Where places that are one go on alike, no move behind any walk
-/// fails then, and each walk leads to the place of one that is kept.
+/// many places; or a move that fails. Where places that are one go on alike, no move behind any
+/// walk fails then, and each walk leads to the place of one that is kept.
 ///
 /// # Errors
 ///

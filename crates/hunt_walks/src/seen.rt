@@ -1,6 +1,7 @@
 //! The walks that a search keeps: one for each place that it has met.
 
-ghost use Rattle.std.specs.Prelude.{◌≡◌, ◌++◌, ◌∷◌, [], IfOk, IfSome, None, OnOk, Some, length, slice_get};
+ghost use Rattle.std.specs.Prelude.{◌≡◌, ◌++◌, ◌∷◌, [], IfOk, IfSome, None, OnOk, Some, length};
+ghost use Rattle.std.specs.Prelude.{slice_get};
 
 use crate::index::Index;
 use model::items::Items;

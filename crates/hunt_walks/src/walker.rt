@@ -4,8 +4,8 @@ ghost use Rattle.std.specs.Prelude.{◌≡◌, ◌++◌, ◌∷◌, [], Bool, If
 
 use std::alloc::{AllocError, Global};
 
-/// What stands at a place, behind the moves that have led there. Which moves these may be, what they
-/// lead to, and which places are one, goes by the walker that all of them began with.
+/// What stands at a place, behind the moves that have led there. Which moves these may be, what
+/// they lead to, and which places are one, goes by the walker that all of them began with.
 pub trait Walker: Sized {
     /// Whether a move may be made behind others, and whether it fails where it may be.
     ghost may: { Self → List ℕ → ℕ → Bool };

@@ -2,7 +2,8 @@
 
 ghost use Rattle.std.specs.Prelude.{◌≡◌, ◌<◌, IfSome, IsTrue, Some, slice_get};
 ghost use Rattle.checked_frames.specs.Ran.{LeavesOn};
-ghost use Rattle.hunt_worlds.specs.Alike.{CellsBelow, SameCells, SamePaged, SamePlain, paged_at, plain_at};
+ghost use Rattle.hunt_worlds.specs.Alike.{CellsBelow, SameCells, SamePaged, SamePlain, paged_at};
+ghost use Rattle.hunt_worlds.specs.Alike.{plain_at};
 ghost use Rattle.model.specs.declared.limits.TheConstants.{CELLS, MAX_INSTRUCTIONS};
 ghost use Rattle.model.specs.Effect.{load_effect};
 

@@ -1,6 +1,7 @@
 //! The events of a schedule, a byte for most of them.
 
-ghost use Rattle.std.specs.Prelude.{◌≡◌, nat_eq, false, ◌+◌, ◌^◌, ◌<◌, ◌≤◌, ◌++◌, ◌∷◌, [], length, replicate, is_ok, IfSome, MatchOption, OnOk, if◌then◌else◌};
+ghost use Rattle.std.specs.Prelude.{◌≡◌, nat_eq, false, ◌+◌, ◌^◌, ◌<◌, ◌≤◌, ◌++◌, ◌∷◌, [], length};
+ghost use Rattle.std.specs.Prelude.{replicate, is_ok, IfSome, MatchOption, OnOk, if◌then◌else◌};
 ghost use Rattle.model.specs.declared.event.Event.TheVariants.{Step};
 ghost use Rattle.interleave.specs.Events.{listed, marks};
 
@@ -193,8 +194,8 @@ impl<'a> Model for Upcoming<'a> {
 }
 
 impl Upcoming<'_> {
-    /// Takes the next event, if it is one that happens once: a step that is kept as a byte, where no
-    /// long run of equal bytes begins, or one of the others.
+    /// Takes the next event, if it is one that happens once: a step that is kept as a byte, where
+    /// no long run of equal bytes begins, or one of the others.
     #[inline]
     pub fn next_single(&mut self) -> Option<Event>
         ensures { MatchOption result (self.new ≡ self.old)

@@ -1,7 +1,9 @@
 //! The text of a schedule.
 
-ghost use Rattle.std.specs.Prelude.{◌≡◌, ◌+◌, ◌<◌, ◌^◌, ◌↔◌, ◌≢◌, ℕ, [], length, IfOk, IfErr, MatchResult};
-ghost use Rattle.interleave.specs.Listing.{IsFaultOf, IsWithinLimits, Lists, events_after, listing, opening, schedule_in, with_threads};
+ghost use Rattle.std.specs.Prelude.{◌≡◌, ◌+◌, ◌<◌, ◌^◌, ◌↔◌, ◌≢◌, ℕ, [], length, IfOk, IfErr};
+ghost use Rattle.std.specs.Prelude.{MatchResult};
+ghost use Rattle.interleave.specs.Listing.{IsFaultOf, IsWithinLimits, Lists, events_after, listing};
+ghost use Rattle.interleave.specs.Listing.{opening, schedule_in, with_threads};
 ghost use Rattle.interleave.specs.Meaning.{IsListing, IsFirstFault};
 ghost use Rattle.text.specs.Cut.{lines_of};
 

@@ -2,7 +2,8 @@
 
 ghost use Rattle.std.specs.Prelude.{◌≡◌, ◌∷◌, IfSome, IsTrue, false};
 ghost use Rattle.text.specs.Cut.{lines_of};
-ghost use Rattle.interleave.specs.Line.{cancel_line, dpc_line, interrupt_line, issue_line, startio_line, step_line};
+ghost use Rattle.interleave.specs.Line.{cancel_line, dpc_line, interrupt_line, issue_line};
+ghost use Rattle.interleave.specs.Line.{startio_line, step_line};
 ghost use Rattle.interleave.specs.Usual.{IsCount, Reads, TakesMajor, TakesNumber, TakesUsual};
 
 use crate::kept::Kept;

@@ -1,7 +1,12 @@
 //! One line of a schedule.
 
 ghost use Rattle.std.specs.Prelude.{◌≡◌, ◌≤◌, IfSome};
-ghost use Rattle.interleave.specs.Line.{begins, cancel_line, cancel_of, cancels, checked_tokens, dpc_line, dpc_of, event_line, event_of, interrupt_line, interrupt_of, interrupts, issue_line, issue_of, issues, number_within, opening_line, opening_of, startio_line, startio_of, starts, step_line, steps, steps_of, threads_line, threads_of};
+ghost use Rattle.interleave.specs.Line.{begins, cancel_line, cancel_of, cancels, checked_tokens};
+ghost use Rattle.interleave.specs.Line.{dpc_line, dpc_of, event_line, event_of, interrupt_line};
+ghost use Rattle.interleave.specs.Line.{interrupt_of, interrupts, issue_line, issue_of, issues};
+ghost use Rattle.interleave.specs.Line.{number_within, opening_line, opening_of, startio_line};
+ghost use Rattle.interleave.specs.Line.{startio_of, starts, step_line, steps, steps_of};
+ghost use Rattle.interleave.specs.Line.{threads_line, threads_of};
 
 use crate::schedule::ScheduleKind;
 use model::event::Event;

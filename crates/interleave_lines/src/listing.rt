@@ -12,8 +12,8 @@ use model::event::Event;
 use model::status::Major;
 use std::alloc::{AllocError, Global};
 
-/// A text that lists so many threads and these events. None where what was written, read back, lists
-/// others.
+/// A text that lists so many threads and these events. None where what was written, read back,
+/// lists others.
 ///
 /// # Errors
 ///

@@ -1,7 +1,8 @@
 //! The words of events.
 
 ghost use Rattle.std.specs.Prelude.{◌≡◌, ◌++◌, OnOk};
-ghost use Rattle.interleave_lines.specs.Words.{event_words, major_word, one_number, step_words, two_numbers};
+ghost use Rattle.interleave_lines.specs.Words.{event_words, major_word, one_number, step_words};
+ghost use Rattle.interleave_lines.specs.Words.{two_numbers};
 
 use crate::appending::{add, add_number};
 use model::event::Event;

@@ -64,8 +64,8 @@ fn add_line(
     commands: &mut Vec<Command>,
     line: &[u8],
 ) -> Result<Result<(), ScheduleKind>, AllocError>
-    ensures { IfOk result
-        (λ r. MatchResult r (λ _. commands_after commands.old.items line.now ≡ Ok commands.new.items)
+    ensures { IfOk result (λ r. MatchResult r
+        (λ _. commands_after commands.old.items line.now ≡ Ok commands.new.items)
         (λ kind. commands_after commands.old.items line.now ≡ Err kind)) }
 {
     match command_line(commands.as_slice(), line) {

@@ -2,7 +2,8 @@
 
 ghost use Rattle.std.specs.Prelude.{◌≡◌, ◌≤◌, [], IfSome, IsTrue, Ok, Some};
 ghost use Rattle.interleave.specs.Usual.{TakesMajor, TakesNumber};
-ghost use Rattle.interleave_script.specs.Script.{cancel_line, command_line, interrupt_line, request_line};
+ghost use Rattle.interleave_script.specs.Script.{cancel_line, command_line, interrupt_line};
+ghost use Rattle.interleave_script.specs.Script.{request_line};
 ghost use Rattle.interleave_script.specs.Usual.{Gives};
 
 use crate::read::name_at;

@@ -1,7 +1,10 @@
 //! One line of a script.
 
 ghost use Rattle.std.specs.Prelude.{◌≡◌};
-ghost use Rattle.interleave_script.specs.Script.{cancel_line, cancel_of, cancels, command_line, command_of, interrupt_line, interrupt_of, interrupts, name_at, request_line, request_of, requests};
+ghost use Rattle.interleave_script.specs.Script.{cancel_line, cancel_of, cancels, command_line};
+ghost use Rattle.interleave_script.specs.Script.{command_of, interrupt_line, interrupt_of};
+ghost use Rattle.interleave_script.specs.Script.{interrupts, name_at, request_line, request_of};
+ghost use Rattle.interleave_script.specs.Script.{requests};
 
 use crate::quick::usual_line;
 use interleave::read::{byte, checked_tokens, number_within};

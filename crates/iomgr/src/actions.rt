@@ -7,7 +7,8 @@ use model::status::Status;
 use model::world::{Armer, Completion};
 
 impl PacketTable {
-    ghost use Rattle.model.specs.World.{cancelled, completed, mark_current, sent_down, shared_with, with_armer, with_info};
+    ghost use Rattle.model.specs.World.{cancelled, completed, mark_current, sent_down, shared_with};
+    ghost use Rattle.model.specs.World.{with_armer, with_info};
     ghost use Rattle.iomgr.specs.Slots.{Holds, packet_at, with_packet_at};
 
     /// Sets IoStatus.Information.
@@ -19,7 +20,8 @@ impl PacketTable {
         self.live.packet_mut(key.slot()).set_info(info);
     }
 
-    /// Sets IoStatus.Status, for a machine that doesn't keep whether the I/O manager has the packet.
+    /// Sets IoStatus.Status, for a machine that doesn't keep whether the I/O manager has the
+    /// packet.
     pub fn set_status(&mut self, key: Key, status: Status)
         requires { Holds self.old.live key }
         ensures { let packet = packet_at self.old.live key in

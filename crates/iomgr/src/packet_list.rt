@@ -52,7 +52,8 @@ fn free_slots(alloc: Global) -> Result<Slab<Packet>, AllocError>
 impl PacketList {
     ghost use Rattle.std.specs.Borrow.{sem};
     ghost use Rattle.iomgr.specs.Lending.{LendsSlot};
-    ghost use Rattle.iomgr.specs.Slots.{Holds, IsFilled, IsOrdered, lies_at, no_slots, packet_at, place_at, without_slot};
+    ghost use Rattle.iomgr.specs.Slots.{Holds, IsFilled, IsOrdered, lies_at, no_slots, packet_at};
+    ghost use Rattle.iomgr.specs.Slots.{place_at, without_slot};
 
     /// An empty list. An error where memory for just as many packets as may live at once is
     /// refused; no other call needs any.

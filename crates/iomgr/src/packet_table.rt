@@ -1,6 +1,7 @@
 //! The table of live packets.
 
-ghost use Rattle.std.specs.Prelude.{◌≡◌, ◌≤◌, ◌<◌, IfOk, IfSome, IsSome, IsTrue, Some, option_map, slice_get};
+ghost use Rattle.std.specs.Prelude.{◌≡◌, ◌≤◌, ◌<◌, IfOk, IfSome, IsSome, IsTrue, Some, option_map};
+ghost use Rattle.std.specs.Prelude.{slice_get};
 ghost use Rattle.model.specs.declared.limits.TheConstants.{MAX_LIVE_PACKETS, MAX_STACK};
 
 use crate::buckets::{bucket_of, empty_buckets, slot_of};
@@ -73,7 +74,8 @@ impl Model for PacketTable {
 impl PacketTable {
     ghost use Rattle.model.specs.Events.{can_issue};
     ghost use Rattle.model.specs.World.{new_packet, packet_in, place_of};
-    ghost use Rattle.iomgr.specs.Slots.{Holds, IsFilled, IsInOrder, key_of, lies_at, none_issued, packet_at, place_at, table_in, without_packet_at};
+    ghost use Rattle.iomgr.specs.Slots.{Holds, IsFilled, IsInOrder, key_of, lies_at, none_issued};
+    ghost use Rattle.iomgr.specs.Slots.{packet_at, place_at, table_in, without_packet_at};
     ghost use Rattle.iomgr.specs.Table.{shared_of, live_packet, with_issued};
 
     /// No packets. An error where memory for all that may live at once is refused; no other call

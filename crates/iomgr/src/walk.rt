@@ -29,7 +29,8 @@ impl PacketTable {
     ghost use Rattle.iomgr.specs.Table.{with_table};
     ghost use Rattle.iomgr.specs.Walk.{steps_out, walked, walked_at, walked_by, walk_outcome};
 
-    /// One step of the walk that completes the packet of a key, which has no packet after `TopsOut`.
+    /// One step of the walk that completes the packet of a key, which has no packet after
+    /// `TopsOut`.
     pub fn walk_on(&mut self, key: Key) -> WalkStep
         requires { Holds self.old.live key }
         ensures { record { slots = self.new; step = result }

@@ -40,7 +40,8 @@ impl Model for Location {
 }
 
 impl Location {
-    ghost use Rattle.model.specs.World.{asked_location, copied_location, unused_location, location_field};
+    ghost use Rattle.model.specs.World.{asked_location, copied_location, unused_location};
+    ghost use Rattle.model.specs.World.{location_field};
     ghost use Rattle.std.specs.Prelude.{None, Some};
 
     /// A location at which nothing was asked yet.

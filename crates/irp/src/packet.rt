@@ -1,6 +1,7 @@
 //! A live packet, and the calls that change it.
 
-ghost use Rattle.std.specs.Prelude.{◌≡◌, ◌≤◌, ◌<◌, ◌-◌, ◌∷◌, [], true, false, length, nat_lt, option_map, replicate, slice_get};
+ghost use Rattle.std.specs.Prelude.{◌≡◌, ◌≤◌, ◌<◌, ◌-◌, ◌∷◌, [], true, false, length, nat_lt};
+ghost use Rattle.std.specs.Prelude.{option_map, replicate, slice_get};
 ghost use Rattle.model.specs.declared.limits.TheConstants.{MAX_STACK};
 ghost use Rattle.model.specs.World.{unused_location};
 
@@ -69,7 +70,10 @@ fn fill(stack: &mut ArrayVec<Location, MAX_STACK>, size: u8, first: Location)
 
 impl Packet {
     ghost use Rattle.model.specs.View.{marks_of};
-    ghost use Rattle.model.specs.World.{new_packet, sent_down, shared_with, moved_up, carried_up, mark_current, left_location, completed, cancelled, with_armer, with_info, field_of, current_location, completion_of, asked_of, is_marked};
+    ghost use Rattle.model.specs.World.{new_packet, sent_down, shared_with, moved_up, carried_up};
+    ghost use Rattle.model.specs.World.{mark_current, left_location, completed, cancelled};
+    ghost use Rattle.model.specs.World.{with_armer, with_info, field_of, current_location};
+    ghost use Rattle.model.specs.World.{completion_of, asked_of, is_marked};
 
     /// A new packet for a device of this stack size, 1 to 16: the first location asks the device,
     /// and is current.

@@ -1,6 +1,7 @@
 //! Which thread owns each lock.
 
-ghost use Rattle.std.specs.Prelude.{◌≡◌, ◌≢◌, ◌↔◌, Some, None, IfOk, IsSome, IsTrue, slice_set, cond, if◌then◌else◌};
+ghost use Rattle.std.specs.Prelude.{◌≡◌, ◌≢◌, ◌↔◌, Some, None, IfOk, IsSome, IsTrue, slice_set};
+ghost use Rattle.std.specs.Prelude.{cond, if◌then◌else◌};
 ghost use Rattle.std.specs.List.{list_any};
 ghost use Rattle.irql_locks.specs.Owns.{is_owner, owns_one};
 

@@ -66,8 +66,9 @@ pub fn registers_are_of_their_kinds()
 {}
 
 /// A thread owns exactly the locks that the state of its top frame says: of a routine's, those that
-/// the verifier found held where the frame stands, of IoCancelIrp's the system cancel spin lock once
-/// it took it, and none else. So an idle thread owns none, and no frame below the top one holds any.
+/// the verifier found held where the frame stands, of IoCancelIrp's the system cancel spin lock
+/// once it took it, and none else. So an idle thread owns none, and no frame below the top one
+/// holds any.
 pub fn threads_own_what_their_frames_say()
     ensures { ThreadsOwnWhatTheirFramesSay }
 {}

@@ -4,7 +4,8 @@
 //! contract of a function that does nothing.
 #![tactic(auto)]
 
-ghost use Rattle.laws_words.specs.ShownWords.{WordsMeanWhatTheyShow, WordsShowWhatTheyMean, WordsTellRegisters};
+ghost use Rattle.laws_words.specs.ShownWords.{WordsMeanWhatTheyShow, WordsShowWhatTheyMean};
+ghost use Rattle.laws_words.specs.ShownWords.{WordsTellRegisters};
 ghost use Rattle.laws_words.specs.WordViews.{WordsTellAsSlots};
 ghost use Rattle.laws_words.specs.WordsDone.{FreeWordsMeanTheBeginning, WordEventsShowRuns};
 ghost use Rattle.laws_words.specs.WordsFit.{WordEventsFit};
@@ -38,9 +39,9 @@ pub fn words_show_what_they_mean()
     ensures { WordsShowWhatTheyMean }
 {}
 
-/// Of an accepted set: words that mean the world of a run mean that of each run that they show. They
-/// don't say what they are, but in every run the verifier's kinds do, and those go by where a frame
-/// stands.
+/// Of an accepted set: words that mean the world of a run mean that of each run that they show.
+/// They don't say what they are, but in every run the verifier's kinds do, and those go by where a
+/// frame stands.
 pub fn words_mean_what_they_show()
     ensures { WordsMeanWhatTheyShow }
 {}

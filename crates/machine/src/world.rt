@@ -35,8 +35,8 @@ use std::alloc::Global;
 use std::marker::Model;
 use verifier::Accepted;
 
-/// Fewer steps than these are made one by one: in so few a routine seldom goes on by itself for long
-/// enough to be worth the look.
+/// Fewer steps than these are made one by one: in so few a routine seldom goes on by itself for
+/// long enough to be worth the look.
 const ENOUGH_STEPS: usize = 16;
 
 /// Steps of a thread that were made one after another.
@@ -126,9 +126,9 @@ impl World {
         self.slots.apply(self.accepted.set(), event)
     }
 
-    /// Makes steps of a thread, at most `count`: it ends after the first that replies otherwise than
-    /// that the thread stepped. A world that showed a run shows that run with these steps added. As
-    /// with `apply`, it goes on; and no step of a thread that it has is refused.
+    /// Makes steps of a thread, at most `count`: it ends after the first that replies otherwise
+    /// than that the thread stepped. A world that showed a run shows that run with these steps
+    /// added. As with `apply`, it goes on; and no step of a thread that it has is refused.
     pub fn steps(&mut self, thread: u8, count: usize) -> Steps
         ensures few { result.made ≤ count }
         ensures none { result.made ≡ 0 → result.last ≡ Stepped }
@@ -153,8 +153,8 @@ impl World {
         }
     }
 
-    /// Lets the routine on the top of a thread go on by itself for at most so many steps, and answers
-    /// how many were made.
+    /// Lets the routine on the top of a thread go on by itself for at most so many steps, and
+    /// answers how many were made.
     fn go_on(&mut self, thread: u8, count: usize) -> usize
         ensures few { result ≤ count }
         ensures steps { Stepping self.old thread result self.new }

@@ -2,7 +2,8 @@
 
 ghost use Rattle.std.specs.Prelude.{◌≡◌, option_map, slice_get};
 ghost use Rattle.machine_frames.specs.Left.{frame_over};
-ghost use Rattle.laws_words.specs.Words.{WordRoutine, completes_with, dispatched as dispatched_of, entered as entered_of};
+ghost use Rattle.laws_words.specs.Words.{WordRoutine, completes_with, dispatched as dispatched_of};
+ghost use Rattle.laws_words.specs.Words.{entered as entered_of};
 ghost use Rattle.model.specs.Effect.{routine_of_device};
 ghost use Rattle.model.specs.Set.{cancel_routine_named};
 

@@ -1,9 +1,11 @@
 //! Instructions that change nothing but their routine.
 
-ghost use Rattle.std.specs.Prelude.{◌≡◌, ◌<◌, ◌++◌, ◌∷◌, [], ◌+◌, ℕ, IsSome, IsTrue, Option, false, length, nat_eq, nat_lt, if◌then◌else◌};
+ghost use Rattle.std.specs.Prelude.{◌≡◌, ◌<◌, ◌++◌, ◌∷◌, [], ◌+◌, ℕ, IsSome, IsTrue, Option, false};
+ghost use Rattle.std.specs.Prelude.{length, nat_eq, nat_lt, if◌then◌else◌};
 ghost use Rattle.model.specs.declared.limits.TheConstants.{MAX_INSTRUCTIONS, MAX_LOOPS};
 ghost use Rattle.model.specs.declared.world.OpenLoop.{OpenLoop};
-ghost use Rattle.laws_words.specs.Words.{at_label, innermost, next, with_loops, with_word, WordFrame, word as word_in};
+ghost use Rattle.laws_words.specs.Words.{at_label, innermost, next, with_loops, with_word};
+ghost use Rattle.laws_words.specs.Words.{WordFrame, word as word_in};
 ghost use Rattle.machine_frames.specs.Turns.{turned_on};
 ghost use Rattle.model.specs.Set.{Set};
 ghost use Rattle.machine_frames.specs.Alone.{FitsAlone};

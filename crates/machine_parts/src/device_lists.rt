@@ -1,11 +1,15 @@
 //! The lists of keys of devices: their queues, and what they have for StartIo.
 
-ghost use Rattle.std.specs.Prelude.{◌≡◌, ◌≢◌, ◌≤◌, ◌<◌, false, IfOk, IsTrue, None, Some, is_some, length, slice_get};
+ghost use Rattle.std.specs.Prelude.{◌≡◌, ◌≢◌, ◌≤◌, ◌<◌, false, IfOk, IsTrue, None, Some, is_some};
+ghost use Rattle.std.specs.Prelude.{length, slice_get};
 ghost use Rattle.devqueue.specs.Lists.{entries_of, with_entries};
-ghost use Rattle.model.specs.declared.limits.TheConstants.{MAX_DEVICES, MAX_LIVE_PACKETS, MAX_QUEUES};
-ghost use Rattle.model.specs.Queues.{dequeued, head_of, inserted, is_linked, next_started, started, unlinked, with_slot, without_first_to_start, without_head};
+ghost use Rattle.model.specs.declared.limits.TheConstants.{MAX_DEVICES, MAX_LIVE_PACKETS};
+ghost use Rattle.model.specs.declared.limits.TheConstants.{MAX_QUEUES};
+ghost use Rattle.model.specs.Queues.{dequeued, head_of, inserted, is_linked, next_started, started};
+ghost use Rattle.model.specs.Queues.{unlinked, with_slot, without_first_to_start, without_head};
 ghost use Rattle.laws_slots.specs.Fits.{in_queues, to_start};
-ghost use Rattle.machine_parts.specs.Lists.{list_at, lists_of, no_entries, queue_entries, start_entries, with_queue_entries, with_start_entries};
+ghost use Rattle.machine_parts.specs.Lists.{list_at, lists_of, no_entries, queue_entries};
+ghost use Rattle.machine_parts.specs.Lists.{start_entries, with_queue_entries, with_start_entries};
 
 use devqueue::Links;
 use model::limits::{MAX_LIVE_PACKETS, MAX_QUEUES};
@@ -33,7 +37,8 @@ pub struct DeviceLists {
 impl Model for DeviceLists {
     ghost use Rattle.std.specs.Prelude.{◌≡◌, length};
     ghost use Rattle.model.specs.declared.limits.TheConstants.{MAX_LIVE_PACKETS};
-    ghost use Rattle.machine_parts.specs.Lists.{DeviceLists as Lists, lists_of, queues_shown, starts_shown};
+    ghost use Rattle.machine_parts.specs.Lists.{DeviceLists as Lists, lists_of, queues_shown};
+    ghost use Rattle.machine_parts.specs.Lists.{starts_shown};
 
     ghost Value = { Lists };
 

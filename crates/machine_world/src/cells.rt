@@ -3,7 +3,8 @@
 ghost use Rattle.std.specs.Prelude.{◌≡◌, ◌<◌, slice_get};
 ghost use Rattle.model.specs.declared.limits.TheConstants.{MAX_INSTRUCTIONS};
 ghost use Rattle.laws_slots.specs.Fits.{HasCells};
-ghost use Rattle.laws_words.specs.WordStep.{goes_on, load_paged_step, load_step, store_paged_step, store_step};
+ghost use Rattle.laws_words.specs.WordStep.{goes_on, load_paged_step, load_step, store_paged_step};
+ghost use Rattle.laws_words.specs.WordStep.{store_step};
 ghost use Rattle.laws_words.specs.Words.{word};
 
 use crate::reading::cells_are_there;

@@ -3,7 +3,8 @@
 ghost use Rattle.std.specs.Prelude.{◌≡◌, ◌<◌};
 ghost use Rattle.model.specs.declared.limits.TheConstants.{MAX_INSTRUCTIONS};
 ghost use Rattle.laws_words.specs.WordsFit.{IsKey};
-ghost use Rattle.laws_words.specs.WordStep.{arm_step, ask_step, disarm_step, get_step, goes_on, look_step, mark_step, put_step};
+ghost use Rattle.laws_words.specs.WordStep.{arm_step, ask_step, disarm_step, get_step, goes_on};
+ghost use Rattle.laws_words.specs.WordStep.{look_step, mark_step, put_step};
 ghost use Rattle.laws_words.specs.Words.{word};
 ghost use Rattle.laws_slots.specs.Slots.{packet_at};
 

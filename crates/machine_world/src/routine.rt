@@ -4,7 +4,8 @@ ghost use Rattle.std.specs.Prelude.{◌≡◌, ◌<◌};
 ghost use Rattle.model.specs.declared.limits.TheConstants.{MAX_INSTRUCTIONS};
 ghost use Rattle.machine_frames.specs.Left.{left_of};
 ghost use Rattle.laws_words.specs.WordsFit.{WordInstructionFits, ReturnFits, WordRoutineFits};
-ghost use Rattle.laws_words.specs.WordStep.{frame_step, instruction_step, is_walk, return_step, top_frame};
+ghost use Rattle.laws_words.specs.WordStep.{frame_step, instruction_step, is_walk, return_step};
+ghost use Rattle.laws_words.specs.WordStep.{top_frame};
 ghost use Rattle.laws_words.specs.Words.{WordRoutine};
 ghost use Rattle.laws_slots.specs.Slots.{SlotShared};
 

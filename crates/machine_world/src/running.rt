@@ -59,8 +59,8 @@ fn run(
     count
 }
 
-/// Lets a frame go on by itself, where it is a routine's, for at most so many steps, and answers how
-/// many. It stands over the frames `below`.
+/// Lets a frame go on by itself, where it is a routine's, for at most so many steps, and answers
+/// how many. It stands over the frames `below`.
 pub fn go_on(
     frame: &mut Frame,
     set: &DriverSet,

@@ -1,6 +1,7 @@
 //! A thread: its frames, and their steps.
 
-ghost use Rattle.std.specs.Prelude.{◌≡◌, ◌≤◌, ◌<◌, ◌-◌, ◌++◌, ◌∷◌, [], Some, length, option_map, take, true};
+ghost use Rattle.std.specs.Prelude.{◌≡◌, ◌≤◌, ◌<◌, ◌-◌, ◌++◌, ◌∷◌, [], Some, length, option_map};
+ghost use Rattle.std.specs.Prelude.{take, true};
 ghost use Rattle.model.specs.declared.limits.TheConstants.{MAX_FRAMES};
 ghost use Rattle.machine_frames.specs.Left.{frame_over};
 ghost use Rattle.laws_slots.specs.Rep.{named};

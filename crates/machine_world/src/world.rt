@@ -11,7 +11,8 @@ ghost use Rattle.laws_slots.specs.ShownSlots.{meant_shared};
 ghost use Rattle.laws_slots.specs.Slots.{packet_at};
 ghost use Rattle.laws_words.specs.ShownWords.{words_at};
 ghost use Rattle.laws_words.specs.WordViews.{word_thread_at};
-ghost use Rattle.laws_words.specs.WordEvents.{cancel_word, dpc_word, interrupt_word, opening_words, startio_word};
+ghost use Rattle.laws_words.specs.WordEvents.{cancel_word, dpc_word, interrupt_word, opening_words};
+ghost use Rattle.laws_words.specs.WordEvents.{startio_word};
 ghost use Rattle.laws_words.specs.WordStep.{word_step};
 ghost use Rattle.model.specs.declared.event.Reply.TheVariants.{Stepped};
 ghost use Rattle.machine_frames.specs.Left.{frame_over};
@@ -113,8 +114,9 @@ impl Slots {
         self.step_on(set, thread)
     }
 
-    /// Lets the routine on the top of a thread go on by itself for at most so many steps, and answers
-    /// how many: each of them changes that routine alone, and replies that the thread stepped.
+    /// Lets the routine on the top of a thread go on by itself for at most so many steps, and
+    /// answers how many: each of them changes that routine alone, and replies that the thread
+    /// stepped.
     pub fn go_on(&mut self, set: &DriverSet, thread: u8, count: usize) -> usize
         requires { (k : ℕ)
             → WordEventFits set.now (after set.now self.old thread k) (Event.Step thread) }

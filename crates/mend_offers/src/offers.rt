@@ -3,7 +3,8 @@
 ghost use Rattle.std.specs.Prelude.{◌≡◌, ◌↔◌, [], All, IsTrue, IfNone, IfOk, IfSome, Some};
 ghost use Rattle.mend_changes.specs.Edited.{edited_by};
 ghost use Rattle.model.specs.Typable.{IsFirstFault};
-ghost use Rattle.mend_offers.specs.Offers.{AreOffers, AreAllOffersOf, IsKept, IsLater, IsLeft, IsOffer};
+ghost use Rattle.mend_offers.specs.Offers.{AreOffers, AreAllOffersOf, IsKept, IsLater, IsLeft};
+ghost use Rattle.mend_offers.specs.Offers.{IsOffer};
 ghost use Rattle.mend_offers.specs.Offers.{IsUnmended, IsUnmendedBelow, IsWhole, NoneTakenOut};
 ghost use Rattle.mend_offers.specs.Offers.{after_first, taken_out};
 

@@ -9,8 +9,8 @@ use verifier::{Refusal, Rule, verify};
 /// Other routines that are mended too, at most.
 const MAX_OTHERS: u8 = 8;
 
-/// The edits of a mend of the routine of a refusal, and behind those of lines the ones that mend the
-/// routines before it which have a fault then: as much is tried for each of them.
+/// The edits of a mend of the routine of a refusal, and behind those of lines the ones that mend
+/// the routines before it which have a fault then: as much is tried for each of them.
 pub(crate) fn completed(
     alloc: Global,
     set: &DriverSet,

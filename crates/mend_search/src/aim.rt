@@ -86,8 +86,8 @@ impl Aim {
     }
 }
 
-/// How many instructions are read, at most, for the advice on a routine: those of its tries, and the
-/// set, which is copied and judged.
+/// How many instructions are read, at most, for the advice on a routine: those of its tries, and
+/// the set, which is copied and judged.
 pub fn read_for_advice(set: &DriverSet, driver: u8, routine: u8) -> u64 {
     let size = size_of(set) as u64;
     let tried = match set.drivers().get(driver as usize) {

@@ -35,8 +35,8 @@ pub struct Found {
     pub cost: u32,
 }
 
-/// The routine that is mended, by number, the part of it that is searched, what is usual in its set,
-/// and how many instructions that has.
+/// The routine that is mended, by number, the part of it that is searched, what is usual in its
+/// set, and how many instructions that has.
 #[derive(Drop)]
 struct Task {
     alloc: Global,

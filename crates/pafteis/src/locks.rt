@@ -9,9 +9,9 @@ use pafteis_values::verdict::{NOTHING, VerdictValue};
 use pafteis_world::locks::lock_order;
 use std::alloc::Global;
 
-/// The locks of a driver, of the set that a text or an image names, in an order, or a shortest cycle
-/// where they have none: 0 one of the two is told, 1 the set is refused, 2 faulty, 3 no memory, 4
-/// it has no driver of this number.
+/// The locks of a driver, of the set that a text or an image names, in an order, or a shortest
+/// cycle where they have none: 0 one of the two is told, 1 the set is refused, 2 faulty, 3 no
+/// memory, 4 it has no driver of this number.
 #[unsafe(no_mangle)]
 pub extern "C" fn pafteis_order_of_locks(
     alloc: Global,

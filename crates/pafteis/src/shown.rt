@@ -10,9 +10,9 @@ use drvhost_views::tell::Telling;
 use pafteis_parts::answers::{Run, run_as};
 use std::alloc::Global;
 
-/// A run of a set by a schedule in words, with an audit behind. The flags are the sum of 1 where any
-/// set is run, 2 where a line is told of fewer events or 4 where it is told of each, and 8 where an
-/// event that was refused counts as a stop.
+/// A run of a set by a schedule in words, with an audit behind. The flags are the sum of 1 where
+/// any set is run, 2 where a line is told of fewer events or 4 where it is told of each, and 8
+/// where an event that was refused counts as a stop.
 #[unsafe(no_mangle)]
 pub extern "C" fn pafteis_tell(
     alloc: Global,

@@ -3,7 +3,8 @@
 ghost use Rattle.std.specs.Prelude.{◌≡◌, Some};
 ghost use Rattle.drvhost_devices.specs.Device.{Bytes};
 ghost use Rattle.drvhost_devices.specs.Ends.{IsCheckOf, IsListOf, IsRewriteOf};
-ghost use Rattle.pafteis.specs.Called.{Answers, ExplainsRule, ExplainsSet, IsCheckedAs, Puts, PutsBytes, Traces, extent_named, verification_named};
+ghost use Rattle.pafteis.specs.Called.{Answers, ExplainsRule, ExplainsSet, IsCheckedAs, Puts};
+ghost use Rattle.pafteis.specs.Called.{PutsBytes, Traces, extent_named, verification_named};
 
 use crate::worlds::DONE;
 use drvhost_devices::verification::Verification;
@@ -46,8 +47,8 @@ pub extern "C" fn pafteis_report(
     put(answers::check(alloc, set), buffer, needed)
 }
 
-/// The same with words behind: of the first fault where `extent` is 0, of each routine's where it is
-/// 1.
+/// The same with words behind: of the first fault where `extent` is 0, of each routine's where it
+/// is 1.
 #[unsafe(no_mangle)]
 pub extern "C" fn pafteis_explain(
     alloc: Global,

@@ -2,7 +2,8 @@
 
 ghost use Rattle.std.specs.Prelude.{◌≡◌, true, false};
 ghost use Rattle.model.specs.View.{due_at, packet_at, thread_at};
-ghost use Rattle.pafteis.specs.Driving.{Applies, AppliesAll, Closes, MayHave, Opens, Steps, TellsAll, TellsIf};
+ghost use Rattle.pafteis.specs.Driving.{Applies, AppliesAll, Closes, MayHave, Opens, Steps};
+ghost use Rattle.pafteis.specs.Driving.{TellsAll, TellsIf};
 ghost use Rattle.pafteis_values.specs.View.{due_value, packet_value, thread_value};
 
 use crate::texts::WRONG_ARGUMENT;
@@ -33,7 +34,8 @@ pub(crate) fn may_have(threads: u8) -> bool
 }
 
 /// Makes the world of the set that a text or an image names, with 1 to 64 threads: 0 it stands, 1
-/// the set is refused, 2 faulty, 3 no memory, 4 no such number of threads, 6 the handle has a world.
+/// the set is refused, 2 faulty, 3 no memory, 4 no such number of threads, 6 the handle has a
+/// world.
 #[unsafe(no_mangle)]
 pub extern "C" fn pafteis_world_new(
     alloc: Global,

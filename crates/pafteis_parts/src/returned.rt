@@ -22,7 +22,8 @@ impl Model for Told {
 
     ghost Value = { Answer };
 
-    ghost view = { λ t. record { status = t.exit; output = t.written.items; told = t.errors.items } };
+    ghost view = {
+        λ t. record { status = t.exit; output = t.written.items; told = t.errors.items } };
 }
 
 impl Told {
@@ -79,7 +80,8 @@ pub(crate) fn collected(
 ) -> Result<Told, OutOfMemory>
     ensures { IfOk result (Collects exit unread unscheduled
         (⟦<Writer<Vec<u8>> as Sink>⟧.failures output) (⟦<Writer<Vec<u8>> as Sink>⟧.contents output)
-        (⟦<Writer<Vec<u8>> as Sink>⟧.failures errors) (⟦<Writer<Vec<u8>> as Sink>⟧.contents errors)) }
+        (⟦<Writer<Vec<u8>> as Sink>⟧.failures errors)
+        (⟦<Writer<Vec<u8>> as Sink>⟧.contents errors)) }
 {
     if exit == NO_MEMORY || unread > 0 || unscheduled > 0 {
         return Err(OutOfMemory);

@@ -1,7 +1,8 @@
 //! The order of a driver's locks, or a cycle of them, as the header has it.
 
 ghost use Rattle.std.specs.Prelude.{◌≡◌, slice_get};
-ghost use Rattle.pafteis_values.specs.Locks.{edge_value, in_a_cycle, lock_value, order_value, ordered};
+ghost use Rattle.pafteis_values.specs.Locks.{edge_value, in_a_cycle, lock_value, order_value};
+ghost use Rattle.pafteis_values.specs.Locks.{ordered};
 ghost use Rattle.verifier_orders.specs.Edges.{number_of};
 
 use model::set::Guard;

@@ -1,7 +1,8 @@
 //! A verdict as the header has it.
 
 ghost use Rattle.std.specs.Prelude.{◌≡◌};
-ghost use Rattle.pafteis_values.specs.Verdict.{image_value, refusal_value, status_number, text_value, verdict_value};
+ghost use Rattle.pafteis_values.specs.Verdict.{image_value, refusal_value, status_number};
+ghost use Rattle.pafteis_values.specs.Verdict.{text_value, verdict_value};
 
 use asm::{AsmFault, AsmKind};
 use image::ImageFault;

@@ -1,7 +1,8 @@
 //! What a world tells of a thread, a packet and a device, as the header has it.
 
 ghost use Rattle.std.specs.Prelude.{◌≡◌};
-ghost use Rattle.pafteis_values.specs.View.{armed_by, armed_value, due_value, frame_value, level_number, packet_value, step_number, thread_value};
+ghost use Rattle.pafteis_values.specs.View.{armed_by, armed_value, due_value, frame_value};
+ghost use Rattle.pafteis_values.specs.View.{level_number, packet_value, step_number, thread_value};
 
 use model::set::QueueName;
 use model::view::{FrameView, PacketView, ThreadView};

@@ -2,7 +2,8 @@
 
 ghost use Rattle.std.specs.Prelude.{◌≡◌, IfErr, IfOk, true, false};
 ghost use Rattle.model.specs.Typable.{IsTypable};
-ghost use Rattle.pafteis_world.specs.Judged.{IsJudged, IsTurnedAway, IsUnread, Names, is_image, text_verdict};
+ghost use Rattle.pafteis_world.specs.Judged.{IsJudged, IsTurnedAway, IsUnread, Names, is_image};
+ghost use Rattle.pafteis_world.specs.Judged.{text_verdict};
 
 use asm::{AsmFault, AsmKind};
 use driver_set::DriverSet;

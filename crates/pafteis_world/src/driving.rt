@@ -56,7 +56,8 @@ pub fn open_empty(alloc: Global, bytes: &[u8], threads: u8, handle: &mut Handle)
 
 /// Takes the world out of a handle, which is empty then.
 pub(crate) fn taken(alloc: Global, handle: &mut Handle) -> Option<Box<World>>
-    ensures { (option_map (λ world. world.value) result ≡ world_in handle.old) × (handle.new.live ≡ false) }
+    ensures { (option_map (λ world. world.value) result ≡ world_in handle.old)
+        × (handle.new.live ≡ false) }
 {
     replace(handle, Handle::empty()).into_world(alloc)
 }

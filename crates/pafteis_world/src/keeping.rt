@@ -21,8 +21,8 @@ pub fn keep(alloc: Global, bytes: Vec<u8>, kept: &mut Kept) -> bool
     }
 }
 
-/// Puts a piece of what a handle keeps into a buffer, from a byte on, as much as has room there, and
-/// answers how many bytes that is.
+/// Puts a piece of what a handle keeps into a buffer, from a byte on, as much as has room there,
+/// and answers how many bytes that is.
 pub fn read(alloc: Global, kept: &mut Kept, from: usize, buffer: &mut [u8]) -> Option<usize>
     ensures { Reads from kept.old kept.new buffer.old buffer.new result }
 {

@@ -1,5 +1,6 @@
 //! Worlds for a program in another language: from the bytes of a driver text or an image to a
-//! verdict, a world or the order of a driver's locks; a world behind a handle, and an answer's bytes.
+//! verdict, a world or the order of a driver's locks; a world behind a handle, and an answer's
+//! bytes.
 #![tactic(auto)]
 
 pub mod admitting;

@@ -2,7 +2,10 @@
 
 ghost use Rattle.std.specs.Prelude.{◌≡◌, ◌+◌, ◌≤◌, ◌++◌, length};
 ghost use Rattle.asm.specs.Laws.{kind_number};
-ghost use Rattle.report.specs.Fault.{fault_line, image_fault_line, image_fault_name, image_fault_number, kind_and_line, schedule_fault_line, schedule_kind_name, schedule_kind_number, script_fault_line, text_fault_line, text_kind_name};
+ghost use Rattle.report.specs.Fault.{fault_line, image_fault_line, image_fault_name};
+ghost use Rattle.report.specs.Fault.{image_fault_number, kind_and_line, schedule_fault_line};
+ghost use Rattle.report.specs.Fault.{schedule_kind_name, schedule_kind_number, script_fault_line};
+ghost use Rattle.report.specs.Fault.{text_fault_line, text_kind_name};
 ghost use Rattle.report.specs.Lines.{HasRoom};
 
 use crate::lines::{Lines, ROOM};

@@ -1,6 +1,7 @@
 //! Lines of output that gather before they are written.
 
-ghost use Rattle.std.specs.Prelude.{◌≡◌, ◌+◌, ◌-◌, ◌%◌, ◌^◌, ◌<◌, ◌≤◌, ◌↔◌, ◌++◌, [], IfOk, IsTrue, decimal, length, take};
+ghost use Rattle.std.specs.Prelude.{◌≡◌, ◌+◌, ◌-◌, ◌%◌, ◌^◌, ◌<◌, ◌≤◌, ◌↔◌, ◌++◌, [], IfOk, IsTrue};
+ghost use Rattle.std.specs.Prelude.{decimal, length, take};
 ghost use Rattle.report.specs.Lines.{HasRoom};
 ghost use Rattle.report.specs.Reply.{reply_head};
 ghost use Rattle.report.specs.Word.{word_head, word_line, word_lines};
@@ -185,8 +186,8 @@ impl Lines {
         u64::from(left)
     }
 
-    /// Adds the lines of some such events, whose numbers differ in the last digit alone, and goes on
-    /// to the number behind them.
+    /// Adds the lines of some such events, whose numbers differ in the last digit alone, and goes
+    /// on to the number behind them.
     fn words_of_ten(&mut self, number: &mut EventNumber, word: Word, count: u8)
         requires some { 1 ≤ count }
         requires digits { number.old % 10 + count ≤ 10 }

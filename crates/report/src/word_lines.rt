@@ -10,8 +10,8 @@ use crate::word::Word;
 /// Bytes of ten such lines, at most.
 pub(crate) const LONGEST_TEN: usize = 320;
 
-/// Writes a line into a block, with the last digit that is given. Answers how many digits its number
-/// has.
+/// Writes a line into a block, with the last digit that is given. Answers how many digits its
+/// number has.
 #[inline]
 fn write_block(block: &mut [u8], line: &ReadyLine, last_digit: u8) -> usize
     requires digit { last_digit < 10 }
@@ -65,8 +65,8 @@ pub(crate) fn write_ten(buffer: &mut [u8], start: usize, line: &ReadyLine, word:
 }
 
 /// Writes the lines of so many events in a row that all replied this word into a buffer, from a
-/// place on; their numbers differ in the last digit alone. Answers where they end. Bytes behind them
-/// may change.
+/// place on; their numbers differ in the last digit alone. Answers where they end. Bytes behind
+/// them may change.
 pub(crate) fn write_some(
     buffer: &mut [u8],
     start: usize,

@@ -2,7 +2,9 @@
 
 ghost use Rattle.std.specs.Prelude.{◌≡◌, ◌++◌, OnOk};
 ghost use Rattle.json.specs.Tree.{json_tokens, members_tokens};
-ghost use Rattle.report_json.specs.Event.{of_device_members, packet_members, place_json, reply_members, reply_name, subject_json, system_cancel_lock_members};
+ghost use Rattle.report_json.specs.Event.{of_device_members, packet_members, place_json};
+ghost use Rattle.report_json.specs.Event.{reply_members, reply_name, subject_json};
+ghost use Rattle.report_json.specs.Event.{system_cancel_lock_members};
 
 use crate::member::{put_long, put_number, put_text};
 use crate::to_json::ToJson;

@@ -16,8 +16,8 @@ use std::alloc::AllocError;
 /// The name of the shape of an event that is told, and its edition.
 const FORMAT: &str = "pafteis.told/1";
 
-/// The circumstances of an event: the thread that it is about, the name of the routine that acts and
-/// the number of the line of its instruction, if there are such; and words on what changed.
+/// The circumstances of an event: the thread that it is about, the name of the routine that acts
+/// and the number of the line of its instruction, if there are such; and words on what changed.
 #[derive(Drop)]
 pub struct Circumstances {
     pub thread: Option<u64>,

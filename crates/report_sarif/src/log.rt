@@ -5,7 +5,11 @@ ghost use Rattle.serde_json.specs.Data.{array};
 ghost use Rattle.serde_json.specs.Read.{read};
 ghost use Rattle.serde_json.specs.View.{items_of, view};
 ghost use Rattle.serde_json.specs.Written.{compact_text};
-ghost use Rattle.report_sarif.specs.Log.{driver_data, fingerprints_data, fix_data, fixes_data, flow_data, flows_data, kind_word, level_word, locations_data, log_data, message_at, physical_data, region_data, replacement_data, result_data, rule_data, run_data, step_data, steps_flows, text_data, tool_data};
+ghost use Rattle.report_sarif.specs.Log.{driver_data, fingerprints_data, fix_data, fixes_data};
+ghost use Rattle.report_sarif.specs.Log.{flow_data, flows_data, kind_word, level_word};
+ghost use Rattle.report_sarif.specs.Log.{locations_data, log_data, message_at, physical_data};
+ghost use Rattle.report_sarif.specs.Log.{region_data, replacement_data, result_data, rule_data};
+ghost use Rattle.report_sarif.specs.Log.{run_data, step_data, steps_flows, text_data, tool_data};
 
 use crate::uri::uri_of;
 use mend_fixes::LineEdit;

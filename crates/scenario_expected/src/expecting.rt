@@ -1,7 +1,13 @@
 //! What a line expects.
 
 ghost use Rattle.std.specs.Prelude.{◌≡◌};
-ghost use Rattle.scenario_expected.specs.Expecting.{at_label, at_number, bug_line, device_line, device_state, expect_line, expecting, expecting_of, is_device_word, packet_line, packet_state, packet_word, refused_at, refused_line, thread_line, thread_state, topped_as, topped_information, topped_line, waiting_for};
+ghost use Rattle.scenario_expected.specs.Expecting.{at_label, at_number, bug_line, device_line};
+ghost use Rattle.scenario_expected.specs.Expecting.{device_state, expect_line, expecting};
+ghost use Rattle.scenario_expected.specs.Expecting.{expecting_of, is_device_word, packet_line};
+ghost use Rattle.scenario_expected.specs.Expecting.{packet_state, packet_word, refused_at};
+ghost use Rattle.scenario_expected.specs.Expecting.{refused_line, thread_line, thread_state};
+ghost use Rattle.scenario_expected.specs.Expecting.{topped_as, topped_information, topped_line};
+ghost use Rattle.scenario_expected.specs.Expecting.{waiting_for};
 
 use crate::expectation::{DeviceState, Expectation, List, PacketState, ThreadState, Verdict};
 use crate::places::{cancel_lock_line, current_line, held_line, in_line, of_line, own_list_line};

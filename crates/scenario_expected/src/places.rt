@@ -1,7 +1,12 @@
 //! What a line expects of cells, locks and lists of devices, and of where a packet stands.
 
 ghost use Rattle.std.specs.Prelude.{◌≡◌, ◌∷◌};
-ghost use Rattle.scenario_expected.specs.Places.{cancel_lock_line, cell_is, cell_line, current_line, held_line, in_line, in_list, in_queue, list_named, listed_line, none_listed, of_device, of_line, own_list, own_list_line, owner_line, owning, packets_from, packets_line, queue_line, spin_line};
+ghost use Rattle.scenario_expected.specs.Places.{cancel_lock_line, cell_is, cell_line};
+ghost use Rattle.scenario_expected.specs.Places.{current_line, held_line, in_line, in_list};
+ghost use Rattle.scenario_expected.specs.Places.{in_queue, list_named, listed_line, none_listed};
+ghost use Rattle.scenario_expected.specs.Places.{of_device, of_line, own_list, own_list_line};
+ghost use Rattle.scenario_expected.specs.Places.{owner_line, owning, packets_from, packets_line};
+ghost use Rattle.scenario_expected.specs.Places.{queue_line, spin_line};
 
 use crate::expectation::{DeviceState, Expectation, List, MAX_LISTED, PacketState};
 use interleave::schedule::ScheduleKind;

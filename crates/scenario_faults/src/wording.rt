@@ -28,9 +28,9 @@ const END: &str = "`end`, alone on a line behind those that are listed more than
 
 /// What may be expected.
 const EXPECTED: &str =
-    "`clean`, `bug` and a number, `accepted`, `refused` and by which rule, `thread`, its number and its state, a device or a packet and its \
-     state, a cell, a spin lock or a queue `of` a device, `start list`, `device queue`, or \
-     `cancel lock`";
+    "`clean`, `bug` and a number, `accepted`, `refused` and by which rule, `thread`, its number \
+     and its state, a device or a packet and its state, a cell, a spin lock or a queue `of` a \
+     device, `start list`, `device queue`, or `cancel lock`";
 
 /// Adds why a line has no form, stands out of its place, or has a number out of its range.
 pub(crate) fn add_misfit(

@@ -9,8 +9,8 @@ use std::marker::Model;
 use text::piece::Piece;
 
 /// The names of the packets that lines issue, in order. A name may stand there more than once: it
-/// is that of the last packet that was issued under it, which is found at once. There are at most 65,536:
-/// no scenario has more steps.
+/// is that of the last packet that was issued under it, which is found at once. There are at most
+/// 65,536: no scenario has more steps.
 #[derive(Drop)]
 pub struct Issued<'a> {
     names: Vec<Piece<'a>>,

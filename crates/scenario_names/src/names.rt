@@ -1,7 +1,11 @@
-//! What a driver text names: its devices, its instructions by their lines and labels, and its queues.
+//! What a driver text names: its devices, its instructions by their lines and labels, and its
+//! queues.
 
 ghost use Rattle.std.specs.Prelude.{◌≡◌, IfOk, OnOk, Some, nat_eq, position};
-ghost use Rattle.scenario_names.specs.Names.{entry_of, has_label, has_name, is_called, is_in, labelled, more, names_of, noted, nothing, number_at, on_line, queue_at, queue_named, spot_at, with_instruction, with_queue};
+ghost use Rattle.scenario_names.specs.Names.{entry_of, has_label, has_name, is_called, is_in};
+ghost use Rattle.scenario_names.specs.Names.{labelled, more, names_of, noted, nothing, number_at};
+ghost use Rattle.scenario_names.specs.Names.{on_line, queue_at, queue_named, spot_at};
+ghost use Rattle.scenario_names.specs.Names.{with_instruction, with_queue};
 
 use asm_line::{Body, Line};
 use asm_usual::read_line;

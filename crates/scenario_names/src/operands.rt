@@ -1,7 +1,13 @@
 //! The operands of a line, each by what it may be.
 
-ghost use Rattle.std.specs.Prelude.{◌≡◌, ◌+◌, ◌<◌, ◌≤◌, IfOk, IfSome, bytes_eq, drop, length, nat_eq, position, take};
-ghost use Rattle.scenario_names.specs.Operands.{below, byte_of, cell_of, device_named, device_of, has_number, known, lettered, major_from, number_of, packet_of, queue_of, routine_of, rule_in, rule_named, rule_of, small, spin_lock_of, spot_labelled, spot_on_line, spot_parted, status_named};
+ghost use Rattle.std.specs.Prelude.{◌≡◌, ◌+◌, ◌<◌, ◌≤◌, IfOk, IfSome, bytes_eq, drop, length};
+ghost use Rattle.std.specs.Prelude.{nat_eq, position, take};
+ghost use Rattle.scenario_names.specs.Operands.{below, byte_of, cell_of, device_named, device_of};
+ghost use Rattle.scenario_names.specs.Operands.{has_number, known, lettered, major_from, number_of};
+ghost use Rattle.scenario_names.specs.Operands.{packet_of, queue_of, routine_of, rule_in};
+ghost use Rattle.scenario_names.specs.Operands.{rule_named, rule_of, small, spin_lock_of};
+ghost use Rattle.scenario_names.specs.Operands.{spot_labelled, spot_on_line, spot_parted};
+ghost use Rattle.scenario_names.specs.Operands.{status_named};
 ghost use Rattle.model.specs.declared.limits.TheConstants.{CELLS, SPIN_LOCKS};
 
 use crate::issued::Issued;

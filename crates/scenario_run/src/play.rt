@@ -14,7 +14,8 @@ use scenario_steps::steps::{Kind, Steps};
 use scenario_world::until::Until;
 use std::alloc::{AllocError, Global};
 
-/// Plays the steps of a scenario, up to the first that fails, and answers that one, if there is one.
+/// Plays the steps of a scenario, up to the first that fails, and answers that one, if there is
+/// one.
 ///
 /// # Errors
 ///

@@ -1,6 +1,7 @@
 //! A scenario as it plays on the reference machine.
 
-ghost use Rattle.std.specs.Prelude.{◌≡◌, ◌≤◌, ◌<◌, ◌-◌, [], IfOk, IfSome, IsTrue, is_none, length, option_map, true};
+ghost use Rattle.std.specs.Prelude.{◌≡◌, ◌≤◌, ◌<◌, ◌-◌, [], IfOk, IfSome, IsTrue, is_none, length};
+ghost use Rattle.std.specs.Prelude.{option_map, true};
 ghost use Rattle.model.specs.declared.limits.TheConstants.{MAX_THREADS};
 ghost use Rattle.model.specs.History.{started_by, top_out_of};
 ghost use Rattle.hunt_ends.specs.Ends.{amiss_in};
@@ -10,7 +11,10 @@ ghost use Rattle.scenario_run.specs.Going.{Gone};
 ghost use Rattle.scenario_run.specs.Holding.{is_bug};
 ghost use Rattle.scenario_run.specs.Past.{events_of};
 ghost use Rattle.scenario_run.specs.Told.{last_of};
-ghost use Rattle.scenario_run.specs.Playing.{begun, cancelled, happened, has_room, issued, most_of, number_of, one, outcome_of, outcome_of_cancel, replies_of, reply_in, reply_of, run_of, run_thread, running, running_to, stepping, with_event, world_of};
+ghost use Rattle.scenario_run.specs.Playing.{begun, cancelled, happened, has_room, issued, most_of};
+ghost use Rattle.scenario_run.specs.Playing.{number_of, one, outcome_of, outcome_of_cancel};
+ghost use Rattle.scenario_run.specs.Playing.{replies_of, reply_in, reply_of, run_of, run_thread};
+ghost use Rattle.scenario_run.specs.Playing.{running, running_to, stepping, with_event, world_of};
 ghost use Rattle.scenario_world.specs.Until.{is_before};
 
 use crate::past::add_past;
@@ -168,8 +172,8 @@ impl Playing {
         self.runner.keep_ledger(self.threads)
     }
 
-    /// Makes room for what so many steps make happen, where each makes one event happen, as often as
-    /// it does, and each fourth issues a packet.
+    /// Makes room for what so many steps make happen, where each makes one event happen, as often
+    /// as it does, and each fourth issues a packet.
     ///
     /// # Errors
     ///
@@ -261,7 +265,8 @@ impl Playing {
         most: usize,
         until: Until,
     ) -> Result<Ahead, AllocError>
-        ensures { IfOk result (λ ahead. (ahead.left ≤ most) × IfSome ahead.last (λ _. 0 < ahead.left)
+        ensures { IfOk result (λ ahead. (ahead.left ≤ most)
+            × IfSome ahead.last (λ _. 0 < ahead.left)
             × Gone until thread self.old (most - ahead.left) ahead.last self.new) }
     {
         let room = MAX_EVENTS.saturating_sub(self.count);

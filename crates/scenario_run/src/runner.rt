@@ -62,8 +62,8 @@ impl Runner {
         Ok(())
     }
 
-    /// Applies an event, and notes it in the ledger where that is kept. Where memory runs out, it is
-    /// kept no longer.
+    /// Applies an event, and notes it in the ledger where that is kept. Where memory runs out, it
+    /// is kept no longer.
     #[inline(always)]
     #[tactic(auto, using(crate::proofs::Running::runs_plain))]
     pub(crate) fn apply(&mut self, event: &Event) -> Reply

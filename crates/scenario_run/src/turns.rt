@@ -2,7 +2,8 @@
 
 ghost use Rattle.std.specs.Prelude.{◌≡◌, ◌<◌, ◌-◌, IfOk};
 ghost use Rattle.scenario_run.specs.Playing.{world_of};
-ghost use Rattle.scenario_run.specs.Turns.{AreRounds, IsRound, IsTurn, Rests, after_round, round, run_all};
+ghost use Rattle.scenario_run.specs.Turns.{AreRounds, IsRound, IsTurn, Rests, after_round, round};
+ghost use Rattle.scenario_run.specs.Turns.{run_all};
 ghost use Rattle.scenario_world.specs.Going.{IsLone};
 
 use crate::playing::{Outcome, Playing};

@@ -2,7 +2,8 @@
 
 ghost use Rattle.std.specs.Prelude.{◌≡◌, IfOk};
 ghost use Rattle.std.specs.List.{list_all};
-ghost use Rattle.scenario_steps.specs.Judging.{expect_verdict_alone, expects_verdict, judged, judged_action, judged_step};
+ghost use Rattle.scenario_steps.specs.Judging.{expect_verdict_alone, expects_verdict, judged};
+ghost use Rattle.scenario_steps.specs.Judging.{judged_action, judged_step};
 
 use crate::scenario::{Action, Step};
 use crate::steps::Steps;

@@ -1,6 +1,7 @@
 //! Steps in a row, of which those that do what is usual are kept in a few bytes.
 
-ghost use Rattle.std.specs.Prelude.{◌≡◌, ◌∷◌, ◌++◌, ◌<◌, [], IfOk, IfSome, List, MatchOption, OnErr, OnOk, false, get_or, length, ℕ};
+ghost use Rattle.std.specs.Prelude.{◌≡◌, ◌∷◌, ◌++◌, ◌<◌, [], IfOk, IfSome, List, MatchOption};
+ghost use Rattle.std.specs.Prelude.{OnErr, OnOk, false, get_or, length, ℕ};
 ghost use Rattle.std.specs.List.{list_any};
 ghost use Rattle.scenario_steps.specs.Steps.{IsIn, action_of, is_of, no_step, unfolded};
 ghost use Rattle.scenario_steps.specs.declared.scenario.Step.{Step};

@@ -1,12 +1,16 @@
 //! The text of a scenario.
 
-ghost use Rattle.std.specs.Prelude.{◌≡◌, ◌+◌, ◌++◌, ◌<◌, ◌≤◌, ◌^◌, IfOk, IfSome, MatchResult, OnOk, Ok, Err, Some, length, option_to_list};
+ghost use Rattle.std.specs.Prelude.{◌≡◌, ◌+◌, ◌++◌, ◌<◌, ◌≤◌, ◌^◌, IfOk, IfSome, MatchResult, OnOk};
+ghost use Rattle.std.specs.Prelude.{Ok, Err, Some, length, option_to_list};
 ghost use Rattle.interleave.specs.Line.{opening_line};
 ghost use Rattle.text.specs.Cut.{tokens_of};
 ghost use Rattle.model.specs.declared.limits.TheConstants.{MAX_THREADS};
 ghost use Rattle.scenario_text.specs.Repeating.{kept};
 ghost use Rattle.scenario_text.specs.Usual.{exactly};
-ghost use Rattle.scenario_text.specs.Listing.{IsFaultOf, closed, ends, given_after, lengthened, listing, nothing, opening, opens, repeated, scenario_in, with_line, with_lines, with_threads, with_tokens};
+ghost use Rattle.scenario_text.specs.Listing.{IsFaultOf, closed, ends, given_after, lengthened};
+ghost use Rattle.scenario_text.specs.Listing.{listing, nothing, opening, opens, repeated};
+ghost use Rattle.scenario_text.specs.Listing.{scenario_in, with_line, with_lines, with_threads};
+ghost use Rattle.scenario_text.specs.Listing.{with_tokens};
 
 use crate::quick::{SaidUsually, usual_line};
 use crate::reading::{Said, line_of};
@@ -366,7 +370,8 @@ impl<'a> Given<'a> {
         Ok(Ok(()))
     }
 
-    /// Adds the name of the packet that the last step issues, and its line to the block that is open.
+    /// Adds the name of the packet that the last step issues, and its line to the block that is
+    /// open.
     fn add(
         &mut self,
         number: u64,

@@ -2,7 +2,10 @@
 
 ghost use Rattle.std.specs.Prelude.{◌≡◌, [], IfSome, List, None, Some, ℕ};
 ghost use Rattle.scenario_text.specs.Line.{dpc_line, interrupt_line, request_line, run_line};
-ghost use Rattle.scenario_text.specs.Usual.{Reads, SaysUsually, TakesArgument, TakesDevice, TakesMajor, TakesPacket, TakesStatus, TakesThread, begins_another, expects, is_issued_name, is_packet_name};
+ghost use Rattle.scenario_text.specs.Usual.{Reads, SaysUsually, TakesArgument, TakesDevice};
+ghost use Rattle.scenario_text.specs.Usual.{TakesMajor, TakesPacket, TakesStatus, TakesThread};
+ghost use Rattle.scenario_text.specs.Usual.{begins_another, expects, is_issued_name};
+ghost use Rattle.scenario_text.specs.Usual.{is_packet_name};
 
 use model::status::{Major, Status};
 use scenario_names::issued::Issued;
@@ -22,9 +25,9 @@ pub(crate) struct SaidUsually<'a> {
     pub(crate) usual: Usual,
 }
 
-/// What a line says, if it has the usual form: a word and its operands, or what issues a packet, each
-/// after one space, where the number of a thread is below 100, a device is named, and an argument is
-/// a small decimal number. The packets are those that were issued before it.
+/// What a line says, if it has the usual form: a word and its operands, or what issues a packet,
+/// each after one space, where the number of a thread is below 100, a device is named, and an
+/// argument is a small decimal number. The packets are those that were issued before it.
 pub(crate) fn usual_line<'a>(
     names: &Names<'_>,
     packets: &Issued<'_>,

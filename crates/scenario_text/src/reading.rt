@@ -1,7 +1,11 @@
 //! One line of a scenario.
 
 ghost use Rattle.std.specs.Prelude.{◌≡◌};
-ghost use Rattle.scenario_text.specs.Line.{action_line, begins, cancel_line, cancels, dpc_line, interrupt_line, issue_line, issues, line_of, may_line, request_line, run_line, run_of, saying, startio_line, starts, steps_line, steps_of, to_label, to_number, to_release, until_line};
+ghost use Rattle.scenario_text.specs.Line.{action_line, begins, cancel_line, cancels, dpc_line};
+ghost use Rattle.scenario_text.specs.Line.{interrupt_line, issue_line, issues, line_of, may_line};
+ghost use Rattle.scenario_text.specs.Line.{request_line, run_line, run_of, saying, startio_line};
+ghost use Rattle.scenario_text.specs.Line.{starts, steps_line, steps_of, to_label, to_number};
+ghost use Rattle.scenario_text.specs.Line.{to_release, until_line};
 
 use crate::together::together_line;
 use interleave::schedule::ScheduleKind;

@@ -4,7 +4,8 @@ ghost use Rattle.std.specs.Prelude.{◌≡◌, Bool, IfOk, IsTrue, List, Some, f
 ghost use Rattle.model.specs.Typable.{IsTypable};
 ghost use Rattle.scenario_run.specs.Playing.{Playing};
 ghost use Rattle.scenario_steps.specs.declared.scenario.Step.{Step};
-ghost use Rattle.scenario_together.specs.Joining.{ActedAll, IsFirstOr, JoinedAll, JoinedOne, Leaves, MayMerge, ThereIf};
+ghost use Rattle.scenario_together.specs.Joining.{ActedAll, IsFirstOr, JoinedAll, JoinedOne};
+ghost use Rattle.scenario_together.specs.Joining.{Leaves, MayMerge, ThereIf};
 ghost use Rattle.scenario_steps.specs.Steps.{together_of};
 ghost use Rattle.scenario_together.specs.Plays.{ArePlain, Plays, PlaysPlainly};
 
@@ -197,7 +198,8 @@ fn left_by(joined: Joined, step: &Step) -> Left
 
 /// A scenario that has come to a step that fails.
 fn ended(now: Playing, step: &Step, more: bool) -> Played
-    ensures { result ≡ record { now = now; failed = Some (record { step = step.now; more = more }) } }
+    ensures { result
+        ≡ record { now = now; failed = Some (record { step = step.now; more = more }) } }
 {
     let failed = Some(Failure { step: *step, more });
     Played { now, failed }

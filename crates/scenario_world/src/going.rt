@@ -2,7 +2,8 @@
 
 ghost use Rattle.std.specs.Prelude.{◌≡◌, ◌<◌, IfSome, None, false, true};
 ghost use Rattle.model.specs.View.{busy_at};
-ghost use Rattle.scenario_world.specs.Going.{AreGoing, any_goes_on, goes_on, other_goes_on, other_is_busy};
+ghost use Rattle.scenario_world.specs.Going.{AreGoing, any_goes_on, goes_on, other_goes_on};
+ghost use Rattle.scenario_world.specs.Going.{other_is_busy};
 
 use checked::Checked;
 use tell_audit::ring::waits_for;

@@ -10,8 +10,8 @@ use checked_frames::Frame;
 use model::limits::REGISTERS;
 use model::world::{Activation, Value};
 
-/// Whether a frame of a routine has a packet in a register, by the numbers of the routine's driver and
-/// of itself.
+/// Whether a frame of a routine has a packet in a register, by the numbers of the routine's driver
+/// and of itself.
 pub fn is_held(machine: &Checked, n: u64, driver: u64, routine: u64) -> bool
     ensures { result ≡ is_held machine.now.world n driver routine }
 {

@@ -1,5 +1,5 @@
-//! What may be expected of a world, decided by the machine that shows it: where packets stand, which
-//! frames have them, what cells have, and who owns a lock.
+//! What may be expected of a world, decided by the machine that shows it: where packets stand,
+//! which frames have them, what cells have, and who owns a lock.
 #![tactic(auto)]
 
 pub mod cells;

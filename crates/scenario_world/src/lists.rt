@@ -2,7 +2,8 @@
 
 ghost use Rattle.std.specs.Prelude.{◌≡◌, option_map, slice_get};
 ghost use Rattle.model.specs.World.{start_of};
-ghost use Rattle.scenario_world.specs.Expected.{are_entries, entries_of, has_at, has_entries, has_entry, is_current};
+ghost use Rattle.scenario_world.specs.Expected.{are_entries, entries_of, has_at, has_entries};
+ghost use Rattle.scenario_world.specs.Expected.{has_entry, is_current};
 
 use checked::Checked;
 use devqueue::Guarded;

@@ -2,7 +2,9 @@
 
 ghost use Rattle.std.specs.Prelude.{◌≡◌, IfOk};
 ghost use Rattle.model.specs.View.{thread_at};
-ghost use Rattle.scenario_world.specs.States.{device_holds, has_information, has_status, is_at, is_busy, is_cancelled, is_idle, is_live, stands_at, thread_holds, topped_as};
+ghost use Rattle.scenario_world.specs.States.{device_holds, has_information, has_status, is_at};
+ghost use Rattle.scenario_world.specs.States.{is_busy, is_cancelled, is_idle, is_live, stands_at};
+ghost use Rattle.scenario_world.specs.States.{thread_holds, topped_as};
 
 use crate::cells::has_number;
 use checked::Checked;

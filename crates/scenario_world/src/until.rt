@@ -2,7 +2,8 @@
 
 ghost use Rattle.std.specs.Prelude.{◌≡◌, IfSome, IsTrue, None, false};
 ghost use Rattle.scenario_world.specs.Going.{other_goes_on};
-ghost use Rattle.scenario_world.specs.Until.{IsBeyond, MaySteps, StaysLone, fits, is_before, lone_until, wakes};
+ghost use Rattle.scenario_world.specs.Until.{IsBeyond, MaySteps, StaysLone, fits, is_before};
+ghost use Rattle.scenario_world.specs.Until.{lone_until, wakes};
 
 use crate::going::{is_busy_at, other_goes_on, other_is_busy};
 use crate::releases::stands_before_release;
@@ -28,8 +29,8 @@ pub enum Until {
     Alone(u8),
 }
 
-/// Where the steps of a thread are to end, so that no other one of so many goes on before: they do so
-/// if another one has frames, and waits.
+/// Where the steps of a thread are to end, so that no other one of so many goes on before: they do
+/// so if another one has frames, and waits.
 pub fn lone_until(machine: &Checked, thread: u8, threads: u8) -> Until
     requires { other_goes_on machine.now.set machine.now.world thread threads ≡ false }
     ensures which { result ≡ lone_until machine.now.world thread threads }

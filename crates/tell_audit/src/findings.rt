@@ -16,8 +16,8 @@ use std::alloc::{AllocError, Global};
 use tell_uses::ledger::Ledger;
 use tell_uses::uses::LocationUse;
 
-/// What is amiss in a machine's world, and in the run that led to it; and which packets are still to
-/// be cancelled.
+/// What is amiss in a machine's world, and in the run that led to it; and which packets are still
+/// to be cancelled.
 #[derive(Drop)]
 pub struct Findings {
     /// The live packets that no place names.

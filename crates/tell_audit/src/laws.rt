@@ -1,6 +1,7 @@
 //! Laws of the audit. Nothing runs here.
 
-ghost use Rattle.tell_audit.specs.Laws.{AcceptedRunsHaveNoRing, AcceptedRunsLeaveNoLock, AcceptedRunsLoseNoPacket, RefusalsHaveReasons};
+ghost use Rattle.tell_audit.specs.Laws.{AcceptedRunsHaveNoRing, AcceptedRunsLeaveNoLock};
+ghost use Rattle.tell_audit.specs.Laws.{AcceptedRunsLoseNoPacket, RefusalsHaveReasons};
 
 use laws_locks::accepted_runs_come_to_rest;
 use laws_runs::packets_have_one_holder;

@@ -2,7 +2,8 @@
 
 ghost use Rattle.std.specs.Prelude.{◌≡◌, ◌++◌, IfOk, OnOk};
 ghost use Rattle.std.specs.List.{list_any};
-ghost use Rattle.tell_audit.specs.Missed.{frame_cancels, is_being_cancelled, is_to_cancel, missed_at, missed_packets, thread_cancels};
+ghost use Rattle.tell_audit.specs.Missed.{frame_cancels, is_being_cancelled, is_to_cancel};
+ghost use Rattle.tell_audit.specs.Missed.{missed_at, missed_packets, thread_cancels};
 ghost use Rattle.model.specs.World.{packet_of};
 
 use checked::{Checked, Thread};

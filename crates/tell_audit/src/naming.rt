@@ -2,7 +2,9 @@
 
 ghost use Rattle.std.specs.Prelude.{◌≡◌, ◌++◌, IfOk, OnOk};
 ghost use Rattle.std.specs.List.{list_any};
-ghost use Rattle.tell_audit.specs.Naming.{frame_names, has_word, is_named, lost_at, lost_packets, queues_name, slot_names, start_names, thread_names, value_names};
+ghost use Rattle.tell_audit.specs.Naming.{frame_names, has_word, is_named, lost_at, lost_packets};
+ghost use Rattle.tell_audit.specs.Naming.{queues_name, slot_names, start_names, thread_names};
+ghost use Rattle.tell_audit.specs.Naming.{value_names};
 ghost use Rattle.model.specs.World.{packet_of};
 
 use checked::{Checked, Thread};

@@ -1,7 +1,8 @@
 //! Why events are refused.
 
 ghost use Rattle.std.specs.Prelude.{◌≡◌, option_map, slice_get};
-ghost use Rattle.tell_audit.specs.Refusal.{why_no_cancel, why_no_dpc, why_no_issue, why_no_startio, why_refused};
+ghost use Rattle.tell_audit.specs.Refusal.{why_no_cancel, why_no_dpc, why_no_issue, why_no_startio};
+ghost use Rattle.tell_audit.specs.Refusal.{why_refused};
 ghost use Rattle.model.specs.Events.{irql_of, is_idle};
 ghost use Rattle.model.specs.Set.{dpc_of, startio_of};
 

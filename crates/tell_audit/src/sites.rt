@@ -3,7 +3,9 @@
 ghost use Rattle.std.specs.Prelude.{◌≡◌, ◌++◌, IfOk, ◌<◌, OnOk, Some, length, slice_get};
 ghost use Rattle.model.specs.Run.{frames_on};
 ghost use Rattle.model.specs.World.{packet_of, queue_of, start_of};
-ghost use Rattle.tell_audit.specs.Sites.{devices_below, frame_sites, frames_below, queue_sites, queues_below, registers_below, site_if, sites_of, start_sites, threads_below, word_sites};
+ghost use Rattle.tell_audit.specs.Sites.{devices_below, frame_sites, frames_below, queue_sites};
+ghost use Rattle.tell_audit.specs.Sites.{queues_below, registers_below, site_if, sites_of};
+ghost use Rattle.tell_audit.specs.Sites.{start_sites, threads_below, word_sites};
 
 use crate::naming::value_names;
 use checked::Checked;

@@ -1,6 +1,6 @@
-//! What an event changed, in words: by the moment before it and the machine after it, with the names
-//! and the lines of the text; and threads that wait in a ring. What acts is by contract; the words
-//! are plain code round it.
+//! What an event changed, in words: by the moment before it and the machine after it, with the
+//! names and the lines of the text; and threads that wait in a ring. What acts is by contract; the
+//! words are plain code round it.
 #![tactic(auto)]
 
 mod change;

@@ -4,7 +4,8 @@ ghost use Rattle.std.specs.Prelude.{◌≡◌, IfOk, Some, option_map, slice_get
 ghost use Rattle.model.specs.Kinds.{is_right};
 ghost use Rattle.model.specs.Run.{frames_on};
 ghost use Rattle.model.specs.Typable.{IsTypable};
-ghost use Rattle.tell_holders.specs.Right.{Decides, DecidesRegister, has_right, is_plain, lends_to, waits_plain};
+ghost use Rattle.tell_holders.specs.Right.{Decides, DecidesRegister, has_right, is_plain, lends_to};
+ghost use Rattle.tell_holders.specs.Right.{waits_plain};
 
 use crate::arriving::state_at;
 use absstate::{Abs, Kind, Stage};

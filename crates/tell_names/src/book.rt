@@ -222,8 +222,8 @@ impl<'a> Book<'a> {
         write!(words, " at {position}")
     }
 
-    /// Adds where a frame stands: its routine and the line of its instruction by its number, or what
-    /// the I/O manager does.
+    /// Adds where a frame stands: its routine and the line of its instruction by its number, or
+    /// what the I/O manager does.
     ///
     /// # Errors
     ///

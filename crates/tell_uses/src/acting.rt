@@ -2,7 +2,8 @@
 
 ghost use Rattle.std.specs.Prelude.{◌≡◌, Some, option_and_then};
 ghost use Rattle.model.specs.World.{packet_in, register};
-ghost use Rattle.tell_uses.specs.Acting.{acting_by, acting_in, instruction_of, packet_at, packet_by, packet_register};
+ghost use Rattle.tell_uses.specs.Acting.{acting_by, acting_in, instruction_of, packet_at};
+ghost use Rattle.tell_uses.specs.Acting.{packet_by, packet_register};
 
 use crate::standing::{instruction_at, packet_in, top_frame};
 use checked::Checked;

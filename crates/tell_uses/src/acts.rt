@@ -3,7 +3,8 @@
 ghost use Rattle.std.specs.Prelude.{◌≡◌, Some};
 ghost use Rattle.model.specs.World.{completion_of, current_location, packet_of};
 ghost use Rattle.tell_uses.specs.Acting.{acting_in};
-ghost use Rattle.tell_uses.specs.Acts.{may_use, frame_uses, instruction_uses, leaves_packet, live_in, onward_of, status_by, use_step};
+ghost use Rattle.tell_uses.specs.Acts.{may_use, frame_uses, instruction_uses, leaves_packet};
+ghost use Rattle.tell_uses.specs.Acts.{live_in, onward_of, status_by, use_step};
 
 use crate::acting::Acting;
 use crate::standing::{instruction_at, packet_in, top_frame};

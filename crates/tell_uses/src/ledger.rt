@@ -1,7 +1,9 @@
 //! What is carried along a run for its audit.
 
-ghost use Rattle.std.specs.Prelude.{true, ◌≡◌, ◌++◌, [], IfOk, OnOk, length, option_to_list, replicate, slice_get};
-ghost use Rattle.tell_uses.specs.Ledger.{new_server, of_server, served_as, settled, settled_at, settled_place, stays};
+ghost use Rattle.std.specs.Prelude.{true, ◌≡◌, ◌++◌, [], IfOk, OnOk, length, option_to_list};
+ghost use Rattle.std.specs.Prelude.{replicate, slice_get};
+ghost use Rattle.tell_uses.specs.Ledger.{new_server, of_server, served_as, settled, settled_at};
+ghost use Rattle.tell_uses.specs.Ledger.{settled_place, stays};
 ghost use Rattle.tell_uses.specs.Uses.{disagreeing_at, disagreeing_from};
 ghost use Rattle.laws_runs.specs.Waits.{says_unchanged};
 
@@ -227,7 +229,8 @@ impl Ledger {
     ghost use Rattle.model.specs.Run.{begun};
     ghost use Rattle.model.specs.Set.{Set};
     ghost use Rattle.tell_uses.specs.Acts.{actions_of, leave_actions};
-    ghost use Rattle.tell_uses.specs.Ledger.{Disagreeing, NoneIfAccepted, Notes, Tells, TellsOn, row_settled, served_at, served_on};
+    ghost use Rattle.tell_uses.specs.Ledger.{Disagreeing, NoneIfAccepted, Notes, Tells, TellsOn};
+    ghost use Rattle.tell_uses.specs.Ledger.{row_settled, served_at, served_on};
     ghost use Rattle.tell_uses.specs.Uses.{DoesAll};
 
     /// That of a run over so many threads, before the first event.
@@ -269,8 +272,8 @@ impl Ledger {
 
     /// An event on a thread does something to the uses.
     fn act(&mut self, alloc: Global, step: UseStep, thread: u8) -> Result<(), AllocError>
-        ensures uses { OnOk result
-            (DoesAll (served_on self.old.rows thread) (actions_of step) self.old.uses self.new.uses) }
+        ensures uses { OnOk result (DoesAll (served_on self.old.rows thread) (actions_of step)
+            self.old.uses self.new.uses) }
         ensures rows { OnOk result (self.new.rows ≡ self.old.rows) }
     {
         match step {

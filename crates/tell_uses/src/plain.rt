@@ -4,7 +4,8 @@
 ghost use Rattle.std.specs.Prelude.{◌≡◌, IsTrue, Some};
 ghost use Rattle.tell_uses.specs.declared.acts.UseStep.TheVariants.{Nothing};
 ghost use Rattle.tell_uses.specs.Acts.{use_step};
-ghost use Rattle.tell_uses.specs.Plain.{PlainStepsKeepLedgers, PlainStepsStepOrStay, is_plain, is_plain_at, is_plain_on};
+ghost use Rattle.tell_uses.specs.Plain.{PlainStepsKeepLedgers, PlainStepsStepOrStay, is_plain};
+ghost use Rattle.tell_uses.specs.Plain.{is_plain_at, is_plain_on};
 
 use crate::standing::{instruction_at, top_frame};
 use checked::Checked;

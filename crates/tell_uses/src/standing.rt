@@ -1,5 +1,5 @@
-//! What stands before an event: the thread that it is about, the frames there, the instruction of the
-//! top one, and the packets that values refer to.
+//! What stands before an event: the thread that it is about, the frames there, the instruction of
+//! the top one, and the packets that values refer to.
 
 ghost use Rattle.std.specs.Prelude.{◌≡◌, option_map};
 ghost use Rattle.model.specs.Effect.{top_of};

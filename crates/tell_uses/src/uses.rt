@@ -1,6 +1,7 @@
 //! What is known of the uses of stack locations.
 
-ghost use Rattle.std.specs.Prelude.{◌≡◌, ◌++◌, ◌∷◌, [], ⊤, drop, length, slice_get, IfOk, OnOk, None, Some};
+ghost use Rattle.std.specs.Prelude.{◌≡◌, ◌++◌, ◌∷◌, [], ⊤, drop, length, slice_get, IfOk, OnOk};
+ghost use Rattle.std.specs.Prelude.{None, Some};
 ghost use Rattle.model.specs.Action.{Calls, Issues, Leaves, Marks, Returns, Ups};
 ghost use Rattle.model.specs.LocalRule.{is_pending};
 ghost use Rattle.tell_uses.specs.Uses.{blank, left, marked, note_disagrees, returned};
@@ -9,8 +10,8 @@ use model::status::Status;
 use std::alloc::{AllocError, Global};
 use std::marker::Model;
 
-/// A use of one of a packet's locations, by its number: uses are numbered in the order in which they
-/// are opened.
+/// A use of one of a packet's locations, by its number: uses are numbered in the order in which
+/// they are opened.
 #[derive(Clone, Copy)]
 pub struct LocationUse {
     packet_number: u64,
@@ -218,7 +219,8 @@ impl Model for Uses {
 
 impl Uses {
     ghost use Rattle.std.specs.Prelude.{◌<◌, ℕ};
-    ghost use Rattle.tell_uses.specs.Uses.{Does, Puts, current_at, disagreeing_from, note_of_packet, noted, noted_serving, stack_at};
+    ghost use Rattle.tell_uses.specs.Uses.{Does, Puts, current_at, disagreeing_from};
+    ghost use Rattle.tell_uses.specs.Uses.{note_of_packet, noted, noted_serving, stack_at};
 
     /// Before the first is opened.
     pub(crate) fn new(alloc: Global) -> Uses

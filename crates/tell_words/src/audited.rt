@@ -99,8 +99,8 @@ impl Audited {
     }
 }
 
-/// What a run has left: the machine and the ledger after it, what was found there, and the rights to
-/// packets, where the set is accepted.
+/// What a run has left: the machine and the ledger after it, what was found there, and the rights
+/// to packets, where the set is accepted.
 #[derive(Clone, Copy)]
 pub(crate) struct Left<'a> {
     pub(crate) machine: &'a Checked,

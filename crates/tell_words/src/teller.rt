@@ -25,8 +25,9 @@ struct Ahead {
     thread: u8,
 }
 
-/// What tells a run: how the text calls things, what is noted for the audit, and the words that were
-/// made last, in two parts. Contracts see the numbers of the events that were refused, in order.
+/// What tells a run: how the text calls things, what is noted for the audit, and the words that
+/// were made last, in two parts. Contracts see the numbers of the events that were refused, in
+/// order.
 #[derive(Drop)]
 pub struct Teller<'a> {
     book: Book<'a>,
@@ -102,8 +103,8 @@ impl<'a> Teller<'a> {
         self.head == head
     }
 
-    /// Makes the words that stand behind an event's number and its reply, which are so many bytes, by
-    /// the machine after it.
+    /// Makes the words that stand behind an event's number and its reply, which are so many bytes,
+    /// by the machine after it.
     ///
     /// # Errors
     ///

@@ -1,7 +1,8 @@
 //! A queue of commands that workers serve, and what came of it.
 
 ghost use Rattle.std.specs.Prelude.{◌≡◌, ◌≤◌, None, length, replicate};
-ghost use Rattle.intake.specs.declared.limits.TheConstants.{MAX_CAPACITY, MAX_SUBMITTERS, MAX_TAKERS};
+ghost use Rattle.intake.specs.declared.limits.TheConstants.{MAX_CAPACITY, MAX_SUBMITTERS};
+ghost use Rattle.intake.specs.declared.limits.TheConstants.{MAX_TAKERS};
 ghost use Rattle.intake.specs.Ends.{AreSubmittersOf, AreTakersOf};
 ghost use Rattle.model.specs.declared.limits.TheConstants.{MAX_THREADS};
 

@@ -3,7 +3,8 @@
 
 ghost use Rattle.std.specs.Prelude.{◌≡◌, bytes_eq, option_map};
 ghost use Rattle.std.specs.List.{list_all};
-ghost use Rattle.text.specs.Class.{begins_name, is_name, is_name_byte, is_name_start, is_number, is_token, is_word, is_word_byte, label_name};
+ghost use Rattle.text.specs.Class.{begins_name, is_name, is_name_byte, is_name_start, is_number};
+ghost use Rattle.text.specs.Class.{is_token, is_word, is_word_byte, label_name};
 
 use crate::number::is_numeral;
 

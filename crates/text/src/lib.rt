@@ -1,5 +1,6 @@
 //! Bytes of a text to lines, a line to tokens, and what a token is. Driver texts and schedules are
-//! read by the same rules. Places in a text are found by the numbers of lines, and its lines quoted.
+//! read by the same rules. Places in a text are found by the numbers of lines, and its lines
+//! quoted.
 //!
 //! Lines end with LF. `;` begins a comment. Tokens are parted by tabs, spaces and CR. A token is a
 //! name, a word in capitals, a number, or a name with a colon. Both name major functions.

@@ -1,7 +1,7 @@
 //! The loops of a routine, as the pass over it needs them at each position. One scan, of one step a
-//! position: since a loop is named by the position of its `loop`, the loops round it are those noted
-//! there, and only the innermost one is noted anywhere. A loop without an `end` has no body, which
-//! shows at the routine's end alone: where there is one, two scans more are made.
+//! position: since a loop is named by the position of its `loop`, the loops round it are those
+//! noted there, and only the innermost one is noted anywhere. A loop without an `end` has no body,
+//! which shows at the routine's end alone: where there is one, two scans more are made.
 
 ghost use Rattle.std.specs.Prelude.{◌≡◌, ◌<◌, ◌≤◌, ℕ, length, false, IfOk, IfSome, slice_index_or};
 ghost use Rattle.std.specs.Prelude.{None};

@@ -31,7 +31,8 @@ pub enum Arrivals {
     Differing,
 }
 
-ghost use Rattle.verifier.specs.Table.{IsJoined, IsNoted, IsKept, IsArrived, changes_at_label, seen_of};
+ghost use Rattle.verifier.specs.Table.{IsJoined, IsNoted, IsKept, IsArrived, changes_at_label};
+ghost use Rattle.verifier.specs.Table.{seen_of};
 
 /// Notes that a state arrives at a position of the routine, if it is one.
 fn note(table: &mut Table, to: usize, state: &Tracked)

@@ -5,7 +5,8 @@ ghost use Rattle.model.specs.Certificate.{certificate_of};
 ghost use Rattle.model.specs.Edition.{First, edition_of};
 ghost use Rattle.model.specs.Set.{routine_of};
 ghost use Rattle.model.specs.Sound.{DriverFits};
-ghost use Rattle.model.specs.Typable.{IsTypable, IsTypableDriver, IsTypableUnder, IsFirstFault, IsFirstFaultUnder, at_start};
+ghost use Rattle.model.specs.Typable.{IsTypable, IsTypableDriver, IsTypableUnder, IsFirstFault};
+ghost use Rattle.model.specs.Typable.{IsFirstFaultUnder, at_start};
 ghost use Rattle.verifier.specs.Certificates.{driver_certificates, AreCertificates};
 ghost use Rattle.verifier.specs.Verdict.{IsRefusalOf, IsRefusalOfDriver};
 

@@ -84,7 +84,8 @@ pub fn path_to(alloc: Global, subject: Subject, at: u16) -> Result<Option<Path>,
     requires within { at < length subject.routine.code }
     requires fine { AreFine subject at }
     ensures path { IfOk result (λ found. IfSome found (λ path. IsPathTo subject.entry at path)) }
-    ensures none { IfOk result (λ found. found ≡ None → (s : Abs) → Arrives subject.entry at s → ⊥) }
+    ensures none { IfOk result
+        (λ found. found ≡ None → (s : Abs) → Arrives subject.entry at s → ⊥) }
 {
     let table = arrivals_to(alloc, &subject, at)?;
     let arrivals = Arrivals { subject, table };

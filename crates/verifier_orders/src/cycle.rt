@@ -1,7 +1,8 @@
 //! The shortest cycle of edges between locks, where no places can be given.
 
 ghost use Rattle.std.specs.Prelude.{◌≡◌, ◌<◌, ◌+◌, ◌↔◌, IfOk, IfSome, IsTrue, None};
-ghost use Rattle.verifier_orders.specs.Cycle.{AreBehind, AreFirst, AreOneBack, HasWay, IsFirstOf, IsLeastCycle, LeadsBack, LeadsOn, OfNone, Returns};
+ghost use Rattle.verifier_orders.specs.Cycle.{AreBehind, AreFirst, AreOneBack, HasWay, IsFirstOf};
+ghost use Rattle.verifier_orders.specs.Cycle.{IsLeastCycle, LeadsBack, LeadsOn, OfNone, Returns};
 ghost use Rattle.verifier_orders.specs.Ranking.{AreWithin, HasNowhere, IsStuck};
 
 use crate::ranking::{LOCKS, NumberedEdge};

@@ -3,7 +3,8 @@
 ghost use Rattle.std.specs.Prelude.{◌↔◌, ◌≡◌, ◌<◌, ◌≤◌, slice_get, ◌+◌, IfOk, IfSome, IsTrue, OnOk};
 ghost use Rattle.model.specs.Typable.{IsTypable};
 ghost use Rattle.model.specs.Sound.{IsSound};
-ghost use Rattle.verifier_orders.specs.Edges.{AreEdgesOf, AreEdgesTo, IsAdded, IsNew, AreAdded, count_of, holds_number, number_taken};
+ghost use Rattle.verifier_orders.specs.Edges.{AreEdgesOf, AreEdgesTo, IsAdded, IsNew, AreAdded};
+ghost use Rattle.verifier_orders.specs.Edges.{count_of, holds_number, number_taken};
 
 use crate::ranking::{LOCKS, NumberedEdge};
 use absstate::Abs;

@@ -18,9 +18,9 @@ use verifier::Accepted;
 pub enum LockOrder {
     /// The nine in an order: none is taken while a later one is held, or itself.
     Ordered(Vec<Guard>),
-    /// There is no order, and no cycle is shorter. Each edge takes the lock under which the next one
-    /// is taken, and the last the one under which the first is. Of the shortest it is the one whose
-    /// edges come first, by routine and position.
+    /// There is no order, and no cycle is shorter. Each edge takes the lock under which the next
+    /// one is taken, and the last the one under which the first is. Of the shortest it is the one
+    /// whose edges come first, by routine and position.
     Cycle(Vec<Edge>),
 }
 

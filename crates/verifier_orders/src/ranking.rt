@@ -1,13 +1,15 @@
 //! Places for the nine locks of a driver, so that each edge leads to a later place; or a cycle.
 
 ghost use Rattle.std.specs.Prelude.{◌↔◌, ◌<◌, ◌≡◌, IfErr, IfOk, IfSome, IsTrue, None};
-ghost use Rattle.verifier_orders.specs.Ranking.{AreRanked, AreWithin, HasAt, HasNowhere, IsAt, IsFree, IsOpen, IsStuck};
+ghost use Rattle.verifier_orders.specs.Ranking.{AreRanked, AreWithin, HasAt, HasNowhere, IsAt};
+ghost use Rattle.verifier_orders.specs.Ranking.{IsFree, IsOpen, IsStuck};
 
-/// How many locks a driver has by name: the spin locks of a device, and the system cancel spin lock.
+/// How many locks a driver has by name: the spin locks of a device, and the system cancel spin
+/// lock.
 pub const LOCKS: usize = 9;
 
-/// A routine of a driver takes a lock while it holds another, at a position. Locks are numbered: the
-/// spin locks of a device by their numbers, and the system cancel spin lock by 8.
+/// A routine of a driver takes a lock while it holds another, at a position. Locks are numbered:
+/// the spin locks of a device by their numbers, and the system cancel spin lock by 8.
 #[derive(Clone, Copy)]
 pub struct NumberedEdge {
     pub held: u8,

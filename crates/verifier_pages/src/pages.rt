@@ -205,8 +205,8 @@ device v d 1
 const WRONG_KIND: Page = Page {
     says: "An operand has the kind that the instruction takes: a number, a packet, or a lower
 driver's status. A register whose packet was completed or given away is blank.",
-    source: "touching a packet after IoCompleteRequest, IoCallDriver or IoStartPacket; in a run, bug \
-        check 0x0A for a packet that topped out, and `wrong` for a register that has no such \
+    source: "touching a packet after IoCompleteRequest, IoCallDriver or IoStartPacket; in a run, \
+        bug check 0x0A for a packet that topped out, and `wrong` for a register that has no such \
         thing",
     example: Some(Example {
         text: "driver d
@@ -249,8 +249,8 @@ lower driver returned exactly if it sent the packet down without a mark; another
 status only where it did neither. No packet is completed with STATUS_PENDING. A
 packet that is put into a queue, or started, was marked; one that is passed on in the
 same location was not, nor is one marked twice.",
-    source: "Static Driver Verifier, MarkIrpPending; the Driver Kit, IoMarkIrpPending and \"Returning \
-        STATUS_PENDING\"",
+    source: "Static Driver Verifier, MarkIrpPending; the Driver Kit, IoMarkIrpPending and \
+        \"Returning STATUS_PENDING\"",
     example: Some(Example {
         text: "driver d
 dispatch READ f
@@ -271,8 +271,8 @@ const CANCEL_SPIN_LOCK: Page = Page {
     says: "The system cancel spin lock (`acqc`, `relc`) is acquired where it is not held,
 released where it is, and not kept at a return. A cancel routine begins with it held,
 and releases it.",
-    source: "Static Driver Verifier, CancelSpinLock; IoAcquireCancelSpinLock, IoReleaseCancelSpinLock; \
-        bug checks 0x0F and 0x10",
+    source: "Static Driver Verifier, CancelSpinLock; IoAcquireCancelSpinLock, \
+        IoReleaseCancelSpinLock; bug checks 0x0F and 0x10",
     example: Some(Example {
         text: "driver d
 dpc f
@@ -292,8 +292,8 @@ device v d 1
 const SPIN_LOCK: Page = Page {
     says: "A spin lock (`l0` to `l7`) is acquired where it is not held, released where it is,
 and not kept at a return.",
-    source: "Static Driver Verifier, SpinLock; KeAcquireSpinLock, KeReleaseSpinLock; bug checks 0x0F \
-        and 0x10",
+    source: "Static Driver Verifier, SpinLock; KeAcquireSpinLock, KeReleaseSpinLock; bug checks \
+        0x0F and 0x10",
     example: Some(Example {
         text: "driver d
 dpc f
@@ -312,8 +312,8 @@ device v d 1
 
 const LOCK_HELD: Page = Page {
     says: "No packet is completed or sent down while a lock is held.",
-    source: "the Driver Kit on IoCompleteRequest and on spin locks: completion routines of the drivers \
-        above, or the lower driver, may come back to the lock",
+    source: "the Driver Kit on IoCompleteRequest and on spin locks: completion routines of the \
+        drivers above, or the lower driver, may come back to the lock",
     example: Some(Example {
         text: "driver d
 routine f dispatch
@@ -405,8 +405,8 @@ device v d 1
 
 const DROPPED: Page = Page {
     says: "No packet is lost: at a return no register has one, and none is written over.",
-    source: "the Driver Kit on dispatch routines: a packet is completed, passed on, or marked pending \
-        and kept",
+    source: "the Driver Kit on dispatch routines: a packet is completed, passed on, or marked \
+        pending and kept",
     example: Some(Example {
         text: "driver d
 dispatch READ f
@@ -427,8 +427,8 @@ const TOKEN: Page = Page {
 it by `take`. Who has it begins a packet (`begin`) or starts the next one (`next`)
 before it returns, once. Who has none does neither, and who has it takes no second
 one.",
-    source: "IoStartPacket, IoStartNextPacket and StartIo routines: a device that is left busy starts \
-        no packet any more",
+    source: "IoStartPacket, IoStartNextPacket and StartIo routines: a device that is left busy \
+        starts no packet any more",
     example: Some(Example {
         text: "driver d
 routine f startio
@@ -575,8 +575,8 @@ lock stand in an order, and none of them is acquired while a later one is held. 
 threads that run its routines for one device may wait for each other for ever. This
 is a warning and no rule of the verdict: a set whose driver takes them in a cycle is
 accepted all the same, since a cycle needn't ever be a ring of threads.",
-    source: "the Driver Kit on preventing deadlocks while using spin locks; Driver Verifier, Deadlock \
-        Detection; bug check 0xC4",
+    source: "the Driver Kit on preventing deadlocks while using spin locks; Driver Verifier, \
+        Deadlock Detection; bug check 0xC4",
     example: Some(Example {
         text: "driver d
 dispatch READ f

@@ -1,5 +1,5 @@
-//! What is told of an accepted set: its routines, and the orders or cycles in which its drivers take
-//! their locks, or the cycles alone as warnings. The orders are proved where they are found
+//! What is told of an accepted set: its routines, and the orders or cycles in which its drivers
+//! take their locks, or the cycles alone as warnings. The orders are proved where they are found
 //! (`verifier_orders`); the words round them are plain code, which takes what memory it needs and
 //! writes nothing itself.
 #![tactic(auto)]

@@ -2,7 +2,8 @@
 
 ghost use Rattle.std.specs.Prelude.{IfOk, OnOk, string_bytes};
 ghost use Rattle.model.specs.Typable.{IsTypable};
-ghost use Rattle.verifier_warnings.specs.Orders.{EndsRightly, EndsWith, TellsCycle, TellsCycles, TellsOrders, advice};
+ghost use Rattle.verifier_warnings.specs.Orders.{EndsRightly, EndsWith, TellsCycle, TellsCycles};
+ghost use Rattle.verifier_warnings.specs.Orders.{TellsOrders, advice};
 
 use crate::roll::add_roll;
 use asm_places::{outline, routine_source};

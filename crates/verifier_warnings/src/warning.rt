@@ -2,7 +2,8 @@
 
 ghost use Rattle.std.specs.Prelude.{◌≡◌, [], IfOk, OnOk, length, string_bytes};
 ghost use Rattle.verifier_warnings.specs.Orders.{EndsWith};
-ghost use Rattle.verifier_warnings.specs.Warnings.{AddsWarning, AreLines, AreWarnings, WarnsAt, for_ever};
+ghost use Rattle.verifier_warnings.specs.Warnings.{AddsWarning, AreLines, AreWarnings, WarnsAt};
+ghost use Rattle.verifier_warnings.specs.Warnings.{for_ever};
 
 use crate::orders::{Telling, begin_cycle, line_of};
 use std::alloc::{AllocError, Global};

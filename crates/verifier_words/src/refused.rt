@@ -10,8 +10,8 @@ use verifier_evidence::Evidence;
 use verifier_lessons::of_set;
 use verifier_names::{Names, Origin};
 
-/// A routine that is refused, as its text has it, if there is one: what words on its refusal are made
-/// with.
+/// A routine that is refused, as its text has it, if there is one: what words on its refusal are
+/// made with.
 #[derive(Drop)]
 pub struct RefusedRoutine<'a> {
     scene: Option<Scene<'a>>,

@@ -1,6 +1,7 @@
 //! Refusals explained.
 
-ghost use Rattle.std.specs.Prelude.{◌≡◌, ◌++◌, ◌⊎◌, IfOk, IsSome, OnOk, Some, option_map, option_to_list, slice_get};
+ghost use Rattle.std.specs.Prelude.{◌≡◌, ◌++◌, ◌⊎◌, IfOk, IsSome, OnOk, Some, option_map};
+ghost use Rattle.std.specs.Prelude.{option_to_list, slice_get};
 ghost use Rattle.verifier_evidence.specs.Path.{member_of};
 ghost use Rattle.verifier_words.specs.Faults.{AddsFaults, AreFaults, IsFound, own_fault, refusals};
 ghost use Rattle.model.specs.Sound.{DriverFits};
@@ -113,7 +114,8 @@ fn add_faults(
 ) -> Result<(), AllocError>
     requires driver { slice_get set.now.drivers number ≡ Some driver.now }
     requires fits { DriverFits driver.now }
-    ensures { OnOk result (AddsFaults set.now number (Some driver.now) all.old.items all.new.items) }
+    ensures { OnOk result
+        (AddsFaults set.now number (Some driver.now) all.old.items all.new.items) }
 {
     let routines = driver.routines.as_slice();
     for (place, routine) in routines.iter().enumerate() {

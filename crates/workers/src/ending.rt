@@ -1,6 +1,7 @@
 //! That workers had nothing left to do.
 
-ghost use Rattle.std.specs.Prelude.{◌≡◌, ◌<◌, ◌+◌, None, false, get_or, length, replicate, slice_set, true};
+ghost use Rattle.std.specs.Prelude.{◌≡◌, ◌<◌, ◌+◌, None, false, get_or, length, replicate};
+ghost use Rattle.std.specs.Prelude.{slice_set, true};
 ghost use Rattle.model.specs.declared.limits.TheConstants.{MAX_THREADS};
 ghost use Rattle.hostcore.specs.Core.{world_of};
 ghost use Rattle.workers.specs.Standing.{IsWaiting, StandStill};

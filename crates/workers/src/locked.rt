@@ -192,8 +192,9 @@ impl<B: Beginning> Service<B> {
     }
 }
 
-/// The thread of a worker waits: it is marked. Where of all workers' threads none goes on, no worker
-/// can ever change anything again for those that wait, and the worker has nothing left to do.
+/// The thread of a worker waits: it is marked. Where of all workers' threads none goes on, no
+/// worker can ever change anything again for those that wait, and the worker has nothing left to
+/// do.
 fn wait<B: Beginning>(
     core: &Core,
     seats: &[Seat],

@@ -1,6 +1,7 @@
 //! Whether all workers' threads stand still.
 
-ghost use Rattle.std.specs.Prelude.{◌≡◌, ◌<◌, ◌≤◌, ◌⊎◌, ◌↔◌, ◌||◌, ℕ, IsTrue, false, get_or, length, true};
+ghost use Rattle.std.specs.Prelude.{◌≡◌, ◌<◌, ◌≤◌, ◌⊎◌, ◌↔◌, ◌||◌, ℕ, IsTrue, false, get_or};
+ghost use Rattle.std.specs.Prelude.{length, true};
 ghost use Rattle.hostcore.specs.Core.{world_of};
 ghost use Rattle.intake.specs.declared.limits.TheConstants.{MAX_TAKERS};
 ghost use Rattle.model.specs.View.{busy_at};
@@ -21,8 +22,8 @@ fn is_still(marks: &Marks, gone: &Gone, thread: usize) -> bool
     marks[thread] || gone.has(thread)
 }
 
-/// Whether none of the threads of these seats goes on: each is known to wait, or no one steps it any
-/// more, or it has no frames.
+/// Whether none of the threads of these seats goes on: each is known to wait, or no one steps it
+/// any more, or it has no frames.
 pub(crate) fn none_goes_on(core: &Core, seats: &[Seat], marks: &Marks, gone: &Gone) -> bool
     requires few { length seats.now ≤ MAX_TAKERS }
     ensures { IsTrue result ↔ ((t : ℕ) → t < length seats.now

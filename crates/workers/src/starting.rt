@@ -115,8 +115,8 @@ pub(crate) fn run_all<B: Beginning + Send + Sync, G: Gate + Sync, R: Threads + W
         rt,
         move |scope| -> Joined<B>
             requires { (count ≡ length B.takers) × (length B.takers ≤ MAX_TAKERS)
-                × AreTakersOf shift.now.intake.now B.takers × (all.parts ≡ B.parts) × (0 < all.parts)
-                × (all.amount ≡ 0) }
+                × AreTakersOf shift.now.intake.now B.takers
+                × (all.parts ≡ B.parts) × (0 < all.parts) × (all.amount ≡ 0) }
             ensures { (result.started.parts ≡ B.parts) × (result.ends.missing ≡ 0)
                 × (result.ends.started ≡ result.started.amount) }
         { start_from(scope, rt, shift, 0, count, all) },

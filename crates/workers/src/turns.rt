@@ -67,7 +67,8 @@ fn go(core: &mut Core, seat: &mut Seat, event: Event) -> Turn
 /// Performs a command.
 fn perform(core: &mut Core, seat: &mut Seat, taken: Taken) -> Turn
     requires next { IsNext (world_of core.old) seat.old None }
-    ensures turned { (taker : TakerState) → Turned seat.old core.old core.new taker (took taker taken) result }
+    ensures turned { (taker : TakerState)
+        → Turned seat.old core.old core.new taker (took taker taken) result }
     ensures seat { seat.new ≡ seat.old }
 {
     match core.perform(seat, taken) {

@@ -16,9 +16,9 @@ pub trait Gate {
     /// Whether the worker of this number, which has counted so many entries, takes its turn now.
     fn before(&self, worker: u32, count: u64) -> bool;
 
-    /// The same of a turn that follows an entry of this worker, for which it keeps the lock that all
-    /// of them share: no other worker goes on meanwhile, so this must not wait for one. A turn that
-    /// is refused here is asked for again by [`Gate::before`], without the lock.
+    /// The same of a turn that follows an entry of this worker, for which it keeps the lock that
+    /// all of them share: no other worker goes on meanwhile, so this must not wait for one. A turn
+    /// that is refused here is asked for again by [`Gate::before`], without the lock.
     fn at_once(&self, _worker: u32, _count: u64) -> bool {
         false
     }
@@ -28,8 +28,8 @@ pub trait Gate {
 /// a turn, and whoever waits for it should not wait for long.
 const MOST_TURNS: u32 = 64;
 
-/// A turn of a worker under the lock, and those that it takes at once behind it: the one place where
-/// they are taken. Answers what the last one came to.
+/// A turn of a worker under the lock, and those that it takes at once behind it: the one place
+/// where they are taken. Answers what the last one came to.
 fn locked_turns<B: Beginning, G: Gate, R: Wait>(
     rt: &R,
     service: &Mutex<Service<B>>,

@@ -1,7 +1,8 @@
 //! A script's commands, served.
 
 ghost use Rattle.std.specs.Prelude.{◌≡◌, ◌≤◌, ◌<◌, ◌+◌, ℕ, List, [], IfOk, OnOk, length};
-ghost use Rattle.intake.specs.Ends.{AreSubmittersOf, AreTakersOf, submitter_shares, taker_shares, weigh_put, weigh_taken};
+ghost use Rattle.intake.specs.Ends.{AreSubmittersOf, AreTakersOf, submitter_shares, taker_shares};
+ghost use Rattle.intake.specs.Ends.{weigh_put, weigh_taken};
 ghost use Rattle.intake.specs.Lists.{weigh};
 ghost use Rattle.intake.specs.declared.limits.TheConstants.{MAX_CAPACITY, SHARES};
 ghost use Rattle.model.specs.declared.limits.TheConstants.{MAX_THREADS};

@@ -1,6 +1,7 @@
 //! Commands of a script on their way into a queue.
 
-ghost use Rattle.std.specs.Prelude.{◌≡◌, ◌≤◌, [], IfNone, IfSome, Some, length, map, slice_get, take};
+ghost use Rattle.std.specs.Prelude.{◌≡◌, ◌≤◌, [], IfNone, IfSome, Some, length, map, slice_get};
+ghost use Rattle.std.specs.Prelude.{take};
 ghost use Rattle.std.specs.List.{range_with_len};
 ghost use Rattle.std.specs.Vec.{vec_capacity};
 ghost use Rattle.workers_script.specs.Served.{command_name, named_from};
@@ -11,8 +12,8 @@ use intake::{Intake, Submitter};
 use model::history::Command;
 use std::sync::Wait;
 
-/// Submits commands in order, up to one that comes back, and adds a ticket for each. Answers the one
-/// that came back.
+/// Submits commands in order, up to one that comes back, and adds a ticket for each. Answers the
+/// one that came back.
 pub(crate) fn submit_all<R: Wait>(
     rt: &R,
     intake: &Intake,

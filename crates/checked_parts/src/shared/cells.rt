@@ -26,7 +26,8 @@ fn paged_bug(a: &Activation, cell: Cell) -> Reply
 
 impl Shared {
     ghost use Rattle.checked_frames.specs.Ran.{Leaves, LeavesOn};
-    ghost use Rattle.model.specs.Effect.{load_effect, load_paged_effect, store_effect, store_paged_effect};
+    ghost use Rattle.model.specs.Effect.{load_effect, load_paged_effect, store_effect};
+    ghost use Rattle.model.specs.Effect.{store_paged_effect};
     ghost use Rattle.model.specs.World.{register, number_in as number_in_of};
 
     /// `load r c`: the register becomes the number in a cell.

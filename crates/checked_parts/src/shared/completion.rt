@@ -20,8 +20,10 @@ impl Shared {
     ghost use Rattle.checked_frames.specs.Ran.{left_of, LeavesOver};
     ghost use Rattle.checked_frames.specs.Left.{bounded, judged, frame_now};
     ghost use Rattle.iomgr.specs.Walk.{lent_if};
-    ghost use Rattle.model.specs.Effect.{complete_effect, continued, let_on, stopped, sort_of_completion};
-    ghost use Rattle.model.specs.World.{packet_in, packet_of, register, current_location, completion_of};
+    ghost use Rattle.model.specs.Effect.{complete_effect, continued, let_on, stopped};
+    ghost use Rattle.model.specs.Effect.{sort_of_completion};
+    ghost use Rattle.model.specs.World.{packet_in, packet_of, register, current_location};
+    ghost use Rattle.model.specs.World.{completion_of};
 
     /// `complete r STATUS`: IoCompleteRequest on the packet in the register. The I/O manager's
     /// frame then stands over the routine's, which stands over the frames `below`.

@@ -11,7 +11,8 @@ use model::world::{Activation, Value};
 
 impl Shared {
     ghost use Rattle.checked_frames.specs.Ran.{Leaves};
-    ghost use Rattle.model.specs.Effect.{get_effect, put_effect, mark_effect, look_effect, ask_effect};
+    ghost use Rattle.model.specs.Effect.{get_effect, put_effect, mark_effect, look_effect};
+    ghost use Rattle.model.specs.Effect.{ask_effect};
     ghost use Rattle.model.specs.World.{packet_in, register, number_in as number_in_of};
 
     /// `get r s F`: r becomes a field of the packet in s.

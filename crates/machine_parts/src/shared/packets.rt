@@ -9,7 +9,9 @@ use model::status::{Major, Status};
 use model::world::{Armer, Completion};
 
 impl Shared {
-    ghost use Rattle.model.specs.World.{asked_of, cancelled, current_location, field_of, mark_current, sent_down, shared_with, with_armer, with_info};
+    ghost use Rattle.model.specs.World.{asked_of, cancelled, current_location, field_of};
+    ghost use Rattle.model.specs.World.{mark_current, sent_down, shared_with, with_armer};
+    ghost use Rattle.model.specs.World.{with_info};
     ghost use Rattle.laws_slots.specs.Rep.{named};
     ghost use Rattle.laws_slots.specs.SlotStep.{if_numbered};
     ghost use Rattle.laws_slots.specs.Slots.{packet_at};

@@ -5,7 +5,8 @@ ghost use Rattle.std.specs.Prelude.{◌≡◌, ◌<◌, IsSome, IsTrue, None, So
 use super::Shared;
 
 impl Shared {
-    ghost use Rattle.model.specs.Queues.{dequeued, head_of, is_linked, next_started, started, with_slot, without_first_to_start};
+    ghost use Rattle.model.specs.Queues.{dequeued, head_of, is_linked, next_started, started};
+    ghost use Rattle.model.specs.Queues.{with_slot, without_first_to_start};
     ghost use Rattle.laws_slots.specs.Fits.{CanBeListed};
     ghost use Rattle.laws_slots.specs.Slots.{packet_at, slot_start, with_slot_start};
     ghost use Rattle.machine_parts.specs.Devices.{start_in};
