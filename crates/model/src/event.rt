@@ -57,14 +57,14 @@ pub enum BugCheck {
 }
 
 /// A spin lock or a paged cell of a device, by its number.
-#[derive(Clone, Copy)]
+#[derive(Clone, Copy, PartialEq, Eq)]
 pub struct OfDevice {
     pub device: u8,
     pub number: u8,
 }
 
 /// A lock.
-#[derive(Clone, Copy)]
+#[derive(Clone, Copy, PartialEq, Eq)]
 pub enum Lock {
     /// The system cancel spin lock.
     SystemCancel,
