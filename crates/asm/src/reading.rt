@@ -1,7 +1,7 @@
 //! The text read line by line, and the set that it names.
 
-ghost use Rattle.std.specs.Prelude.{◌≡◌, ◌⊎◌, ◌<◌, ◌^◌, ℕ, length, IfOk, MatchResult, OnOk, Ok};
-ghost use Rattle.std.specs.Prelude.{Err, Some};
+ghost use Rattle.std.specs.Prelude.{◌≡◌, ◌⊎◌, ◌<◌, ◌^◌, ℕ, length, IfOk, MatchResult, OnOk};
+ghost use Rattle.std.specs.Prelude.{Err, Ok, Some};
 ghost use Rattle.asm_line.specs.Plain.{plain_line};
 ghost use Rattle.asm.specs.Outline.{draft_misfit, nothing_read, IsOrderly};
 ghost use Rattle.asm.specs.declared.draft.Place.{Place};
@@ -18,6 +18,9 @@ use model::instr::Instr;
 use model::limits::MAX_INSTRUCTIONS;
 use std::alloc::{AllocError, Global};
 use text::cut::Lines;
+
+/// What reading a line comes to: its fault, if it has one, or that memory ran out.
+type LineRead = Result<Result<(), AsmKind>, AllocError>;
 
 /// The driver set that a text names.
 ///
@@ -84,12 +87,7 @@ impl<'a> Draft<'a> {
 
     /// Reads one line, whose number is `number`.
     #[tactic(auto, using(crate::proofs::Plain::plain_read, crate::proofs::Plain::plain_refused, crate::proofs::Plain::plain_orderly))]
-    fn read_on(
-        &mut self,
-        alloc: Global,
-        number: u64,
-        raw: &'a [u8],
-    ) -> Result<Result<(), AsmKind>, AllocError>
+    fn read_on(&mut self, alloc: Global, number: u64, raw: &'a [u8]) -> LineRead
         requires { IsOrderly self.old }
         ensures read { IfOk result
             (λ answer. MatchResult answer (λ _. read_on self.old number raw.now ≡ Ok self.new)
@@ -105,12 +103,7 @@ impl<'a> Draft<'a> {
     /// Reads one line of another kind, whose number is `number`. A comment says nothing, and is
     /// weighed by its bytes alone.
     #[tactic(auto, using(crate::proofs::Plain::blank_read))]
-    fn read_unplain(
-        &mut self,
-        alloc: Global,
-        number: u64,
-        raw: &'a [u8],
-    ) -> Result<Result<(), AsmKind>, AllocError>
+    fn read_unplain(&mut self, alloc: Global, number: u64, raw: &'a [u8]) -> LineRead
         requires { IsOrderly self.old }
         ensures read { IfOk result
             (λ answer. MatchResult answer (λ _. read_on self.old number raw.now ≡ Ok self.new)
@@ -126,7 +119,7 @@ impl<'a> Draft<'a> {
 
     /// Reads a line of an instruction that has no label and uses no name: most lines are such ones,
     /// and what they say goes where it stays at once.
-    fn read_plain(&mut self, instr: Instr) -> Result<Result<(), AsmKind>, AllocError>
+    fn read_plain(&mut self, instr: Instr) -> LineRead
         ensures { IfOk result (λ answer. MatchResult answer (λ _. IsPlainOn self.old instr self.new)
             (λ kind. draft_misfit self.old (plain_line instr) ≡ Some kind)) }
     {
@@ -141,12 +134,7 @@ impl<'a> Draft<'a> {
     }
 
     /// Reads one line that isn't of these kinds, whose number is `number`.
-    fn read_other(
-        &mut self,
-        alloc: Global,
-        number: u64,
-        raw: &'a [u8],
-    ) -> Result<Result<(), AsmKind>, AllocError>
+    fn read_other(&mut self, alloc: Global, number: u64, raw: &'a [u8]) -> LineRead
         requires { IsOrderly self.old }
         ensures read { IfOk result
             (λ answer. MatchResult answer (λ _. read_on self.old number raw.now ≡ Ok self.new)

@@ -98,8 +98,7 @@ fn execute(
     Ran::Steps
 }
 
-/// Executes the instruction at the position of a thread's routine, which stands over the frames
-/// `below`.
+/// Executes the instruction at the position of a thread's routine, over the frames `below`.
 pub fn step(
     set: &DriverSet,
     shared: &mut Shared,

@@ -212,8 +212,7 @@ impl Thread {
         self.finish(reply)
     }
 
-    /// Lets the routine on top, if one stands there, go on by itself for at most so many steps, and
-    /// answers how many.
+    /// Lets the routine on top, if there is one, go on by itself for so many steps or fewer: how many.
     pub fn go_on(&mut self, set: &DriverSet, shared: &Shared, number: u8, count: usize) -> usize
         requires { GoingOnFits set.now shared.now number self.old }
         ensures few { result ≤ count }

@@ -115,8 +115,7 @@ impl Slots {
     }
 
     /// Lets the routine on the top of a thread go on by itself for at most so many steps, and
-    /// answers how many: each of them changes that routine alone, and replies that the thread
-    /// stepped.
+    /// answers how many: each changes that routine alone, and replies that the thread stepped.
     pub fn go_on(&mut self, set: &DriverSet, thread: u8, count: usize) -> usize
         requires { (k : ℕ)
             → WordEventFits set.now (after set.now self.old thread k) (Event.Step thread) }
@@ -290,8 +289,7 @@ impl Slots {
         Reply::Stepped
     }
 
-    /// The StartIo routine of a device begins on an idle thread, for the first packet of its start
-    /// list.
+    /// A device's StartIo routine begins on an idle thread, for the first packet of its start list.
     fn begin_startio(&mut self, set: &DriverSet, thread: u8, device: u8) -> Reply
         ensures { let on = slice_get self.old.threads thread in
             record { world = self.new; reply = result }
