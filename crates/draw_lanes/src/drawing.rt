@@ -4,7 +4,7 @@ use crate::fold::{Tail, repeated};
 use crate::hold::{Hold, Stay, stay_of};
 use crate::interest::is_of_interest;
 use crate::lane::{Lane, Post, Span, State, lanes_of};
-use crate::lock::{NamedLock, is_same, lock_of, owns};
+use crate::lock::{NamedLock, lock_of, owns};
 use crate::row::{Row, Spot};
 use crate::seen::{Seen, is_return, packet_of};
 use crate::sign::{Sign, sign_of};
@@ -480,10 +480,7 @@ impl Drawing {
 
     /// The place of a lock among those that were owned.
     fn number_of_lock(&mut self, book: &Book<'_>, lock: Lock) -> Result<usize, AllocError> {
-        let known = self
-            .locks
-            .iter()
-            .position(|named| is_same(named.lock, lock));
+        let known = self.locks.iter().position(|named| named.lock == lock);
         match known {
             Some(number) => Ok(number),
             None => {

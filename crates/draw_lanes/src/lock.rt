@@ -84,17 +84,6 @@ fn spin(device: u8, lock: SpinLock) -> Lock {
     })
 }
 
-/// Whether two locks are the same.
-pub fn is_same(one: Lock, other: Lock) -> bool {
-    match (one, other) {
-        (Lock::SystemCancel, Lock::SystemCancel) => true,
-        (Lock::Spin(one), Lock::Spin(other)) => {
-            one.device == other.device && one.number == other.number
-        }
-        _ => false,
-    }
-}
-
 /// Whether a thread owns a lock.
 pub fn owns(machine: &Checked, thread: u8, lock: Lock) -> bool {
     matches!(machine.shared().owner(lock), Some(Some(owner)) if owner == thread)

@@ -3,7 +3,7 @@
 
 use crate::mark::{Kind, Mark, Marks};
 use crate::spans::{BELOW, place_of};
-use draw_lanes::lock::{NamedLock, is_same, lock_of, owns};
+use draw_lanes::lock::{NamedLock, lock_of, owns};
 use draw_lanes::seen::Seen;
 use model::event::Lock;
 use std::alloc::{AllocError, Global};
@@ -75,7 +75,7 @@ impl Bars {
         let known = self
             .bars
             .iter()
-            .position(|bar| bar.thread == thread && is_same(bar.lock.lock, lock));
+            .position(|bar| bar.thread == thread && bar.lock.lock == lock);
         if let Some(place) = known {
             return Ok(place);
         }

@@ -1,5 +1,4 @@
-//! Scenarios as they run: what each step makes happen on the reference machine, by the run so far,
-//! and whether what is expected holds there.
+//! Scenarios as they run on the reference machine: what each step makes happen, and what holds.
 #![tactic(auto)]
 
 pub mod holding;

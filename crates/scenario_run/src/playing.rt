@@ -265,9 +265,8 @@ impl Playing {
         most: usize,
         until: Until,
     ) -> Result<Ahead, AllocError>
-        ensures { IfOk result (λ ahead. (ahead.left ≤ most)
-            × IfSome ahead.last (λ _. 0 < ahead.left)
-            × Gone until thread self.old (most - ahead.left) ahead.last self.new) }
+        ensures { IfOk result (λ gone. (gone.left ≤ most) × IfSome gone.last (λ _. 0 < gone.left)
+            × Gone until thread self.old (most - gone.left) gone.last self.new) }
     {
         let room = MAX_EVENTS.saturating_sub(self.count);
         if room == 0 {

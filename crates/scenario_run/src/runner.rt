@@ -62,8 +62,7 @@ impl Runner {
         Ok(())
     }
 
-    /// Applies an event, and notes it in the ledger where that is kept. Where memory runs out, it
-    /// is kept no longer.
+    /// Applies an event, and notes it in the ledger, if that is kept: as long as memory lasts.
     #[inline(always)]
     #[tactic(auto, using(crate::proofs::Running::runs_plain))]
     pub(crate) fn apply(&mut self, event: &Event) -> Reply

@@ -58,8 +58,7 @@ pub(crate) fn walk(runner: &mut Runner, thread: u8, most: usize, until: Until) -
     Walked { made, last: None }
 }
 
-/// Lets the routine of a thread go on by itself, at most so many steps, unless that isn't tried,
-/// and answers how many it made.
+/// Lets the routine of a thread go on by itself, if that is tried: at most so many steps, how many.
 fn stride(runner: &mut Runner, thread: u8, most: usize, pause: u8, until: Until) -> usize
     ensures few { result ≤ most }
     ensures goes { Strides until thread runner.old.machine result runner.new.machine }

@@ -89,22 +89,9 @@ fn has_lock(awaited: &[Awaited], lock: Lock) -> bool
     ensures { IsTrue result → HasLock lock awaited.now }
 {
     for one in awaited {
-        if is_same(one.lock, lock) {
+        if one.lock == lock {
             return true;
         }
     }
     false
-}
-
-/// Whether two locks are the same.
-fn is_same(one: Lock, other: Lock) -> bool
-    ensures { IsTrue result → one ≡ other }
-{
-    match (one, other) {
-        (Lock::SystemCancel, Lock::SystemCancel) => true,
-        (Lock::Spin(one), Lock::Spin(other)) => {
-            one.device == other.device && one.number == other.number
-        }
-        _ => false,
-    }
 }
