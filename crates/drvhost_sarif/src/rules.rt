@@ -9,31 +9,7 @@ use crate::finding::{ACCEPTED, words_of};
 use model::abs::Rule;
 use report_sarif::log::{Finding, Kind, RuleText, log};
 use std::alloc::{AllocError, Global};
-use verifier_pages::rule_words;
-
-/// All rules, by their numbers.
-const RULES: [Rule; 20] = [
-    Rule::Malformed,
-    Rule::Unreachable,
-    Rule::StatesDiffer,
-    Rule::WrongKind,
-    Rule::DoubleCompletion,
-    Rule::MarkIrpPending,
-    Rule::CancelSpinLock,
-    Rule::SpinLock,
-    Rule::LockHeld,
-    Rule::Level,
-    Rule::Guard,
-    Rule::CancelState,
-    Rule::Dropped,
-    Rule::Token,
-    Rule::Sort,
-    Rule::Completion,
-    Rule::StackTooSmall,
-    Rule::NoLower,
-    Rule::TooLong,
-    Rule::Memory,
-];
+use verifier_pages::{RULES, rule_words};
 
 /// All kinds of faults: of a text, of an image, and of a file that can't be read.
 const KINDS: [&str; 12] = [

@@ -22,6 +22,7 @@ use text::class::{is, is_number};
 use text::major::major_of;
 use text::number::{Numeral, numbered};
 use text::piece::Piece;
+use verifier_pages::RULES;
 
 /// The statuses that a packet may top out with.
 const STATUSES: [Status; 7] = [
@@ -32,30 +33,6 @@ const STATUSES: [Status; 7] = [
     Status::InvalidParameter,
     Status::InvalidDeviceRequest,
     Status::Cancelled,
-];
-
-/// The rules that a set may break.
-const RULES: [Rule; 20] = [
-    Rule::Malformed,
-    Rule::Unreachable,
-    Rule::StatesDiffer,
-    Rule::WrongKind,
-    Rule::DoubleCompletion,
-    Rule::MarkIrpPending,
-    Rule::CancelSpinLock,
-    Rule::SpinLock,
-    Rule::LockHeld,
-    Rule::Level,
-    Rule::Guard,
-    Rule::CancelState,
-    Rule::Dropped,
-    Rule::Token,
-    Rule::Sort,
-    Rule::Completion,
-    Rule::StackTooSmall,
-    Rule::NoLower,
-    Rule::TooLong,
-    Rule::Memory,
 ];
 
 /// A number cell of a device.

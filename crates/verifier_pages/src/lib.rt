@@ -5,4 +5,4 @@
 
 mod pages;
 
-pub use pages::{lock_order_words, rule_words};
+pub use pages::{RULES, lock_order_words, rule_words};

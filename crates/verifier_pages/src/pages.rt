@@ -4,6 +4,30 @@
 use model::abs::Rule;
 use std::alloc::{AllocError, Global};
 
+/// All rules, by their numbers.
+pub const RULES: [Rule; 20] = [
+    Rule::Malformed,
+    Rule::Unreachable,
+    Rule::StatesDiffer,
+    Rule::WrongKind,
+    Rule::DoubleCompletion,
+    Rule::MarkIrpPending,
+    Rule::CancelSpinLock,
+    Rule::SpinLock,
+    Rule::LockHeld,
+    Rule::Level,
+    Rule::Guard,
+    Rule::CancelState,
+    Rule::Dropped,
+    Rule::Token,
+    Rule::Sort,
+    Rule::Completion,
+    Rule::StackTooSmall,
+    Rule::NoLower,
+    Rule::TooLong,
+    Rule::Memory,
+];
+
 /// A short text that a rule refuses, and the same one mended: lines behind `-` stand in the first
 /// alone, and lines behind `+` in the second alone.
 #[derive(Clone, Copy)]
