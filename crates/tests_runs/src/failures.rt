@@ -22,7 +22,7 @@ use std::alloc::Global;
 use std::sync::Wait;
 use std::thread::Threads;
 use tests_sets::vectors::{EMPTY, OLD_ONE_READ, ONE_READ, ONE_READ_TEXT, QUEUED};
-use workers::Gate;
+use workers::Open;
 
 /// The listing of the set of one read.
 const LISTED: &[u8] =
@@ -73,19 +73,6 @@ const TOLD: &[u8] = b"\
 const SCRIPT: &[u8] = b"request 0 READ 0\ninterrupt 0\n";
 
 const SERVED: &[u8] = b"0 topped 0 0x00000000 0\n1 stepped\nhistory 17 agrees\n";
-
-/// A gate that lets all workers go on.
-pub(crate) struct Open;
-
-impl Gate for Open {
-    fn before(&self, _worker: u32, _count: u64) -> bool {
-        true
-    }
-
-    fn at_once(&self, _worker: u32, _count: u64) -> bool {
-        true
-    }
-}
 
 /// What is asked of a set.
 #[derive(Clone, Copy)]

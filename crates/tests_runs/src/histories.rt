@@ -4,7 +4,6 @@
 ghost use Rattle.std.specs.Prelude.{◌≡◌};
 
 use crate::devices::{Narrow, Slow, have_taken};
-use crate::failures::Open;
 use drvhost_devices::device::Sink;
 use drvhost_runs::host::Hosting;
 use drvhost_runs::keeping::{Keeping, host_keeping};
@@ -12,6 +11,7 @@ use std::alloc::Global;
 use std::sync::Wait;
 use std::thread::Threads;
 use tests_sets::vectors::{EMPTY, ONE_READ_TEXT};
+use workers::Open;
 
 const SCRIPT: &[u8] = b"request 0 READ 7\ninterrupt 0\ncancel 0 2\n";
 

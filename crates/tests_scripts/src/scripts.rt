@@ -5,24 +5,11 @@ use drvhost_runs::host::{Hosting, host};
 use std::alloc::{AllocError, Global};
 use std::sync::Wait;
 use std::thread::Threads;
-use workers::Gate;
+use workers::Open;
 
 const SET: &[u8] =
     b"driver d\ndispatch READ f\nroutine f dispatch\ncomplete r0 SUCCESS\nret SUCCESS\nendr\nendd\n\
       device v d 1\n";
-
-/// A gate that lets all workers go on.
-struct Open;
-
-impl Gate for Open {
-    fn before(&self, _worker: u32, _count: u64) -> bool {
-        true
-    }
-
-    fn at_once(&self, _worker: u32, _count: u64) -> bool {
-        true
-    }
-}
 
 /// What is told of a script that one worker serves, where nothing goes out and the status is 2.
 fn told_of<R: Threads + Wait + Sync>(rt: &R, alloc: Global, script: &[u8]) -> Vec<u8> {

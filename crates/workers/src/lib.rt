@@ -16,4 +16,4 @@ pub mod working;
 pub use ending::Ends;
 pub use served::Served;
 pub use serving::serve;
-pub use working::Gate;
+pub use working::{Gate, Open};

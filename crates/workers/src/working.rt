@@ -1,6 +1,6 @@
 //! The work of one worker.
 
-ghost use Rattle.std.specs.Prelude.{◌≡◌, ◌<◌, ◌≤◌, length};
+ghost use Rattle.std.specs.Prelude.{◌≡◌, ◌<◌, ◌≤◌, length, true};
 ghost use Rattle.intake.specs.Ends.{AreTakersOf};
 ghost use Rattle.intake.specs.declared.limits.TheConstants.{MAX_TAKERS};
 ghost use Rattle.workers.specs.Turned.{EndsFor};
@@ -21,6 +21,24 @@ pub trait Gate {
     /// that is refused here is asked for again by [`Gate::before`], without the lock.
     fn at_once(&self, _worker: u32, _count: u64) -> bool {
         false
+    }
+}
+
+/// A gate that lets all workers go on.
+#[derive(Drop)]
+pub struct Open;
+
+impl Gate for Open {
+    fn before(&self, _worker: u32, _count: u64) -> bool
+        ensures { result ≡ true }
+    {
+        true
+    }
+
+    fn at_once(&self, worker: u32, count: u64) -> bool
+        ensures { result ≡ true }
+    {
+        self.before(worker, count)
     }
 }
 
