@@ -1,3 +1,4 @@
+pub mod Collected
 pub mod Writing
 pub mod Jobs
 pub mod Files

@@ -6,6 +6,7 @@
 pub mod device;
 pub mod fault;
 pub mod reading;
+pub mod told;
 pub mod transfer;
 pub mod unopened;
 pub mod verification;

@@ -1,3 +1,5 @@
 pub mod Files
+pub mod Kept
 pub mod Outside
 pub mod Reading
+pub mod Ready

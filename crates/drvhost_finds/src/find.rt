@@ -4,6 +4,7 @@ ghost use Rattle.std.specs.Prelude.{◌≡◌, ◌+◌, [], IfErr, IfOk};
 ghost use Rattle.drvhost_devices.specs.Answer.{IsOfFile, ended};
 ghost use Rattle.drvhost_devices.specs.Device.{CanCount};
 ghost use Rattle.drvhost_devices.specs.Fault.{Goes, reads_failed, writes_failed};
+ghost use Rattle.drvhost_devices.specs.Ready.{CanAnswer};
 ghost use Rattle.drvhost_sets.specs.Devices.{AnswersOver};
 ghost use Rattle.drvhost_scenarios.specs.Scenarios.{names_in};
 ghost use Rattle.drvhost_scenarios.specs.Telling.{Tells};
@@ -36,9 +37,7 @@ pub fn find<S: Source, O: Sink, E: Sink, P: Progress>(
     out: &mut O,
     err: &mut E,
 ) -> u8
-    requires set { CanCount (S.failures set.old) }
-    requires out { CanCount (O.failures out.old) }
-    requires err { CanCount (E.failures err.old) }
+    requires { CanAnswer O.Sink E.Sink (S.failures set.old) out.old err.old }
     ensures { AnswersOver O.Sink E.Sink
         (IsFindOf hunting.now.way hunting.now.reach (S.supply set.old))
         (S.failures set.old) (S.failures set.new) out.old out.new err.old err.new result }

@@ -4,10 +4,10 @@ ghost use Rattle.std.specs.Prelude.{◌≡◌, ◌≢◌, ◌++◌, [], IfOk};
 ghost use Rattle.model.specs.Typable.{IsTypable};
 ghost use Rattle.report_json.specs.Line.{json_line};
 ghost use Rattle.report_json.specs.Verdict.{refusal_json};
-ghost use Rattle.drvhost_devices.specs.Device.{CanCount};
 ghost use Rattle.drvhost_sets.specs.Devices.{AnswersOver};
 ghost use Rattle.drvhost_formats.specs.Check.{IsAcceptanceJson, IsCheckJsonOf, IsVerdictJson};
 ghost use Rattle.drvhost_formats.specs.Told.{told};
+ghost use Rattle.drvhost_devices.specs.Ready.{CanAnswer};
 
 use crate::certified::certified_routines;
 use crate::job::{Job, answer};
@@ -35,9 +35,7 @@ pub fn check_json<S: Source, O: Sink, E: Sink>(
     out: &mut O,
     err: &mut E,
 ) -> u8
-    requires set { CanCount (S.failures set.old) }
-    requires out { CanCount (O.failures out.old) }
-    requires err { CanCount (E.failures err.old) }
+    requires { CanAnswer O.Sink E.Sink (S.failures set.old) out.old err.old }
     ensures { AnswersOver O.Sink E.Sink (IsCheckJsonOf name.now (S.supply set.old))
         (S.failures set.old) (S.failures set.new) out.old out.new err.old err.new result }
 {

@@ -5,13 +5,13 @@ ghost use Rattle.mend_offers.specs.Offers.{AreOffersOf};
 ghost use Rattle.model.specs.declared.abs.Refusal.{Refusal as RefusalValue};
 ghost use Rattle.model.specs.Typable.{IsFirstFault, IsTypable, at_start};
 ghost use Rattle.verifier_words.specs.Faults.{AreFaults};
-ghost use Rattle.drvhost_devices.specs.Device.{CanCount};
 ghost use Rattle.drvhost_sets.specs.Devices.{AnswersOver};
 ghost use Rattle.drvhost_evidence.specs.Faults.{IsFaultOf};
 ghost use Rattle.drvhost_formats.specs.Explain.{AreLinesOf, AreRefusalLines, IsAcceptanceExplained};
 ghost use Rattle.drvhost_formats.specs.Explain.{IsExplainJsonOf, IsExplainedJson};
 ghost use Rattle.drvhost_formats.specs.Explain.{IsRefusalExplained, IsRefusalLine};
 ghost use Rattle.drvhost_formats.specs.Told.{told};
+ghost use Rattle.drvhost_devices.specs.Ready.{CanAnswer};
 
 use crate::certified::certified_routines;
 use crate::explanation::{ExplainedAcceptance, ExplainedRefusal};
@@ -50,9 +50,7 @@ pub fn explain_json<S: Source, O: Sink, E: Sink>(
     out: &mut O,
     err: &mut E,
 ) -> u8
-    requires set { CanCount (S.failures set.old) }
-    requires out { CanCount (O.failures out.old) }
-    requires err { CanCount (E.failures err.old) }
+    requires { CanAnswer O.Sink E.Sink (S.failures set.old) out.old err.old }
     ensures { AnswersOver O.Sink E.Sink (IsExplainJsonOf extent name.now (S.supply set.old))
         (S.failures set.old) (S.failures set.new) out.old out.new err.old err.new result }
 {

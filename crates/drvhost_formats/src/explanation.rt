@@ -35,8 +35,7 @@ impl ToJson for ExplainedAcceptance<'_> {
     ghost use Rattle.drvhost_formats.specs.Explanation.{acceptance_explained_json};
     ghost use Rattle.drvhost_formats.specs.Nesting.{accepted_nests};
 
-    ghost json = {
-        λ told. acceptance_explained_json told.file.now told.routines.now told.words.now };
+    ghost json = { λ told. acceptance_explained_json told.file.now told.routines.now told.words.now };
 
     fn write(&self, out: &mut Writer) -> Result<(), AllocError> {
         begin(out, FORMAT, self.file)?;

@@ -8,6 +8,7 @@ ghost use Rattle.drvhost_devices.specs.Answer.{Answer};
 ghost use Rattle.drvhost_devices.specs.Device.{Bytes, CanCount, Says};
 ghost use Rattle.drvhost_devices.specs.Ends.{HoldsSet};
 ghost use Rattle.drvhost_devices.specs.Fault.{reads_failed, writes_failed};
+ghost use Rattle.drvhost_devices.specs.Ready.{CanAnswer};
 ghost use Rattle.drvhost_sets.specs.Devices.{AnswersOver};
 ghost use Rattle.drvhost_formats.specs.Told.{IsToldOf, IsToldOfFile, Tells, telling_status};
 ghost use Rattle.drvhost_formats.specs.Told.{telling_told};
@@ -79,9 +80,7 @@ pub fn answer<J: Job, S: Source, O: Sink, E: Sink>(
 ) -> u8
     requires able { J.able job.old }
     requires others { CanCount (J.failures job.old) }
-    requires set { CanCount (S.failures set.old) }
-    requires out { CanCount (O.failures out.old) }
-    requires err { CanCount (E.failures err.old) }
+    requires devices { CanAnswer O.Sink E.Sink (S.failures set.old) out.old err.old }
     ensures keeps { J.keeps job.old job.new }
     ensures unread { J.stays job.old job.new ⊎ HoldsSet (J.needs job.old) (S.supply set.old) }
     ensures answers { AnswersOver O.Sink E.Sink

@@ -3,6 +3,7 @@
 ghost use Rattle.std.specs.Prelude.{◌≡◌, ◌+◌, ℕ, []};
 ghost use Rattle.drvhost_devices.specs.Device.{CanCount};
 ghost use Rattle.drvhost_devices.specs.Fault.{reads_failed, writes_failed};
+ghost use Rattle.drvhost_devices.specs.Ready.{CanWrite};
 ghost use Rattle.drvhost_sets.specs.Devices.{AnswersOver};
 ghost use Rattle.drvhost_formats.specs.Told.{IsUnopenedJson, Tells};
 
@@ -18,8 +19,7 @@ use std::alloc::{AllocError, Global};
 
 /// Tells on the output that the file of a name can't be opened. The answer is the exit status.
 pub fn unopened_json<O: Sink, E: Sink>(alloc: Global, name: &str, out: &mut O, err: &mut E) -> u8
-    requires out { CanCount (O.failures out.old) }
-    requires err { CanCount (E.failures err.old) }
+    requires { CanWrite O.Sink E.Sink out.old err.old }
     ensures { (reads : ℕ) → AnswersOver O.Sink E.Sink (IsUnopenedJson name.now)
         reads reads out.old out.new err.old err.new result }
 {

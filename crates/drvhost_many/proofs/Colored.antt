@@ -8,8 +8,8 @@ use Rattle.drvhost_devices.specs.Device.{Says, TakesBeginning}
 use Rattle.drvhost_devices.specs.Ends.{Answers, Ends, OutOfMemory, ReadFailed, Rightly, WriteFailed}
 use Rattle.drvhost_devices.proofs.Writing.{keeps_same}
 use Rattle.drvhost_many.specs.Painted.{IsInColor, IsPaintedAs, IsPaintedOf}
-use Rattle.drvhost_many.specs.Told.{Collects}
-use Rattle.drvhost_many.proofs.Collected.{right_end, said_in}
+use Rattle.drvhost_devices.specs.Told.{Collects}
+use Rattle.drvhost_devices.proofs.Collected.{right_end, said_in}
 use Rattle.drvhost_many.proofs.Judged.{answers_rightly}
 
 -- nothing went out, since memory ran out, or since a read failed

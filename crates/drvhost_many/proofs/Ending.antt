@@ -14,7 +14,8 @@ use Rattle.drvhost_files.specs.declared.reading.Held.{Held}
 use Rattle.drvhost_files.specs.Reading.{AreHeld, Opens, held_reads}
 use Rattle.drvhost_many.specs.declared.many.Halt.{Halt}
 use Rattle.drvhost_many.specs.declared.many.Halt.TheVariants.{Memory, Write}
-use Rattle.drvhost_many.specs.All.{Answered, AreOf, Counted, EachEnds, EachGoes, IsAt, IsNext, NoRoom, OutOfMemory, WriteFailed, end_status, joined, nothing}
+use Rattle.drvhost_devices.specs.Told.{joined}
+use Rattle.drvhost_many.specs.All.{Answered, AreOf, Counted, EachEnds, EachGoes, IsAt, IsNext, NoRoom, OutOfMemory, WriteFailed, end_status, nothing}
 use Rattle.drvhost_many.specs.Held.{DeliversEach, IsAmong, IsToldOf, TellsLost}
 use Rattle.drvhost_many.specs.Marked.{gap, marked, noted}
 use Rattle.drvhost_many.specs.One.{Delivers, halt_status, is_in_json}

@@ -4,7 +4,8 @@ use Rattle.std.specs.Global.{Global}
 use Rattle.drvhost_devices.specs.Answer.{Answer}
 use Rattle.drvhost_devices.specs.Device.{Supply}
 use Rattle.drvhost_commands.specs.declared.job.Judging.{Judging}
-use Rattle.drvhost_many.specs.All.{AreOf, joined, nothing}
+use Rattle.drvhost_devices.specs.Told.{joined}
+use Rattle.drvhost_many.specs.All.{AreOf, nothing}
 use Rattle.drvhost_many.specs.Marked.{named_answer}
 use Rattle.drvhost_many.specs.One.{IsOfOne}
 

@@ -1,4 +1,4 @@
-pub mod Collected
+pub mod Known
 pub mod Finding
 pub mod Joining
 pub mod Reading

@@ -13,11 +13,12 @@ use Rattle.drvhost_files.specs.declared.reading.Contents.TheVariants.{Whole, Unr
 use Rattle.drvhost_files.specs.declared.reading.Answered.{Answered}
 use Rattle.drvhost_files.specs.declared.reading.Held.{Held}
 use Rattle.drvhost_files.specs.Reading.{IsAnswered, IsHeld, IsReadOf, held_reads, reads_of}
-use Rattle.drvhost_many.specs.All.{AreOf, IsAt, joined, nothing}
+use Rattle.drvhost_devices.specs.Told.{joined}
+use Rattle.drvhost_many.specs.All.{AreOf, IsAt, nothing}
 use Rattle.drvhost_many.specs.Held.{AreJoined, AreToldOf, IsAmong, IsAnswerTo, IsToldOf}
 use Rattle.drvhost_many.specs.Marked.{named_answer}
 use Rattle.drvhost_many.specs.One.{IsOfOne, is_in_json}
-use Rattle.drvhost_many.proofs.Collected.{judged_known}
+use Rattle.drvhost_many.proofs.Known.{judged_known}
 use Rattle.drvhost_many.proofs.Joining.{joined_assoc, joined_none}
 use Rattle.drvhost_many.proofs.Judged.{unopened_in_json}
 

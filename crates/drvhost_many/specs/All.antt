@@ -6,6 +6,7 @@ use Rattle.std.specs.Io.KnownBytes.{Appends, Keeps}
 use Rattle.drvhost_commands.specs.declared.job.Judging.{Judging}
 use Rattle.drvhost_devices.specs.Answer.{Answer}
 use Rattle.drvhost_devices.specs.Device.{Supply, TakesBeginning}
+use Rattle.drvhost_devices.specs.Told.{joined}
 use Rattle.drvhost_found.specs.declared.find.Found.{Found}
 use Rattle.drvhost_many.specs.Marked.{marked, named_answer, noted}
 use Rattle.drvhost_many.specs.declared.many.Halt.{Halt}
@@ -30,15 +31,6 @@ pub record IsAlone (paths : List (Bor (List ℕ))) (names : List (String Global)
 -- the answer for no file
 abbrev pub nothing : Answer
 nothing = record { status = 0; output = []; told = [] }
-
--- two answers, one behind the other: the greater exit status
-abbrev pub joined : Answer → Answer → Answer
-joined first second =
-    record {
-      status = max first.status second.status;
-      output = first.output ++ second.output;
-      told = first.told ++ second.told;
-    }
 
 -- the answers for files, of which so many reads failed, in order, each told with its name
 abbrev pub AreOf : Judging → (List ℕ → Supply) → List (String Global) → ℕ → Answer → Type 0

@@ -11,7 +11,8 @@ use Rattle.drvhost_files.specs.declared.reading.Contents.TheVariants.{Whole, Unr
 use Rattle.drvhost_files.specs.declared.reading.Held.{Held}
 use Rattle.drvhost_many.specs.declared.many.Halt.{Halt}
 use Rattle.drvhost_many.specs.declared.many.Halt.TheVariants.{Memory, Write}
-use Rattle.drvhost_many.specs.All.{joined, nothing}
+use Rattle.drvhost_devices.specs.Told.{joined}
+use Rattle.drvhost_many.specs.All.{nothing}
 use Rattle.drvhost_many.specs.Marked.{named_answer, noted}
 use Rattle.drvhost_many.specs.One.{IsJudged}
 

@@ -1,6 +1,5 @@
 pub mod One
 pub mod Marked
 pub mod Painted
-pub mod Told
 pub mod All
 pub mod Held

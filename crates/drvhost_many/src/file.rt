@@ -2,17 +2,18 @@
 
 ghost use Rattle.std.specs.Prelude.{◌≡◌, IfOk, codes};
 ghost use Rattle.drvhost_devices.specs.Answer.{faulty};
-ghost use Rattle.drvhost_devices.specs.Device.{Bytes, CanCount, Says};
+ghost use Rattle.drvhost_devices.specs.Device.{Bytes, Says};
 ghost use Rattle.drvhost_devices.specs.Ends.{Answers};
+ghost use Rattle.drvhost_devices.specs.Ready.{CanAnswer};
 ghost use Rattle.drvhost_formats.specs.Told.{IsUnopenedJson};
 ghost use Rattle.drvhost_many.specs.Held.{IsAnswerTo, IsToldOf};
 ghost use Rattle.drvhost_many.specs.One.{IsJudged, is_in_json};
 
 use crate::named::{One, with_name};
 use crate::painting::{Explaining, explain_shown};
-use crate::told::{Told, collected};
 use drvhost_commands::job::Judging;
 use drvhost_devices::device::{Reader, Sink, Source, Writer};
+use drvhost_devices::told::{Told, collected};
 use drvhost_files::reading::{Contents, Held};
 use drvhost_formats::check::check_json;
 use drvhost_formats::explain::explain_json;
@@ -96,9 +97,7 @@ pub fn judge<S: Source, O: Sink, E: Sink>(
     out: &mut O,
     err: &mut E,
 ) -> u8
-    requires set { CanCount (S.failures set.old) }
-    requires out { CanCount (O.failures out.old) }
-    requires err { CanCount (E.failures err.old) }
+    requires { CanAnswer O.Sink E.Sink (S.failures set.old) out.old err.old }
     ensures { Answers (IsJudged judging name.now (S.supply set.old))
         (S.failures set.old) (S.failures set.new) (O.failures out.old) (O.failures out.new)
         (O.contents out.old) (O.contents out.new)

@@ -8,4 +8,3 @@ pub mod many;
 pub mod named;
 pub mod painting;
 pub mod paths;
-pub mod told;

@@ -3,8 +3,11 @@
 ghost use Rattle.std.specs.Prelude.{◌≡◌, ◌+◌, ◌≤◌, ◌<◌, ◌^◌, List, length, max};
 ghost use Rattle.std.specs.List.{AllZip};
 ghost use Rattle.drvhost_devices.specs.Device.{CanCount, Says, SaysBehind};
+ghost use Rattle.drvhost_devices.specs.Ready.{CanWrite};
+ghost use Rattle.drvhost_files.specs.Kept.{OnlyReads};
 ghost use Rattle.drvhost_files.specs.declared.reading.Held.{Held};
 ghost use Rattle.drvhost_files.specs.Reading.{IsAnswered};
+ghost use Rattle.drvhost_files.specs.Ready.{CanOpenMany};
 ghost use Rattle.drvhost_many.specs.All.{AnswersEach, Counted, EachGoes, end_status, width_of};
 ghost use Rattle.drvhost_many.specs.Held.{DeliversEach, IsToldOf, TellsLost};
 ghost use Rattle.drvhost_many.specs.One.{Delivers, halt_status};
@@ -12,9 +15,9 @@ ghost use Rattle.drvhost_many.specs.One.{Delivers, halt_status};
 use crate::file::is_in_json;
 use crate::judging::JudgedFiles;
 use crate::named::{One, tell_no_memory};
-use crate::told::Told;
 use drvhost_commands::job::Judging;
 use drvhost_devices::device::{Failed, Sink};
+use drvhost_devices::told::Told;
 use drvhost_devices::transfer::write_whole;
 use drvhost_devices::unopened::say_behind;
 use drvhost_files::reading::{Answered, Way};
@@ -64,19 +67,15 @@ pub fn answer_each<R: Threads + Sync + Progress, F: JudgedFiles, O: Sink, E: Sin
     out: &mut O,
     err: &mut E,
 ) -> u8
-    requires opened { F.opened files.old < 2 ^ 63 }
-    requires files { F.failures files.old < 2 ^ 63 }
-    requires out { CanCount (O.failures out.old) }
-    requires err { CanCount (E.failures err.old) }
+    requires files { CanOpenMany F.Files files.old }
+    requires sinks { CanWrite O.Sink E.Sink out.old err.old }
     ensures answers { AnswersEach sets.entry.judging (width_of sets.entry.jobs)
         (F.supply files.old) sets.entry.names.now (F.opened files.old) (F.opened files.new)
         (F.failures files.old) (F.failures files.new) (O.failures out.old) (O.failures out.new)
         (O.contents out.old) (O.contents out.new)
         (Says (E.failures err.old) (E.failures err.new) (E.contents err.old) (E.contents err.new))
         result }
-    ensures supply { F.supply files.new ≡ F.supply files.old }
-    ensures created { F.created files.new ≡ F.created files.old }
-    ensures unwritten { F.unwritten files.new ≡ F.unwritten files.old }
+    ensures kept { OnlyReads F.Files files.old files.new }
 {
     match answer_all(rt, sets, files, out, err) {
         Ok(status) => status,
@@ -92,10 +91,8 @@ fn answer_all<R: Threads + Sync + Progress, F: JudgedFiles, O: Sink, E: Sink>(
     out: &mut O,
     err: &mut E,
 ) -> Result<u8, Halt>
-    requires opened { F.opened files.old < 2 ^ 63 }
-    requires files { F.failures files.old < 2 ^ 63 }
-    requires out { CanCount (O.failures out.old) }
-    requires err { CanCount (E.failures err.old) }
+    requires files { CanOpenMany F.Files files.old }
+    requires sinks { CanWrite O.Sink E.Sink out.old err.old }
     ensures answers { Counted
         (EachGoes sets.entry.judging (width_of sets.entry.jobs) (F.supply files.old)
         sets.entry.names.now result)
@@ -103,9 +100,7 @@ fn answer_all<R: Threads + Sync + Progress, F: JudgedFiles, O: Sink, E: Sink>(
         (O.failures out.old) (O.failures out.new) (O.contents out.old) (O.contents out.new)
         (Says (E.failures err.old) (E.failures err.new) (E.contents err.old) (E.contents err.new))
         (end_status result) }
-    ensures supply { F.supply files.new ≡ F.supply files.old }
-    ensures created { F.created files.new ≡ F.created files.old }
-    ensures unwritten { F.unwritten files.new ≡ F.unwritten files.old }
+    ensures kept { OnlyReads F.Files files.old files.new }
 {
     let failures = err.failures();
     let width = sets.width();
@@ -167,9 +162,7 @@ fn answer_window<R: Threads + Sync + Progress, F: JudgedFiles, O: Sink, E: Sink>
         (O.failures out.old) (O.failures out.new) (O.contents out.old) (O.contents out.new)
         (SaysBehind window.now.failures (E.failures err.old) (E.failures err.new)
         (E.contents err.old) (E.contents err.new)) (end_status result) }
-    ensures supply { F.supply files.new ≡ F.supply files.old }
-    ensures created { F.created files.new ≡ F.created files.old }
-    ensures unwritten { F.unwritten files.new ≡ F.unwritten files.old }
+    ensures kept { OnlyReads F.Files files.old files.new }
 {
     let sets = window.sets;
     let way = Way {

@@ -1,15 +1,16 @@
 //! Answers in colour.
 
 ghost use Rattle.std.specs.Prelude.{ℕ, ◌≡◌, if◌then◌else◌};
-ghost use Rattle.drvhost_devices.specs.Device.{CanCount, Says};
+ghost use Rattle.drvhost_devices.specs.Device.{Says};
 ghost use Rattle.drvhost_devices.specs.Ends.{Answers};
+ghost use Rattle.drvhost_devices.specs.Ready.{CanAnswer, CanWrite};
 ghost use Rattle.drvhost_many.specs.Painted.{IsInColor, IsPaintedAs, IsPaintedOf, IsShown};
 ghost use Rattle.drvhost_sets.specs.Explained.{IsFileExplained};
 
-use crate::told::{Told, collected};
 use drvhost_colors::paint::paint;
 use drvhost_devices::device::{Failed, Sink, Source, Writer};
 use drvhost_devices::fault::{no_memory, say};
+use drvhost_devices::told::{Told, collected};
 use drvhost_devices::transfer::write_whole;
 use drvhost_options::coloring::Coloring;
 use drvhost_options::extent::Extent;
@@ -33,9 +34,7 @@ pub(crate) fn explain_shown<S: Source, O: Sink, E: Sink>(
     out: &mut O,
     err: &mut E,
 ) -> u8
-    requires set { CanCount (S.failures set.old) }
-    requires out { CanCount (O.failures out.old) }
-    requires err { CanCount (E.failures err.old) }
+    requires { CanAnswer O.Sink E.Sink (S.failures set.old) out.old err.old }
     ensures { Answers (IsShown explaining.entry.coloring
         (IsFileExplained explaining.entry.extent explaining.entry.name.now (S.supply set.old)))
         (S.failures set.old) (S.failures set.new) (O.failures out.old) (O.failures out.new)
@@ -63,9 +62,7 @@ fn explain_painted<S: Source, O: Sink, E: Sink>(
     out: &mut O,
     err: &mut E,
 ) -> u8
-    requires set { CanCount (S.failures set.old) }
-    requires out { CanCount (O.failures out.old) }
-    requires err { CanCount (E.failures err.old) }
+    requires { CanAnswer O.Sink E.Sink (S.failures set.old) out.old err.old }
     ensures { Answers (IsInColor (IsFileExplained extent name.now (S.supply set.old)))
         (S.failures set.old) (S.failures set.new) (O.failures out.old) (O.failures out.new)
         (O.contents out.old) (O.contents out.new)
@@ -90,8 +87,7 @@ pub fn show<O: Sink, E: Sink>(
     out: &mut O,
     err: &mut E,
 ) -> u8
-    requires out { CanCount (O.failures out.old) }
-    requires err { CanCount (E.failures err.old) }
+    requires { CanWrite O.Sink E.Sink out.old err.old }
     ensures { Answers (IsPaintedOf is_unread told) 0 (if is_unread then 1 else 0)
         (O.failures out.old) (O.failures out.new) (O.contents out.old) (O.contents out.new)
         (Says (E.failures err.old) (E.failures err.new) (E.contents err.old) (E.contents err.new))
@@ -109,8 +105,7 @@ pub fn show<O: Sink, E: Sink>(
 
 /// Writes an answer to its writers, its output painted.
 fn write_painted<O: Sink, E: Sink>(alloc: Global, told: &Told, out: &mut O, err: &mut E) -> u8
-    requires out { CanCount (O.failures out.old) }
-    requires err { CanCount (E.failures err.old) }
+    requires { CanWrite O.Sink E.Sink out.old err.old }
     ensures { (reads : ℕ) → Answers (IsPaintedAs told.now) reads reads
         (O.failures out.old) (O.failures out.new) (O.contents out.old) (O.contents out.new)
         (Says (E.failures err.old) (E.failures err.new) (E.contents err.old) (E.contents err.new))

@@ -6,6 +6,7 @@ ghost use Rattle.drvhost_devices.specs.Answer.{ended, is_image};
 ghost use Rattle.drvhost_devices.specs.Device.{CanCount, Says};
 ghost use Rattle.drvhost_devices.specs.Ends.{Answers};
 ghost use Rattle.drvhost_devices.specs.Fault.{Goes, reads_failed, status_of, writes_failed};
+ghost use Rattle.drvhost_devices.specs.Ready.{CanAnswer};
 ghost use Rattle.drvhost_mends.specs.Apply.{IsApply, IsAppliedTo, IsApplyOf, LeavesFor, Shows};
 ghost use Rattle.drvhost_mends.specs.Apply.{Takes, TakesMade, applied_line, unapplied_line};
 
@@ -46,10 +47,8 @@ pub fn apply<S: Source, O: Sink, W: Sink, E: Sink>(
     target: &mut W,
     err: &mut E,
 ) -> u8
-    requires set { CanCount (S.failures set.old) }
-    requires out { CanCount (O.failures out.old) }
+    requires devices { CanAnswer O.Sink E.Sink (S.failures set.old) out.old err.old }
     requires target { CanCount (W.failures target.old) }
-    requires err { CanCount (E.failures err.old) }
     ensures answers { Answers (IsApplyOf asked (S.supply set.old))
         (S.failures set.old) (S.failures set.new)
         (W.failures target.old + O.failures out.old) (W.failures target.new + O.failures out.new)

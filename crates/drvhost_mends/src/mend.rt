@@ -6,6 +6,7 @@ ghost use Rattle.drvhost_devices.specs.Answer.{ended};
 ghost use Rattle.drvhost_devices.specs.Device.{Bytes, CanCount, Says};
 ghost use Rattle.drvhost_devices.specs.Ends.{Answers, IsOfSupply};
 ghost use Rattle.drvhost_devices.specs.Fault.{Goes, reads_failed, writes_failed};
+ghost use Rattle.drvhost_devices.specs.Ready.{CanAnswer};
 ghost use Rattle.drvhost_mends.specs.Mend.{IsMend, IsMended, IsMendOf};
 
 use crate::judged_offers::offer;
@@ -40,9 +41,7 @@ pub fn mend<S: Source, O: Sink, E: Sink>(
     out: &mut O,
     err: &mut E,
 ) -> u8
-    requires set { CanCount (S.failures set.old) }
-    requires out { CanCount (O.failures out.old) }
-    requires err { CanCount (E.failures err.old) }
+    requires { CanAnswer O.Sink E.Sink (S.failures set.old) out.old err.old }
     ensures { Answers (IsMendOf asked (S.supply set.old))
         (S.failures set.old) (S.failures set.new) (O.failures out.old) (O.failures out.new)
         (O.contents out.old) (O.contents out.new)

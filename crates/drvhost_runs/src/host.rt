@@ -11,6 +11,7 @@ ghost use Rattle.drvhost_devices.specs.Device.{TakesBeginning};
 ghost use Rattle.drvhost_devices.specs.Ends.{HoldsRun};
 ghost use Rattle.drvhost_sets.specs.Devices.{AnswersBy};
 ghost use Rattle.drvhost_devices.specs.Fault.{reads_failed, status_of, writes_failed};
+ghost use Rattle.drvhost_devices.specs.Ready.{CanAnswer};
 ghost use Rattle.drvhost_runs.specs.Hosted.{HasServed, IsHosted, IsNoted};
 ghost use Rattle.drvhost_runs.specs.Hosting.{AreWorkers, GoesTold, IsBlank, told_behind};
 ghost use Rattle.drvhost_runs.specs.Readiness.{AreWarningsOf, IsReady, IsServing, IsUnserved};
@@ -67,10 +68,8 @@ pub fn host<S: Source, P: Source, G: Gate + Sync, O: Sink, E: Sink, R: Threads +
 ) -> u8
     requires some { 1 ≤ hosting.now.workers }
     requires few { hosting.now.workers ≤ MAX_THREADS }
-    requires set { CanCount (S.failures set.old) }
+    requires devices { CanAnswer O.Sink E.Sink (S.failures set.old) out.old err.old }
     requires script { CanCount (P.failures script.old) }
-    requires out { CanCount (O.failures out.old) }
-    requires err { CanCount (E.failures err.old) }
     ensures unread { (script.new ≡ script.old)
         ⊎ HoldsRun Verification.Required (S.supply set.old) }
     ensures answers { AnswersBy O.Sink E.Sink

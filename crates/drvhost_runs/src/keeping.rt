@@ -4,6 +4,7 @@ ghost use Rattle.std.specs.Prelude.{◌≡◌, ◌+◌, ◌≤◌, ◌⊎◌, []
 ghost use Rattle.drvhost_devices.specs.Device.{CanCount, Supply};
 ghost use Rattle.drvhost_devices.specs.Ends.{Answers, HoldsRun};
 ghost use Rattle.drvhost_devices.specs.Fault.{reads_failed, status_of, writes_failed};
+ghost use Rattle.drvhost_devices.specs.Ready.{CanAnswer};
 ghost use Rattle.drvhost_runs.specs.Hosted.{HasServed, IsHosted, IsNoted};
 ghost use Rattle.drvhost_runs.specs.Hosting.{GoesTold};
 ghost use Rattle.drvhost_runs.specs.Keeping.{IsHistory, IsKeptOf, IsKeptWith, IsServedWith};
@@ -61,11 +62,9 @@ pub fn host_keeping<
 ) -> u8
     requires some { 1 ≤ keeping.now.hosting.workers }
     requires few { keeping.now.hosting.workers ≤ MAX_THREADS }
-    requires set { CanCount (S.failures set.old) }
+    requires devices { CanAnswer O.Sink E.Sink (S.failures set.old) out.old err.old }
     requires script { CanCount (P.failures script.old) }
-    requires out { CanCount (O.failures out.old) }
     requires target { CanCount (W.failures target.old) }
-    requires err { CanCount (E.failures err.old) }
     ensures unread { (script.new ≡ script.old)
         ⊎ HoldsRun Verification.Required (S.supply set.old) }
     ensures answers { Answers

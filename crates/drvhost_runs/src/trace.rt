@@ -5,6 +5,7 @@ ghost use Rattle.interleave.specs.Listing.{IsWithinLimits};
 ghost use Rattle.drvhost_devices.specs.Device.{CanCount};
 ghost use Rattle.drvhost_devices.specs.Ends.{HoldsRun, IsRunOf, IsTraceOf};
 ghost use Rattle.drvhost_devices.specs.Fault.{Goes, ReadsSchedule, reads_failed, writes_failed};
+ghost use Rattle.drvhost_devices.specs.Ready.{CanAnswer};
 ghost use Rattle.drvhost_sets.specs.Chosen.{set_chosen};
 ghost use Rattle.drvhost_sets.specs.Devices.{AnswersOver};
 
@@ -36,10 +37,8 @@ pub fn trace<S: Source, P: Source, O: Sink, E: Sink>(
     out: &mut O,
     err: &mut E,
 ) -> u8
-    requires set { CanCount (S.failures set.old) }
+    requires devices { CanAnswer O.Sink E.Sink (S.failures set.old) out.old err.old }
     requires schedule { CanCount (P.failures schedule.old) }
-    requires out { CanCount (O.failures out.old) }
-    requires err { CanCount (E.failures err.old) }
     ensures unread { (schedule.new ≡ schedule.old) ⊎ HoldsRun verification (S.supply set.old) }
     ensures answers { AnswersOver O.Sink E.Sink
         (IsTraceOf verification (S.supply set.old) (P.supply schedule.old))

@@ -1,8 +1,11 @@
 //! The driver sets of several files, answered with one log.
 
 ghost use Rattle.std.specs.Prelude.{◌≡◌, ◌<◌, ◌^◌, ℕ};
-ghost use Rattle.drvhost_devices.specs.Device.{CanCount, Says};
+ghost use Rattle.drvhost_devices.specs.Device.{Says};
 ghost use Rattle.drvhost_devices.specs.Ends.{Answers};
+ghost use Rattle.drvhost_devices.specs.Ready.{CanWrite};
+ghost use Rattle.drvhost_files.specs.Kept.{OnlyReads};
+ghost use Rattle.drvhost_files.specs.Ready.{CanOpenMany};
 ghost use Rattle.drvhost_many.specs.All.{Counted};
 ghost use Rattle.drvhost_sarif.specs.Log.{FilesEnd, IsLogged, PathsEnd};
 
@@ -42,10 +45,8 @@ pub fn log_paths<T: Threads + Sync, F: Files, O: Sink, E: Sink>(
     out: &mut O,
     err: &mut E,
 ) -> u8
-    requires opened { F.opened files.old < 2 ^ 63 }
-    requires files { F.failures files.old < 2 ^ 63 }
-    requires out { CanCount (O.failures out.old) }
-    requires err { CanCount (E.failures err.old) }
+    requires files { CanOpenMany F.Files files.old }
+    requires sinks { CanWrite O.Sink E.Sink out.old err.old }
     ensures answers { Counted
         (PathsEnd log.entry.logging (λ path. F.stands files.old Sought.Sets path.now)
         (F.supply files.old) log.entry.paths.now) (F.opened files.old) (F.opened files.new)
@@ -53,9 +54,7 @@ pub fn log_paths<T: Threads + Sync, F: Files, O: Sink, E: Sink>(
         (O.contents out.old) (O.contents out.new)
         (Says (E.failures err.old) (E.failures err.new) (E.contents err.old) (E.contents err.new))
         result }
-    ensures supply { F.supply files.new ≡ F.supply files.old }
-    ensures created { F.created files.new ≡ F.created files.old }
-    ensures unwritten { F.unwritten files.new ≡ F.unwritten files.old }
+    ensures kept { OnlyReads F.Files files.old files.new }
 {
     let search = Search {
         sought: Sought::Sets,
@@ -77,18 +76,14 @@ fn log_files<F: Files, O: Sink, E: Sink>(
     out: &mut O,
     err: &mut E,
 ) -> u8
-    requires opened { F.opened files.old < 2 ^ 63 }
-    requires files { F.failures files.old < 2 ^ 63 }
-    requires out { CanCount (O.failures out.old) }
-    requires err { CanCount (E.failures err.old) }
+    requires files { CanOpenMany F.Files files.old }
+    requires sinks { CanWrite O.Sink E.Sink out.old err.old }
     ensures answers { Counted (FilesEnd logging (F.supply files.old) names.now) (F.opened files.old)
         (F.opened files.new) (F.failures files.old) (F.failures files.new) (O.failures out.old)
         (O.failures out.new) (O.contents out.old) (O.contents out.new)
         (Says (E.failures err.old) (E.failures err.new) (E.contents err.old) (E.contents err.new))
         result }
-    ensures supply { F.supply files.new ≡ F.supply files.old }
-    ensures created { F.created files.new ≡ F.created files.old }
-    ensures unwritten { F.unwritten files.new ≡ F.unwritten files.old }
+    ensures kept { OnlyReads F.Files files.old files.new }
 {
     match read_all(alloc, logging, names, files) {
         Ok(found) => tell(alloc, &found, out, err),
@@ -98,8 +93,7 @@ fn log_files<F: Files, O: Sink, E: Sink>(
 
 /// Writes the log of what was found.
 fn tell<O: Sink, E: Sink>(alloc: Global, found: &Found, out: &mut O, err: &mut E) -> u8
-    requires out { CanCount (O.failures out.old) }
-    requires err { CanCount (E.failures err.old) }
+    requires { CanWrite O.Sink E.Sink out.old err.old }
     ensures { (reads : ℕ) → Answers (IsLogged found.now.status found.now.findings.items)
         reads reads (O.failures out.old) (O.failures out.new) (O.contents out.old)
         (O.contents out.new)

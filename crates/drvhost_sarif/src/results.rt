@@ -1,7 +1,8 @@
 //! What is found in several files.
 
 ghost use Rattle.std.specs.Prelude.{◌≡◌, ◌+◌, ◌<◌, ◌^◌};
-ghost use Rattle.drvhost_devices.specs.Device.{CanCount};
+ghost use Rattle.drvhost_files.specs.Kept.{OnlyReads};
+ghost use Rattle.drvhost_files.specs.Ready.{CanOpen, CanOpenMany};
 ghost use Rattle.drvhost_sarif.specs.Found.{ReadsAll, ReadsOne};
 
 use crate::finding::{ReadFile, fault_in, found_in};
@@ -19,13 +20,10 @@ pub(crate) fn read_all<F: Files>(
     names: &[String],
     files: &mut F,
 ) -> Result<Found, AllocError>
-    requires opened { F.opened files.old < 2 ^ 63 }
-    requires files { F.failures files.old < 2 ^ 63 }
+    requires files { CanOpenMany F.Files files.old }
     ensures reads { ReadsAll logging (F.supply files.old) names.now (F.opened files.old)
         (F.opened files.new) (F.failures files.old) (F.failures files.new) result }
-    ensures supply { F.supply files.new ≡ F.supply files.old }
-    ensures created { F.created files.new ≡ F.created files.old }
-    ensures unwritten { F.unwritten files.new ≡ F.unwritten files.old }
+    ensures kept { OnlyReads F.Files files.old files.new }
 {
     let mut all = Found::new(alloc);
     for name in names {
@@ -42,14 +40,11 @@ fn found_of<F: Files>(
     name: &str,
     files: &mut F,
 ) -> Result<Found, AllocError>
-    requires opened { F.opened files.old + 1 < 2 ^ 64 }
-    requires files { CanCount (F.failures files.old) }
+    requires files { CanOpen F.Files 1 files.old }
     ensures reads { ReadsOne logging name.now (F.supply files.old name.now)
         (F.failures files.old) (F.failures files.new) result }
     ensures opened { F.opened files.new ≡ F.opened files.old + 1 }
-    ensures supply { F.supply files.new ≡ F.supply files.old }
-    ensures created { F.created files.new ≡ F.created files.old }
-    ensures unwritten { F.unwritten files.new ≡ F.unwritten files.old }
+    ensures kept { OnlyReads F.Files files.old files.new }
 {
     let mut file = files.open(name);
     let read = read_whole(alloc, &mut file);

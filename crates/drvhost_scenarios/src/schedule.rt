@@ -4,6 +4,7 @@ ghost use Rattle.std.specs.Prelude.{◌≡◌, ◌+◌, ◌⊎◌, []};
 ghost use Rattle.drvhost_devices.specs.Device.{CanCount, Says};
 ghost use Rattle.drvhost_devices.specs.Ends.{Answers, HoldsRun};
 ghost use Rattle.drvhost_devices.specs.Fault.{Goes, reads_failed, writes_failed};
+ghost use Rattle.drvhost_devices.specs.Ready.{CanAnswer};
 ghost use Rattle.drvhost_scenarios.specs.Scenarios.{IsOfSources, IsScheduleOf, right_of};
 
 use crate::telling::{Asked, Plan, tell_file};
@@ -26,10 +27,8 @@ pub fn schedule<S: Source, P: Source, O: Sink, E: Sink>(
     out: &mut O,
     err: &mut E,
 ) -> u8
-    requires set { CanCount (S.failures set.old) }
+    requires devices { CanAnswer O.Sink E.Sink (S.failures set.old) out.old err.old }
     requires scenario { CanCount (P.failures scenario.old) }
-    requires out { CanCount (O.failures out.old) }
-    requires err { CanCount (E.failures err.old) }
     ensures unread { (scenario.new ≡ scenario.old) ⊎ HoldsRun verification (S.supply set.old) }
     ensures answers { Answers (IsScheduleOf verification (S.supply set.old) (P.supply scenario.old))
         (S.failures set.old + P.failures scenario.old)

@@ -9,6 +9,7 @@ ghost use Rattle.drvhost_devices.specs.Answer.{IsVerdict, acceptance, routine_li
 ghost use Rattle.drvhost_devices.specs.Device.{Adds, CanCount, TakesBeginning};
 ghost use Rattle.drvhost_devices.specs.Ends.{IsCheckOf};
 ghost use Rattle.drvhost_devices.specs.Fault.{Goes, reads_failed, writes_failed};
+ghost use Rattle.drvhost_devices.specs.Ready.{CanAnswer};
 ghost use Rattle.drvhost_sets.specs.Devices.{AnswersOver};
 
 use crate::job::{Job, Notes, answer};
@@ -31,9 +32,7 @@ pub fn check<S: Source, O: Sink, E: Sink>(
     out: &mut O,
     err: &mut E,
 ) -> u8
-    requires set { CanCount (S.failures set.old) }
-    requires out { CanCount (O.failures out.old) }
-    requires err { CanCount (E.failures err.old) }
+    requires { CanAnswer O.Sink E.Sink (S.failures set.old) out.old err.old }
     ensures { AnswersOver O.Sink E.Sink (IsCheckOf (S.supply set.old))
         (S.failures set.old) (S.failures set.new) out.old out.new err.old err.new result }
 {

@@ -4,6 +4,7 @@ ghost use Rattle.std.specs.Prelude.{◌≡◌, ◌+◌, ◌++◌, ◌⊎◌, ℕ
 ghost use Rattle.model.specs.Typable.{IsFirstFault, at_start};
 ghost use Rattle.drvhost_devices.specs.Device.{Bytes, CanCount, Says};
 ghost use Rattle.drvhost_devices.specs.Fault.{Goes, TellsLine, reads_failed, writes_failed};
+ghost use Rattle.drvhost_devices.specs.Ready.{CanAnswer, CanWrite};
 ghost use Rattle.drvhost_sets.specs.Devices.{AnswersOver};
 ghost use Rattle.mend_offers.specs.Offers.{AreOffersOf};
 ghost use Rattle.verifier_words.specs.Faults.{refusals};
@@ -54,9 +55,7 @@ pub fn explain<S: Source, O: Sink, E: Sink>(
     out: &mut O,
     err: &mut E,
 ) -> u8
-    requires set { CanCount (S.failures set.old) }
-    requires out { CanCount (O.failures out.old) }
-    requires err { CanCount (E.failures err.old) }
+    requires { CanAnswer O.Sink E.Sink (S.failures set.old) out.old err.old }
     ensures { AnswersOver O.Sink E.Sink (IsExplainedOf extent (S.supply set.old))
         (S.failures set.old) (S.failures set.new) out.old out.new err.old err.new result }
 {
@@ -75,9 +74,7 @@ fn explain_source<S: Source, O: Sink, E: Sink>(
     out: &mut O,
     err: &mut E,
 ) -> u8
-    requires set { CanCount (S.failures set.old) }
-    requires out { CanCount (O.failures out.old) }
-    requires err { CanCount (E.failures err.old) }
+    requires devices { CanAnswer O.Sink E.Sink (S.failures set.old) out.old err.old }
     requires empty { lines.old ≡ [] }
     ensures { AnswersOver O.Sink E.Sink (IsExplainedOf extent (S.supply set.old))
         (S.failures set.old) (S.failures set.new) out.old out.new err.old err.new result }
@@ -97,8 +94,7 @@ fn explain_bytes<O: Sink, E: Sink>(
     out: &mut O,
     err: &mut E,
 ) -> u8
-    requires out { CanCount (O.failures out.old) }
-    requires err { CanCount (E.failures err.old) }
+    requires sinks { CanWrite O.Sink E.Sink out.old err.old }
     requires empty { lines.old ≡ [] }
     ensures { (reads : ℕ) → AnswersOver O.Sink E.Sink (IsExplainedOf extent (Bytes bytes.now))
         reads reads out.old out.new err.old err.new result }

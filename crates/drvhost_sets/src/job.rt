@@ -6,6 +6,7 @@ ghost use Rattle.drvhost_devices.specs.Answer.{Answer};
 ghost use Rattle.drvhost_devices.specs.Device.{CanCount, Says};
 ghost use Rattle.drvhost_devices.specs.Ends.{HoldsSet, IsOfSupply};
 ghost use Rattle.drvhost_devices.specs.Fault.{Goes, reads_failed, writes_failed};
+ghost use Rattle.drvhost_devices.specs.Ready.{CanAnswer};
 ghost use Rattle.drvhost_sets.specs.Devices.{AnswersOver};
 ghost use Rattle.drvhost_sets.specs.Worded.{TakesWords, TellsEnd};
 
@@ -91,9 +92,7 @@ pub fn answer<J: Job, S: Source, O: Sink, E: Sink>(
     err: &mut E,
 ) -> u8
     requires others { CanCount (J.failures job.old) }
-    requires set { CanCount (S.failures set.old) }
-    requires out { CanCount (O.failures out.old) }
-    requires err { CanCount (E.failures err.old) }
+    requires devices { CanAnswer O.Sink E.Sink (S.failures set.old) out.old err.old }
     ensures keeps { J.keeps job.old job.new }
     ensures unread { J.stays job.old job.new ⊎ HoldsSet (J.needs job.old) (S.supply set.old) }
     ensures answers { AnswersOver O.Sink E.Sink (IsOfSupply (J.right job.old) (S.supply set.old))

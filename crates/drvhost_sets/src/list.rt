@@ -5,6 +5,7 @@ ghost use Rattle.drvhost_devices.specs.Answer.{IsListing};
 ghost use Rattle.drvhost_devices.specs.Device.{CanCount};
 ghost use Rattle.drvhost_devices.specs.Ends.{IsListOf};
 ghost use Rattle.drvhost_devices.specs.Fault.{Goes, reads_failed, writes_failed};
+ghost use Rattle.drvhost_devices.specs.Ready.{CanAnswer};
 ghost use Rattle.drvhost_sets.specs.Devices.{AnswersOver};
 
 use crate::job::{Job, Notes, answer};
@@ -19,9 +20,7 @@ use std::alloc::Global;
 /// answer is the exit status: 0 where it was written, 2 where the set's text or its image is faulty
 /// or a read or a write failed, 3 where memory ran out. Faults are told on the error writer.
 pub fn list<S: Source, O: Sink, E: Sink>(alloc: Global, set: &mut S, out: &mut O, err: &mut E) -> u8
-    requires set { CanCount (S.failures set.old) }
-    requires out { CanCount (O.failures out.old) }
-    requires err { CanCount (E.failures err.old) }
+    requires { CanAnswer O.Sink E.Sink (S.failures set.old) out.old err.old }
     ensures { AnswersOver O.Sink E.Sink (IsListOf (S.supply set.old))
         (S.failures set.old) (S.failures set.new) out.old out.new err.old err.new result }
 {

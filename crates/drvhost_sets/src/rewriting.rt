@@ -5,6 +5,7 @@ ghost use Rattle.drvhost_devices.specs.Device.{CanCount};
 ghost use Rattle.drvhost_devices.specs.Ends.{IsRewriteOf, TakesImage};
 ghost use Rattle.drvhost_devices.specs.Fault.{Goes, ReadsImage, reads_failed, status_of};
 ghost use Rattle.drvhost_devices.specs.Fault.{writes_failed};
+ghost use Rattle.drvhost_devices.specs.Ready.{CanAnswer};
 ghost use Rattle.drvhost_sets.specs.Devices.{AnswersOver};
 
 use drvhost_devices::device::{Sink, Source};
@@ -25,9 +26,7 @@ pub fn rewrite<S: Source, O: Sink, E: Sink>(
     out: &mut O,
     err: &mut E,
 ) -> u8
-    requires set { CanCount (S.failures set.old) }
-    requires out { CanCount (O.failures out.old) }
-    requires err { CanCount (E.failures err.old) }
+    requires { CanAnswer O.Sink E.Sink (S.failures set.old) out.old err.old }
     ensures answers { AnswersOver O.Sink E.Sink (IsRewriteOf (S.supply set.old))
         (S.failures set.old) (S.failures set.new) out.old out.new err.old err.new result }
     ensures touched { (out.new ≡ out.old)

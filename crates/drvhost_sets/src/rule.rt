@@ -3,7 +3,7 @@
 ghost use Rattle.std.specs.Prelude.{◌≡◌, ◌++◌, ℕ, IfOk, List, codes, string_bytes};
 ghost use Rattle.model.specs.Words.{rule_text};
 ghost use Rattle.drvhost_devices.specs.Answer.{IsRuleExplained, ended};
-ghost use Rattle.drvhost_devices.specs.Device.{CanCount};
+ghost use Rattle.drvhost_devices.specs.Ready.{CanWrite};
 ghost use Rattle.drvhost_sets.specs.Devices.{AnswersOver};
 ghost use Rattle.drvhost_sets.specs.Explained.{IsLockOrderExplained};
 
@@ -19,8 +19,7 @@ use verifier_pages::{lock_order_words, rule_words};
 /// exit status: 0, or 2 where the write failed, 3 where memory ran out. Faults are told on the
 /// error writer.
 pub fn explain_rule<O: Sink, E: Sink>(alloc: Global, rule: Rule, out: &mut O, err: &mut E) -> u8
-    requires out { CanCount (O.failures out.old) }
-    requires err { CanCount (E.failures err.old) }
+    requires { CanWrite O.Sink E.Sink out.old err.old }
     ensures { (reads : ℕ) → AnswersOver O.Sink E.Sink (IsRuleExplained rule)
         reads reads out.old out.new err.old err.new result }
 {
@@ -33,8 +32,7 @@ pub fn explain_rule<O: Sink, E: Sink>(alloc: Global, rule: Rule, out: &mut O, er
 /// Writes the warning on the order of locks by its name, and then what it says, with an example.
 /// The answer is the exit status, likewise.
 pub fn explain_lock_order<O: Sink, E: Sink>(alloc: Global, out: &mut O, err: &mut E) -> u8
-    requires out { CanCount (O.failures out.old) }
-    requires err { CanCount (E.failures err.old) }
+    requires { CanWrite O.Sink E.Sink out.old err.old }
     ensures { (reads : ℕ) → AnswersOver O.Sink E.Sink IsLockOrderExplained
         reads reads out.old out.new err.old err.new result }
 {
@@ -46,8 +44,7 @@ pub fn explain_lock_order<O: Sink, E: Sink>(alloc: Global, out: &mut O, err: &mu
 
 /// Writes a page.
 fn write_page<O: Sink, E: Sink>(page: &str, out: &mut O, err: &mut E) -> u8
-    requires out { CanCount (O.failures out.old) }
-    requires err { CanCount (E.failures err.old) }
+    requires { CanWrite O.Sink E.Sink out.old err.old }
     ensures { (reads : ℕ) → AnswersOver O.Sink E.Sink
         (λ answer. answer ≡ ended End.Complete page.now)
         reads reads out.old out.new err.old err.new result }

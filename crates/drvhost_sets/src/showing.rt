@@ -4,6 +4,7 @@
 ghost use Rattle.std.specs.Prelude.{◌≡◌, ◌+◌, IfErr};
 ghost use Rattle.drvhost_devices.specs.Device.{CanCount, Writes};
 ghost use Rattle.drvhost_devices.specs.Fault.{writes_failed};
+ghost use Rattle.drvhost_devices.specs.Ready.{CanAnswer};
 ghost use Rattle.drvhost_sets.specs.Devices.{AnswersOver};
 ghost use Rattle.drvhost_sets.specs.Explained.{IsFileExplained, hunt_line};
 
@@ -30,9 +31,7 @@ pub fn explain_file<S: Source, O: Sink, E: Sink>(
     out: &mut O,
     err: &mut E,
 ) -> u8
-    requires set { CanCount (S.failures set.old) }
-    requires out { CanCount (O.failures out.old) }
-    requires err { CanCount (E.failures err.old) }
+    requires { CanAnswer O.Sink E.Sink (S.failures set.old) out.old err.old }
     ensures { AnswersOver O.Sink E.Sink (IsFileExplained extent name.now (S.supply set.old))
         (S.failures set.old) (S.failures set.new) out.old out.new err.old err.new result }
 {

@@ -2,7 +2,7 @@
 
 ghost use Rattle.std.specs.Prelude.{ℕ};
 ghost use Rattle.drvhost_devices.specs.Answer.{IsVersion};
-ghost use Rattle.drvhost_devices.specs.Device.{CanCount};
+ghost use Rattle.drvhost_devices.specs.Ready.{CanWrite};
 ghost use Rattle.drvhost_sets.specs.Devices.{AnswersOver};
 
 use drvhost_devices::device::{Failed, Sink};
@@ -16,8 +16,7 @@ const VERSION: &[u8] = b"drvhost 1.0.0\n";
 /// Writes the program's name and its version. The answer is the exit status: 0, or 2 where the
 /// write failed, which is told on the error writer.
 pub fn version<O: Sink, E: Sink>(out: &mut O, err: &mut E) -> u8
-    requires out { CanCount (O.failures out.old) }
-    requires err { CanCount (E.failures err.old) }
+    requires { CanWrite O.Sink E.Sink out.old err.old }
     ensures { (reads : ℕ) → AnswersOver O.Sink E.Sink IsVersion
         reads reads out.old out.new err.old err.new result }
 {

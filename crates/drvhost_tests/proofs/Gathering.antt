@@ -33,7 +33,8 @@ use Rattle.drvhost_files.specs.declared.reading.Contents.{Contents}
 use Rattle.drvhost_files.specs.declared.reading.Contents.TheVariants.{Whole, Unread, Unopened, Lacking}
 use Rattle.drvhost_files.specs.declared.reading.Held.{Held}
 use Rattle.drvhost_files.specs.Reading.{AreHeld, IsHeld, IsReadOf, Opens, held_reads, reads_of}
-use Rattle.drvhost_many.specs.All.{Counted, joined}
+use Rattle.drvhost_devices.specs.Told.{joined}
+use Rattle.drvhost_many.specs.All.{Counted}
 use Rattle.drvhost_many.specs.Held.{AreJoined}
 use Rattle.drvhost_many.proofs.Judged.{ends_rightly}
 use Rattle.drvhost_scenarios.specs.Scenarios.{IsOfScenario, IsOutcome, IsTested, names_in}

@@ -1,3 +1,2 @@
 pub mod Gathering
-pub mod Sources
 pub mod Zips

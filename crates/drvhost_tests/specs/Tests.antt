@@ -16,7 +16,8 @@ use Rattle.drvhost_files.specs.declared.reading.Held.{Held}
 use Rattle.drvhost_found.specs.declared.find.Found.{Found}
 use Rattle.drvhost_found.specs.declared.sought.Sought.{Sought}
 use Rattle.drvhost_found.specs.declared.sought.Sought.TheVariants.{Scenarios}
-use Rattle.drvhost_many.specs.All.{AreFound, joined, nothing}
+use Rattle.drvhost_devices.specs.Told.{joined}
+use Rattle.drvhost_many.specs.All.{AreFound, nothing}
 use Rattle.drvhost_many.specs.Held.{AreJoined}
 use Rattle.drvhost_options.specs.declared.manner.Detail.TheVariants.{Usual}
 use Rattle.drvhost_options.specs.declared.manner.Manner.{Manner}

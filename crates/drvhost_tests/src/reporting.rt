@@ -1,14 +1,14 @@
 //! How what tests answer is reported.
 
 ghost use Rattle.std.specs.Prelude.{◌≡◌, ◌++◌, IfOk, OnOk};
-ghost use Rattle.drvhost_many.specs.All.{joined};
+ghost use Rattle.drvhost_devices.specs.Told.{joined};
 ghost use Rattle.drvhost_tests.specs.Reports.{alone, entry, escaped, escaped_byte, framed, outcome};
 ghost use Rattle.drvhost_tests.specs.Reports.{problem, reported, sheet, suite, suite_head};
 ghost use Rattle.drvhost_tests.specs.Reports.{tap_point, tap_sheet, test_case, words};
 
 use drvhost_commands::job::Report;
+use drvhost_devices::told::Told;
 use drvhost_many::named::name_lines;
-use drvhost_many::told::Told;
 use interleave_lines::appending::{add, add_numbered};
 use std::alloc::{AllocError, Global};
 

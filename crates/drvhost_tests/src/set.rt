@@ -1,11 +1,12 @@
 //! The tests of the set of a file.
 
 ghost use Rattle.std.specs.Prelude.{◌≡◌, ◌<◌, ◌≤◌, ◌^◌, IfOk};
-ghost use Rattle.drvhost_devices.specs.Device.{CanCount};
 ghost use Rattle.drvhost_tests.specs.Reports.{alone};
 ghost use Rattle.drvhost_tests.specs.Tests.{AreEntries, AreJudgedBy, AreOfBytes, AreOfFile};
 ghost use Rattle.drvhost_tests.specs.Tests.{AreTested, AreToldBy, Gathers, refused};
 ghost use Rattle.drvhost_tests.specs.Told.{asked_of, tested_of};
+ghost use Rattle.drvhost_files.specs.Kept.{OnlyReads};
+ghost use Rattle.drvhost_files.specs.Ready.{CanOpenMany};
 
 use crate::reporting::{alone, framed};
 use crate::scenario::{Subject, any_of_verdict, are_kept, report_each, test_each};
@@ -13,11 +14,11 @@ use crate::telling::{tell_image_fault, tell_refused, tell_text_fault, tell_unrea
 use crate::test::Suite;
 use drvhost_devices::fault::Fault;
 use drvhost_devices::reading::set_of;
+use drvhost_devices::told::Told;
 use drvhost_devices::transfer::read_whole;
 use drvhost_devices::verification::Verification;
 use drvhost_files::files::Files;
 use drvhost_files::reading::{Held, Way};
-use drvhost_many::told::Told;
 use image::DriverSet;
 use model::abs::{Refusal, Rule};
 use std::alloc::AllocError;
@@ -30,15 +31,12 @@ pub(crate) fn test_set<R: Threads + Sync, F: Files>(
     suite: Suite<'_>,
     files: &mut F,
 ) -> Result<Told, AllocError>
-    requires opened { F.opened files.old < 2 ^ 63 }
-    requires files { F.failures files.old < 2 ^ 63 }
+    requires files { CanOpenMany F.Files files.old }
     ensures gathers { Gathers (AreOfFile (asked_of suite.entry.tests)
         suite.entry.names.now (F.supply files.old))
         (F.opened files.old) (F.opened files.new) (F.failures files.old) (F.failures files.new)
         result }
-    ensures supply { F.supply files.new ≡ F.supply files.old }
-    ensures created { F.created files.new ≡ F.created files.old }
-    ensures unwritten { F.unwritten files.new ≡ F.unwritten files.old }
+    ensures kept { OnlyReads F.Files files.old files.new }
 {
     let mut file = files.open(suite.tests.set);
     let read = read_whole(suite.alloc, &mut file);
@@ -62,9 +60,7 @@ fn test_bytes<R: Threads + Sync, F: Files>(
         suite.entry.names.now (F.supply files.old)
         bytes.now) (F.opened files.old) (F.opened files.new) (F.failures files.old)
         (F.failures files.new) result }
-    ensures supply { F.supply files.new ≡ F.supply files.old }
-    ensures created { F.created files.new ≡ F.created files.old }
-    ensures unwritten { F.unwritten files.new ≡ F.unwritten files.old }
+    ensures kept { OnlyReads F.Files files.old files.new }
 {
     match set_of(suite.alloc, bytes) {
         Ok(set) => test_judged(rt, suite, bytes, set, files),
@@ -88,9 +84,7 @@ fn test_judged<R: Threads + Sync, F: Files>(
         (asked_of suite.entry.tests) suite.entry.names.now
         (F.supply files.old) bytes.now set) (F.opened files.old) (F.opened files.new)
         (F.failures files.old) (F.failures files.new) result }
-    ensures supply { F.supply files.new ≡ F.supply files.old }
-    ensures created { F.created files.new ≡ F.created files.old }
-    ensures unwritten { F.unwritten files.new ≡ F.unwritten files.old }
+    ensures kept { OnlyReads F.Files files.old files.new }
 {
     match suite.tests.verification {
         Verification::Required => test_verified(rt, suite, bytes, set, files),
@@ -119,9 +113,7 @@ fn test_verified<R: Threads + Sync, F: Files>(
         (asked_of suite.entry.tests) suite.entry.names.now
         (F.supply files.old) bytes.now set) (F.opened files.old) (F.opened files.new)
         (F.failures files.old) (F.failures files.new) result }
-    ensures supply { F.supply files.new ≡ F.supply files.old }
-    ensures created { F.created files.new ≡ F.created files.old }
-    ensures unwritten { F.unwritten files.new ≡ F.unwritten files.old }
+    ensures kept { OnlyReads F.Files files.old files.new }
 {
     match verify(suite.alloc, set) {
         Ok(accepted) => {
@@ -163,9 +155,7 @@ fn test_all<R: Threads + Sync, F: Files>(
         (F.supply files.old) (tested_of subject.entry))
         (F.opened files.old) (F.opened files.new) (F.failures files.old) (F.failures files.new)
         result }
-    ensures supply { F.supply files.new ≡ F.supply files.old }
-    ensures created { F.created files.new ≡ F.created files.old }
-    ensures unwritten { F.unwritten files.new ≡ F.unwritten files.old }
+    ensures kept { OnlyReads F.Files files.old files.new }
 {
     let way = Way {
         alloc: suite.alloc,

@@ -10,7 +10,7 @@ use crate::reporting::alone;
 use crate::test::Tests;
 use asm::AsmFault;
 use drvhost_devices::fault::Fault;
-use drvhost_many::told::Told;
+use drvhost_devices::told::Told;
 use drvhost_scenarios::telling::{self, tell_refusal};
 use image::ImageFault;
 use interleave::schedule::ScheduleFault;

@@ -1,8 +1,11 @@
 //! Tests of a driver set.
 
 ghost use Rattle.std.specs.Prelude.{◌≡◌, ◌<◌, ◌^◌, ℕ};
-ghost use Rattle.drvhost_devices.specs.Device.{CanCount, Says};
+ghost use Rattle.drvhost_devices.specs.Device.{Says};
 ghost use Rattle.drvhost_devices.specs.Ends.{Answers};
+ghost use Rattle.drvhost_devices.specs.Ready.{CanWrite};
+ghost use Rattle.drvhost_files.specs.Kept.{OnlyReads};
+ghost use Rattle.drvhost_files.specs.Ready.{CanOpenMany};
 ghost use Rattle.drvhost_many.specs.All.{Counted};
 ghost use Rattle.drvhost_tests.specs.Tests.{AreOfPaths, Gathers, TestsEnd};
 ghost use Rattle.drvhost_tests.specs.Told.{asked_of};
@@ -11,12 +14,12 @@ use crate::set::test_set;
 use drvhost_commands::job::Report;
 use drvhost_devices::device::{Failed, Sink};
 use drvhost_devices::fault::{no_memory, say};
+use drvhost_devices::told::Told;
 use drvhost_devices::transfer::write_whole;
 use drvhost_devices::verification::Verification;
 use drvhost_files::files::Files;
 use drvhost_found::sought::{Search, Sought};
 use drvhost_many::paths::find_all;
-use drvhost_many::told::Told;
 use drvhost_options::verbosity::Verbosity;
 use report::fault::WRITE_FAILED;
 use std::alloc::{AllocError, Global};
@@ -51,19 +54,15 @@ pub fn test<R: Threads + Sync, F: Files, O: Sink, E: Sink>(
     out: &mut O,
     err: &mut E,
 ) -> u8
-    requires opened { F.opened files.old < 2 ^ 63 }
-    requires files { F.failures files.old < 2 ^ 63 }
-    requires out { CanCount (O.failures out.old) }
-    requires err { CanCount (E.failures err.old) }
+    requires files { CanOpenMany F.Files files.old }
+    requires sinks { CanWrite O.Sink E.Sink out.old err.old }
     ensures answers { Counted
         (TestsEnd (asked_of tests.entry) (F.stands files.old) (F.supply files.old))
         (F.opened files.old) (F.opened files.new) (F.failures files.old) (F.failures files.new)
         (O.failures out.old) (O.failures out.new) (O.contents out.old) (O.contents out.new)
         (Says (E.failures err.old) (E.failures err.new) (E.contents err.old) (E.contents err.new))
         result }
-    ensures supply { F.supply files.new ≡ F.supply files.old }
-    ensures created { F.created files.new ≡ F.created files.old }
-    ensures unwritten { F.unwritten files.new ≡ F.unwritten files.old }
+    ensures kept { OnlyReads F.Files files.old files.new }
 {
     match test_paths(rt, alloc, tests, files) {
         Ok(told) => deliver(&told, out, err),
@@ -78,15 +77,12 @@ fn test_paths<R: Threads + Sync, F: Files>(
     tests: Tests<'_>,
     files: &mut F,
 ) -> Result<Told, AllocError>
-    requires opened { F.opened files.old < 2 ^ 63 }
-    requires files { F.failures files.old < 2 ^ 63 }
+    requires files { CanOpenMany F.Files files.old }
     ensures gathers { Gathers
         (AreOfPaths (asked_of tests.entry) (F.stands files.old) (F.supply files.old))
         (F.opened files.old) (F.opened files.new) (F.failures files.old) (F.failures files.new)
         result }
-    ensures supply { F.supply files.new ≡ F.supply files.old }
-    ensures created { F.created files.new ≡ F.created files.old }
-    ensures unwritten { F.unwritten files.new ≡ F.unwritten files.old }
+    ensures kept { OnlyReads F.Files files.old files.new }
 {
     let search = Search {
         sought: Sought::Scenarios,
@@ -115,8 +111,7 @@ pub(crate) struct Suite<'n> {
 
 /// Writes an answer to its writers.
 fn deliver<O: Sink, E: Sink>(told: &Told, out: &mut O, err: &mut E) -> u8
-    requires out { CanCount (O.failures out.old) }
-    requires err { CanCount (E.failures err.old) }
+    requires { CanWrite O.Sink E.Sink out.old err.old }
     ensures { (reads : ℕ) → Answers (λ answer. answer ≡ told.now) reads reads
         (O.failures out.old) (O.failures out.new) (O.contents out.old) (O.contents out.new)
         (Says (E.failures err.old) (E.failures err.new) (E.contents err.old) (E.contents err.new))

@@ -4,6 +4,7 @@ ghost use Rattle.std.specs.Prelude.{◌≡◌, ◌+◌, ◌++◌, ◌⊎◌, [],
 ghost use Rattle.drvhost_devices.specs.Device.{Bytes, CanCount};
 ghost use Rattle.drvhost_devices.specs.Ends.{HoldsRun};
 ghost use Rattle.drvhost_devices.specs.Fault.{reads_failed, writes_failed};
+ghost use Rattle.drvhost_devices.specs.Ready.{CanAnswer};
 ghost use Rattle.drvhost_sets.specs.Devices.{AnswersOver};
 ghost use Rattle.drvhost_formats.specs.Events.{outcome_of};
 ghost use Rattle.drvhost_formats.specs.Told.{IsToldOfFile, Tells, told};
@@ -68,10 +69,8 @@ pub fn host_json<S: Source, P: Source, G: Gate + Sync, O: Sink, E: Sink, R: Thre
     err: &mut E,
 ) -> u8
     requires workers { AreWorkers asked.now.hosting.workers }
-    requires set { CanCount (S.failures set.old) }
+    requires devices { CanAnswer O.Sink E.Sink (S.failures set.old) out.old err.old }
     requires script { CanCount (P.failures script.old) }
-    requires out { CanCount (O.failures out.old) }
-    requires err { CanCount (E.failures err.old) }
     ensures unread { (script.new ≡ script.old)
         ⊎ HoldsRun Verification.Required (S.supply set.old) }
     ensures answers { AnswersOver O.Sink E.Sink

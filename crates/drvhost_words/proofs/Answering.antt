@@ -22,7 +22,7 @@ use Rattle.drvhost_commands.specs.CommandLine.{Names, job_fault_status, job_faul
 use Rattle.drvhost_files.specs.Files.{supply_of}
 use Rattle.drvhost_files.proofs.Known.{holds_known}
 use Rattle.drvhost_many.specs.All.{Counted}
-use Rattle.drvhost_many.proofs.Collected.{judged_known}
+use Rattle.drvhost_many.proofs.Known.{judged_known}
 use Rattle.drvhost_words.specs.Program.{AreWarningsBy, EndsAtOnce, IsDoneOf, IsQuietly, IsRunBy, IsServedBy, IsTaskOf, IsUsage, OpensToTrace}
 use Rattle.drvhost_words.specs.Returned.{count_of}
 use Rattle.drvhost_words.specs.declared.work.Work.{Work}

@@ -15,6 +15,9 @@ ghost use Rattle.drvhost_tests.specs.Told.{asked_of};
 ghost use Rattle.drvhost_words.specs.Unread.{IsNamedUnread, IsOneOf, SaysMore};
 ghost use Rattle.drvhost_devices.specs.Device.{CanCount, Says};
 ghost use Rattle.drvhost_devices.specs.Ends.{Answers, HoldsRun, IsCheckOf, IsRewriteOf};
+ghost use Rattle.drvhost_devices.specs.Ready.{CanAnswer, CanWrite};
+ghost use Rattle.drvhost_files.specs.Kept.{OnlyReads};
+ghost use Rattle.drvhost_files.specs.Ready.{CanCreate, CanOpen, CanOpenMany};
 ghost use Rattle.drvhost_sets.specs.Devices.{AnswersBy, AnswersOver};
 
 use crate::coloring::{settled_judging, settled_way};
@@ -84,14 +87,11 @@ pub fn answer<F: JudgedFiles, O: Sink, E: Sink, R: Threads + Wait + Sync + Progr
     out: &mut O,
     err: &mut E,
 ) -> u8
-    requires opened { F.opened files.old < 2 ^ 63 }
-    requires files { F.failures files.old < 2 ^ 63 }
-    requires created { F.created files.old + 1 < 2 ^ 64 }
-    requires unwritten { CanCount (F.unwritten files.old) }
-    requires out { CanCount (O.failures out.old) }
-    requires err { CanCount (E.failures err.old) }
-    ensures answers { CountedOver F.Files O.Sink E.Sink
-        (ProgramEnds setting.surroundings (F.stands files.old) (F.supply files.old) words)
+    requires files { CanOpenMany F.Files files.old }
+    requires targets { CanCreate F.Files files.old }
+    requires sinks { CanWrite O.Sink E.Sink out.old err.old }
+    ensures answers { CountedOver F.Files O.Sink E.Sink (ProgramEnds setting.surroundings
+        (F.stands files.old) (F.supply files.old) words)
         (F.unwritten files.old + O.failures out.old) (F.unwritten files.new + O.failures out.new)
         files.old files.new out.old out.new err.old err.new result }
     ensures stores { ProgramStores words (F.supply files.old) (F.supply files.new)
@@ -139,15 +139,11 @@ fn answer_words<F: JudgedFiles, O: Sink, E: Sink, R: Threads + Wait + Sync + Pro
     out: &mut O,
     err: &mut E,
 ) -> u8
-    requires opened { F.opened files.old < 2 ^ 63 }
-    requires files { F.failures files.old < 2 ^ 63 }
-    requires created { F.created files.old + 1 < 2 ^ 64 }
-    requires unwritten { CanCount (F.unwritten files.old) }
-    requires out { CanCount (O.failures out.old) }
-    requires err { CanCount (E.failures err.old) }
-    ensures answers { CountedOver F.Files O.Sink E.Sink
-        (WordsEnd setting.surroundings (F.stands files.old) (F.supply files.old)
-        (map string_bytes words.now))
+    requires files { CanOpenMany F.Files files.old }
+    requires targets { CanCreate F.Files files.old }
+    requires sinks { CanWrite O.Sink E.Sink out.old err.old }
+    ensures answers { CountedOver F.Files O.Sink E.Sink (WordsEnd setting.surroundings
+        (F.stands files.old) (F.supply files.old) (map string_bytes words.now))
         (F.unwritten files.old + O.failures out.old) (F.unwritten files.new + O.failures out.new)
         files.old files.new out.old out.new err.old err.new result }
     ensures stores { WordsStore (map string_bytes words.now)
@@ -170,12 +166,9 @@ fn perform<F: JudgedFiles, O: Sink, E: Sink, R: Threads + Wait + Sync + Progress
     out: &mut O,
     err: &mut E,
 ) -> u8
-    requires opened { F.opened files.old < 2 ^ 63 }
-    requires files { F.failures files.old < 2 ^ 63 }
-    requires created { F.created files.old + 1 < 2 ^ 64 }
-    requires unwritten { CanCount (F.unwritten files.old) }
-    requires out { CanCount (O.failures out.old) }
-    requires err { CanCount (E.failures err.old) }
+    requires files { CanOpenMany F.Files files.old }
+    requires targets { CanCreate F.Files files.old }
+    requires sinks { CanWrite O.Sink E.Sink out.old err.old }
     ensures answers { CountedOver F.Files O.Sink E.Sink
         (JobEnds setting.surroundings (F.stands files.old) (F.supply files.old) job.now)
         (F.unwritten files.old + O.failures out.old) (F.unwritten files.new + O.failures out.new)
@@ -240,8 +233,7 @@ fn tests_of<'n>(testing: &'n Testing<'n>, jobs: u8) -> Tests<'n>
 
 /// Writes a page.
 fn write_page<O: Sink, E: Sink>(alloc: Global, page: Page, out: &mut O, err: &mut E) -> u8
-    requires out { CanCount (O.failures out.old) }
-    requires err { CanCount (E.failures err.old) }
+    requires { CanWrite O.Sink E.Sink out.old err.old }
     ensures { (reads : ℕ) → AnswersOver O.Sink E.Sink (IsPage page)
         reads reads out.old out.new err.old err.new result }
 {
@@ -262,18 +254,14 @@ fn judge_paths<R: Threads + Sync + Progress, F: JudgedFiles, O: Sink, E: Sink>(
     out: &mut O,
     err: &mut E,
 ) -> u8
-    requires opened { F.opened files.old < 2 ^ 63 }
-    requires files { F.failures files.old < 2 ^ 63 }
-    requires out { CanCount (O.failures out.old) }
-    requires err { CanCount (E.failures err.old) }
+    requires files { CanOpenMany F.Files files.old }
+    requires sinks { CanWrite O.Sink E.Sink out.old err.old }
     ensures answers { CountedOver F.Files O.Sink E.Sink
         (PathsEnd (F.stands files.old) (F.supply files.old) judged.now.paths.items
         (settled_judging setting.surroundings judged.now.judging) judged.now.jobs)
         (O.failures out.old) (O.failures out.new)
         files.old files.new out.old out.new err.old err.new result }
-    ensures supply { F.supply files.new ≡ F.supply files.old }
-    ensures created { F.created files.new ≡ F.created files.old }
-    ensures unwritten { F.unwritten files.new ≡ F.unwritten files.old }
+    ensures kept { OnlyReads F.Files files.old files.new }
 {
     let alloc = setting.alloc;
     let judging = settled_judging(setting.surroundings, judged.judging);
@@ -320,17 +308,13 @@ fn judge_file<F: Files, O: Sink, E: Sink>(
     out: &mut O,
     err: &mut E,
 ) -> u8
-    requires opened { F.opened files.old + 1 < 2 ^ 64 }
-    requires files { CanCount (F.failures files.old) }
-    requires out { CanCount (O.failures out.old) }
-    requires err { CanCount (E.failures err.old) }
+    requires files { CanOpen F.Files 1 files.old }
+    requires sinks { CanWrite O.Sink E.Sink out.old err.old }
     ensures answers { CountedOver F.Files O.Sink E.Sink
         (FileEnds judging (F.supply files.old) set.now)
         (O.failures out.old) (O.failures out.new)
         files.old files.new out.old out.new err.old err.new result }
-    ensures supply { F.supply files.new ≡ F.supply files.old }
-    ensures created { F.created files.new ≡ F.created files.old }
-    ensures unwritten { F.unwritten files.new ≡ F.unwritten files.old }
+    ensures kept { OnlyReads F.Files files.old files.new }
 {
     match judging {
         Judging::Check => check_file(alloc, set, files, out, err),
@@ -352,16 +336,12 @@ fn check_file<F: Files, O: Sink, E: Sink>(
     out: &mut O,
     err: &mut E,
 ) -> u8
-    requires opened { F.opened files.old + 1 < 2 ^ 64 }
-    requires files { CanCount (F.failures files.old) }
-    requires out { CanCount (O.failures out.old) }
-    requires err { CanCount (E.failures err.old) }
+    requires files { CanOpen F.Files 1 files.old }
+    requires sinks { CanWrite O.Sink E.Sink out.old err.old }
     ensures answers { AnswersOver O.Sink E.Sink (IsCheckOf (F.supply files.old set.now))
         (F.failures files.old) (F.failures files.new) out.old out.new err.old err.new result }
     ensures opened { F.opened files.new ≡ F.opened files.old + 1 }
-    ensures supply { F.supply files.new ≡ F.supply files.old }
-    ensures created { F.created files.new ≡ F.created files.old }
-    ensures unwritten { F.unwritten files.new ≡ F.unwritten files.old }
+    ensures kept { OnlyReads F.Files files.old files.new }
 {
     let mut file = files.open(set);
     let status = check(alloc, &mut file, out, err);
@@ -399,19 +379,15 @@ fn work_file<F: Files, O: Sink, E: Sink, P: Progress>(
     out: &mut O,
     err: &mut E,
 ) -> u8
-    requires opened { F.opened files.old + 1 < 2 ^ 64 }
-    requires files { CanCount (F.failures files.old) }
-    requires out { CanCount (O.failures out.old) }
-    requires err { CanCount (E.failures err.old) }
+    requires files { CanOpen F.Files 1 files.old }
+    requires sinks { CanWrite O.Sink E.Sink out.old err.old }
     ensures answers { AnswersBy O.Sink E.Sink
         (SaysMore (IsNamedUnread (λ name. name ≡ set.now)
         (F.failures files.old) (F.failures files.new)))
         (IsOfWork work (F.supply files.old) set.now)
         (F.failures files.old) (F.failures files.new) out.old out.new err.old err.new result }
     ensures opened { F.opened files.new ≡ F.opened files.old + 1 }
-    ensures supply { F.supply files.new ≡ F.supply files.old }
-    ensures created { F.created files.new ≡ F.created files.old }
-    ensures unwritten { F.unwritten files.new ≡ F.unwritten files.old }
+    ensures kept { OnlyReads F.Files files.old files.new }
 {
     let failures = err.failures();
     let mut file = files.open(set);
@@ -433,8 +409,7 @@ fn refuse_unopened<O: Sink, E: Sink>(
     out: &mut O,
     err: &mut E,
 ) -> u8
-    requires out { CanCount (O.failures out.old) }
-    requires err { CanCount (E.failures err.old) }
+    requires { CanWrite O.Sink E.Sink out.old err.old }
     ensures { (reads : ℕ) → AnswersOver O.Sink E.Sink (IsUnopenedBy work name.now)
         reads reads out.old out.new err.old err.new result }
 {
@@ -463,9 +438,7 @@ fn perform_work<S: Source, O: Sink, E: Sink, P: Progress>(
     out: &mut O,
     err: &mut E,
 ) -> u8
-    requires set { CanCount (S.failures set.old) }
-    requires out { CanCount (O.failures out.old) }
-    requires err { CanCount (E.failures err.old) }
+    requires { CanAnswer O.Sink E.Sink (S.failures set.old) out.old err.old }
     ensures { AnswersOver O.Sink E.Sink (IsDoneOf work name.now (S.supply set.old))
         (S.failures set.old) (S.failures set.new) out.old out.new err.old err.new result }
 {
@@ -483,9 +456,7 @@ fn fulfil<S: Source, O: Sink, E: Sink, P: Progress>(
     out: &mut O,
     err: &mut E,
 ) -> u8
-    requires set { CanCount (S.failures set.old) }
-    requires out { CanCount (O.failures out.old) }
-    requires err { CanCount (E.failures err.old) }
+    requires { CanAnswer O.Sink E.Sink (S.failures set.old) out.old err.old }
     ensures { AnswersOver O.Sink E.Sink (IsTaskOf task (S.supply set.old))
         (S.failures set.old) (S.failures set.new) out.old out.new err.old err.new result }
 {
@@ -521,10 +492,8 @@ fn rewrite_file<F: Files, E: Sink>(
     files: &mut F,
     err: &mut E,
 ) -> u8
-    requires opened { F.opened files.old + 1 < 2 ^ 64 }
-    requires files { CanCount (F.failures files.old) }
-    requires created { F.created files.old + 1 < 2 ^ 64 }
-    requires unwritten { CanCount (F.unwritten files.old) }
+    requires files { CanOpen F.Files 1 files.old }
+    requires targets { CanCreate F.Files files.old }
     requires err { CanCount (E.failures err.old) }
     ensures answers { (writes : ℕ) (written : Option (List ℕ))
         → Answers (IsQuietly (IsRewriteOf (F.supply files.old set.now)))
@@ -564,12 +533,9 @@ fn mend_file<F: Files, O: Sink, E: Sink>(
     out: &mut O,
     err: &mut E,
 ) -> u8
-    requires opened { F.opened files.old + 1 < 2 ^ 64 }
-    requires files { CanCount (F.failures files.old) }
-    requires created { F.created files.old + 1 < 2 ^ 64 }
-    requires unwritten { CanCount (F.unwritten files.old) }
-    requires out { CanCount (O.failures out.old) }
-    requires err { CanCount (E.failures err.old) }
+    requires files { CanOpen F.Files 1 files.old }
+    requires targets { CanCreate F.Files files.old }
+    requires sinks { CanWrite O.Sink E.Sink out.old err.old }
     ensures answers { Answers
         (IsOfApply mending.entry.asked (F.supply files.old) mending.entry.set.now)
         (F.failures files.old) (F.failures files.new)
@@ -618,10 +584,8 @@ fn run_files<F: Files, O: Sink, E: Sink>(
     out: &mut O,
     err: &mut E,
 ) -> u8
-    requires opened { F.opened files.old + 2 < 2 ^ 64 }
-    requires files { CanCount (F.failures files.old) }
-    requires out { CanCount (O.failures out.old) }
-    requires err { CanCount (E.failures err.old) }
+    requires files { CanOpen F.Files 2 files.old }
+    requires sinks { CanWrite O.Sink E.Sink out.old err.old }
     ensures answers { AnswersBy O.Sink E.Sink
         (SaysMore (IsNamedUnread (IsOneOf running.entry.names.set.now running.entry.names.input.now)
         (F.failures files.old) (F.failures files.new)))
@@ -634,9 +598,7 @@ fn run_files<F: Files, O: Sink, E: Sink>(
         × OpensToTrace (verification_of running.entry.way)
         (F.supply files.old running.entry.names.set.now) count
         × (F.opened files.new ≡ F.opened files.old + count) }
-    ensures supply { F.supply files.new ≡ F.supply files.old }
-    ensures created { F.created files.new ≡ F.created files.old }
-    ensures unwritten { F.unwritten files.new ≡ F.unwritten files.old }
+    ensures kept { OnlyReads F.Files files.old files.new }
 {
     let names = running.names;
     let failures = err.failures();
@@ -658,10 +620,8 @@ fn run<S: Source, P: Source, O: Sink, E: Sink>(
     out: &mut O,
     err: &mut E,
 ) -> u8
-    requires set { CanCount (S.failures set.old) }
+    requires devices { CanAnswer O.Sink E.Sink (S.failures set.old) out.old err.old }
     requires input { CanCount (P.failures input.old) }
-    requires out { CanCount (O.failures out.old) }
-    requires err { CanCount (E.failures err.old) }
     ensures unread { (input.new ≡ input.old)
         ⊎ HoldsRun (verification_of running.entry.way) (S.supply set.old) }
     ensures answers { AnswersOver O.Sink E.Sink (IsRunBy running.entry.way

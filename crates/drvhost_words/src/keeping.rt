@@ -1,15 +1,15 @@
 //! Scripts that workers serve and whose history is kept, each by the names of its files.
 
 ghost use Rattle.std.specs.Prelude.{◌≡◌, ◌+◌, ◌<◌, ◌^◌, ℕ};
-ghost use Rattle.drvhost_devices.specs.Device.{CanCount};
 ghost use Rattle.drvhost_devices.specs.Ends.{Answers};
+ghost use Rattle.drvhost_devices.specs.Ready.{CanWrite};
+ghost use Rattle.drvhost_files.specs.Ready.{CanCreate, CanOpen};
 ghost use Rattle.drvhost_runs.specs.Keeping.{IsKeptOf};
 ghost use Rattle.drvhost_runs.specs.Readiness.{AreWarningsOf};
 ghost use Rattle.drvhost_words.specs.Program.{KeepsHistory, OpensToTrace};
 ghost use Rattle.drvhost_words.specs.Unread.{IsNamedUnread, IsOneOf, SaysAround};
 
 use crate::returned::{close_both, keep_if_opened};
-use crate::serving::Open;
 use crate::unread::tell_which_unread;
 use drvhost_commands::job::Keeping;
 use drvhost_devices::device::{Sink, Source};
@@ -20,6 +20,7 @@ use drvhost_runs::keeping::{self, host_keeping};
 use std::alloc::Global;
 use std::sync::Wait;
 use std::thread::Threads;
+use workers::Open;
 
 /// Has workers serve the script of a file on the set of another one, and their history written to a
 /// third, which may be one of them: it is opened only once all else was written. That of the script
@@ -32,12 +33,9 @@ pub(crate) fn keep_files<F: Files, O: Sink, E: Sink, R: Threads + Wait + Sync>(
     out: &mut O,
     err: &mut E,
 ) -> u8
-    requires opened { F.opened files.old + 2 < 2 ^ 64 }
-    requires files { CanCount (F.failures files.old) }
-    requires created { F.created files.old + 1 < 2 ^ 64 }
-    requires unwritten { CanCount (F.unwritten files.old) }
-    requires out { CanCount (O.failures out.old) }
-    requires err { CanCount (E.failures err.old) }
+    requires files { CanOpen F.Files 2 files.old }
+    requires targets { CanCreate F.Files files.old }
+    requires sinks { CanWrite O.Sink E.Sink out.old err.old }
     ensures answers { Answers (IsKeptOf keeping.now.workers
         (F.supply files.old keeping.now.names.set.now)
         (F.supply files.old keeping.now.names.input.now))

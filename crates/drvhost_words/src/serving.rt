@@ -1,8 +1,11 @@
 //! Scripts that workers serve, each by the names of its files.
 
-ghost use Rattle.std.specs.Prelude.{◌≡◌, ◌+◌, ◌<◌, ◌≤◌, ◌^◌, ◌⊎◌, ℕ, true};
+ghost use Rattle.std.specs.Prelude.{◌≡◌, ◌+◌, ◌<◌, ◌≤◌, ◌^◌, ◌⊎◌, ℕ};
 ghost use Rattle.drvhost_devices.specs.Device.{CanCount};
 ghost use Rattle.drvhost_devices.specs.Ends.{HoldsRun};
+ghost use Rattle.drvhost_devices.specs.Ready.{CanAnswer, CanWrite};
+ghost use Rattle.drvhost_files.specs.Kept.{OnlyReads};
+ghost use Rattle.drvhost_files.specs.Ready.{CanOpen};
 ghost use Rattle.drvhost_sets.specs.Devices.{AnswersBy};
 ghost use Rattle.drvhost_runs.specs.Readiness.{SaysWarned};
 ghost use Rattle.drvhost_words.specs.Program.{AreWarningsBy, IsServedBy, OpensToTrace};
@@ -19,25 +22,7 @@ use drvhost_told::host::{Asked, host_json};
 use std::alloc::Global;
 use std::sync::Wait;
 use std::thread::Threads;
-use workers::Gate;
-
-/// A gate that is always open.
-#[derive(Drop)]
-pub(crate) struct Open;
-
-impl Gate for Open {
-    fn before(&self, _worker: u32, _count: u64) -> bool
-        ensures { result ≡ true }
-    {
-        true
-    }
-
-    fn at_once(&self, worker: u32, count: u64) -> bool
-        ensures { result ≡ true }
-    {
-        self.before(worker, count)
-    }
-}
+use workers::Open;
 
 /// A script that is to be served: of which files, by how many workers of a runtime, and how what
 /// comes of it is written.
@@ -60,10 +45,8 @@ pub(crate) fn host_files<F: Files, O: Sink, E: Sink, R: Threads + Wait + Sync>(
     out: &mut O,
     err: &mut E,
 ) -> u8
-    requires opened { F.opened files.old + 2 < 2 ^ 64 }
-    requires files { CanCount (F.failures files.old) }
-    requires out { CanCount (O.failures out.old) }
-    requires err { CanCount (E.failures err.old) }
+    requires files { CanOpen F.Files 2 files.old }
+    requires sinks { CanWrite O.Sink E.Sink out.old err.old }
     ensures answers { AnswersBy O.Sink E.Sink
         (SaysAround (AreWarningsBy serving.now.form
         (F.supply files.old serving.now.names.set.now) result)
@@ -78,9 +61,7 @@ pub(crate) fn host_files<F: Files, O: Sink, E: Sink, R: Threads + Wait + Sync>(
         × OpensToTrace Verification.Required
         (F.supply files.old serving.now.names.set.now) count
         × (F.opened files.new ≡ F.opened files.old + count) }
-    ensures supply { F.supply files.new ≡ F.supply files.old }
-    ensures created { F.created files.new ≡ F.created files.old }
-    ensures unwritten { F.unwritten files.new ≡ F.unwritten files.old }
+    ensures kept { OnlyReads F.Files files.old files.new }
 {
     let names = serving.names;
     let orders = Orders {
@@ -109,10 +90,8 @@ fn serve<S: Source, P: Source, O: Sink, E: Sink, R: Threads + Wait + Sync>(
     out: &mut O,
     err: &mut E,
 ) -> u8
-    requires set { CanCount (S.failures set.old) }
+    requires devices { CanAnswer O.Sink E.Sink (S.failures set.old) out.old err.old }
     requires script { CanCount (P.failures script.old) }
-    requires out { CanCount (O.failures out.old) }
-    requires err { CanCount (E.failures err.old) }
     ensures unread { (script.new ≡ script.old)
         ⊎ HoldsRun Verification.Required (S.supply set.old) }
     ensures answers { AnswersBy O.Sink E.Sink

@@ -3,14 +3,15 @@
 ghost use Rattle.std.specs.Prelude.{◌≡◌, ◌+◌, ◌⊎◌};
 ghost use Rattle.drvhost_devices.specs.Device.{CanCount};
 ghost use Rattle.drvhost_devices.specs.Ends.{HoldsRun};
+ghost use Rattle.drvhost_devices.specs.Ready.{CanAnswer};
 ghost use Rattle.drvhost_sets.specs.Devices.{AnswersOver};
 ghost use Rattle.drvhost_many.specs.Painted.{IsInColor, IsShown};
 ghost use Rattle.drvhost_views.specs.Told.{IsTellOf};
 
 use drvhost_devices::device::{Sink, Source, Writer};
+use drvhost_devices::told::collected;
 use drvhost_devices::verification::Verification;
 use drvhost_many::painting::show;
-use drvhost_many::told::collected;
 use drvhost_options::coloring::Coloring;
 use drvhost_options::manner::Manner;
 use drvhost_views::tell::{Telling, tell};
@@ -33,10 +34,8 @@ pub(crate) fn tell_shown<S: Source, P: Source, O: Sink, E: Sink>(
     out: &mut O,
     err: &mut E,
 ) -> u8
-    requires set { CanCount (S.failures set.old) }
+    requires devices { CanAnswer O.Sink E.Sink (S.failures set.old) out.old err.old }
     requires schedule { CanCount (P.failures schedule.old) }
-    requires out { CanCount (O.failures out.old) }
-    requires err { CanCount (E.failures err.old) }
     ensures unread { (schedule.new ≡ schedule.old)
         ⊎ HoldsRun shown.verification (S.supply set.old) }
     ensures answers { AnswersOver O.Sink E.Sink (IsShown shown.coloring
@@ -66,10 +65,8 @@ fn tell_painted<S: Source, P: Source, O: Sink, E: Sink>(
     out: &mut O,
     err: &mut E,
 ) -> u8
-    requires set { CanCount (S.failures set.old) }
+    requires devices { CanAnswer O.Sink E.Sink (S.failures set.old) out.old err.old }
     requires schedule { CanCount (P.failures schedule.old) }
-    requires out { CanCount (O.failures out.old) }
-    requires err { CanCount (E.failures err.old) }
     ensures unread { (schedule.new ≡ schedule.old)
         ⊎ HoldsRun telling.verification (S.supply set.old) }
     ensures answers { AnswersOver O.Sink E.Sink (IsInColor

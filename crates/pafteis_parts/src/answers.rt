@@ -5,14 +5,16 @@ ghost use Rattle.std.specs.Prelude.{◌+◌, IfOk};
 ghost use Rattle.drvhost_devices.specs.Answer.{IsRuleExplained};
 ghost use Rattle.drvhost_devices.specs.Device.{Bytes, CanCount};
 ghost use Rattle.drvhost_devices.specs.Ends.{IsCheckOf, IsListOf, IsRewriteOf};
+ghost use Rattle.drvhost_devices.specs.Ready.{CanAnswer};
 ghost use Rattle.drvhost_sets.specs.Devices.{AnswersOver};
 ghost use Rattle.drvhost_hunts.specs.Hunt.{IsHuntOf};
 ghost use Rattle.drvhost_mends.specs.Mend.{IsMendOf};
 ghost use Rattle.drvhost_sets.specs.Explained.{IsExplainedOf};
 ghost use Rattle.pafteis_parts.specs.Shown.{IsRunAs};
 
-use crate::returned::{Told, collected};
+use crate::returned::collected;
 use drvhost_devices::device::{Reader, Sink, Source, Writer};
+use drvhost_devices::told::Told;
 use drvhost_devices::verification::Verification;
 use drvhost_mends::mend::Asked;
 use drvhost_options::extent::Extent;
@@ -102,10 +104,8 @@ fn show<S: Source, P: Source, O: Sink, E: Sink>(
     out: &mut O,
     err: &mut E,
 ) -> u8
-    requires set { CanCount (S.failures set.old) }
+    requires devices { CanAnswer O.Sink E.Sink (S.failures set.old) out.old err.old }
     requires schedule { CanCount (P.failures schedule.old) }
-    requires out { CanCount (O.failures out.old) }
-    requires err { CanCount (E.failures err.old) }
     ensures { AnswersOver O.Sink E.Sink (IsRunAs run (S.supply set.old) (P.supply schedule.old))
         (S.failures set.old + P.failures schedule.old)
         (S.failures set.new + P.failures schedule.new) out.old out.new err.old err.new result }

@@ -3,7 +3,7 @@
 ghost use Rattle.std.specs.Prelude.{◌≡◌, ◌+◌, ◌++◌, length};
 ghost use Rattle.pafteis_parts.specs.Delivery.{IsDelivered, placed};
 
-use crate::returned::Told;
+use drvhost_devices::told::Told;
 use model::memory::OutOfMemory;
 
 /// How an answer was delivered.

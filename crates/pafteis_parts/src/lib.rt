@@ -5,4 +5,4 @@
 
 pub mod answers;
 pub mod delivery;
-pub mod returned;
+mod returned;

@@ -1,5 +1,6 @@
 //! The program's answers in memory, and in a buffer, as the library for C has them.
 
+use drvhost_devices::told::Told;
 use drvhost_devices::verification::Verification;
 use drvhost_mends::mend::Asked;
 use drvhost_options::extent::Extent;
@@ -11,7 +12,6 @@ use pafteis_parts::answers::{
     Run, check, explain, explain_rule, hunt, list, mend, rewrite, run_as,
 };
 use pafteis_parts::delivery::deliver;
-use pafteis_parts::returned::Told;
 
 /// A driver that completes each read at once, and a device of it.
 const ECHO: &[u8] =

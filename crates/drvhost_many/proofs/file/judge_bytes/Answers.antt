@@ -1,7 +1,7 @@
 use Rattle.std.proofs.Common.{◌∙◌, Some, ap}
 use Rattle.drvhost_devices.specs.Device.{Bytes}
 use Rattle.drvhost_many.specs.One.{IsJudged}
-use Rattle.drvhost_many.proofs.Collected.{collected_right}
+use Rattle.drvhost_devices.proofs.Collected.{collected_right}
 use Rattle.drvhost_many.proofs.file.judge_bytes.Goals as goal
 
 pub returns : goal.returns

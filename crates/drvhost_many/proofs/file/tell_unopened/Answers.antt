@@ -1,6 +1,6 @@
 use Rattle.std.proofs.Common.{◌∙◌, Some, ap, refl}
 use Rattle.drvhost_formats.specs.Told.{IsUnopenedJson}
-use Rattle.drvhost_many.proofs.Collected.{collected_right}
+use Rattle.drvhost_devices.proofs.Collected.{collected_right}
 use Rattle.drvhost_many.proofs.file.tell_unopened.Goals as goal
 
 pub returns : goal.returns

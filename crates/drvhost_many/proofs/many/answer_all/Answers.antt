@@ -85,9 +85,9 @@ loop-rest-preserved g c =
     let long = length-append so.0 window in
     record {
       fine = more.4 ∙ at.fine;
-      supply = c.in-Ok.ensures.supply ∙ at.supply;
-      created = c.in-Ok.ensures.created ∙ at.created;
-      unwritten = c.in-Ok.ensures.unwritten ∙ at.unwritten;
+      supply = c.in-Ok.ensures.kept.supply ∙ at.supply;
+      created = c.in-Ok.ensures.kept.created ∙ at.created;
+      unwritten = c.in-Ok.ensures.kept.unwritten ∙ at.unwritten;
       answered = (
         so.0 ++ window,
         so.1 + more.0,

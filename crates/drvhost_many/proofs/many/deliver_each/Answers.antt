@@ -3,7 +3,7 @@ use Rattle.std.proofs.lemmas.List.{take_all}
 use Rattle.std.proofs.lemmas.Slice.Zip.{AllZip-long}
 use Rattle.drvhost_devices.specs.Device.{SaysBehind}
 use Rattle.drvhost_devices.proofs.Writing.{appends_more, behind_more}
-use Rattle.drvhost_many.specs.All.{joined}
+use Rattle.drvhost_devices.specs.Told.{joined}
 use Rattle.drvhost_files.specs.Reading.{IsAnswered}
 use Rattle.drvhost_many.specs.Held.{AreToldOf, IsToldOf}
 use Rattle.drvhost_many.specs.One.{Delivers}

@@ -35,9 +35,9 @@ loop-name-preserved g c =
     let read = c.found_of.ensures.reads in
     record {
       opened = omega (arith, c.found_of.ensures.opened, at.invariant.opened);
-      supply = c.found_of.ensures.supply ∙ at.invariant.supply;
-      created = c.found_of.ensures.created ∙ at.invariant.created;
-      unwritten = c.found_of.ensures.unwritten ∙ at.invariant.unwritten;
+      supply = c.found_of.ensures.kept.supply ∙ at.invariant.supply;
+      created = c.found_of.ensures.kept.created ∙ at.invariant.created;
+      unwritten = c.found_of.ensures.kept.unwritten ∙ at.invariant.unwritten;
       found = (
         so.0 + read.reads,
         omega (arith, so.1, read.few),

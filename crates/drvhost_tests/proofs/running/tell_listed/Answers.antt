@@ -1,7 +1,7 @@
 use Rattle.std.proofs.Common.{◌∙◌, Some, ap, arith}
 use Rattle.drvhost_devices.specs.Device.{Bytes}
 use Rattle.drvhost_devices.specs.declared.verification.Verification.TheVariants.{Skipped}
-use Rattle.drvhost_tests.proofs.Sources.{both_right}
+use Rattle.drvhost_devices.proofs.Collected.{both_right}
 use Rattle.drvhost_tests.proofs.running.tell_listed.Goals as goal
 use Rattle.drvhost_tests.specs.Tests.{usual}
 use Rattle.drvhost_views.specs.Told.{IsTellOf}

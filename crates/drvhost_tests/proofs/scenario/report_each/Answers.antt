@@ -2,7 +2,7 @@ use Rattle.std.proofs.Common.{IfOk, ◌+◌, ◌∙◌, ap, arith, get_or, refl,
 use Rattle.std.proofs.lemmas.Slice.Zip.{AllZip-long}
 use Rattle.drvhost_many.proofs.Reading.{joined_next}
 use Rattle.drvhost_files.specs.declared.reading.Held.{Held}
-use Rattle.drvhost_many.specs.All.{joined}
+use Rattle.drvhost_devices.specs.Told.{joined}
 use Rattle.drvhost_many.specs.Held.{AreJoined}
 use Rattle.drvhost_tests.specs.Reports.{reported}
 use Rattle.drvhost_tests.specs.Tests.{IsEntry, IsHeldTold}

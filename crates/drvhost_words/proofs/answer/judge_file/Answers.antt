@@ -43,7 +43,5 @@ returns-in-CheckJson g c =
           as_work judging supply name c.in-CheckJson.is opened reads writes _ _ _ told ends)
           (counted_telling _ _ (λ n. n ≡ 1) 1 _ _ _ _ _ _ _ _ _ _ _ _ _ refl
           c.work_file.ensures.opened c.work_file.ensures.answers);
-      supply = c.work_file.ensures.supply;
-      created = c.work_file.ensures.created;
-      unwritten = c.work_file.ensures.unwritten;
+      kept = c.work_file.ensures.kept;
     }

@@ -2,7 +2,7 @@ use Rattle.std.proofs.Common.{◌≡◌, ◌∙◌, None, Some, List, ℕ, arith
 use Rattle.drvhost_devices.specs.Answer.{IsUnopened}
 use Rattle.drvhost_devices.specs.Device.{Supply}
 use Rattle.drvhost_files.specs.Files.{Stores, contents_of, failures_of}
-use Rattle.drvhost_many.proofs.Collected.{closed_known}
+use Rattle.drvhost_many.proofs.Known.{closed_known}
 use Rattle.drvhost_many.proofs.Judged.{may_be_closed}
 use Rattle.drvhost_mends.specs.Apply.{IsApplyOf}
 use Rattle.drvhost_words.specs.Program.{IsOfApply}

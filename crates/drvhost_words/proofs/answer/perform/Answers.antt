@@ -16,35 +16,35 @@ pub returns-in-OnPaths-clause-answers : goal.returns-in-OnPaths-clause-answers
 returns-in-OnPaths-clause-answers g c =
     rw c.in-OnPaths.is
     (counted_beside _ _ _ _ _ _ _ _ _ _ _ _ _
-    c.judge_paths.ensures.answers c.judge_paths.ensures.unwritten)
+    c.judge_paths.ensures.answers c.judge_paths.ensures.kept.unwritten)
 
 pub returns-in-OnPaths-clause-stores : goal.returns-in-OnPaths-clause-stores
 returns-in-OnPaths-clause-stores g c =
     rw c.in-OnPaths.is
-    (record { supply = c.judge_paths.ensures.supply; none = c.judge_paths.ensures.created })
+    (record { supply = c.judge_paths.ensures.kept.supply; none = c.judge_paths.ensures.kept.created })
 
 pub returns-in-Log-clause-answers : goal.returns-in-Log-clause-answers
 returns-in-Log-clause-answers g c =
     rw c.in-Log.is
     (counted_beside _ _ _ _ _ _ _ _ _ _ _ _ _
     (rw c.as_slice.ensures.value at c.log_paths.ensures.answers)
-    c.log_paths.ensures.unwritten)
+    c.log_paths.ensures.kept.unwritten)
 
 pub returns-in-Log-clause-stores : goal.returns-in-Log-clause-stores
 returns-in-Log-clause-stores g c =
     rw c.in-Log.is
-    (record { supply = c.log_paths.ensures.supply; none = c.log_paths.ensures.created })
+    (record { supply = c.log_paths.ensures.kept.supply; none = c.log_paths.ensures.kept.created })
 
 pub returns-in-Test-clause-answers : goal.returns-in-Test-clause-answers
 returns-in-Test-clause-answers g c =
     rw c.in-Test.is
     (counted_beside _ _ _ _ _ _ _ _ _ _ _ _ _
     (rw c.tests_of.ensures at c.test.ensures.answers)
-    c.test.ensures.unwritten)
+    c.test.ensures.kept.unwritten)
 
 pub returns-in-Test-clause-stores : goal.returns-in-Test-clause-stores
 returns-in-Test-clause-stores g c =
-    rw c.in-Test.is (record { supply = c.test.ensures.supply; none = c.test.ensures.created })
+    rw c.in-Test.is (record { supply = c.test.ensures.kept.supply; none = c.test.ensures.kept.created })
 
 pub returns-in-Rewrite-clause-answers : goal.returns-in-Rewrite-clause-answers
 returns-in-Rewrite-clause-answers g c =
@@ -71,12 +71,12 @@ returns-in-OnSet-clause-answers g c =
     (counted_beside _ _ _ _ _ _ _ _ _ _ _ _ _
     (counted_telling _ _ (λ n. n ≡ 1) 1 _ _ _ _ _ _ _ _ _ _ _ _ _ refl
     c.work_file.ensures.opened c.work_file.ensures.answers)
-    c.work_file.ensures.unwritten)
+    c.work_file.ensures.kept.unwritten)
 
 pub returns-in-OnSet-clause-stores : goal.returns-in-OnSet-clause-stores
 returns-in-OnSet-clause-stores g c =
     rw c.in-OnSet.is
-    (record { supply = c.work_file.ensures.supply; none = c.work_file.ensures.created })
+    (record { supply = c.work_file.ensures.kept.supply; none = c.work_file.ensures.kept.created })
 
 pub returns-in-OnRun-clause-answers : goal.returns-in-OnRun-clause-answers
 returns-in-OnRun-clause-answers g c =
@@ -85,12 +85,12 @@ returns-in-OnRun-clause-answers g c =
     (counted_beside _ _ _ _ _ _ _ _ _ _ _ _ _
     (counted_telling _ _ _ opened.0 _ _ _ _ _ _ _ _ _ _ _ _ _ opened.1 opened.2
     (rw c.settled_way-way.ensures at c.run_files.ensures.answers))
-    c.run_files.ensures.unwritten)
+    c.run_files.ensures.kept.unwritten)
 
 pub returns-in-OnRun-clause-stores : goal.returns-in-OnRun-clause-stores
 returns-in-OnRun-clause-stores g c =
     rw c.in-OnRun.is
-    (record { supply = c.run_files.ensures.supply; none = c.run_files.ensures.created })
+    (record { supply = c.run_files.ensures.kept.supply; none = c.run_files.ensures.kept.created })
 
 pub returns-in-Host-clause-answers : goal.returns-in-Host-clause-answers
 returns-in-Host-clause-answers g c =
@@ -99,12 +99,12 @@ returns-in-Host-clause-answers g c =
     (counted_beside _ _ _ _ _ _ _ _ _ _ _ _ _
     (counted_warned _ _ _ _ opened.0 _ _ _ _ _ _ _ _ _ _ _ _ _ opened.1 opened.2
     c.host_files.ensures.answers)
-    c.host_files.ensures.unwritten)
+    c.host_files.ensures.kept.unwritten)
 
 pub returns-in-Host-clause-stores : goal.returns-in-Host-clause-stores
 returns-in-Host-clause-stores g c =
     rw c.in-Host.is
-    (record { supply = c.host_files.ensures.supply; none = c.host_files.ensures.created })
+    (record { supply = c.host_files.ensures.kept.supply; none = c.host_files.ensures.kept.created })
 
 pub returns-in-Keep-clause-answers : goal.returns-in-Keep-clause-answers
 returns-in-Keep-clause-answers g c =

@@ -1,7 +1,7 @@
 use Rattle.std.proofs.Common.{◌≡◌, arith, inl, inr, refl}
 use Rattle.drvhost_words.specs.Program.{IsDoneOf, IsOfWork, IsUnopenedBy}
 use Rattle.drvhost_words.specs.Unread.{IsNamedUnread}
-use Rattle.drvhost_many.proofs.Collected.{closed_known}
+use Rattle.drvhost_many.proofs.Known.{closed_known}
 use Rattle.drvhost_many.proofs.Judged.{answers_rightly, may_be_closed}
 use Rattle.drvhost_words.proofs.Answering.{answers_alone, answers_unread, work_known}
 use Rattle.drvhost_words.proofs.answer.work_file.Goals as goal

@@ -1,15 +1,14 @@
 //! An answer in memory.
 
 ghost use Rattle.std.specs.Prelude.{◌≡◌, IfOk, OnOk};
-ghost use Rattle.drvhost_many.specs.All.{joined};
-ghost use Rattle.drvhost_many.specs.Told.{Collects};
+ghost use Rattle.drvhost_devices.specs.Told.{Collects, bytes_of, joined};
 
-use drvhost_devices::device::{Sink, Writer};
+use crate::device::{Sink, Writer};
 use std::alloc::AllocError;
 use std::marker::Model;
 
-/// What is answered for a file: its exit status, and what goes to the two streams. Contracts see it
-/// as the answer.
+/// What is answered: the exit status, and what goes to the two streams. Contracts see it as the
+/// answer.
 #[derive(Drop)]
 pub struct Told {
     exit: u8,
@@ -22,8 +21,7 @@ impl Model for Told {
 
     ghost Value = { Answer };
 
-    ghost view = {
-        λ t. record { status = t.exit; output = t.written.items; told = t.errors.items } };
+    ghost view = { λ t. record { status = t.exit; output = t.written.items; told = t.errors.items } };
 }
 
 impl Told {
@@ -72,6 +70,27 @@ impl Told {
         }
         self.written.extend_from_slice(other.output())?;
         self.errors.extend_from_slice(other.told())
+    }
+
+    /// All its bytes, those of the output and behind them those of the error output.
+    ///
+    /// # Errors
+    ///
+    /// When memory runs out.
+    pub fn into_bytes(self) -> Result<Vec<u8>, AllocError>
+        ensures { IfOk result (λ bytes. bytes.items ≡ bytes_of self) }
+    {
+        let Told {
+            exit: _,
+            written,
+            errors,
+        } = self;
+        if written.is_empty() {
+            return Ok(errors);
+        }
+        let mut bytes = written;
+        bytes.extend_from_slice(errors.as_slice())?;
+        Ok(bytes)
     }
 }
 

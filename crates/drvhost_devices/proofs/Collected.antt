@@ -1,40 +1,10 @@
--- What was written in memory, where nothing failed there, is the answer for a file.
-use Rattle.std.proofs.Common.{◌≡◌, ◌≢◌, ◌∙◌, ℕ, List, [], Option, Some, IfOk, Result, Ok, Err, arith, inl, inr, subst, sym}
+-- What was written in memory, where nothing failed there, is the answer.
+use Rattle.std.proofs.Common.{◌≡◌, ◌≢◌, ◌+◌, ◌∙◌, ℕ, List, [], Option, Some, IfOk, Result, Ok, Err, arith, inl, inr, subst, sym}
 use Rattle.std.specs.Io.KnownBytes.{Appends}
 use Rattle.drvhost_devices.specs.Answer.{Answer}
-use Rattle.drvhost_devices.specs.Device.{Bytes, Closed, IsSuppliedAs, MayBeClosed, Says, Supply, Unknown}
+use Rattle.drvhost_devices.specs.Device.{Says}
 use Rattle.drvhost_devices.specs.Ends.{Answers, Ends, OutOfMemory, ReadFailed, Rightly, WriteFailed}
-use Rattle.drvhost_files.proofs.Known.{holds_known}
-use Rattle.drvhost_commands.specs.declared.job.Judging.{Judging}
-use Rattle.drvhost_commands.specs.declared.job.Judging.TheVariants.{Check, CheckJson, Explain, ExplainJson}
-use Rattle.drvhost_options.specs.declared.coloring.Coloring.TheVariants.{Auto, Always, Never}
-use Rattle.drvhost_many.specs.One.{IsJudged}
-use Rattle.drvhost_many.specs.Told.{Collects}
-
--- what is right for a file is right for what is known of it
-pub judged_known : (judging : Judging) (name : List ℕ) (known supply : Supply)
-    → IsSuppliedAs known supply → (answer : Answer) → IsJudged judging name supply answer
-    → IsJudged judging name known answer
-judged_known Check name known supply h answer (bytes, holds, right) =
-    (bytes, holds_known known supply bytes h holds, right)
-judged_known CheckJson name known supply h answer (bytes, holds, right) =
-    (bytes, holds_known known supply bytes h holds, right)
-judged_known (Explain extent Auto) name known supply h answer (alone, (bytes, holds, right), shown) =
-    (alone, (bytes, holds_known known supply bytes h holds, right), shown)
-judged_known (Explain extent Never) name known supply h answer (alone, (bytes, holds, right), shown) =
-    (alone, (bytes, holds_known known supply bytes h holds, right), shown)
-judged_known (Explain extent Always) name known supply h answer (plain, (alone, (bytes, holds, right), shown), is) =
-    (plain, (alone, (bytes, holds_known known supply bytes h holds, right), shown), is)
-judged_known (ExplainJson extent) name known supply h answer (bytes, holds, right) =
-    (bytes, holds_known known supply bytes h holds, right)
-
--- and so is that it may be closed
-pub closed_known : (known supply : Supply) → IsSuppliedAs known supply → MayBeClosed supply
-    → MayBeClosed known
-closed_known Unknown supply h closed = tt
-closed_known Closed supply h closed = tt
-closed_known (Bytes held) supply h closed =
-    let never : MayBeClosed (Bytes held) = subst MayBeClosed h closed in absurd never
+use Rattle.drvhost_devices.specs.Told.{Collects}
 
 not_both : (n : ℕ) → n ≡ 1 → n ≡ 0 → ⊥
 not_both n one none = omega (arith, one, none)
@@ -85,3 +55,15 @@ collected_right Right status start end w u e v b n p errors (Ok answer) a c none
     c.status c.output
     (said_in v errors five.told answer.told five.tells c.said c.words)
 collected_right Right status start end w u e v b n p errors (Err x) a c none wrote said first second = tt
+
+-- what was collected is right, where the reads of neither failed
+pub both_right : {E : Type 0} (Right : Answer → Type 0)
+    (status start first second w u e v : ℕ) (b n p errors : Option (List ℕ)) (r : Result Answer E)
+    → Answers Right start (first + second) w u b n (Says e v p errors) status
+    → first ≡ 0 → second ≡ 0 → IfOk r (Collects status 0 u n v errors) → start ≡ 0 → w ≡ 0 → e ≡ 0
+    → b ≡ Some [] → p ≡ Some [] → IfOk r Right
+both_right Right status start first second w u e v b n p errors r a one two c none wrote said out err =
+    let unread : first + second ≡ 0 = omega (arith, one, two) in
+    let answers =
+    subst (λ (x : ℕ). Answers Right start x w u b n (Says e v p errors) status) unread a in
+    collected_right Right status start 0 w u e v b n p errors r answers c none wrote said out err
