@@ -1,5 +1,5 @@
 -- What is right for a file is right for what is known of it.
-use Rattle.std.proofs.Common.{◌≡◌, ℕ, List, subst}
+use Rattle.std.proofs.Common.{ℕ, List, subst}
 use Rattle.drvhost_devices.specs.Answer.{Answer}
 use Rattle.drvhost_devices.specs.Device.{Bytes, Closed, IsSuppliedAs, MayBeClosed, Supply, Unknown}
 use Rattle.drvhost_files.proofs.Known.{holds_known}

@@ -6,3 +6,4 @@ pub mod Ending
 pub mod Judged
 pub mod Colored
 pub mod Alone
+pub mod Gathering

@@ -1,5 +1,5 @@
 -- What is answered for one of several files.
-use Rattle.std.specs.Prelude.{ℕ, ◌≡◌, ◌+◌, ◌⊎◌, Bool, true, false, List, codes, Option, Result, Ok, Err}
+use Rattle.std.specs.Prelude.{ℕ, ◌≡◌, ◌≢◌, ◌+◌, ◌⊎◌, [], Bool, true, false, List, codes, Option, Result, Ok, Err}
 use Rattle.std.specs.Io.KnownBytes.{Appends}
 use Rattle.drvhost_commands.specs.declared.job.Judging.{Judging}
 use Rattle.drvhost_commands.specs.declared.job.Judging.TheVariants.{Check, CheckJson, Explain, ExplainJson}
@@ -63,3 +63,11 @@ Delivers answer writes_before writes_after before after Tells (Err Write) =
     (writes_after ≡ writes_before + 1) × TakesBeginning before after answer.output
     × Tells (codes "write failed\n")
 Delivers answer writes_before writes_after before after Tells (Err Memory) = ⊥
+
+-- the write of some bytes failed, and that was told
+pub record IsLost (bytes : List ℕ) (writes_before writes_after : ℕ)
+    (before after : Option (List ℕ)) (Tells : List ℕ → Type 0) : Type 0 where
+  pub some : bytes ≢ []
+  pub more : writes_after ≡ writes_before + 1
+  pub taken : TakesBeginning before after bytes
+  pub says : Tells (codes "write failed\n")

@@ -1,6 +1,8 @@
 //! The driver sets of several files, judged by several jobs at once.
 
-ghost use Rattle.std.specs.Prelude.{◌≡◌, ◌+◌, ◌≤◌, ◌<◌, ◌^◌, List, length, max};
+ghost use Rattle.std.specs.Io.KnownBytes.{Appends};
+ghost use Rattle.std.specs.Prelude.{◌≡◌, ◌+◌, ◌≤◌, ◌<◌, ◌^◌, ◌++◌, [], IsTrue, List, OnErr};
+ghost use Rattle.std.specs.Prelude.{OnOk, false, length, max};
 ghost use Rattle.std.specs.List.{AllZip};
 ghost use Rattle.drvhost_devices.specs.Device.{CanCount, Says, SaysBehind};
 ghost use Rattle.drvhost_devices.specs.Ready.{CanWrite};
@@ -10,7 +12,7 @@ ghost use Rattle.drvhost_files.specs.Reading.{IsAnswered};
 ghost use Rattle.drvhost_files.specs.Ready.{CanOpenMany};
 ghost use Rattle.drvhost_many.specs.All.{AnswersEach, Counted, EachGoes, end_status, width_of};
 ghost use Rattle.drvhost_many.specs.Held.{DeliversEach, IsToldOf, TellsLost};
-ghost use Rattle.drvhost_many.specs.One.{Delivers, halt_status};
+ghost use Rattle.drvhost_many.specs.One.{Delivers, IsLost, halt_status};
 
 use crate::file::is_in_json;
 use crate::judging::JudgedFiles;
@@ -28,6 +30,9 @@ use std::thread::Threads;
 
 /// How many files a job is handed at once.
 const FILES_EACH: usize = 256;
+
+/// How many bytes of answers are gathered at most.
+const GATHERED_MOST: usize = 1 << 16;
 
 /// The driver sets of several files, and how they are judged.
 #[derive(Clone, Copy)]
@@ -175,7 +180,14 @@ fn answer_window<R: Threads + Sync + Progress, F: JudgedFiles, O: Sink, E: Sink>
     };
     rt.clear();
     let failures = window.failures;
-    deliver_each(sets.judging, answered.as_slice(), out, failures, err)
+    deliver_each(
+        sets.alloc,
+        sets.judging,
+        answered.as_slice(),
+        out,
+        failures,
+        err,
+    )
 }
 
 /// Tells that memory ran out for the first of some files.
@@ -193,8 +205,10 @@ fn lose<P: Progress, E: Sink>(progress: &P, window: &Window<'_>, err: &mut E) ->
     Halt::Memory
 }
 
-/// Writes the answers for files that were read to their writers, in order.
+/// Writes the answers for files that were read to their writers, in order. The outputs of those that
+/// tell nothing are gathered, and go out at once.
 fn deliver_each<O: Sink, E: Sink>(
+    alloc: Global,
     judging: Judging,
     answered: &[Answered<'_, Told>],
     out: &mut O,
@@ -211,18 +225,72 @@ fn deliver_each<O: Sink, E: Sink>(
         (E.contents err.new)) result }
 {
     let mut status = 0;
+    let mut gathered = Vec::new(alloc);
     for i in 0..answered.len() {
         let one = &answered[i];
         let Ok(told) = &one.answer else {
+            if let Err(Failed) = write_gathered(&mut gathered, out, failures, err) {
+                return Err(Halt::Write);
+            }
             tell_no_memory(One::of(judging, one.name), failures, err);
             return Err(Halt::Memory);
         };
-        match deliver(told, out, failures, err) {
-            Ok(answered) => status = greater(status, answered),
-            Err(halt) => return Err(halt),
+        if !is_gathered(told, &mut gathered) {
+            if let Err(Failed) = write_gathered(&mut gathered, out, failures, err) {
+                return Err(Halt::Write);
+            }
+            if let Err(halt) = deliver(told, out, failures, err) {
+                return Err(halt);
+            }
         }
+        status = greater(status, told.status());
+    }
+    if let Err(Failed) = write_gathered(&mut gathered, out, failures, err) {
+        return Err(Halt::Write);
     }
     Ok(status)
+}
+
+/// Whether the output of an answer was gathered: it tells nothing, and there is room.
+fn is_gathered(told: &Told, gathered: &mut Vec<u8>) -> bool
+    ensures gathered { IsTrue result → (told.now.told ≡ [])
+        × (gathered.new.items ≡ gathered.old.items ++ told.now.output) }
+    ensures apart { result ≡ false → gathered.new.items ≡ gathered.old.items }
+{
+    let output = told.output();
+    if !told.told().is_empty() || gathered.len() + output.len() > GATHERED_MOST {
+        return false;
+    }
+    gathered.extend_from_slice(output).is_ok()
+}
+
+/// Writes what was gathered, if it is anything.
+fn write_gathered<O: Sink, E: Sink>(
+    gathered: &mut Vec<u8>,
+    out: &mut O,
+    failures: u64,
+    err: &mut E,
+) -> Result<(), Failed>
+    requires out { CanCount (O.failures out.old) }
+    requires failures { CanCount failures }
+    ensures gathered { OnOk result (gathered.new.items ≡ []) }
+    ensures written { OnOk result ((O.failures out.new ≡ O.failures out.old)
+        × Appends (O.contents out.old) (O.contents out.new) gathered.old.items
+        × (err.new ≡ err.old)) }
+    ensures lost { OnErr result (IsLost gathered.old.items (O.failures out.old)
+        (O.failures out.new) (O.contents out.old) (O.contents out.new)
+        (SaysBehind failures (E.failures err.old) (E.failures err.new) (E.contents err.old)
+        (E.contents err.new))) }
+{
+    if gathered.is_empty() {
+        return Ok(());
+    }
+    if let Err(Failed) = write_whole(out, gathered.as_slice()) {
+        say_behind(WRITE_FAILED.as_bytes(), failures, err);
+        return Err(Failed);
+    }
+    gathered.clear();
+    Ok(())
 }
 
 /// The greater of two exit statuses.
