@@ -12,36 +12,17 @@ use report_progress::progress::Silent;
 use std::alloc::{AllocError, Global};
 use std::process::Abort;
 use std::test::Fail;
+use tests_vectors::BOTH_WAYS;
 
-/// Reads take l1 under l0, writes l0 under l1.
-const BOTH_WAYS: &[u8] = b"driver d\n\
-      dispatch READ f\n\
-      dispatch WRITE g\n\
-      routine f dispatch\n\
-      acquire l0\n\
-      acquire l1\n\
-      release l1\n\
-      release l0\n\
-      complete r0 SUCCESS\n\
-      ret SUCCESS\n\
-      endr\n\
-      routine g dispatch\n\
-      acquire l1\n\
-      acquire l0\n\
-      release l0\n\
-      release l1\n\
-      complete r0 SUCCESS\n\
-      ret SUCCESS\n\
-      endr\n\
-      endd\n\
-      device v d 1\n";
+/// The device of the driver that takes two locks both ways.
+const DEVICE: u8 = 1;
 
 /// A read and a write, of so many packets in all.
 fn reading_and_writing(alloc: Global, packets: u64) -> Result<Trying, AllocError> {
     let mut requests = Vec::new(alloc);
     for major in [Major::Read, Major::Write] {
         requests.push(Request {
-            device: 0,
+            device: DEVICE,
             major,
             argument: 0,
         })?;

@@ -5,12 +5,13 @@ ghost use Rattle.std.specs.Prelude.{◌≡◌};
 ghost use Rattle.intake.specs.Ends.{AreTakersOf};
 
 use crate::served::{last_submitter, queue_of};
-use crate::sets::{COMPLETES, READ, core_of};
+use crate::sets::{READ, core_of};
 use hostcore::Core;
 use intake::{Intake, Submitter, Taker};
 use std::alloc::Global;
 use std::process::Abort;
 use std::sync::Wait;
+use tests_vectors::ONE_READ_TEXT;
 
 /// A queue with its one submitter and its one taker, beside the core that its commands are for.
 #[derive(Drop)]
@@ -45,7 +46,7 @@ fn last_taker<R: Abort>(rt: &R, intake: &Intake, takers: &mut Vec<Taker>) -> Tak
 impl Market {
     /// A queue with room for two commands.
     fn open<R: Abort>(rt: &R, alloc: Global) -> Market {
-        let core = core_of(rt, alloc, COMPLETES, 1, 1);
+        let core = core_of(rt, alloc, ONE_READ_TEXT, 1, 1);
         let (intake, mut submitters, mut takers) = queue_of(rt, alloc, 2, 1, 1);
         let submitter = last_submitter(rt, &intake, &mut submitters);
         let taker = last_taker(rt, &intake, &mut takers);

@@ -6,13 +6,14 @@ ghost use Rattle.model.specs.declared.limits.TheConstants.{MAX_THREADS};
 
 use crate::pace::{Pace, TOGETHER, Watch};
 use crate::served::serve_all;
-use crate::sets::{COMPLETES, QUEUES, READ, core_of};
+use crate::sets::{READ, core_of};
 use model::history::{Command, Name};
 use std::alloc::Global;
 use std::process::Abort;
 use std::sync::Wait;
 use std::thread::Threads;
 use std::time::Clock;
+use tests_vectors::{ONE_READ_TEXT, QUEUED};
 
 /// Many commands are 100 requests, 50 cancels of every other of these, and 100 interrupts.
 const REQUESTS: u64 = 100;
@@ -70,7 +71,7 @@ fn entries_of<R: Threads + Wait + Abort + Sync>(
     requires some { 1 ≤ workers }
     requires few { workers ≤ MAX_THREADS }
 {
-    let core = core_of(rt, alloc, QUEUES, workers, 1_000_000);
+    let core = core_of(rt, alloc, QUEUED, workers, 1_000_000);
     let watch = Watch::new();
     let account = serve_all(rt, alloc, core, workers, commands, &watch);
     assert!(rt; watch.ended_with(account.counts.as_slice()));
@@ -83,7 +84,7 @@ fn entries_of<R: Threads + Wait + Abort + Sync>(
 
 /// Four workers end at a full history, which has room for 100 entries.
 fn fill<R: Threads + Wait + Abort + Sync>(rt: &R, alloc: Global, commands: &[Command]) {
-    let core = core_of(rt, alloc, QUEUES, 4, 100);
+    let core = core_of(rt, alloc, QUEUED, 4, 100);
     let account = serve_all(rt, alloc, core, 4, commands, &Watch::new());
     assert!(rt; account.full && account.started == 4);
 }
@@ -111,7 +112,7 @@ fn serve_together<R: Threads + Wait + Abort + Sync, C: Clock + Sync>(
     requires some { 1 ≤ workers }
     requires few { workers ≤ MAX_THREADS }
 {
-    let core = core_of(rt, alloc, COMPLETES, workers, 1_000_000);
+    let core = core_of(rt, alloc, ONE_READ_TEXT, workers, 1_000_000);
     let commands = [READ; 200];
     let account = serve_all(rt, alloc, core, workers, commands.as_slice(), pace);
     assert!(rt; pace.held(), "with {workers} workers");

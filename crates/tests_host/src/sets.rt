@@ -11,11 +11,6 @@ use std::alloc::Global;
 use std::process::Abort;
 use verifier::verify;
 
-/// A driver that completes each read at once.
-pub(crate) const COMPLETES: &[u8] =
-    b"driver d\ndispatch READ f\nroutine f dispatch\ncomplete r0 SUCCESS\nret SUCCESS\nendr\nendd\n\
-      device v d 1\n";
-
 /// A driver that completes each read at once, after it had a lock.
 pub(crate) const LOCKS: &[u8] =
     b"driver d\ndispatch READ f\nroutine f dispatch\nacquire l0\nrelease l0\n\
@@ -28,16 +23,6 @@ pub(crate) const CROSSES: &[u8] = b"driver pair\ndispatch READ on_read\ndispatch
       complete r0 SUCCESS\nret SUCCESS\nendr\n\
       routine on_write dispatch\nacquire l1\nacquire l0\nrelease l0\nrelease l1\n\
       complete r0 SUCCESS\nret SUCCESS\nendr\nendd\ndevice disk pair 1\n";
-
-/// A driver with a queue whose packets may be cancelled. Its DPC routine completes them.
-pub(crate) const QUEUES: &[u8] =
-    b"driver d\nqueue q l0 gone\ndispatch READ f\ndpc g\nroutine f dispatch\nmark r0\nacquire l0\n\
-      insert r0 q\narm r0 q\nifcancel r0 was\nrelease l0\nret PENDING\nwas: disarm r0 lost\n\
-      unlink r0 q\nrelease l0\ncomplete r0 CANCELLED\nret PENDING\nlost: release l0\nret PENDING\n\
-      endr\nroutine g dpc\nacquire l0\nremove r0 q none\ndisarm r0 none\nrelease l0\n\
-      complete r0 SUCCESS\nret void\nnone: release l0\nret void\nendr\nroutine gone cancel\nrelc\n\
-      acquire l0\nunlink r0 q\nrelease l0\ncomplete r0 CANCELLED\nret void\nendr\nendd\n\
-      device v d 1\n";
 
 /// A read of device 0.
 pub(crate) const READ: Command = Command::Request {

@@ -6,7 +6,7 @@ ghost use Rattle.intake.specs.Ends.{AreTakersOf};
 
 use crate::pace::Watch;
 use crate::served::{Account, last_submitter, put, queue_of, serve_all};
-use crate::sets::{COMPLETES, LOCKS, READ, core_of};
+use crate::sets::{LOCKS, READ, core_of};
 use hostcore::Core;
 use intake::{Intake, Submitter};
 use std::alloc::Global;
@@ -15,6 +15,7 @@ use std::sync::Wait;
 use std::sync::atomic::{AtomicU64, Ordering};
 use std::thread::{Threads, join};
 use std::time::Clock;
+use tests_vectors::ONE_READ_TEXT;
 use workers::{Gate, serve};
 
 /// A gate for two workers that perform a request each. Worker 0 gets the lock, and has it until
@@ -79,8 +80,8 @@ fn workers_stay_at_an_open_queue(rt: HostRuntime) {
 
 /// What came of two workers at an open queue.
 fn stay<R: Threads + Wait + Abort + Clock + Sync>(rt: &R, alloc: Global, watch: &Watch) -> Account {
-    let idle = core_of(rt, alloc, COMPLETES, 1, 1);
-    let core = core_of(rt, alloc, COMPLETES, 2, 100);
+    let idle = core_of(rt, alloc, ONE_READ_TEXT, 1, 1);
+    let core = core_of(rt, alloc, ONE_READ_TEXT, 2, 100);
     serve_while_put(rt, alloc, core, &idle, watch)
 }
 

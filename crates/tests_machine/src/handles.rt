@@ -1,6 +1,5 @@
 //! A world and the bytes of an answer behind handles, as the library for C has them.
 
-use crate::sets::COMPLETES;
 use model::event::{Event, Reply};
 use model::status::Major;
 use model::view::PacketView;
@@ -13,6 +12,7 @@ use pafteis_world::kept::Kept;
 use std::alloc::Global;
 use std::fs;
 use std::test::Fail;
+use tests_vectors::ONE_READ_TEXT;
 
 /// A driver that completes each read twice.
 const TWICE: &[u8] = b"driver d\n\
@@ -29,7 +29,7 @@ const TWICE: &[u8] = b"driver d\n\
 fn a_read_is_done_behind_a_handle(rt: HostRuntime) -> Result<(), Fail> {
     let alloc = rt.alloc();
     let mut handle = Handle::empty();
-    let opened = open(alloc, COMPLETES, 2, &mut handle);
+    let opened = open(alloc, ONE_READ_TEXT, 2, &mut handle);
     assert!(rt; matches!(opened, Verdict::Accepted));
     let issue = Event::Issue {
         thread: 0,
@@ -68,7 +68,7 @@ fn a_refused_set_has_no_world(rt: HostRuntime) {
 fn open_and_close(alloc: Global, count: u32) -> bool {
     let mut handle = Handle::empty();
     for _ in 0..count {
-        let opened = open(alloc, COMPLETES, 1, &mut handle);
+        let opened = open(alloc, ONE_READ_TEXT, 1, &mut handle);
         if !matches!(opened, Verdict::Accepted) || !close(alloc, &mut handle) {
             return false;
         }

@@ -1,47 +1,12 @@
 //! Orders of locks, as the library for C tells them.
 
-use crate::sets::COMPLETES;
 use model::abs::Rule;
 use pafteis_values::locks::{LockEdgeValue, LockOrderValue, order_value};
 use pafteis_values::verdict::Verdict;
 use pafteis_world::locks::lock_order;
 use std::alloc::Global;
 use std::test::Fail;
-
-/// The first driver takes l0 under l1. Of the second reads do it one way, writes the other.
-const BOTH_WAYS: &[u8] = b"driver one\n\
-      dispatch READ f\n\
-      routine f dispatch\n\
-      acquire l1\n\
-      acquire l0\n\
-      release l0\n\
-      release l1\n\
-      complete r0 SUCCESS\n\
-      ret SUCCESS\n\
-      endr\n\
-      endd\n\
-      driver two\n\
-      dispatch READ f\n\
-      dispatch WRITE g\n\
-      routine f dispatch\n\
-      acquire l0\n\
-      acquire l1\n\
-      release l1\n\
-      release l0\n\
-      complete r0 SUCCESS\n\
-      ret SUCCESS\n\
-      endr\n\
-      routine g dispatch\n\
-      acquire l1\n\
-      acquire l0\n\
-      release l0\n\
-      release l1\n\
-      complete r0 SUCCESS\n\
-      ret SUCCESS\n\
-      endr\n\
-      endd\n\
-      device v one 1\n\
-      device w two 1\n";
+use tests_vectors::{BOTH_WAYS, ONE_READ_TEXT};
 
 /// Reads take a spin lock under the system cancel spin lock, writes do it the other way round.
 const UNDER_CANCEL: &[u8] = b"driver d\n\
@@ -99,7 +64,7 @@ fn locks_stand_in_an_order(rt: HostRuntime) -> Result<(), Fail> {
     }
     assert!(rt; place(1) < place(0));
     assert!(rt; order.cycle.iter().all(|edge| is_none(*edge)));
-    assert!(rt; told(alloc, COMPLETES, 0).is_some());
+    assert!(rt; told(alloc, ONE_READ_TEXT, 0).is_some());
     Ok(())
 }
 

@@ -21,7 +21,7 @@ use drvhost_views::tell::{Telling, tell};
 use std::alloc::Global;
 use std::sync::Wait;
 use std::thread::Threads;
-use tests_sets::vectors::{EMPTY, OLD_ONE_READ, ONE_READ, ONE_READ_TEXT, QUEUED};
+use tests_vectors::{EMPTY, OLD_ONE_READ, ONE_READ, ONE_READ_TEXT, QUEUED};
 use workers::Open;
 
 /// The listing of the set of one read.

@@ -10,7 +10,7 @@ use drvhost_runs::keeping::{Keeping, host_keeping};
 use std::alloc::Global;
 use std::sync::Wait;
 use std::thread::Threads;
-use tests_sets::vectors::{EMPTY, ONE_READ_TEXT};
+use tests_vectors::{EMPTY, ONE_READ_TEXT};
 use workers::Open;
 
 const SCRIPT: &[u8] = b"request 0 READ 7\ninterrupt 0\ncancel 0 2\n";

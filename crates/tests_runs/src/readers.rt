@@ -11,7 +11,7 @@ use drvhost_runs::trace::trace;
 use std::alloc::Global;
 use std::io;
 use std::io::{ErrorKind, Read, Write};
-use tests_sets::vectors::ONE_READ_TEXT;
+use tests_vectors::ONE_READ_TEXT;
 
 /// A reader of bytes in memory.
 #[derive(Drop)]

@@ -8,7 +8,7 @@ use drvhost_sets::check::check;
 use md5::{Digest, Md5};
 use std::alloc::{AllocError, Global};
 use std::test::Fail;
-use tests_sets::vectors::QUEUED;
+use tests_vectors::QUEUED;
 
 /// A DPC routine takes a packet off the queue while a cancel is on its way to it.
 const TAKEN: &str =

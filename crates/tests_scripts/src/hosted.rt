@@ -10,7 +10,7 @@ use std::process::Abort;
 use std::sync::Wait;
 use std::thread::Threads;
 use tests_host::pace::Watch;
-use tests_sets::vectors::QUEUED;
+use tests_vectors::QUEUED;
 
 /// The commands are 100 requests, 50 cancels of every other of these, and 100 interrupts.
 const REQUESTS: u64 = 100;

@@ -8,11 +8,7 @@ use std::sync::Wait;
 use std::thread::Threads;
 use std::time::Clock;
 use tests_host::pace::{Pace, TOGETHER};
-
-/// A driver that completes each read at once.
-const COMPLETES: &[u8] =
-    b"driver d\ndispatch READ f\nroutine f dispatch\ncomplete r0 SUCCESS\nret SUCCESS\nendr\nendd\n\
-      device v d 1\n";
+use tests_vectors::ONE_READ_TEXT;
 
 /// How many reads the script asks for.
 const READS: usize = 200;
@@ -52,7 +48,7 @@ fn serve_reads<R: Threads + Wait + Abort + Sync, C: Clock + Sync>(
     script: &[u8],
     pace: &Pace<C>,
 ) {
-    let mut set = Reader::new(Some(COMPLETES));
+    let mut set = Reader::new(Some(ONE_READ_TEXT));
     let mut commands = Reader::new(Some(script));
     let mut out = Writer::new(Vec::<u8>::new(alloc));
     let mut err = Writer::new(Vec::<u8>::new(alloc));

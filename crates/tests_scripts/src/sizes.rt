@@ -6,7 +6,7 @@ use drvhost_devices::verification::Verification;
 use md5::{Digest, Md5};
 use std::alloc::{AllocError, Global};
 use std::test::Fail;
-use tests_sets::vectors::QUEUED;
+use tests_vectors::QUEUED;
 
 /// So many packets are queued, each by seven steps, and then one issue more: the schedule, and what
 /// its trace writes.

@@ -1,13 +1,13 @@
 //! Images of both editions: the bytes of known sets, their beginnings, and all their changes by one
 //! byte. The digests are those of what an independent program answers.
 
-use crate::vectors::{EMPTY, OLD_ONE_READ, ONE_READ, QUEUED};
 use asm::assemble;
 use image::{DriverSet, ImageFault, decode, encode};
 use md5::{Digest, Md5};
 use model::memory::OutOfMemory;
 use std::alloc::{AllocError, Global};
 use std::test::Fail;
+use tests_vectors::{EMPTY, OLD_ONE_READ, ONE_READ, QUEUED};
 
 /// The digest of its image.
 const QUEUED_IMAGE: [u8; 16] = [

@@ -1,6 +1,5 @@
-//! The tests of images, of lines, of runs and of what replies show, by their own calls, and sets
-//! that tests of the program read too. Their vectors come from outside, and no clause of a contract
-//! says them.
+//! The tests of images, of lines, of runs and of what replies show, by their own calls. Their
+//! vectors come from outside, and no clause of a contract says them.
 #![tactic(auto)]
 
 #[cfg(test)]
@@ -11,4 +10,3 @@ mod lines;
 mod runs;
 #[cfg(test)]
 mod shown;
-pub mod vectors;

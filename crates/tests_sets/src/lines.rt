@@ -1,8 +1,8 @@
 //! The lines on which the instructions of a routine stand, where memory is ample.
 
-use crate::vectors::ONE_READ_TEXT;
 use asm_places::instruction_lines;
 use std::alloc::Global;
+use tests_vectors::ONE_READ_TEXT;
 
 /// Whether the instructions of a routine of `ONE_READ_TEXT` stand on these lines.
 fn are_lines(alloc: Global, routine: u8, lines: &[u64]) -> bool {

@@ -9,11 +9,8 @@ use machine::World;
 use model::event::{Event, Reply};
 use model::status::Major;
 use std::alloc::Global;
+use tests_vectors::ONE_READ_TEXT;
 use verifier::verify;
-
-const COMPLETES: &[u8] =
-    b"driver d\ndispatch READ f\nroutine f dispatch\ncomplete r0 SUCCESS\nret SUCCESS\nendr\nendd\n\
-      device v d 1\n";
 
 const READ: Event = Event::Issue {
     thread: 0,
@@ -26,7 +23,7 @@ const STEP: Event = Event::Step { thread: 0 };
 
 /// The set that completes each read.
 fn completing(alloc: Global) -> Option<DriverSet> {
-    assemble(alloc, COMPLETES).ok()
+    assemble(alloc, ONE_READ_TEXT).ok()
 }
 
 /// The world of an accepted set after a read was completed.

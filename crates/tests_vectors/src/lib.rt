@@ -1,4 +1,6 @@
-//! Texts and images of sets that several tests read.
+//! Texts and images of sets that several crates of tests read. The crate stands on nothing, so that
+//! tests of either machine can have them.
+#![tactic(auto)]
 
 /// A driver whose one routine completes a read at once, and its device.
 pub const ONE_READ: [u8; 40] = [
@@ -31,3 +33,13 @@ pub const QUEUED: &[u8] =
      disarm r0 none\nrelease l0\ncomplete r0 SUCCESS\nret void\nnone: release l0\nret void\nendr\n\
      routine gone cancel\nrelc\nacquire l0\nunlink r0 q\nrelease l0\ncomplete r0 CANCELLED\n\
      ret void\nendr\nendd\ndevice v d 1\n";
+
+/// Two drivers that take two locks. Reads of the first take l0 under l1. Reads of the second take
+/// l1 under l0, and its writes do it the other way round.
+pub const BOTH_WAYS: &[u8] = b"driver one\ndispatch READ f\nroutine f dispatch\n\
+     acquire l1\nacquire l0\nrelease l0\nrelease l1\ncomplete r0 SUCCESS\nret SUCCESS\nendr\nendd\n\
+     driver two\ndispatch READ f\ndispatch WRITE g\nroutine f dispatch\n\
+     acquire l0\nacquire l1\nrelease l1\nrelease l0\ncomplete r0 SUCCESS\nret SUCCESS\nendr\n\
+     routine g dispatch\n\
+     acquire l1\nacquire l0\nrelease l0\nrelease l1\ncomplete r0 SUCCESS\nret SUCCESS\nendr\nendd\n\
+     device v one 1\ndevice w two 1\n";
