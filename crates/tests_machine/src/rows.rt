@@ -1,14 +1,15 @@
 //! The rows: sets, what happens to them, and what is answered. The replies come from outside.
 
-use crate::sets::{CALLS, COMPLETES, HOLDS, LOOPS, PROPAGATES, QUEUES, STACKS, STARTS, SUBTRACTS};
+use crate::sets::{LOOPS, MARKS, STACKS, STARTS, SUBTRACTS};
 use model::event::Reply;
 use model::status::Status;
+use tests_vectors::{ONE_READ_TEXT, QUEUED};
 
 /// A run of an accepted set.
 pub(crate) struct Row {
     pub(crate) name: &'static str,
     pub(crate) set: &'static [u8],
-    pub(crate) schedule: &'static [u8],
+    pub(crate) schedule: &'static str,
     /// The replies, each with how often it follows on itself.
     pub(crate) replies: &'static [(usize, Reply)],
 }
@@ -34,11 +35,41 @@ const BELOW_ZERO: Reply = Reply::Topped {
     info: u64::MAX,
 };
 
+/// A row in which a cancel is on its way to a packet that the DPC routine is about to take out of
+/// its queue: what happens then, and what is answered to that.
+macro_rules! cancel_on_its_way {
+    ($name:literal, $then:literal, [$($reply:expr),+ $(,)?]) => {
+        Row {
+            name: $name,
+            set: QUEUED,
+            schedule: concat!(
+                "threads 3\n\
+                 issue 0 0 READ 5\n\
+                 step 0 7\n\
+                 interrupt 0\n\
+                 dpc 1 0\n\
+                 cancel 2 0 0\n\
+                 step 2 2\n",
+                $then
+            ),
+            replies: &[
+                (1, Reply::Started(0)),
+                (6, Reply::Stepped),
+                (1, Reply::Finished),
+                (2, Reply::Stepped),
+                (1, Reply::Started(0)),
+                (2, Reply::Stepped),
+                $($reply),+
+            ],
+        }
+    };
+}
+
 pub(crate) static ROWS: [Row; 12] = [
     Row {
         name: "a packet completes at once, and the thread is idle",
-        set: COMPLETES,
-        schedule: b"threads 1\n\
+        set: ONE_READ_TEXT,
+        schedule: "threads 1\n\
             issue 0 0 READ 7\n\
             step 0 4\n",
         replies: &[
@@ -51,8 +82,8 @@ pub(crate) static ROWS: [Row; 12] = [
     },
     Row {
         name: "a later packet has a number of its own",
-        set: COMPLETES,
-        schedule: b"threads 2\n\
+        set: ONE_READ_TEXT,
+        schedule: "threads 2\n\
             issue 0 0 READ 0\n\
             step 0 3\n\
             issue 0 0 READ 0\n\
@@ -68,8 +99,8 @@ pub(crate) static ROWS: [Row; 12] = [
     },
     Row {
         name: "a cancel before the completion routine runs",
-        set: COMPLETES,
-        schedule: b"threads 2\n\
+        set: ONE_READ_TEXT,
+        schedule: "threads 2\n\
             issue 0 0 READ 0\n\
             cancel 1 0 0\n\
             step 0 3\n\
@@ -88,11 +119,11 @@ pub(crate) static ROWS: [Row; 12] = [
     Row {
         name: "a packet goes down a stack, is queued, and completes by a DPC",
         set: STACKS,
-        schedule: b"threads 2\n\
-            issue 0 2 READ 0\n\
+        schedule: "threads 2\n\
+            issue 0 3 READ 0\n\
             step 0 6\n\
-            interrupt 0\n\
-            dpc 1 0\n\
+            interrupt 1\n\
+            dpc 1 1\n\
             step 1 7\n\
             step 0 3\n",
         replies: &[
@@ -104,68 +135,42 @@ pub(crate) static ROWS: [Row; 12] = [
             (1, Reply::Finished),
         ],
     },
-    Row {
-        name: "a cancel meets a packet in its queue",
-        set: QUEUES,
-        schedule: b"threads 3\n\
-            issue 0 0 READ 5\n\
-            step 0 7\n\
-            interrupt 0\n\
-            dpc 1 0\n\
-            cancel 2 0 0\n\
-            step 2 2\n\
-            step 1 3\n\
+    cancel_on_its_way!(
+        "a cancel meets a packet in its queue",
+        "step 1 3\n\
             step 2\n\
             step 1 4\n",
-        replies: &[
-            (1, Reply::Started(0)),
-            (6, Reply::Stepped),
-            (1, Reply::Finished),
-            (2, Reply::Stepped),
-            (1, Reply::Started(0)),
-            (5, Reply::Stepped),
+        [
+            (3, Reply::Stepped),
             (1, Reply::Finished),
             (2, Reply::Stepped),
             (1, TOPPED),
             (1, Reply::Finished),
-        ],
-    },
-    Row {
-        name: "a cancel wins against the DPC",
-        set: QUEUES,
-        schedule: b"threads 3\n\
-            issue 0 0 READ 5\n\
-            step 0 7\n\
-            interrupt 0\n\
-            dpc 1 0\n\
-            cancel 2 0 0\n\
-            step 2 2\n\
-            step 1 2\n\
+        ]
+    ),
+    cancel_on_its_way!(
+        "a cancel wins against the DPC",
+        "step 1 2\n\
             step 2\n\
             step 1\n\
             step 2 2\n\
             step 1 2\n\
             step 2 6\n",
-        replies: &[
-            (1, Reply::Started(0)),
-            (6, Reply::Stepped),
-            (1, Reply::Finished),
-            (2, Reply::Stepped),
-            (1, Reply::Started(0)),
-            (7, Reply::Stepped),
+        [
+            (5, Reply::Stepped),
             (1, Reply::Waited),
             (1, Reply::Stepped),
             (1, Reply::Finished),
             (4, Reply::Stepped),
             (1, CANCELLED),
             (1, Reply::Finished),
-        ],
-    },
+        ]
+    ),
     Row {
         name: "a packet is held above and completed by the DPC",
-        set: HOLDS,
-        schedule: b"threads 2\n\
-            issue 0 1 READ 0\n\
+        set: STACKS,
+        schedule: "threads 2\n\
+            issue 0 1 WRITE 0\n\
             step 0 8\n\
             interrupt 1\n\
             dpc 1 1\n\
@@ -183,7 +188,7 @@ pub(crate) static ROWS: [Row; 12] = [
     Row {
         name: "a loop",
         set: LOOPS,
-        schedule: b"threads 1\n\
+        schedule: "threads 1\n\
             issue 0 0 READ 0\n\
             step 0 8\n",
         replies: &[
@@ -196,7 +201,7 @@ pub(crate) static ROWS: [Row; 12] = [
     Row {
         name: "a number below zero",
         set: SUBTRACTS,
-        schedule: b"threads 1\n\
+        schedule: "threads 1\n\
             issue 0 0 READ 0\n\
             step 0 7\n",
         replies: &[
@@ -208,8 +213,8 @@ pub(crate) static ROWS: [Row; 12] = [
     },
     Row {
         name: "a packet that a lower driver marked",
-        set: CALLS,
-        schedule: b"threads 1\n\
+        set: MARKS,
+        schedule: "threads 1\n\
             issue 0 1 READ 0\n\
             step 0 7\n",
         replies: &[
@@ -222,9 +227,9 @@ pub(crate) static ROWS: [Row; 12] = [
     },
     Row {
         name: "a mark that a completion routine hands on",
-        set: PROPAGATES,
-        schedule: b"threads 1\n\
-            issue 0 1 READ 0\n\
+        set: MARKS,
+        schedule: "threads 1\n\
+            issue 0 2 READ 0\n\
             step 0 10\n",
         replies: &[
             (1, Reply::Started(0)),
@@ -237,7 +242,7 @@ pub(crate) static ROWS: [Row; 12] = [
     Row {
         name: "StartIo begins packets one by one",
         set: STARTS,
-        schedule: b"threads 1\n\
+        schedule: "threads 1\n\
             issue 0 0 READ 1\n\
             step 0 3\n\
             issue 0 0 READ 2\n\

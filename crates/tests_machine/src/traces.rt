@@ -48,7 +48,7 @@ fn replies_of<R: Abort>(
 ) -> Result<Vec<Reply>, AllocError> {
     let set = assemble(alloc, row.set).ok().expect(rt, row.name);
     let accepted = verify(alloc, set).ok().expect(rt, row.name);
-    let Ok(schedule) = parse_schedule(alloc, row.schedule) else {
+    let Ok(schedule) = parse_schedule(alloc, row.schedule.as_bytes()) else {
         panic!(rt; "a schedule")
     };
     let mut world = World::new(alloc, accepted, schedule.threads)
