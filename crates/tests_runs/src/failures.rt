@@ -472,32 +472,33 @@ fn few_bytes_a_call(rt: HostRuntime) {
     }
 }
 
-/// Whether a read of the set that fails at any call, also the one that finds the end, is told, and
-/// nothing is written.
-fn tells_each_failed_read<R: Threads + Wait + Sync>(rt: &R, alloc: Global, case: &Case) -> bool {
-    for calls in 0..=case.set.len() {
-        let devices = Devices {
-            set: Some(calls),
-            ..WHOLE
-        };
-        if !is_answered(rt, alloc, case, &devices, &UNREAD) {
-            return false;
-        }
-    }
-    true
+/// The calls of which each fails in turn.
+#[derive(Clone, Copy)]
+enum Failing {
+    /// Those that read the set, also the one that finds the end.
+    Set,
+    /// Those that read the schedule, or the script.
+    Orders,
+    /// Those that write the lines.
+    Lines,
+    /// Those that tell what is told.
+    Told,
+    /// Those that tell that the set can't be read.
+    Unread,
+    /// Those that tell that the lines can't be written.
+    Unwritten,
 }
 
-#[test]
-fn each_read_of_a_set_fails_in_turn(rt: HostRuntime) {
-    for case in CASES.iter() {
-        assert!(rt; tells_each_failed_read(&rt, rt.alloc(), case));
-    }
-}
-
-#[test]
-fn each_read_of_the_set_of_a_run_fails_in_turn(rt: HostRuntime) {
-    for case in RUNS.iter() {
-        assert!(rt; tells_each_failed_read(&rt, rt.alloc(), case));
+/// How many such calls there are of a case.
+fn calls_of(case: &Case, failing: Failing) -> usize {
+    match failing {
+        Failing::Set => case.set.len().saturating_add(1),
+        Failing::Orders => calls_of_orders(case),
+        Failing::Lines => case.lines.len(),
+        Failing::Told => case.told.len(),
+        Failing::Unread => UNREAD.told.len(),
+        Failing::Unwritten if case.lines.is_empty() => 0,
+        Failing::Unwritten => unwritten(b"").told.len(),
     }
 }
 
@@ -512,54 +513,100 @@ fn calls_of_orders(case: &Case) -> usize {
     }
 }
 
-/// Whether a read of a schedule, or of a script, that fails at any call is told, and nothing is
-/// written.
-fn tells_each_failed_order<R: Threads + Wait + Sync>(rt: &R, alloc: Global, case: &Case) -> bool {
-    for calls in 0..calls_of_orders(case) {
-        let devices = Devices {
-            orders: Some(calls),
-            ..WHOLE
-        };
-        if !is_answered(rt, alloc, case, &devices, &UNREAD) {
+/// The devices of which such a call fails, after so many that don't.
+fn devices_of(failing: Failing, calls: usize) -> Devices {
+    let mut devices = WHOLE;
+    match failing {
+        Failing::Set => devices.set = Some(calls),
+        Failing::Orders => devices.orders = Some(calls),
+        Failing::Lines => devices.out = Some(calls),
+        Failing::Told => devices.err = Some(calls),
+        Failing::Unread => {
+            devices.set = Some(0);
+            devices.err = Some(calls);
+        }
+        Failing::Unwritten => {
+            devices.out = Some(0);
+            devices.err = Some(calls);
+        }
+    }
+    devices
+}
+
+/// What is answered there: where a read of a case fails nothing is written, where a write fails a
+/// beginning of its lines, and where nobody is told the status stays.
+fn answered_where(case: &Case, failing: Failing, calls: usize) -> Answered<'static> {
+    match failing {
+        Failing::Set | Failing::Orders => UNREAD,
+        Failing::Lines => unwritten(beginning(case.lines, calls)),
+        Failing::Told => told_to(answered_by(case), calls),
+        Failing::Unread => told_to(UNREAD, calls),
+        Failing::Unwritten => told_to(unwritten(b""), calls),
+    }
+}
+
+/// So many bytes of these, or all.
+fn beginning(bytes: &[u8], length: usize) -> &[u8] {
+    bytes.get(..length).unwrap_or(bytes)
+}
+
+/// The same answer, of which the error writer is given so many bytes.
+fn told_to(answered: Answered<'static>, length: usize) -> Answered<'static> {
+    Answered {
+        told: beginning(answered.told, length),
+        ..answered
+    }
+}
+
+/// Whether a case is answered as it has to be, whichever of these calls fails.
+fn answers_each_failure<R: Threads + Wait + Sync>(
+    rt: &R,
+    alloc: Global,
+    case: &Case,
+    failing: Failing,
+) -> bool {
+    for calls in 0..calls_of(case, failing) {
+        let devices = devices_of(failing, calls);
+        let answered = answered_where(case, failing, calls);
+        if !is_answered(rt, alloc, case, &devices, &answered) {
             return false;
         }
     }
     true
+}
+
+#[test]
+fn each_read_of_a_set_fails_in_turn(rt: HostRuntime) {
+    for case in CASES.iter() {
+        assert!(rt; answers_each_failure(&rt, rt.alloc(), case, Failing::Set));
+    }
+}
+
+#[test]
+fn each_read_of_the_set_of_a_run_fails_in_turn(rt: HostRuntime) {
+    for case in RUNS.iter() {
+        assert!(rt; answers_each_failure(&rt, rt.alloc(), case, Failing::Set));
+    }
 }
 
 #[test]
 fn each_read_of_orders_fails_in_turn(rt: HostRuntime) {
     for case in RUNS.iter() {
-        assert!(rt; tells_each_failed_order(&rt, rt.alloc(), case));
+        assert!(rt; answers_each_failure(&rt, rt.alloc(), case, Failing::Orders));
     }
-}
-
-/// Whether a write that fails at any call is told, and a beginning of the lines is there.
-fn tells_each_failed_write<R: Threads + Wait + Sync>(rt: &R, alloc: Global, case: &Case) -> bool {
-    for calls in 0..case.lines.len() {
-        let devices = Devices {
-            out: Some(calls),
-            ..WHOLE
-        };
-        let written = unwritten(&case.lines[..calls]);
-        if !is_answered(rt, alloc, case, &devices, &written) {
-            return false;
-        }
-    }
-    true
 }
 
 #[test]
 fn each_write_fails_in_turn(rt: HostRuntime) {
     for case in CASES.iter() {
-        assert!(rt; tells_each_failed_write(&rt, rt.alloc(), case));
+        assert!(rt; answers_each_failure(&rt, rt.alloc(), case, Failing::Lines));
     }
 }
 
 #[test]
 fn each_write_of_a_run_fails_in_turn(rt: HostRuntime) {
     for case in RUNS.iter() {
-        assert!(rt; tells_each_failed_write(&rt, rt.alloc(), case));
+        assert!(rt; answers_each_failure(&rt, rt.alloc(), case, Failing::Lines));
     }
 }
 
@@ -613,89 +660,33 @@ fn tells_each_failed_block<R: Threads + Wait + Sync>(
 #[test]
 fn each_call_for_a_picture_fails_in_turn(rt: HostRuntime) {
     let alloc = rt.alloc();
-    assert!(rt; tells_each_failed_read(&rt, alloc, &DRAWN));
-    assert!(rt; tells_each_failed_order(&rt, alloc, &DRAWN));
+    assert!(rt; answers_each_failure(&rt, alloc, &DRAWN, Failing::Set));
+    assert!(rt; answers_each_failure(&rt, alloc, &DRAWN, Failing::Orders));
     let picture = picture_of(alloc);
     let picture = picture.written.as_slice();
     assert!(rt; picture.starts_with(b"<?xml ") && picture.ends_with(b"</svg>\n"));
     assert!(rt; tells_each_failed_block(&rt, alloc, picture));
 }
 
-/// Whether the status of a case stays where the error writer fails.
-fn stays_untold<R: Threads + Wait + Sync>(rt: &R, alloc: Global, case: &Case) -> bool {
-    for calls in 0..case.told.len() {
-        let devices = Devices {
-            err: Some(calls),
-            ..WHOLE
-        };
-        let answered = Answered {
-            told: &case.told[..calls],
-            ..answered_by(case)
-        };
-        if !is_answered(rt, alloc, case, &devices, &answered) {
-            return false;
-        }
-    }
-    true
-}
-
 #[test]
 fn no_one_to_tell(rt: HostRuntime) {
     for case in CASES.iter() {
-        assert!(rt; stays_untold(&rt, rt.alloc(), case));
+        assert!(rt; answers_each_failure(&rt, rt.alloc(), case, Failing::Told));
     }
     for case in RUNS.iter() {
-        assert!(rt; stays_untold(&rt, rt.alloc(), case));
+        assert!(rt; answers_each_failure(&rt, rt.alloc(), case, Failing::Told));
     }
-}
-
-/// Whether the status is the one of a failed source, also where the error writer fails too.
-fn stays_unread<R: Threads + Wait + Sync>(rt: &R, alloc: Global, case: &Case) -> bool {
-    for calls in 0..12 {
-        let devices = Devices {
-            set: Some(0),
-            err: Some(calls),
-            ..WHOLE
-        };
-        let answered = Answered {
-            told: &UNREAD.told[..calls],
-            ..UNREAD
-        };
-        if !is_answered(rt, alloc, case, &devices, &answered) {
-            return false;
-        }
-    }
-    true
-}
-
-/// The same of a sink, where anything is written.
-fn stays_unwritten<R: Threads + Wait + Sync>(rt: &R, alloc: Global, case: &Case) -> bool {
-    for calls in 0..if case.lines.is_empty() { 0 } else { 13 } {
-        let devices = Devices {
-            out: Some(0),
-            err: Some(calls),
-            ..WHOLE
-        };
-        let answered = Answered {
-            told: &b"write failed\n"[..calls],
-            ..unwritten(b"")
-        };
-        if !is_answered(rt, alloc, case, &devices, &answered) {
-            return false;
-        }
-    }
-    true
 }
 
 #[test]
 fn no_one_to_tell_of_a_failure(rt: HostRuntime) {
     for case in CASES.iter() {
-        assert!(rt; stays_unread(&rt, rt.alloc(), case));
-        assert!(rt; stays_unwritten(&rt, rt.alloc(), case));
+        assert!(rt; answers_each_failure(&rt, rt.alloc(), case, Failing::Unread));
+        assert!(rt; answers_each_failure(&rt, rt.alloc(), case, Failing::Unwritten));
     }
     for case in RUNS.iter() {
-        assert!(rt; stays_unread(&rt, rt.alloc(), case));
-        assert!(rt; stays_unwritten(&rt, rt.alloc(), case));
+        assert!(rt; answers_each_failure(&rt, rt.alloc(), case, Failing::Unread));
+        assert!(rt; answers_each_failure(&rt, rt.alloc(), case, Failing::Unwritten));
     }
 }
 
