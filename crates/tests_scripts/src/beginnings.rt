@@ -1,9 +1,9 @@
 //! Each beginning of a driver text, of an image and of a schedule is answered: by a fault that has
 //! a name, or as what it says. The digests are those of what an independent program answers.
 
+use crate::case::answer_of;
 use drvhost_devices::device::{Reader, Writer};
 use drvhost_devices::verification::Verification;
-use drvhost_runs::trace::trace;
 use drvhost_sets::check::check;
 use md5::{Digest, Md5};
 use std::alloc::{AllocError, Global};
@@ -42,21 +42,10 @@ fn add_run(
     verification: Verification,
     answers: &mut Vec<u8>,
 ) -> Result<(), AllocError> {
-    let mut source = Reader::new(Some(QUEUED));
-    let mut events = Reader::new(Some(schedule));
-    let mut output = Writer::new(Vec::<u8>::new(alloc));
-    let mut errors = Writer::new(Vec::<u8>::new(alloc));
-    let status = trace(
-        alloc,
-        &mut source,
-        &mut events,
-        verification,
-        &mut output,
-        &mut errors,
-    );
-    answers.push(status)?;
-    answers.extend_from_slice(output.into_inner().as_slice())?;
-    answers.extend_from_slice(errors.into_inner().as_slice())
+    let answer = answer_of(alloc, QUEUED, schedule, verification);
+    answers.push(answer.status)?;
+    answers.extend_from_slice(answer.lines.as_slice())?;
+    answers.extend_from_slice(answer.told.as_slice())
 }
 
 #[test]
