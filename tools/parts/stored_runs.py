@@ -4,10 +4,11 @@
 A file of crates/tests_stored/runs is a group of cases. A case is a line `# NAME`, and behind it texts and runs. A text is a
 line `-- NAME` and its lines, each behind `|`, the last one behind `!` where no line feed ends it. A run is a line `$ WORDS`,
 what drvhost answers to these words, what the error writer is told behind a line `told:`, and a line with the exit status,
-the number of files that are opened, and of reads of them that fail. What is no such text (an image, say, or a text with
-control bytes) is a file below crates/tests_stored/data. The group of the wrong drivers is made of the answers that stand
-beside them (answers.txt, by gallery.py); texts of the folder examples that are named are taken from there. The group of the
-rules' pages is made of crates/verifier_pages/src/pages.rt and, with what `check` says of a page's example, of docs/RULES.md.
+the number of files that are opened, and of reads of them that fail. What is no such text (a faulty image, say, or a text with
+control bytes) is a file below crates/tests_stored/data, but for an image that a run before writes. The group of the wrong
+drivers is made of the answers that stand beside them (answers.txt, by gallery.py); texts of the folder examples that are
+named are taken from there. The group of the rules' pages is made of crates/verifier_pages/src/pages.rt and, with what `check`
+says of a page's example, of docs/RULES.md.
 
 Without a flag it writes from these the list of the runs (data/runs.txt), all texts (data/texts.txt), and what the program has
 to write (stdout). With --check it writes nothing, and tells what it would write otherwise; it also tells of a text that no
@@ -221,6 +222,11 @@ def named(all_groups):
     """The texts that runs name."""
     return {name for group in all_groups for run in group.runs for name in run.files()}
 
+def written(all_groups):
+    """The images that runs write."""
+    return {run.words[-1] for group in all_groups for run in group.runs
+            if run.words[0] == 'rewrite' and run.answer[-1].startswith('status 0')}
+
 def stray(all_groups):
     """What is wrong with the texts: those that no run names, those that are named and missing, and files that could be
     texts."""
@@ -229,7 +235,7 @@ def stray(all_groups):
     beside = {name for name in files if name.startswith('gallery/')}
     loose = [name for name in sorted(files - beside) if is_storable(read(os.path.join(DATA, name)))]
     there = files - {name for name in beside if os.path.basename(name) not in ASKED}
-    there |= {text.name for text in texts(all_groups)}
+    there |= {text.name for text in texts(all_groups)} | written(all_groups)
     told = ['%s: it can stand in its group of runs' % name for name in loose]
     folders = {word + '/' for group in all_groups for run in group.runs for word in run.words}
     unnamed = [name for name in sorted(there - named(all_groups)) if os.path.dirname(name) + '/' not in folders]
