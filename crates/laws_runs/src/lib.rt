@@ -26,6 +26,7 @@ ghost use Rattle.laws_runs.specs.Waits.{WaitingChangesNothing};
 /// Of any set, accepted or not, until its run stops: a packet has topped out exactly where it was
 /// issued and isn't live, the live packets are as the trace says, a thread holds a lock exactly
 /// where it is its owner, and no thread has more than 32 frames.
+#[tactic(auto, using(crate::proofs::Past::Runs::telling_runs))]
 pub fn the_past_tells_of_the_world()
     ensures { PastTellsOfTheWorld }
 {}
@@ -47,6 +48,7 @@ pub fn activations_keep_their_certificate()
 /// that completes it, a place in a queue, a start list or a device queue, a current slot, or its
 /// cancel word; and it stands in at most one list. One that has topped out has none. Every
 /// routine's frame stands inside its code.
+#[tactic(auto, using(crate::proofs::Accepted::Laws::accepted_holders))]
 pub fn packets_have_one_holder()
     ensures { PacketsHaveOneHolder }
 {}
@@ -54,6 +56,7 @@ pub fn packets_have_one_holder()
 /// A busy device has one token: a packet for which StartIo has to begin, one in its current slot,
 /// or a routine's frame that has to take the device on to the next packet. An idle one has none,
 /// and no packet waits in its device queue.
+#[tactic(auto, using(crate::proofs::Accepted::Laws::accepted_tokens))]
 pub fn busy_devices_have_one_token()
     ensures { BusyDevicesHaveOneToken }
 {}
@@ -61,6 +64,7 @@ pub fn busy_devices_have_one_token()
 /// Each register from which an instruction may take something, in every routine's frame, on top of
 /// its thread or below, is of the kind that the verifier gave it: a number, a status, or a packet
 /// that is live.
+#[tactic(auto, using(crate::proofs::Accepted::Laws::accepted_kinds))]
 pub fn registers_are_of_their_kinds()
     ensures { AcceptedRunsKeepKinds }
 {}
@@ -69,6 +73,7 @@ pub fn registers_are_of_their_kinds()
 /// the verifier found held where the frame stands, of IoCancelIrp's the system cancel spin lock
 /// once it took it, and none else. So an idle thread owns none, and no frame below the top one
 /// holds any.
+#[tactic(auto, using(crate::proofs::Accepted::OwnLocks::accepted_owners))]
 pub fn threads_own_what_their_frames_say()
     ensures { ThreadsOwnWhatTheirFramesSay }
 {}
@@ -80,6 +85,7 @@ pub fn accepted_runs_never_stop()
 {}
 
 /// No packet tops out twice.
+#[tactic(auto, using(crate::proofs::Accepted::Laws::accepted_tops))]
 pub fn packets_top_out_once()
     ensures { PacketsTopOutOnce }
 {}
@@ -99,6 +105,7 @@ pub fn accepted_runs_keep_the_rules()
 
 /// Dispatch routines return STATUS_PENDING exactly where their stack location was marked pending
 /// when completion left it.
+#[tactic(auto, using(crate::proofs::Accepted::Laws::accepted_agree))]
 pub fn pending_returns_agree()
     ensures { AcceptedRunsAgreeOnPending }
 {}
@@ -113,12 +120,14 @@ pub fn alike_runs_go_on_alike()
 {}
 
 /// Of any set: an event that waits, finds nothing to do or is refused leaves the world as it was.
+#[tactic(auto, using(crate::proofs::History::Waits::waits_same))]
 pub fn waiting_changes_nothing()
     ensures { WaitingChangesNothing }
 {}
 
 /// Of any set: the packet that a request started is live exactly while no reply of the history
 /// tells that it topped out.
+#[tactic(auto, using(crate::proofs::History::ToldTops::told_tops))]
 pub fn top_outs_are_told()
     ensures { TopOutsAreTold }
 {}
@@ -131,6 +140,7 @@ pub fn a_mark_is_carried_up()
 
 /// A worked run in which two routines share a stack location: it is left marked, and both return
 /// STATUS_PENDING.
+#[tactic(auto, using(crate::proofs::Prelude::refl))]
 pub fn a_mark_is_shared()
     ensures { SharedByBoth }
 {}
@@ -138,12 +148,14 @@ pub fn a_mark_is_shared()
 /// A worked run in which a DPC routine gives the token away twice, by `next` and by `begin`: the
 /// device then has a current packet and another one to be started. The local rule refuses that
 /// `begin`.
+#[tactic(auto, using(crate::proofs::Prelude::refl))]
 pub fn a_token_is_doubled()
     ensures { TokenDoubled }
 {}
 
 /// A worked run in which a completion routine holds a packet that was completed below, and a DPC
 /// routine completes it again: nothing stops the run, and the packet tops out.
+#[tactic(auto, using(crate::proofs::Prelude::refl))]
 pub fn a_held_packet_is_completed_again()
     ensures { HeldAndCompleted }
 {}
