@@ -1,25 +1,9 @@
--- The fields of a routine, of a driver and of a set, one after another.
-use Rattle.std.proofs.Common.{◌≡◌, ℕ, List, Option, Ok, refl}
+-- The lists of a driver and of a set behind their first eight fields.
+use Rattle.std.proofs.Common.{ℕ, List, Option, Ok}
 use Rattle.image.specs.declared.edition.Edition.{Edition}
-use Rattle.image.specs.Reading.{◌>>=◌, all_at, byte_at, count_at, device_at, driver_at, instruction_at, queue_at, routine_at, scoped, sort_in, unused, Read}
-use Rattle.model.specs.declared.instr.Instr.{Instr}
+use Rattle.image.specs.Reading.{◌>>=◌, all_at, device_at, driver_at, queue_at, routine_at, Read}
 use Rattle.model.specs.declared.set.Driver.{Driver}
-use Rattle.model.specs.declared.set.Sort.{Sort}
 use Rattle.model.specs.Set.{Set}
-
-pub routine_is : (edition : Edition) (routines queues : ℕ) (bytes : List ℕ) (sort : Sort)
-    (behind_sort : List ℕ)
-    (blank : ℕ) (behind_zero : List ℕ) (count : ℕ) (behind_count : List ℕ) (code : List Instr)
-    (rest : List ℕ)
-    → byte_at sort_in bytes ≡ Ok (sort, behind_sort)
-    → byte_at unused behind_sort ≡ Ok (blank, behind_zero)
-    → count_at behind_zero ≡ Ok (count, behind_count)
-    → all_at (λ _. instruction_at (scoped edition routines queues count)) 0 count behind_count
-    ≡ Ok (code, rest)
-    → routine_at edition routines queues bytes ≡ Ok (record { sort = sort; code = code }, rest)
-unfolding routine_at
-routine_is edition routines queues bytes sort b0 blank b1 count b2 code rest e0 e1 e2 e3 =
-    rw e0 (rw e1 (rw e2 (rw e3 refl)))
 
 -- what a driver is, by the lists behind its first eight fields
 abbrev pub driver_lists : Edition → ℕ → ℕ → Option ℕ → Option ℕ → Option ℕ → Option ℕ → Option ℕ

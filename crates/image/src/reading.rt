@@ -1,13 +1,14 @@
 //! Bytes read as an image.
 
-ghost use Rattle.std.specs.Prelude.{◌≡◌, ◌⊎◌, [], ◌∷◌, false, IfErr, IfOk, MatchResult, Ok};
+ghost use Rattle.std.specs.Prelude.{◌≡◌, ◌⊎◌, ℕ, List, [], ◌∷◌, false, Ok};
+ghost use Rattle.std.specs.Prelude.{IfErr, IfOk, MatchResult};
 ghost use Rattle.image.specs.Reading.{all_at, at_most, below, byte_at, cell_in, count_at};
 ghost use Rattle.image.specs.Reading.{device_at, driver_at, edition_had, edition_in, field_in};
 ghost use Rattle.image.specs.Reading.{in_forms, instruction_at, instruction_in, leaves, letter};
 ghost use Rattle.image.specs.Reading.{letters_at, lock_in, none_or_below, one, queue_at};
 ghost use Rattle.image.specs.Reading.{register_in, return_in, routine_at, set_in, sort_in};
 ghost use Rattle.image.specs.Reading.{stack_in, status_in, turns_in, unused, used_from, using};
-ghost use Rattle.image.specs.Reading.{waiting_in, word_at, Gives, IsFaultOf};
+ghost use Rattle.image.specs.Reading.{waiting_in, word_at, Gives, IsFaultOf, Read};
 ghost use Rattle.image.specs.Spelling.{Spells};
 ghost use Rattle.image.specs.declared.fault.ImageFault.TheVariants.{Memory};
 ghost use Rattle.model.specs.InstructionForm.{AReturn, SecondAlone, cell_forms, packet_forms};
@@ -34,9 +35,36 @@ use std::alloc::Global;
 #[derive(Clone, Copy)]
 pub struct Scope {
     pub edition: Edition,
-    pub routines: u8,
-    pub queues: u8,
+    pub routines: u16,
+    pub queues: u16,
     pub positions: u16,
+}
+
+/// What a routine is read in: the edition of the image, and how many routines and queues its driver
+/// has.
+#[derive(Clone, Copy)]
+pub struct Owner {
+    pub edition: Edition,
+    pub routines: u16,
+    pub queues: u16,
+}
+
+/// A part of an image, of which several stand one behind another.
+trait Part: Drop {
+    /// What it is read in.
+    type Within;
+
+    // The one of a number that bytes begin with, or their fault.
+    ghost at: { Self.Within → ℕ → List ℕ → Read Self };
+
+    /// The one of a number that the bytes begin with.
+    fn read<'a>(
+        alloc: Global,
+        within: &Self::Within,
+        number: u16,
+        bytes: &'a [u8],
+    ) -> Result<(Self, &'a [u8]), ImageFault>
+        ensures { Gives (λ x. (x.0, x.1.now)) result (at within.now number bytes.now) };
 }
 
 /// The register of a number.
@@ -82,10 +110,10 @@ fn label(positions: u16, number: u32) -> Result<u16, ImageFault>
 }
 
 /// The number of one of so many things.
-fn below(count: u8, number: u8) -> Result<u8, ImageFault>
+fn below(count: u16, number: u8) -> Result<u8, ImageFault>
     ensures { result ≡ below count number }
 {
-    if number < count {
+    if (number as u16) < count {
         Ok(number)
     } else {
         Err(ImageFault::OverLimit)
@@ -93,7 +121,7 @@ fn below(count: u8, number: u8) -> Result<u8, ImageFault>
 }
 
 /// The number of one of so many things, or none.
-fn none_or_below(count: u8, number: u8) -> Result<Option<u8>, ImageFault>
+fn none_or_below(count: u16, number: u8) -> Result<Option<u8>, ImageFault>
     ensures { result ≡ none_or_below count number }
 {
     if number == NONE {
@@ -114,7 +142,7 @@ fn edition(digit: u8) -> Result<Edition, ImageFault>
 }
 
 /// The cancel routine of a device queue, or none; in the first edition a byte that must be zero.
-fn waiting(edition: Edition, routines: u8, number: u8) -> Result<Option<u8>, ImageFault>
+fn waiting(edition: Edition, routines: u16, number: u8) -> Result<Option<u8>, ImageFault>
     ensures { result ≡ waiting_in edition routines number }
 {
     match edition {
@@ -357,19 +385,19 @@ fn byte(bytes: &[u8]) -> Result<(u8, &[u8]), ImageFault>
 }
 
 /// A count of at most so many.
-fn count_of(most: usize, bytes: &[u8]) -> Result<(u8, &[u8]), ImageFault>
+fn count_of(most: usize, bytes: &[u8]) -> Result<(u16, &[u8]), ImageFault>
     ensures { Gives (λ x. (x.0, x.1.now)) result (byte_at (at_most most) bytes.now) }
 {
     let (count, rest) = byte(bytes)?;
     if count as usize <= most {
-        Ok((count, rest))
+        Ok((count as u16, rest))
     } else {
         Err(ImageFault::OverLimit)
     }
 }
 
 /// The number of one of so many things.
-fn below_of(count: u8, bytes: &[u8]) -> Result<(u8, &[u8]), ImageFault>
+fn below_of(count: u16, bytes: &[u8]) -> Result<(u8, &[u8]), ImageFault>
     ensures { Gives (λ x. (x.0, x.1.now)) result (byte_at (below count) bytes.now) }
 {
     let (number, rest) = byte(bytes)?;
@@ -377,7 +405,7 @@ fn below_of(count: u8, bytes: &[u8]) -> Result<(u8, &[u8]), ImageFault>
 }
 
 /// The number of one of so many things, or none.
-fn name_of(count: u8, bytes: &[u8]) -> Result<(Option<u8>, &[u8]), ImageFault>
+fn name_of(count: u16, bytes: &[u8]) -> Result<(Option<u8>, &[u8]), ImageFault>
     ensures { Gives (λ x. (x.0, x.1.now)) result (byte_at (none_or_below count) bytes.now) }
 {
     let (number, rest) = byte(bytes)?;
@@ -405,7 +433,7 @@ fn zero_of(bytes: &[u8]) -> Result<&[u8], ImageFault>
 /// The cancel routine of the device queue of a driver with so many routines, or none.
 fn waiting_of(
     edition: Edition,
-    routines: u8,
+    routines: u16,
     bytes: &[u8],
 ) -> Result<(Option<u8>, &[u8]), ImageFault>
     ensures { Gives (λ x. (x.0, x.1.now)) result
@@ -481,44 +509,6 @@ fn word_of(bytes: &[u8]) -> Result<(Word, &[u8]), ImageFault>
     Ok((word, rest))
 }
 
-/// An instruction.
-fn instruction_of<'a>(scope: &Scope, bytes: &'a [u8]) -> Result<(Instr, &'a [u8]), ImageFault>
-    ensures { Gives (λ x. (x.0, x.1.now)) result (instruction_at scope.now bytes.now) }
-{
-    let (word, rest) = word_of(bytes)?;
-    Ok((instruction(scope, &word)?, rest))
-}
-
-/// A queue of a driver with so many routines.
-#[tactic(auto, unfolding(crate::specs::Reading::queue_at))]
-fn queue_of(routines: u8, bytes: &[u8]) -> Result<(Queue, &[u8]), ImageFault>
-    ensures { Gives (λ x. (x.0, x.1.now)) result (queue_at routines bytes.now) }
-{
-    let (guard, rest) = byte(bytes)?;
-    let guard = lock(guard)?;
-    let (cancel, rest) = name_of(routines, rest)?;
-    Ok((Queue { guard, cancel }, rest))
-}
-
-/// The device of a number, of a set with so many drivers.
-#[tactic(auto, unfolding(crate::specs::Reading::device_at))]
-fn device_of(drivers: u8, number: u8, bytes: &[u8]) -> Result<(Device, &[u8]), ImageFault>
-    ensures { Gives (λ x. (x.0, x.1.now)) result (device_at drivers number bytes.now) }
-{
-    let (driver, rest) = below_of(drivers, bytes)?;
-    let (stack, rest) = stack_of(rest)?;
-    let (lower, rest) = name_of(number, rest)?;
-    let rest = zero_of(rest)?;
-    Ok((
-        Device {
-            driver,
-            stack,
-            lower,
-        },
-        rest,
-    ))
-}
-
 /// The first four bytes, which tell the edition.
 #[tactic(auto, unfolding(crate::specs::Reading::letters_at))]
 fn letters_of(bytes: &[u8]) -> Result<(Edition, &[u8]), ImageFault>
@@ -530,164 +520,20 @@ fn letters_of(bytes: &[u8]) -> Result<(Edition, &[u8]), ImageFault>
     edition_of(rest)
 }
 
-/// The instructions of a routine.
-fn code_of<'a>(
+/// So many parts of one kind, one behind another.
+fn all_of<'a, P: Part>(
     alloc: Global,
-    scope: &Scope,
+    within: &P::Within,
+    count: u16,
     bytes: &'a [u8],
-) -> Result<(Items<Instr>, &'a [u8]), ImageFault>
-    ensures { Gives (λ x. (x.0, x.1.now)) result
-        (all_at (λ _. instruction_at scope.now) 0 scope.now.positions bytes.now) }
-{
-    let mut all = Vec::new(alloc);
-    let mut rest = bytes;
-    for _ in 0..scope.positions {
-        let (one, after) = match instruction_of(scope, rest) {
-            Ok(found) => found,
-            Err(fault) => return Err(fault),
-        };
-        all.push(one)?;
-        rest = after;
-    }
-    Ok((Items::of(all), rest))
-}
-
-/// So many queues of a driver with so many routines.
-fn queues_of(
-    alloc: Global,
-    routines: u8,
-    count: u8,
-    bytes: &[u8],
-) -> Result<(Items<Queue>, &[u8]), ImageFault>
-    ensures { Gives (λ x. (x.0, x.1.now)) result
-        (all_at (λ _. queue_at routines) 0 count bytes.now) }
-{
-    let mut all = Vec::new(alloc);
-    let mut rest = bytes;
-    for _ in 0..count {
-        let (one, after) = match queue_of(routines, rest) {
-            Ok(found) => found,
-            Err(fault) => return Err(fault),
-        };
-        all.push(one)?;
-        rest = after;
-    }
-    Ok((Items::of(all), rest))
-}
-
-/// A routine of a driver with so many routines and queues.
-#[tactic(auto, unfolding(crate::specs::Reading::routine_at))]
-fn routine_of(
-    alloc: Global,
-    edition: Edition,
-    routines: u8,
-    queues: u8,
-    bytes: &[u8],
-) -> Result<(Routine, &[u8]), ImageFault>
-    ensures { Gives (λ x. (x.0, x.1.now)) result (routine_at edition routines queues bytes.now) }
-{
-    let (sort, rest) = sort_of(bytes)?;
-    let rest = zero_of(rest)?;
-    let (positions, rest) = code_count(rest)?;
-    let scope = Scope {
-        edition,
-        routines,
-        queues,
-        positions,
-    };
-    let (code, rest) = code_of(alloc, &scope, rest)?;
-    Ok((Routine { sort, code }, rest))
-}
-
-/// The routines of a driver with so many of them, and so many queues.
-fn routines_of(
-    alloc: Global,
-    edition: Edition,
-    routines: u8,
-    queues: u8,
-    bytes: &[u8],
-) -> Result<(Items<Routine>, &[u8]), ImageFault>
-    ensures { Gives (λ x. (x.0, x.1.now)) result
-        (all_at (λ _. routine_at edition routines queues) 0 routines bytes.now) }
-{
-    let mut all = Vec::new(alloc);
-    let mut rest = bytes;
-    for _ in 0..routines {
-        let (one, after) = match routine_of(alloc, edition, routines, queues, rest) {
-            Ok(found) => found,
-            Err(fault) => return Err(fault),
-        };
-        all.push(one)?;
-        rest = after;
-    }
-    Ok((Items::of(all), rest))
-}
-
-/// A driver.
-#[tactic(auto, unfolding(crate::specs::Reading::driver_at))]
-fn driver_of(alloc: Global, edition: Edition, bytes: &[u8]) -> Result<(Driver, &[u8]), ImageFault>
-    ensures { Gives (λ x. (x.0, x.1.now)) result (driver_at edition bytes.now) }
-{
-    let (routine_count, rest) = count_of(MAX_ROUTINES, bytes)?;
-    let (queue_count, rest) = count_of(MAX_QUEUES, rest)?;
-    let (read, rest) = name_of(routine_count, rest)?;
-    let (write, rest) = name_of(routine_count, rest)?;
-    let (control, rest) = name_of(routine_count, rest)?;
-    let (startio, rest) = name_of(routine_count, rest)?;
-    let (dpc, rest) = name_of(routine_count, rest)?;
-    let (startio_cancel, rest) = waiting_of(edition, routine_count, rest)?;
-    let (queues, rest) = queues_of(alloc, routine_count, queue_count, rest)?;
-    let (routines, rest) = routines_of(alloc, edition, routine_count, queue_count, rest)?;
-    let driver = Driver {
-        routines,
-        queues,
-        read,
-        write,
-        control,
-        startio,
-        startio_cancel,
-        dpc,
-    };
-    Ok((driver, rest))
-}
-
-/// So many drivers.
-fn drivers_of(
-    alloc: Global,
-    edition: Edition,
-    count: u8,
-    bytes: &[u8],
-) -> Result<(Vec<Driver>, &[u8]), ImageFault>
+) -> Result<(Vec<P>, &'a [u8]), ImageFault>
     ensures { Gives (λ x. (x.0.items, x.1.now)) result
-        (all_at (λ _. driver_at edition) 0 count bytes.now) }
-{
-    let mut all = Vec::new(alloc);
-    let mut rest = bytes;
-    for _ in 0..count {
-        let (one, after) = match driver_of(alloc, edition, rest) {
-            Ok(found) => found,
-            Err(fault) => return Err(fault),
-        };
-        all.push(one)?;
-        rest = after;
-    }
-    Ok((all, rest))
-}
-
-/// So many devices of a set with so many drivers.
-fn devices_of(
-    alloc: Global,
-    drivers: u8,
-    count: u8,
-    bytes: &[u8],
-) -> Result<(Vec<Device>, &[u8]), ImageFault>
-    ensures { Gives (λ x. (x.0.items, x.1.now)) result
-        (all_at (device_at drivers) 0 count bytes.now) }
+        (all_at (P.at within.now) 0 count bytes.now) }
 {
     let mut all = Vec::new(alloc);
     let mut rest = bytes;
     for number in 0..count {
-        let (one, after) = match device_of(drivers, number, rest) {
+        let (one, after) = match P::read(alloc, within, number, rest) {
             Ok(found) => found,
             Err(fault) => return Err(fault),
         };
@@ -695,6 +541,146 @@ fn devices_of(
         rest = after;
     }
     Ok((all, rest))
+}
+
+/// In the scope of its routine.
+impl Part for Instr {
+    type Within = Scope;
+
+    ghost at = { λ scope _. instruction_at scope };
+
+    fn read<'a>(
+        _alloc: Global,
+        scope: &Scope,
+        _number: u16,
+        bytes: &'a [u8],
+    ) -> Result<(Instr, &'a [u8]), ImageFault> {
+        let (word, rest) = word_of(bytes)?;
+        Ok((instruction(scope, &word)?, rest))
+    }
+}
+
+/// In a driver with so many routines.
+impl Part for Queue {
+    type Within = u16;
+
+    ghost at = { λ routines _. queue_at routines };
+
+    #[tactic(auto, unfolding(crate::specs::Reading::queue_at))]
+    fn read<'a>(
+        _alloc: Global,
+        routines: &u16,
+        _number: u16,
+        bytes: &'a [u8],
+    ) -> Result<(Queue, &'a [u8]), ImageFault> {
+        let (guard, rest) = byte(bytes)?;
+        let guard = lock(guard)?;
+        let (cancel, rest) = name_of(*routines, rest)?;
+        Ok((Queue { guard, cancel }, rest))
+    }
+}
+
+/// In its driver.
+impl Part for Routine {
+    type Within = Owner;
+
+    ghost at = { λ owner _. routine_at owner.edition owner.routines owner.queues };
+
+    #[tactic(auto, unfolding(crate::specs::Reading::routine_at))]
+    fn read<'a>(
+        alloc: Global,
+        owner: &Owner,
+        _number: u16,
+        bytes: &'a [u8],
+    ) -> Result<(Routine, &'a [u8]), ImageFault> {
+        let (sort, rest) = sort_of(bytes)?;
+        let rest = zero_of(rest)?;
+        let (positions, rest) = code_count(rest)?;
+        let scope = Scope {
+            edition: owner.edition,
+            routines: owner.routines,
+            queues: owner.queues,
+            positions,
+        };
+        let (code, rest) = all_of(alloc, &scope, positions, rest)?;
+        Ok((
+            Routine {
+                sort,
+                code: Items::of(code),
+            },
+            rest,
+        ))
+    }
+}
+
+/// In an image of an edition.
+impl Part for Driver {
+    type Within = Edition;
+
+    ghost at = { λ edition _. driver_at edition };
+
+    #[tactic(auto, unfolding(crate::specs::Reading::driver_at))]
+    fn read<'a>(
+        alloc: Global,
+        edition: &Edition,
+        _number: u16,
+        bytes: &'a [u8],
+    ) -> Result<(Driver, &'a [u8]), ImageFault> {
+        let (routine_count, rest) = count_of(MAX_ROUTINES, bytes)?;
+        let (queue_count, rest) = count_of(MAX_QUEUES, rest)?;
+        let (read, rest) = name_of(routine_count, rest)?;
+        let (write, rest) = name_of(routine_count, rest)?;
+        let (control, rest) = name_of(routine_count, rest)?;
+        let (startio, rest) = name_of(routine_count, rest)?;
+        let (dpc, rest) = name_of(routine_count, rest)?;
+        let (startio_cancel, rest) = waiting_of(*edition, routine_count, rest)?;
+        let owner = Owner {
+            edition: *edition,
+            routines: routine_count,
+            queues: queue_count,
+        };
+        let (queues, rest) = all_of(alloc, &routine_count, queue_count, rest)?;
+        let (routines, rest) = all_of(alloc, &owner, routine_count, rest)?;
+        let driver = Driver {
+            routines: Items::of(routines),
+            queues: Items::of(queues),
+            read,
+            write,
+            control,
+            startio,
+            startio_cancel,
+            dpc,
+        };
+        Ok((driver, rest))
+    }
+}
+
+/// In a set with so many drivers.
+impl Part for Device {
+    type Within = u16;
+
+    ghost at = { device_at };
+
+    #[tactic(auto, unfolding(crate::specs::Reading::device_at))]
+    fn read<'a>(
+        _alloc: Global,
+        drivers: &u16,
+        number: u16,
+        bytes: &'a [u8],
+    ) -> Result<(Device, &'a [u8]), ImageFault> {
+        let (driver, rest) = below_of(*drivers, bytes)?;
+        let (stack, rest) = stack_of(rest)?;
+        let (lower, rest) = name_of(number, rest)?;
+        let rest = zero_of(rest)?;
+        Ok((
+            Device {
+                driver,
+                stack,
+                lower,
+            },
+            rest,
+        ))
+    }
 }
 
 /// The drivers and devices that the fields name, which are all of the bytes.
@@ -708,8 +694,8 @@ fn fields_of(alloc: Global, bytes: &[u8]) -> Result<(Vec<Driver>, Vec<Device>), 
     let (device_count, rest) = count_of(MAX_DEVICES, rest)?;
     let rest = zero_of(rest)?;
     let rest = zero_of(rest)?;
-    let (drivers, rest) = drivers_of(alloc, edition, driver_count, rest)?;
-    let (devices, rest) = devices_of(alloc, driver_count, device_count, rest)?;
+    let (drivers, rest) = all_of(alloc, &edition, driver_count, rest)?;
+    let (devices, rest) = all_of(alloc, &driver_count, device_count, rest)?;
     if !rest.is_empty() {
         return Err(ImageFault::Trailing);
     }
