@@ -11,6 +11,7 @@ pub fn bytes_spell_one()
 
 /// A set has one image of the second edition, and one of the first exactly if it is of that
 /// edition.
+#[tactic(auto, using(crate::proofs::Decoded::editions_of_images))]
 pub fn editions_of_images()
     ensures { EditionsOfImages }
 {}
