@@ -1,5 +1,8 @@
 //! How a run is told.
 
+ghost use Rattle.std.specs.Prelude.{◌≡◌};
+ghost use Rattle.drvhost_options.specs.Strict.{fails_strictly};
+
 /// Of which events of a run a line is told.
 #[derive(Clone, Copy, Debug, PartialEq, Eq)]
 pub enum Detail {
@@ -19,6 +22,18 @@ pub enum Strictness {
     Lenient,
     /// It is answered as one that stopped.
     Strict,
+}
+
+impl Strictness {
+    /// Whether a run is taken for one that stopped, where an event of it was refused or none was.
+    pub fn fails(self, refused: bool) -> bool
+        ensures { result ≡ fails_strictly self refused }
+    {
+        match self {
+            Strictness::Lenient => false,
+            Strictness::Strict => refused,
+        }
+    }
 }
 
 /// How a run is told.

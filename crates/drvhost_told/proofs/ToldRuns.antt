@@ -28,7 +28,8 @@ use Rattle.drvhost_runs.proofs.Observing.{length_replies, replies_told}
 use Rattle.drvhost_runs.proofs.Repeating.{once}
 use Rattle.drvhost_formats.specs.declared.outcome.Outcome.{Outcome}
 use Rattle.drvhost_formats.specs.Told.{told}
-use Rattle.drvhost_told.specs.Tell.{AreTold, ArePastTold, IsRunTold, IsTelling, audit_line, fails_strictly, is_stopped, outcome_by}
+use Rattle.drvhost_options.specs.Strict.{fails_strictly}
+use Rattle.drvhost_told.specs.Tell.{AreTold, ArePastTold, IsRunTold, IsTelling, audit_line, is_stopped, outcome_by}
 
 -- one line more
 told_more : (number : ℕ) (some : List Reply) (reply : Reply) (around : Circumstances)

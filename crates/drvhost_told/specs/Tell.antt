@@ -22,8 +22,8 @@ use Rattle.tell_json.specs.declared.telling.Telling.{Telling}
 use Rattle.tell_json.specs.Telling.{is_refused}
 use Rattle.tell_uses.specs.Ledger.{Tells as TellsRun}
 use Rattle.tell_uses.specs.Pending.{disagreeing, uses_of}
+use Rattle.drvhost_options.specs.Strict.{fails_strictly}
 use Rattle.drvhost_options.specs.declared.manner.Strictness.{Strictness}
-use Rattle.drvhost_options.specs.declared.manner.Strictness.TheVariants.{Lenient, Strict}
 use Rattle.drvhost_devices.specs.Answer.{Answer, is_last}
 use Rattle.drvhost_devices.specs.declared.fault.End.{End}
 use Rattle.drvhost_devices.specs.declared.fault.End.TheVariants as end
@@ -42,11 +42,6 @@ AreTold number [] text = text ≡ []
 AreTold number (reply ∷ rest) text =
     (around : Circumstances) × ((later : List ℕ)
     × (text ≡ json_line (told_json number reply around) ++ later) × AreTold (number + 1) rest later)
-
--- whether a run is taken for one that stopped where an event was refused, or none was
-abbrev pub fails_strictly : Strictness → Bool → Bool
-fails_strictly Lenient refused = false
-fails_strictly Strict refused = refused
 
 abbrev pub is_stopped : End → Bool
 is_stopped end.Stopped = true

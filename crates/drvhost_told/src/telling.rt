@@ -1,7 +1,7 @@
 //! The events of a run, as an observer of it has them told.
 
 ghost use Rattle.std.specs.Prelude.{◌≡◌, ◌||◌, [], IfErr, IfOk};
-ghost use Rattle.drvhost_told.specs.Tell.{IsRunTold, fails_strictly, is_stopped, outcome_by};
+ghost use Rattle.drvhost_told.specs.Tell.{IsRunTold, is_stopped, outcome_by};
 ghost use Rattle.drvhost_formats.specs.Told.{told};
 ghost use Rattle.interleave.specs.Listing.{IsWithinLimits};
 ghost use Rattle.model.specs.Machine.{ShowsWhole};
@@ -105,21 +105,11 @@ fn tell_on(
     let mut telling = watch.telling;
     let found = Findings::of(alloc, machine, &telling.ledger)?;
     telling.lines.add(&ToldAudit { found: &found })?;
-    let strictly = fails_strictly(strictness, telling.refused);
+    let strictly = strictness.fails(telling.refused);
     Ok(ToldRun {
         lines: telling.lines,
         outcome: outcome_of(end, strictly, found.any()),
     })
-}
-
-/// Whether a run is taken for one that stopped, where an event of it was refused or none was.
-fn fails_strictly(strictness: Strictness, refused: bool) -> bool
-    ensures { result ≡ fails_strictly strictness refused }
-{
-    match strictness {
-        Strictness::Lenient => false,
-        Strictness::Strict => refused,
-    }
 }
 
 /// How the job ends whose run ended so, if it is taken for one that stopped or not, and something

@@ -8,7 +8,8 @@ use Rattle.drvhost_devices.specs.Answer.{ended, is_last}
 use Rattle.drvhost_options.specs.declared.manner.Detail.{Detail}
 use Rattle.drvhost_options.specs.declared.manner.Manner.{Manner}
 use Rattle.drvhost_views.specs.declared.telling.Telling.{Telling}
-use Rattle.drvhost_views.specs.Told.{IsRunTold, IsTelling, IsTold, events_by, fails_strictly, is_refused, occurrences, occurrences_by, past_by, replies_by, world_by}
+use Rattle.drvhost_options.specs.Strict.{fails_strictly}
+use Rattle.drvhost_views.specs.Told.{IsRunTold, IsTelling, IsTold, events_by, is_refused, occurrences, occurrences_by, past_by, replies_by, world_by}
 use Rattle.drvhost_runs.specs.Watching.{RunsTo, end_by}
 use Rattle.drvhost_runs.proofs.Observing.{shown_past}
 use Rattle.model.specs.declared.event.Event.{Event}

@@ -30,12 +30,12 @@ use Rattle.drvhost_devices.specs.declared.fault.Fault.{Fault}
 use Rattle.drvhost_devices.specs.declared.fault.Fault.TheVariants.{Read, Write, Memory, Text, Image, Schedule as OfSchedule, Script as OfScript}
 use Rattle.drvhost_views.specs.declared.show.Showing.{Showing}
 use Rattle.drvhost_views.specs.declared.show.Showing.TheVariants.{InWords, Drawn}
+use Rattle.drvhost_options.specs.Strict.{fails_strictly}
 use Rattle.drvhost_options.specs.declared.figure.Figure.{Figure}
 use Rattle.drvhost_options.specs.declared.manner.Detail.{Detail}
 use Rattle.drvhost_options.specs.declared.manner.Detail.TheVariants.{Every, Usual, Quiet}
 use Rattle.drvhost_options.specs.declared.manner.Manner.{Manner}
 use Rattle.drvhost_options.specs.declared.manner.Strictness.{Strictness}
-use Rattle.drvhost_options.specs.declared.manner.Strictness.TheVariants.{Lenient, Strict}
 use Rattle.drvhost_views.specs.declared.telling.Told.{Told}
 use Rattle.drvhost_views.specs.declared.telling.Telling.{Telling}
 use Rattle.drvhost_devices.specs.declared.verification.Verification.{Verification}
@@ -200,11 +200,6 @@ is_refused Waited = false
 is_refused Idle = false
 is_refused (Bug bug) = false
 is_refused (Wrong place) = false
-
--- whether a run is taken for one that stopped where an event of it was refused, or none was
-abbrev pub fails_strictly : Strictness → Bool → Bool
-fails_strictly Lenient refused = false
-fails_strictly Strict refused = refused
 
 -- how a run that is told ends: stopped also where its audit finds anything amiss, and, if it is
 -- told strictly, where an event was refused

@@ -6,7 +6,7 @@ ghost use Rattle.drvhost_devices.specs.declared.fault.Fault.TheVariants.{Memory}
 ghost use Rattle.drvhost_devices.specs.Answer.{ended};
 ghost use Rattle.drvhost_views.specs.Seen.{GoesUnseen, Sees};
 ghost use Rattle.drvhost_views.specs.Told.{InRuns, IsRunTold, IsTelling, ToldTimes};
-ghost use Rattle.drvhost_views.specs.Told.{fails_strictly, is_refused, occurs_in, times_of};
+ghost use Rattle.drvhost_views.specs.Told.{is_refused, occurs_in, times_of};
 ghost use Rattle.interleave.specs.Listing.{IsWithinLimits};
 ghost use Rattle.model.specs.Machine.{ShowsWhole};
 
@@ -15,7 +15,7 @@ use crate::page::Page;
 use crate::seeing::{Sight, goes_unseen};
 use checked::Checked;
 use drvhost_devices::fault::{End, Fault};
-use drvhost_options::manner::{Manner, Strictness};
+use drvhost_options::manner::Manner;
 use drvhost_runs::follow::is_last;
 use drvhost_runs::watching::{Observer, Taken, observe};
 use interleave::schedule::Schedule;
@@ -83,21 +83,11 @@ pub(crate) fn tell_run(
     let rights = Rights::of(alloc, machine.set())?;
     teller.tell_audit(alloc, machine, &found, &ledger, rights.as_ref())?;
     add_audit(teller.words(), &mut text)?;
-    let strictly = fails_strictly(manner.strictness, refused);
+    let strictly = manner.strictness.fails(refused);
     Ok(Told {
         text,
         end: end_of(end, strictly, found.any()),
     })
-}
-
-/// Whether a run is taken for one that stopped, where an event of it was refused or none was.
-fn fails_strictly(strictness: Strictness, refused: bool) -> bool
-    ensures { result ≡ fails_strictly strictness refused }
-{
-    match strictness {
-        Strictness::Lenient => false,
-        Strictness::Strict => refused,
-    }
 }
 
 /// How a run ends that ends so by itself, if it is taken for one that stopped or not, and something
@@ -177,7 +167,7 @@ impl<'a> Telling<'a> {
             times self.old.page.text self.new.page.text)) }
     {
         let passed = self.sight.see(machine, event, unseen, self.page.detail)?;
-        self.refused = any_refused(self.refused, &self.sight.happened.reply);
+        self.refused |= is_refused(&self.sight.happened.reply);
         if passed {
             self.page.number.advance();
             return Ok(1);
@@ -186,13 +176,6 @@ impl<'a> Telling<'a> {
         self.page.tell_times(machine, &self.sight.happened, times)?;
         Ok(times)
     }
-}
-
-/// Whether an event was refused, this one with its reply or one before it.
-fn any_refused(before: bool, reply: &Reply) -> bool
-    ensures { result ≡ before || is_refused reply.now }
-{
-    before || is_refused(reply)
 }
 
 /// Whether an event with this reply was refused.

@@ -91,7 +91,7 @@ impl<'a> Telling<'a> {
             around: &around,
         })?;
         self.number += 1;
-        self.refused = any_refused(self.refused, &reply);
+        self.refused |= is_refused(&reply);
         Ok(reply)
     }
 }
@@ -141,13 +141,6 @@ fn routine_of(alloc: Global, book: &Book<'_>, frame: FrameView) -> Result<String
         FrameView::Walk(_) | FrameView::Cancel(_) => book.add_spot(&mut name, frame)?,
     }
     Ok(name)
-}
-
-/// Whether an event was refused, this one with its reply or one before it.
-fn any_refused(before: bool, reply: &Reply) -> bool
-    ensures { result ≡ before || is_refused reply.now }
-{
-    before || is_refused(reply)
 }
 
 /// Whether an event with this reply was refused.

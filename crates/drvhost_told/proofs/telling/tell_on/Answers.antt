@@ -16,4 +16,4 @@ returns c =
     let (past, runs, shown, told) = c.in-Ok.ensures in
     run_told c.args.strictness c.args.machine.now.set c.args.schedule.now past _ _ _ _ _ _ _ runs
     shown told c.in_ok-found.ensures c.any.ensures c.in_ok-add.ensures.added
-    (rw c.fails_strictly-strictly.ensures at c.outcome_of.ensures)
+    (rw c.fails-strictly.ensures at c.outcome_of.ensures)

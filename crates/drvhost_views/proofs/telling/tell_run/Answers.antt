@@ -15,6 +15,6 @@ observe-requires-clause-fresh c =
 pub returns : goal.returns
 returns c =
     let (past, runs, shown, told) = c.in-Ok.ensures in
-    rw (c.end_of.ensures, c.fails_strictly-strictly.ensures, c.in_ok-add_audit.ensures)
+    rw (c.end_of.ensures, c.fails-strictly.ensures, c.in_ok-add_audit.ensures)
     (run_told _ _ _ _ past _ _ _ _ _ _ _ runs shown told refl c.in_ok-found.ensures
     c.any.ensures)
