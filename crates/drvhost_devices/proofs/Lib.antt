@@ -1,4 +1,5 @@
 pub mod Collected
+pub mod Delivered
 pub mod Writing
 pub mod Jobs
 pub mod Files

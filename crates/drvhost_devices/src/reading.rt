@@ -1,14 +1,18 @@
-//! Driver sets, read from files: images and texts.
+//! Driver sets, read from files: images and texts; and schedules.
 
 ghost use Rattle.std.specs.Prelude.{◌≡◌, ◌+◌, Err, IfErr, IfOk};
-ghost use Rattle.drvhost_devices.specs.Answer.{ImageSays, TextSays, is_image};
+ghost use Rattle.interleave.specs.Listing.{IsWithinLimits};
+ghost use Rattle.drvhost_devices.specs.Answer.{is_image};
 ghost use Rattle.drvhost_devices.specs.Device.{Bytes, CanCount};
-ghost use Rattle.drvhost_devices.specs.Fault.{ReadsSet, SaysImage, SaysText, reads_failed};
+ghost use Rattle.drvhost_devices.specs.Fault.{ReadsSchedule, ReadsSet, SaysImage, SaysText};
+ghost use Rattle.drvhost_devices.specs.Fault.{reads_failed};
 
 use crate::device::Source;
-use crate::fault::{Fault, of_image, of_text};
+use crate::fault::{Fault, of_image, of_schedule, of_text};
 use crate::transfer::read_whole;
 use image::DriverSet;
+use interleave::parse::parse_schedule;
+use interleave::schedule::Schedule;
 use std::alloc::Global;
 
 /// The set that the bytes of a source name: those of an image, or of a text.
@@ -69,5 +73,28 @@ fn set_of_text(alloc: Global, bytes: &[u8]) -> Result<DriverSet, Fault>
     match asm::assemble(alloc, bytes) {
         Ok(set) => Ok(set),
         Err(fault) => Err(of_text(fault)),
+    }
+}
+
+/// The schedule that the text of a source lists.
+pub fn read_schedule<S: Source>(alloc: Global, source: &mut S) -> Result<Schedule, Fault>
+    requires { CanCount (S.failures source.old) }
+    ensures schedule { ReadsSchedule (S.supply source.old) result }
+    ensures reads { S.failures source.new ≡ S.failures source.old + reads_failed result }
+    ensures limits { IfOk result IsWithinLimits }
+{
+    let text = read_whole(alloc, source)?;
+    schedule_of(alloc, text.as_slice())
+}
+
+/// The schedule that a text lists.
+pub fn schedule_of(alloc: Global, text: &[u8]) -> Result<Schedule, Fault>
+    ensures schedule { ReadsSchedule (Bytes text.now) result }
+    ensures reads { reads_failed result ≡ 0 }
+    ensures limits { IfOk result IsWithinLimits }
+{
+    match parse_schedule(alloc, text) {
+        Ok(schedule) => Ok(schedule),
+        Err(fault) => Err(of_schedule(fault)),
     }
 }

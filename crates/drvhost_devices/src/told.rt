@@ -1,9 +1,15 @@
 //! An answer in memory.
 
-ghost use Rattle.std.specs.Prelude.{◌≡◌, IfOk, OnOk};
+ghost use Rattle.std.specs.Prelude.{◌≡◌, ℕ, IfOk, OnOk};
+ghost use Rattle.drvhost_devices.specs.Device.{Says};
+ghost use Rattle.drvhost_devices.specs.Ends.{Answers};
+ghost use Rattle.drvhost_devices.specs.Ready.{CanWrite};
 ghost use Rattle.drvhost_devices.specs.Told.{Collects, bytes_of, joined};
 
-use crate::device::{Sink, Writer};
+use crate::device::{Failed, Sink, Writer};
+use crate::fault::say;
+use crate::transfer::write_whole;
+use report::fault::WRITE_FAILED;
 use std::alloc::AllocError;
 use std::marker::Model;
 
@@ -55,6 +61,13 @@ impl Told {
         ensures { result.now ≡ self.now.told }
     {
         self.errors.as_slice()
+    }
+
+    /// The same answer, but for what goes to the standard output.
+    pub fn with_output(self, written: Vec<u8>) -> Told
+        ensures { result ≡ record self { output = written.items } }
+    {
+        Told { written, ..self }
     }
 
     /// Adds an answer behind it: the greater exit status is that of both.
@@ -122,4 +135,25 @@ pub fn collected(
         written: output.into_inner(),
         errors: errors.into_inner(),
     })
+}
+
+/// Writes an answer to its writers. The answer is the exit status: its own, or 2 where the output
+/// takes but a beginning, which is told.
+pub fn deliver<O: Sink, E: Sink>(told: &Told, out: &mut O, err: &mut E) -> u8
+    requires { CanWrite O.Sink E.Sink out.old err.old }
+    ensures { (reads : ℕ) → Answers (λ answer. answer ≡ told.now) reads reads
+        (O.failures out.old) (O.failures out.new) (O.contents out.old) (O.contents out.new)
+        (Says (E.failures err.old) (E.failures err.new) (E.contents err.old) (E.contents err.new))
+        result }
+{
+    match write_whole(out, told.output()) {
+        Ok(()) => {
+            say(err, told.told());
+            told.status()
+        }
+        Err(Failed) => {
+            say(err, WRITE_FAILED.as_bytes());
+            2
+        }
+    }
 }

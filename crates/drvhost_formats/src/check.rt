@@ -15,6 +15,7 @@ use crate::names::routine_names;
 use crate::outcome::Outcome;
 use drvhost_devices::device::{Sink, Source};
 use drvhost_devices::fault::Fault;
+use drvhost_sets::taking::Taking;
 use image::DriverSet;
 use model::abs::{Refusal, Rule};
 use report_json::json_lines::JsonLines;
@@ -48,6 +49,10 @@ struct Judgement<'n> {
     file: &'n str,
 }
 
+impl Taking for Judgement<'_> {
+    ghost stays_kept = { λ _. (tt, tt) };
+}
+
 impl Job for Judgement<'_> {
     ghost use Rattle.drvhost_formats.specs.Check.{IsVerdictJson};
 
@@ -63,8 +68,6 @@ impl Job for Judgement<'_> {
     ) -> Result<Outcome, Fault> {
         Ok(judge(alloc, self.file, bytes, set, lines)?)
     }
-
-    ghost stays_kept = { λ _. (tt, tt) };
 }
 
 /// Judges the set that the bytes of the file of a name are, and adds the line of the verdict.

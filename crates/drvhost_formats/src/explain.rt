@@ -27,6 +27,8 @@ use drvhost_mends::fixing::fix_by;
 use drvhost_options::extent::Extent;
 use drvhost_sets::advising::{Advisor, why_and_mend};
 use drvhost_sets::explaining::origin_of;
+use drvhost_sets::showing::Explained;
+use drvhost_sets::taking::Taking;
 use image::DriverSet;
 use model::abs::{Refusal, Rule};
 use report_json::json_lines::JsonLines;
@@ -44,37 +46,34 @@ use verifier_words::explanations;
 /// as that of [`check_json`](crate::check::check_json).
 pub fn explain_json<S: Source, O: Sink, E: Sink>(
     alloc: Global,
-    extent: Extent,
-    name: &str,
+    explained: Explained<'_>,
     set: &mut S,
     out: &mut O,
     err: &mut E,
 ) -> u8
     requires { CanAnswer O.Sink E.Sink (S.failures set.old) out.old err.old }
-    ensures { AnswersOver O.Sink E.Sink (IsExplainJsonOf extent name.now (S.supply set.old))
+    ensures { AnswersOver O.Sink E.Sink
+        (IsExplainJsonOf explained.entry.extent explained.entry.name.now (S.supply set.old))
         (S.failures set.old) (S.failures set.new) out.old out.new err.old err.new result }
 {
-    answer(
-        &mut Explaining { file: name, extent },
-        alloc,
-        name,
-        set,
-        out,
-        err,
-    )
+    let mut job = Explaining { explained };
+    answer(&mut job, alloc, explained.name, set, out, err)
 }
 
-/// The job of explaining the verdict on the set of the file of a name.
+/// The job of explaining the verdict on the set of a file.
 #[derive(Drop)]
 struct Explaining<'n> {
-    file: &'n str,
-    extent: Extent,
+    explained: Explained<'n>,
+}
+
+impl Taking for Explaining<'_> {
+    ghost stays_kept = { λ _. (tt, tt) };
 }
 
 impl Job for Explaining<'_> {
     ghost use Rattle.drvhost_formats.specs.Explain.{IsExplainedJson};
 
-    ghost right = { λ job. IsExplainedJson job.extent job.file.now };
+    ghost right = { λ job. IsExplainedJson job.explained.extent job.explained.name.now };
 
     fn perform<O: Sink>(
         &mut self,
@@ -84,14 +83,9 @@ impl Job for Explaining<'_> {
         lines: &mut JsonLines,
         _out: &mut O,
     ) -> Result<Outcome, Fault> {
-        let read = ReadFile {
-            name: self.file,
-            bytes,
-        };
-        Ok(explain(alloc, self.extent, read, set, lines)?)
+        let Explained { name, extent } = self.explained;
+        Ok(explain(alloc, extent, ReadFile { name, bytes }, set, lines)?)
     }
-
-    ghost stays_kept = { λ _. (tt, tt) };
 }
 
 /// A file that was read: its name, and its bytes.

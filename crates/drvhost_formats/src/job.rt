@@ -18,6 +18,7 @@ use crate::reading::said_in;
 use drvhost_devices::device::{Sink, Source};
 use drvhost_devices::fault::{Fault, finish, no_memory};
 use drvhost_devices::transfer::{read_whole, write_bytes};
+use drvhost_sets::taking::Taking;
 use image::DriverSet;
 use report::lines::Lines;
 use report_json::fault::{FileFault, InputFault};
@@ -25,21 +26,12 @@ use report_json::json_lines::JsonLines;
 use std::alloc::{AllocError, Global};
 
 /// What is told of a driver set, and what else it takes for it.
-pub trait Job {
+pub trait Job: Taking {
     // The right answers for the bytes of a file and the set that they name.
     ghost right: { Self → List ℕ → Set → Answer → Type 0 };
 
-    // How often a read of what else it takes has failed so far.
-    ghost failures: { Self → ℕ } = { λ _. 0 };
-
     // It takes something else for such a set alone.
     ghost needs: { Self → Set → Type 0 } = { λ _ _. ⊤ };
-
-    // It is as it was, but for what it has taken.
-    ghost keeps: { Self → Self → Type 0 } = { λ _ _. ⊤ };
-
-    // It has taken nothing.
-    ghost stays: { Self → Self → Type 0 } = { λ _ _. ⊤ };
 
     // What it takes to be done is there.
     ghost able: { Self → Type 0 } = { λ _. ⊤ };
@@ -55,17 +47,15 @@ pub trait Job {
         out: &mut O,
     ) -> Result<Outcome, Fault>
         requires able { able self.old }
-        requires others { CanCount (failures self.old) }
+        requires others { CanCount (Self.failures self.old) }
         requires out { CanCount (O.failures out.old) }
         requires empty { lines.old ≡ [] }
-        ensures keeps { keeps self.old self.new }
-        ensures unread { stays self.old self.new ⊎ needs self.old set }
+        ensures keeps { Self.keeps self.old self.new }
+        ensures unread { Self.stays self.old self.new ⊎ needs self.old set }
         ensures tells { Tells (right self.old bytes.now set) (O.contents out.old)
             (O.contents out.new) [] lines.new result }
-        ensures reads { failures self.new ≡ failures self.old + reads_failed result }
+        ensures reads { Self.failures self.new ≡ Self.failures self.old + reads_failed result }
         ensures writes { O.failures out.new ≡ O.failures out.old + writes_failed result };
-
-    ghost stays_kept: { (job : Self) → keeps job job × stays job job };
 }
 
 /// Tells what a job tells of the set that the source has which is the file of a name, or its fault.

@@ -1,6 +1,6 @@
 //! Runs of a driver set that are told in lines of JSON: the set has to be accepted, or needn't be.
 
-ghost use Rattle.std.specs.Prelude.{◌≡◌, ◌+◌, ◌⊎◌, ℕ, []};
+ghost use Rattle.std.specs.Prelude.{◌≡◌, ◌+◌, ◌⊎◌, []};
 ghost use Rattle.drvhost_devices.specs.Answer.{Answer};
 ghost use Rattle.drvhost_devices.specs.Device.{CanCount};
 ghost use Rattle.drvhost_devices.specs.Fault.{reads_failed, writes_failed};
@@ -17,24 +17,16 @@ use drvhost_devices::device::Sink;
 use drvhost_devices::fault::Fault;
 use drvhost_devices::verification::Verification;
 use drvhost_sets::judged::Chosen;
+use drvhost_sets::taking::Taking;
 use image::DriverSet;
 use report_json::json_lines::JsonLines;
 use std::alloc::Global;
 use verifier::verify;
 
 /// A run of a set that is told in lines of JSON, and what else it takes for it.
-pub trait Running {
+pub trait Running: Taking {
     // The right answers for a set.
     ghost right: { Self → Set → Answer → Type 0 };
-
-    // How often a read of what else it takes has failed so far.
-    ghost failures: { Self → ℕ };
-
-    // It is as it was, but for what it has taken.
-    ghost keeps: { Self → Self → Type 0 };
-
-    // It has taken nothing.
-    ghost stays: { Self → Self → Type 0 };
 
     /// Runs a set, which the bytes of a file name. What it tells goes out, but for the lines that
     /// gather last.
@@ -46,16 +38,14 @@ pub trait Running {
         lines: &mut JsonLines,
         out: &mut O,
     ) -> Result<Outcome, Fault>
-        requires others { CanCount (failures self.old) }
+        requires others { CanCount (Self.failures self.old) }
         requires out { CanCount (O.failures out.old) }
         requires empty { lines.old ≡ [] }
-        ensures keeps { keeps self.old self.new }
+        ensures keeps { Self.keeps self.old self.new }
         ensures tells { Tells (right self.old (set_chosen chosen)) (O.contents out.old)
             (O.contents out.new) [] lines.new result }
-        ensures reads { failures self.new ≡ failures self.old + reads_failed result }
+        ensures reads { Self.failures self.new ≡ Self.failures self.old + reads_failed result }
         ensures writes { O.failures out.new ≡ O.failures out.old + writes_failed result };
-
-    ghost stays_kept: { (running : Self) → keeps running running × stays running running };
 }
 
 /// The job of running the set of the file of a name if it is accepted, or needn't be.
@@ -66,19 +56,23 @@ pub struct Judged<'n, R> {
     pub verification: Verification,
 }
 
+impl<'n, R: Running> Taking for Judged<'n, R> {
+    ghost failures = { λ job. R.failures job.running };
+
+    ghost keeps = { λ old new. R.keeps old.running new.running };
+
+    ghost stays = { λ old new. R.stays old.running new.running };
+
+    ghost stays_kept = { λ job. R.stays_kept job.running };
+}
+
 impl<'n, R: Running> Job for Judged<'n, R> {
     ghost use Rattle.drvhost_devices.specs.Answer.{IsToRun};
     ghost use Rattle.drvhost_formats.specs.Trace.{IsJudgedJson};
 
     ghost right = { λ job bytes. IsJudgedJson job.verification job.file.now (R.right job.running) };
 
-    ghost failures = { λ job. R.failures job.running };
-
     ghost needs = { λ job. IsToRun job.verification };
-
-    ghost keeps = { λ old new. R.keeps old.running new.running };
-
-    ghost stays = { λ old new. R.stays old.running new.running };
 
     fn perform<O: Sink>(
         &mut self,
@@ -93,8 +87,6 @@ impl<'n, R: Running> Job for Judged<'n, R> {
             Verification::Skipped => self.running.run(alloc, bytes, Chosen::Any(set), lines, out),
         }
     }
-
-    ghost stays_kept = { λ job. R.stays_kept job.running };
 }
 
 impl<'n, R: Running> Judged<'n, R> {

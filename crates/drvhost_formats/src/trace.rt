@@ -18,11 +18,11 @@ use crate::outcome::Outcome;
 use checked::Checked;
 use drvhost_devices::device::{Sink, Source};
 use drvhost_devices::fault::Fault;
-use drvhost_devices::transfer::read_whole;
+use drvhost_devices::reading;
 use drvhost_devices::verification::Verification;
 use drvhost_sets::judged::Chosen;
-use interleave::parse::parse_schedule;
-use interleave::schedule::{Schedule, ScheduleFault, ScheduleKind};
+use drvhost_sets::taking::Taking;
+use interleave::schedule::{Schedule, ScheduleFault};
 use machine::World;
 use report_json::fault::InputFault;
 use report_json::json_lines::JsonLines;
@@ -62,7 +62,7 @@ pub fn trace_json<'a, S: Source, P: Source, O: Sink, E: Sink>(
         (S.failures set.new + P.failures schedule.new) out.old out.new err.old err.new result }
 {
     let mut job = Judged {
-        running: Tracing {
+        running: NamedTracing {
             name: asked.schedule,
             schedule,
         },
@@ -74,22 +74,27 @@ pub fn trace_json<'a, S: Source, P: Source, O: Sink, E: Sink>(
 
 /// The trace of a run by the schedule that a source has, which is the file of a name.
 #[derive(Drop)]
-struct Tracing<'a, P> {
+struct NamedTracing<'a, P> {
     name: &'a str,
     schedule: &'a mut P,
 }
 
-impl<'a, P: Source> Running for Tracing<'a, P> {
+impl<'a, P: Source> Taking for NamedTracing<'a, P> {
     ghost use Rattle.std.specs.Prelude.{◌≡◌, refl};
-    ghost use Rattle.drvhost_formats.specs.Trace.{IsRunJsonOf};
-
-    ghost right = { λ running. IsRunJsonOf running.name.now (P.supply running.schedule.now) };
 
     ghost failures = { λ running. P.failures running.schedule.now };
 
     ghost keeps = { λ old new. new.schedule.ghost_name ≡ old.schedule.ghost_name };
 
     ghost stays = { λ old new. new.schedule.now ≡ old.schedule.now };
+
+    ghost stays_kept = { λ _. (refl, refl) };
+}
+
+impl<'a, P: Source> Running for NamedTracing<'a, P> {
+    ghost use Rattle.drvhost_formats.specs.Trace.{IsRunJsonOf};
+
+    ghost right = { λ running. IsRunJsonOf running.name.now (P.supply running.schedule.now) };
 
     fn run<O: Sink>(
         &mut self,
@@ -101,8 +106,6 @@ impl<'a, P: Source> Running for Tracing<'a, P> {
     ) -> Result<Outcome, Fault> {
         trace_chosen(alloc, self.name, chosen, self.schedule, lines, out)
     }
-
-    ghost stays_kept = { λ _. (refl, refl) };
 }
 
 /// Runs an accepted set to the end of its schedule, which is the file of a name, and any other up
@@ -154,12 +157,9 @@ pub fn read_schedule<P: Source>(
     ensures fault { IfErr result (λ fault. (fault ≡ Fault.Read) ⊎ (fault ≡ Fault.Memory)) }
     ensures reads { P.failures source.new ≡ P.failures source.old + reads_failed result }
 {
-    let text = read_whole(alloc, source)?;
-    match parse_schedule(alloc, text.as_slice()) {
+    match reading::read_schedule(alloc, source) {
         Ok(schedule) => Ok(Ok(schedule)),
-        Err(fault) => match fault.kind {
-            ScheduleKind::Memory => Err(Fault::Memory),
-            _ => Ok(Err(fault)),
-        },
+        Err(Fault::Schedule(fault)) => Ok(Err(fault)),
+        Err(fault) => Err(fault),
     }
 }

@@ -13,6 +13,7 @@ use drvhost_devices::fault::{End, Fault};
 use drvhost_devices::reading::source_of;
 use drvhost_devices::transfer::write_bytes;
 use drvhost_sets::job::{Job, Notes, answer};
+use drvhost_sets::taking::Taking;
 use hunt_bounds::reach::Reach;
 use hunt_schedule::exact::tell_exactly;
 use hunt_schedule::telling::{Told, tell_hunting};
@@ -85,6 +86,10 @@ pub fn hunt_by<S: Source, O: Sink, E: Sink, P: Progress>(
     answer(&mut job, alloc, set, out, err)
 }
 
+impl<P: Progress> Taking for Hunting<'_, P> {
+    ghost stays_kept = { λ _. (tt, tt) };
+}
+
 impl<P: Progress> Job for Hunting<'_, P> {
     ghost use Rattle.drvhost_hunts.specs.Hunt.{IsHuntBy};
 
@@ -100,8 +105,6 @@ impl<P: Progress> Job for Hunting<'_, P> {
     ) -> Result<End, Fault> {
         write_hunt(alloc, self, &set, bytes, out)
     }
-
-    ghost stays_kept = { λ _. (tt, tt) };
 }
 
 /// Hunts through the runs of a set that these bytes name, and writes what comes of it.

@@ -1,10 +1,9 @@
 -- Answers in colour, of what was collected in memory.
 use Rattle.std.proofs.Common.{◌≡◌, ◌∙◌, ◌+◌, ◌≤◌, ℕ, List, [], Bool, true, false, Option, Some, IfOk, Result, Ok, Err, arith, codes, if◌then◌else◌, nat_lt, refl, suc, subst, sym, zero}
 use Rattle.std.proofs.lemmas.Bool.Decides.{nat_tests}
-use Rattle.std.specs.Io.KnownBytes.{Appends}
 use Rattle.drvhost_colors.specs.Painted.{IsPainted}
 use Rattle.drvhost_devices.specs.Answer.{Answer}
-use Rattle.drvhost_devices.specs.Device.{Says, TakesBeginning}
+use Rattle.drvhost_devices.specs.Device.{Says}
 use Rattle.drvhost_devices.specs.Ends.{Answers, Ends, OutOfMemory, ReadFailed, Rightly, WriteFailed}
 use Rattle.drvhost_devices.proofs.Writing.{keeps_same}
 use Rattle.drvhost_many.specs.Painted.{IsInColor, IsPaintedAs, IsPaintedOf}
@@ -40,42 +39,18 @@ unread R writes b Tells tells =
       ends = ReadFailed refl refl refl refl (keeps_same b);
     }
 
--- the painted output went out, or a beginning of it
-module _ (plain : Answer) (painted : List ℕ) (is : IsPainted plain.output painted) where
-  abbrev shown : Answer
-  shown = record plain { output = painted }
-
-  shown_is : IsPaintedAs plain shown
-  shown_is = record { status = refl; output = is; told = refl }
-
-  pub painted_whole : (reads before after : ℕ) (b n : Option (List ℕ)) (Tells : List ℕ → Type 0)
-      (status : ℕ) → after ≡ before → Appends b n painted → Tells plain.told
-      → status ≡ plain.status
-      → Answers (IsPaintedAs plain) reads reads before after b n Tells status
-  painted_whole reads before after b n Tells status same out tells ended =
-      record {
-        reads = 0;
-        writes = 0;
-        told = plain.told;
-        reads_are = omega arith;
-        writes_are = same ∙ omega arith;
-        tells = tells;
-        ends = Rightly shown shown_is refl refl ended refl out;
-      }
-
-  pub painted_partly : (reads before after : ℕ) (b n : Option (List ℕ)) (Tells : List ℕ → Type 0)
-      → after ≡ before + 1 → TakesBeginning b n painted → Tells (codes "write failed\n")
-      → Answers (IsPaintedAs plain) reads reads before after b n Tells 2
-  painted_partly reads before after b n Tells more out tells =
-      record {
-        reads = 0;
-        writes = 1;
-        told = codes "write failed\n";
-        reads_are = omega arith;
-        writes_are = more;
-        tells = tells;
-        ends = WriteFailed shown shown_is refl refl refl refl out;
-      }
+-- an answer with its output painted went out
+pub painted_as : (plain : Answer) (painted : List ℕ) → IsPainted plain.output painted
+    → (whole : Answer) (reads before after : ℕ) (b n : Option (List ℕ)) (Tells : List ℕ → Type 0)
+    (status : ℕ) → whole ≡ record plain { output = painted }
+    → Answers (λ answer. answer ≡ whole) reads reads before after b n Tells status
+    → Answers (IsPaintedAs plain) reads reads before after b n Tells status
+painted_as plain painted is whole reads before after b n Tells status same answers =
+    let shown : IsPaintedAs plain (record plain { output = painted }) =
+    record { status = refl; output = is; told = refl } in
+    answers_rightly (λ answer. answer ≡ whole) (IsPaintedAs plain) reads reads reads reads before
+    after b n Tells status answers
+    (λ answer this. subst (IsPaintedAs plain) (sym (this ∙ same)) shown) refl
 
 -- at most one read failed
 few_reads : (R : Answer → Type 0) (reads writes : ℕ) (b n : Option (List ℕ)) (status : ℕ)

@@ -10,7 +10,7 @@ ghost use Rattle.drvhost_many.specs.Held.{IsAnswerTo, IsToldOf};
 ghost use Rattle.drvhost_many.specs.One.{IsJudged, is_in_json};
 
 use crate::named::{One, with_name};
-use crate::painting::{Explaining, explain_shown};
+use crate::painting::explain_shown;
 use drvhost_commands::job::Judging;
 use drvhost_devices::device::{Reader, Sink, Source, Writer};
 use drvhost_devices::told::{Told, collected};
@@ -19,6 +19,7 @@ use drvhost_formats::check::check_json;
 use drvhost_formats::explain::explain_json;
 use drvhost_formats::unopened::unopened_json;
 use drvhost_sets::check::check;
+use drvhost_sets::showing::Explained;
 use report::fault::READ_FAILED;
 use std::alloc::{AllocError, Global};
 
@@ -108,13 +109,10 @@ pub fn judge<S: Source, O: Sink, E: Sink>(
         Judging::Check => check(alloc, set, out, err),
         Judging::CheckJson => check_json(alloc, name, set, out, err),
         Judging::Explain(extent, coloring) => {
-            let explaining = Explaining {
-                extent,
-                coloring,
-                name,
-            };
-            explain_shown(alloc, explaining, set, out, err)
+            explain_shown(alloc, Explained { name, extent }, coloring, set, out, err)
         }
-        Judging::ExplainJson(extent) => explain_json(alloc, extent, name, set, out, err),
+        Judging::ExplainJson(extent) => {
+            explain_json(alloc, Explained { name, extent }, set, out, err)
+        }
     }
 }

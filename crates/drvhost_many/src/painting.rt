@@ -1,6 +1,6 @@
 //! Answers in colour.
 
-ghost use Rattle.std.specs.Prelude.{ℕ, ◌≡◌, if◌then◌else◌};
+ghost use Rattle.std.specs.Prelude.{ℕ, if◌then◌else◌};
 ghost use Rattle.drvhost_devices.specs.Device.{Says};
 ghost use Rattle.drvhost_devices.specs.Ends.{Answers};
 ghost use Rattle.drvhost_devices.specs.Ready.{CanAnswer, CanWrite};
@@ -8,62 +8,51 @@ ghost use Rattle.drvhost_many.specs.Painted.{IsInColor, IsPaintedAs, IsPaintedOf
 ghost use Rattle.drvhost_sets.specs.Explained.{IsFileExplained};
 
 use drvhost_colors::paint::paint;
-use drvhost_devices::device::{Failed, Sink, Source, Writer};
+use drvhost_devices::device::{Sink, Source, Writer};
 use drvhost_devices::fault::{no_memory, say};
-use drvhost_devices::told::{Told, collected};
-use drvhost_devices::transfer::write_whole;
+use drvhost_devices::told::{Told, collected, deliver};
 use drvhost_options::coloring::Coloring;
-use drvhost_options::extent::Extent;
-use drvhost_sets::showing::explain_file;
-use report::fault::{READ_FAILED, WRITE_FAILED};
+use drvhost_sets::showing::{Explained, explain_file};
+use report::fault::READ_FAILED;
 use std::alloc::{AllocError, Global};
-
-/// How the set of a file is explained: which of its faults, whether in colour, and the file's name.
-#[derive(Clone, Copy)]
-pub(crate) struct Explaining<'n> {
-    pub(crate) extent: Extent,
-    pub(crate) coloring: Coloring,
-    pub(crate) name: &'n str,
-}
 
 /// Explains the set of a source, in colour where it is always chosen.
 pub(crate) fn explain_shown<S: Source, O: Sink, E: Sink>(
     alloc: Global,
-    explaining: Explaining<'_>,
+    explained: Explained<'_>,
+    coloring: Coloring,
     set: &mut S,
     out: &mut O,
     err: &mut E,
 ) -> u8
     requires { CanAnswer O.Sink E.Sink (S.failures set.old) out.old err.old }
-    ensures { Answers (IsShown explaining.entry.coloring
-        (IsFileExplained explaining.entry.extent explaining.entry.name.now (S.supply set.old)))
+    ensures { Answers (IsShown coloring
+        (IsFileExplained explained.entry.extent explained.entry.name.now (S.supply set.old)))
         (S.failures set.old) (S.failures set.new) (O.failures out.old) (O.failures out.new)
         (O.contents out.old) (O.contents out.new)
         (Says (E.failures err.old) (E.failures err.new) (E.contents err.old) (E.contents err.new))
         result }
 {
-    let extent = explaining.extent;
-    let name = explaining.name;
-    match explaining.coloring {
-        Coloring::Always => explain_painted(alloc, extent, name, set, out, err),
-        Coloring::Auto => explain_file(alloc, extent, name, set, out, err),
-        Coloring::Never => explain_file(alloc, extent, name, set, out, err),
+    match coloring {
+        Coloring::Always => explain_painted(alloc, explained, set, out, err),
+        Coloring::Auto => explain_file(alloc, explained, set, out, err),
+        Coloring::Never => explain_file(alloc, explained, set, out, err),
     }
 }
 
-/// Explains the set of a source, whose file has this name, in colour: with the paint taken out,
-/// what goes out is what [`explain_file`] writes, and the exit status is the same. It stands in
-/// memory before any of it goes out.
+/// Explains the set of a source in colour: with the paint taken out, what goes out is what
+/// [`explain_file`] writes, and the exit status is the same. It stands in memory before any of it
+/// goes out.
 fn explain_painted<S: Source, O: Sink, E: Sink>(
     alloc: Global,
-    extent: Extent,
-    name: &str,
+    explained: Explained<'_>,
     set: &mut S,
     out: &mut O,
     err: &mut E,
 ) -> u8
     requires { CanAnswer O.Sink E.Sink (S.failures set.old) out.old err.old }
-    ensures { Answers (IsInColor (IsFileExplained extent name.now (S.supply set.old)))
+    ensures { Answers (IsInColor
+        (IsFileExplained explained.entry.extent explained.entry.name.now (S.supply set.old)))
         (S.failures set.old) (S.failures set.new) (O.failures out.old) (O.failures out.new)
         (O.contents out.old) (O.contents out.new)
         (Says (E.failures err.old) (E.failures err.new) (E.contents err.old) (E.contents err.new))
@@ -72,7 +61,7 @@ fn explain_painted<S: Source, O: Sink, E: Sink>(
     let before = set.failures();
     let mut output = Writer::new(Vec::new(alloc));
     let mut errors = Writer::new(Vec::new(alloc));
-    let exit = explain_file(alloc, extent, name, set, &mut output, &mut errors);
+    let exit = explain_file(alloc, explained, set, &mut output, &mut errors);
     let after = set.failures();
     let told = collected(exit, 0, output, errors);
     show(alloc, before < after, told, out, err)
@@ -98,31 +87,24 @@ pub fn show<O: Sink, E: Sink>(
         return 2;
     }
     match told {
-        Ok(told) => write_painted(alloc, &told, out, err),
+        Ok(told) => write_painted(alloc, told, out, err),
         Err(AllocError) => no_memory(err),
     }
 }
 
 /// Writes an answer to its writers, its output painted.
-fn write_painted<O: Sink, E: Sink>(alloc: Global, told: &Told, out: &mut O, err: &mut E) -> u8
+fn write_painted<O: Sink, E: Sink>(alloc: Global, told: Told, out: &mut O, err: &mut E) -> u8
     requires { CanWrite O.Sink E.Sink out.old err.old }
-    ensures { (reads : ℕ) → Answers (IsPaintedAs told.now) reads reads
+    ensures { (reads : ℕ) → Answers (IsPaintedAs told) reads reads
         (O.failures out.old) (O.failures out.new) (O.contents out.old) (O.contents out.new)
         (Says (E.failures err.old) (E.failures err.new) (E.contents err.old) (E.contents err.new))
         result }
 {
-    let painted = match paint(alloc, told.output()) {
-        Ok(painted) => painted,
-        Err(AllocError) => return no_memory(err),
-    };
-    match write_whole(out, painted.as_slice()) {
-        Ok(()) => {
-            say(err, told.told());
-            told.status()
+    match paint(alloc, told.output()) {
+        Ok(painted) => {
+            let shown = told.with_output(painted);
+            deliver(&shown, out, err)
         }
-        Err(Failed) => {
-            say(err, WRITE_FAILED.as_bytes());
-            2
-        }
+        Err(AllocError) => no_memory(err),
     }
 }

@@ -1,10 +1,9 @@
 //! The trace of a run.
 
-ghost use Rattle.std.specs.Prelude.{◌≡◌, ◌+◌, ◌⊎◌, [], IfOk};
-ghost use Rattle.interleave.specs.Listing.{IsWithinLimits};
+ghost use Rattle.std.specs.Prelude.{◌≡◌, ◌+◌, ◌⊎◌, []};
 ghost use Rattle.drvhost_devices.specs.Device.{CanCount};
 ghost use Rattle.drvhost_devices.specs.Ends.{HoldsRun, IsRunOf, IsTraceOf};
-ghost use Rattle.drvhost_devices.specs.Fault.{Goes, ReadsSchedule, reads_failed, writes_failed};
+ghost use Rattle.drvhost_devices.specs.Fault.{Goes, reads_failed, writes_failed};
 ghost use Rattle.drvhost_devices.specs.Ready.{CanAnswer};
 ghost use Rattle.drvhost_sets.specs.Chosen.{set_chosen};
 ghost use Rattle.drvhost_sets.specs.Devices.{AnswersOver};
@@ -12,13 +11,12 @@ ghost use Rattle.drvhost_sets.specs.Devices.{AnswersOver};
 use crate::follow::follow;
 use checked::Checked;
 use drvhost_devices::device::{Sink, Source};
-use drvhost_devices::fault::{End, Fault, of_schedule};
-use drvhost_devices::transfer::read_whole;
+use drvhost_devices::fault::{End, Fault};
+use drvhost_devices::reading::read_schedule;
 use drvhost_devices::verification::Verification;
 use drvhost_sets::job::{Notes, answer};
 use drvhost_sets::judged::{Chosen, Judged, Running};
-use interleave::parse::parse_schedule;
-use interleave::schedule::Schedule;
+use drvhost_sets::taking::Taking;
 use machine::World;
 use report::lines::Lines;
 use std::alloc::Global;
@@ -58,17 +56,22 @@ struct Tracing<'a, P> {
     schedule: &'a mut P,
 }
 
-impl<'a, P: Source> Running for Tracing<'a, P> {
+impl<'a, P: Source> Taking for Tracing<'a, P> {
     ghost use Rattle.std.specs.Prelude.{◌≡◌, refl};
-    ghost use Rattle.drvhost_devices.specs.Ends.{IsRunOf};
-
-    ghost right = { λ running. IsRunOf (P.supply running.schedule.now) };
 
     ghost failures = { λ running. P.failures running.schedule.now };
 
     ghost keeps = { λ old new. new.schedule.ghost_name ≡ old.schedule.ghost_name };
 
     ghost stays = { λ old new. new.schedule.now ≡ old.schedule.now };
+
+    ghost stays_kept = { λ _. (refl, refl) };
+}
+
+impl<'a, P: Source> Running for Tracing<'a, P> {
+    ghost use Rattle.drvhost_devices.specs.Ends.{IsRunOf};
+
+    ghost right = { λ running. IsRunOf (P.supply running.schedule.now) };
 
     fn run<O: Sink>(
         &mut self,
@@ -80,8 +83,6 @@ impl<'a, P: Source> Running for Tracing<'a, P> {
     ) -> Result<End, Fault> {
         trace_chosen(alloc, chosen, self.schedule, &mut notes.lines, out)
     }
-
-    ghost stays_kept = { λ running. (refl, refl) };
 }
 
 /// Runs an accepted set to the end of its schedule, and any other up to the first bug check or
@@ -111,19 +112,5 @@ fn trace_chosen<P: Source, O: Sink>(
             Ok(mut machine) => follow(&mut machine, &schedule, lines, out),
             Err((_set, _refused)) => Err(Fault::Memory),
         },
-    }
-}
-
-/// The schedule that the text of a source lists.
-fn read_schedule<P: Source>(alloc: Global, source: &mut P) -> Result<Schedule, Fault>
-    requires { CanCount (P.failures source.old) }
-    ensures schedule { ReadsSchedule (P.supply source.old) result }
-    ensures reads { P.failures source.new ≡ P.failures source.old + reads_failed result }
-    ensures limits { IfOk result IsWithinLimits }
-{
-    let text = read_whole(alloc, source)?;
-    match parse_schedule(alloc, text.as_slice()) {
-        Ok(schedule) => Ok(schedule),
-        Err(fault) => Err(of_schedule(fault)),
     }
 }

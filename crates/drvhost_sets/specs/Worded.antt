@@ -1,4 +1,4 @@
--- Words behind the line of a faulty schedule.
+-- What gathers while a job is done, and words behind the line of a faulty schedule.
 use Rattle.std.specs.Prelude.{ℕ, ⊤, ◌≡◌, ◌≢◌, ◌++◌, ◌⊎◌, List, [], Result, Ok, Err}
 use Rattle.interleave.specs.declared.schedule.ScheduleFault.{ScheduleFault}
 use Rattle.report.specs.Fault.{schedule_fault_line}
@@ -7,6 +7,11 @@ use Rattle.drvhost_devices.specs.declared.fault.Fault.{Fault}
 use Rattle.drvhost_devices.specs.declared.fault.Fault.TheVariants.{Read, Write, Memory, Text, Image, Schedule as OfSchedule, Script as OfScript}
 use Rattle.drvhost_devices.specs.Answer.{Answer, faulty}
 use Rattle.drvhost_devices.specs.Fault.{TellsLine, status_of, told_of}
+
+-- nothing has gathered, neither lines nor words
+pub record AreEmpty (gathered told : List ℕ) : Type 0 where
+  pub lines : gathered ≡ []
+  pub words : told ≡ []
 
 -- a job ended so that a faulty schedule is rightly told, whatever words stand behind its line
 abbrev pub TakesWords : (Answer → Type 0) → Result End Fault → Type 0

@@ -13,6 +13,7 @@ ghost use Rattle.drvhost_devices.specs.Ready.{CanAnswer};
 ghost use Rattle.drvhost_sets.specs.Devices.{AnswersOver};
 
 use crate::job::{Job, Notes, answer};
+use crate::taking::Taking;
 use drvhost_devices::device::{Sink, Source};
 use drvhost_devices::fault::{End, Fault};
 use drvhost_devices::transfer::make_room;
@@ -43,6 +44,10 @@ pub fn check<S: Source, O: Sink, E: Sink>(
 #[derive(Drop)]
 struct Judgement;
 
+impl Taking for Judgement {
+    ghost stays_kept = { λ _. (tt, tt) };
+}
+
 impl Job for Judgement {
     ghost use Rattle.drvhost_devices.specs.Answer.{IsVerdict};
 
@@ -58,8 +63,6 @@ impl Job for Judgement {
     ) -> Result<End, Fault> {
         judge(alloc, set, &mut notes.lines, out)
     }
-
-    ghost stays_kept = { λ _. (tt, tt) };
 }
 
 /// Judges a set: adds the lines of an accepted one, or the line of a refusal.

@@ -1,6 +1,6 @@
 //! What is done with the driver set of one file, from its bytes to the exit status.
 
-ghost use Rattle.std.specs.Prelude.{◌≡◌, ◌+◌, ◌⊎◌, ⊤, ℕ, [], IfOk};
+ghost use Rattle.std.specs.Prelude.{◌≡◌, ◌+◌, ◌⊎◌, ⊤, [], IfOk};
 ghost use Rattle.model.specs.Set.{Set};
 ghost use Rattle.drvhost_devices.specs.Answer.{Answer};
 ghost use Rattle.drvhost_devices.specs.Device.{CanCount, Says};
@@ -8,8 +8,9 @@ ghost use Rattle.drvhost_devices.specs.Ends.{HoldsSet, IsOfSupply};
 ghost use Rattle.drvhost_devices.specs.Fault.{Goes, reads_failed, writes_failed};
 ghost use Rattle.drvhost_devices.specs.Ready.{CanAnswer};
 ghost use Rattle.drvhost_sets.specs.Devices.{AnswersOver};
-ghost use Rattle.drvhost_sets.specs.Worded.{TakesWords, TellsEnd};
+ghost use Rattle.drvhost_sets.specs.Worded.{AreEmpty, TakesWords, TellsEnd};
 
+use crate::taking::Taking;
 use drvhost_devices::device::{Sink, Source};
 use drvhost_devices::fault::{End, Fault, finish, no_memory, say_with_words};
 use drvhost_devices::reading::set_of;
@@ -30,8 +31,7 @@ pub struct Notes {
 impl Notes {
     /// Room for a line, and no words.
     fn new(alloc: Global) -> Result<Notes, AllocError>
-        ensures empty { IfOk result (λ notes. notes.lines ≡ []) }
-        ensures wordless { IfOk result (λ notes. notes.words.items ≡ []) }
+        ensures { IfOk result (λ notes. AreEmpty notes.lines notes.words.items) }
     {
         Ok(Notes {
             lines: Lines::new(alloc)?,
@@ -41,21 +41,12 @@ impl Notes {
 }
 
 /// What is done with a driver set, and what else it takes for it.
-pub trait Job {
+pub trait Job: Taking {
     // The right answers for a set.
     ghost right: { Self → Set → Answer → Type 0 };
 
-    // How often a read of what else it takes has failed so far.
-    ghost failures: { Self → ℕ } = { λ _. 0 };
-
     // It takes something else for such a set alone.
     ghost needs: { Self → Set → Type 0 } = { λ _ _. ⊤ };
-
-    // It is as it was, but for what it has taken.
-    ghost keeps: { Self → Self → Type 0 } = { λ _ _. ⊤ };
-
-    // It has taken nothing.
-    ghost stays: { Self → Self → Type 0 } = { λ _ _. ⊤ };
 
     /// Does it with the set that the bytes of a file name. What it says goes out, but for the lines
     /// that gather last.
@@ -67,19 +58,16 @@ pub trait Job {
         notes: &mut Notes,
         out: &mut O,
     ) -> Result<End, Fault>
-        requires others { CanCount (failures self.old) }
+        requires others { CanCount (Self.failures self.old) }
         requires out { CanCount (O.failures out.old) }
-        requires empty { notes.old.lines ≡ [] }
-        requires wordless { notes.old.words.items ≡ [] }
-        ensures keeps { keeps self.old self.new }
-        ensures unread { stays self.old self.new ⊎ needs self.old set }
+        requires empty { AreEmpty notes.old.lines notes.old.words.items }
+        ensures keeps { Self.keeps self.old self.new }
+        ensures unread { Self.stays self.old self.new ⊎ needs self.old set }
         ensures goes { Goes (right self.old set) (O.contents out.old) (O.contents out.new) []
             notes.new.lines result }
         ensures words { (notes.new.words.items ≡ []) ⊎ TakesWords (right self.old set) result }
-        ensures reads { failures self.new ≡ failures self.old + reads_failed result }
+        ensures reads { Self.failures self.new ≡ Self.failures self.old + reads_failed result }
         ensures writes { O.failures out.new ≡ O.failures out.old + writes_failed result };
-
-    ghost stays_kept: { (job : Self) → keeps job job × stays job job };
 }
 
 /// Does a job with the set that the bytes of a source name. The answer is the exit status. Faults
@@ -119,8 +107,7 @@ fn perform_on<J: Job, S: Source, O: Sink>(
     requires others { CanCount (J.failures job.old) }
     requires set { CanCount (S.failures set.old) }
     requires out { CanCount (O.failures out.old) }
-    requires empty { notes.old.lines ≡ [] }
-    requires wordless { notes.old.words.items ≡ [] }
+    requires empty { AreEmpty notes.old.lines notes.old.words.items }
     ensures keeps { J.keeps job.old job.new }
     ensures unread { J.stays job.old job.new ⊎ HoldsSet (J.needs job.old) (S.supply set.old) }
     ensures goes { Goes (IsOfSupply (J.right job.old) (S.supply set.old)) (O.contents out.old)

@@ -1,16 +1,17 @@
 //! Jobs that run a driver set, which has to be accepted, or needn't be.
 
-ghost use Rattle.std.specs.Prelude.{◌≡◌, ◌+◌, ◌⊎◌, ℕ, [], IfOk};
+ghost use Rattle.std.specs.Prelude.{◌≡◌, ◌+◌, ◌⊎◌, [], IfOk};
 ghost use Rattle.model.specs.Set.{Set};
 ghost use Rattle.model.specs.Typable.{IsTypable};
 ghost use Rattle.drvhost_devices.specs.Answer.{Answer, IsIfAccepted};
 ghost use Rattle.drvhost_devices.specs.Device.{CanCount};
 ghost use Rattle.drvhost_devices.specs.Fault.{Goes, reads_failed, writes_failed};
 ghost use Rattle.drvhost_sets.specs.Chosen.{set_chosen};
-ghost use Rattle.drvhost_sets.specs.Worded.{TakesWords};
+ghost use Rattle.drvhost_sets.specs.Worded.{AreEmpty, TakesWords};
 
 use crate::check::refuse;
 use crate::job::{Job, Notes};
+use crate::taking::Taking;
 use drvhost_devices::device::Sink;
 use drvhost_devices::fault::{End, Fault};
 use drvhost_devices::verification::Verification;
@@ -43,18 +44,9 @@ impl Chosen {
 }
 
 /// A run of a set, and what else it takes for it.
-pub trait Running {
+pub trait Running: Taking {
     // The right answers for a set.
     ghost right: { Self → Set → Answer → Type 0 };
-
-    // How often a read of what else it takes has failed so far.
-    ghost failures: { Self → ℕ };
-
-    // It is as it was, but for what it has taken.
-    ghost keeps: { Self → Self → Type 0 };
-
-    // It has taken nothing.
-    ghost stays: { Self → Self → Type 0 };
 
     /// Runs a set, which the bytes of a file name.
     fn run<O: Sink>(
@@ -65,19 +57,16 @@ pub trait Running {
         notes: &mut Notes,
         out: &mut O,
     ) -> Result<End, Fault>
-        requires others { CanCount (failures self.old) }
+        requires others { CanCount (Self.failures self.old) }
         requires out { CanCount (O.failures out.old) }
-        requires empty { notes.old.lines ≡ [] }
-        requires wordless { notes.old.words.items ≡ [] }
-        ensures keeps { keeps self.old self.new }
+        requires empty { AreEmpty notes.old.lines notes.old.words.items }
+        ensures keeps { Self.keeps self.old self.new }
         ensures goes { Goes (right self.old (set_chosen chosen)) (O.contents out.old)
             (O.contents out.new) [] notes.new.lines result }
         ensures words { (notes.new.words.items ≡ [])
             ⊎ TakesWords (right self.old (set_chosen chosen)) result }
-        ensures reads { failures self.new ≡ failures self.old + reads_failed result }
+        ensures reads { Self.failures self.new ≡ Self.failures self.old + reads_failed result }
         ensures writes { O.failures out.new ≡ O.failures out.old + writes_failed result };
-
-    ghost stays_kept: { (running : Self) → keeps running running × stays running running };
 }
 
 /// The job of running a set if it is accepted, or needn't be.
@@ -87,18 +76,22 @@ pub struct Judged<R> {
     pub verification: Verification,
 }
 
+impl<R: Running> Taking for Judged<R> {
+    ghost failures = { λ job. R.failures job.running };
+
+    ghost keeps = { λ old new. R.keeps old.running new.running };
+
+    ghost stays = { λ old new. R.stays old.running new.running };
+
+    ghost stays_kept = { λ job. R.stays_kept job.running };
+}
+
 impl<R: Running> Job for Judged<R> {
     ghost use Rattle.drvhost_devices.specs.Answer.{IsToRun, IsTraced};
 
     ghost right = { λ job. IsTraced job.verification (R.right job.running) };
 
-    ghost failures = { λ job. R.failures job.running };
-
     ghost needs = { λ job. IsToRun job.verification };
-
-    ghost keeps = { λ old new. R.keeps old.running new.running };
-
-    ghost stays = { λ old new. R.stays old.running new.running };
 
     fn perform<O: Sink>(
         &mut self,
@@ -115,8 +108,6 @@ impl<R: Running> Job for Judged<R> {
             Verification::Skipped => self.running.run(alloc, bytes, Chosen::Any(set), notes, out),
         }
     }
-
-    ghost stays_kept = { λ job. R.stays_kept job.running };
 }
 
 /// Runs a set if it is accepted, and else adds the line of its refusal.
@@ -130,8 +121,7 @@ fn run_verified<R: Running, O: Sink>(
 ) -> Result<End, Fault>
     requires others { CanCount (R.failures running.old) }
     requires out { CanCount (O.failures out.old) }
-    requires empty { notes.old.lines ≡ [] }
-    requires wordless { notes.old.words.items ≡ [] }
+    requires empty { AreEmpty notes.old.lines notes.old.words.items }
     ensures keeps { R.keeps running.old running.new }
     ensures unread { R.stays running.old running.new ⊎ IsTypable set }
     ensures goes { Goes (IsIfAccepted (R.right running.old) set) (O.contents out.old)

@@ -14,5 +14,6 @@ pub mod list;
 pub mod rewriting;
 pub mod rule;
 pub mod showing;
+pub mod taking;
 pub mod version;
 pub mod warning;

@@ -9,6 +9,7 @@ ghost use Rattle.drvhost_devices.specs.Ready.{CanAnswer};
 ghost use Rattle.drvhost_sets.specs.Devices.{AnswersOver};
 
 use crate::job::{Job, Notes, answer};
+use crate::taking::Taking;
 use asm::disassemble;
 use drvhost_devices::device::{Sink, Source};
 use drvhost_devices::fault::{End, Fault};
@@ -31,6 +32,10 @@ pub fn list<S: Source, O: Sink, E: Sink>(alloc: Global, set: &mut S, out: &mut O
 #[derive(Drop)]
 struct Listing;
 
+impl Taking for Listing {
+    ghost stays_kept = { λ _. (tt, tt) };
+}
+
 impl Job for Listing {
     ghost use Rattle.drvhost_devices.specs.Answer.{IsListing};
 
@@ -46,8 +51,6 @@ impl Job for Listing {
     ) -> Result<End, Fault> {
         write_listing(alloc, &set, out)
     }
-
-    ghost stays_kept = { λ _. (tt, tt) };
 }
 
 /// Writes the listing of a set.

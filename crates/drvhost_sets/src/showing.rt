@@ -20,27 +20,34 @@ use std::alloc::Global;
 /// What stands before the name of a file whose set is refused.
 const HUNT: &str = "show it: drvhost hunt ";
 
+/// What is explained: the set of the file of a name, and which of its faults.
+#[derive(Clone, Copy)]
+pub struct Explained<'n> {
+    pub name: &'n str,
+    pub extent: Extent,
+}
+
 /// Writes the verdict on the set of a file and words on it, as [`explain`] does, and behind those
 /// on a refused one the command that looks for a run which shows what is wrong with it. The answer
 /// is the exit status, as that of `explain`.
 pub fn explain_file<S: Source, O: Sink, E: Sink>(
     alloc: Global,
-    extent: Extent,
-    name: &str,
+    explained: Explained<'_>,
     set: &mut S,
     out: &mut O,
     err: &mut E,
 ) -> u8
     requires { CanAnswer O.Sink E.Sink (S.failures set.old) out.old err.old }
-    ensures { AnswersOver O.Sink E.Sink (IsFileExplained extent name.now (S.supply set.old))
+    ensures { AnswersOver O.Sink E.Sink
+        (IsFileExplained explained.entry.extent explained.entry.name.now (S.supply set.old))
         (S.failures set.old) (S.failures set.new) out.old out.new err.old err.new result }
 {
     let failures = err.failures();
-    let status = explain(alloc, extent, set, out, err);
+    let status = explain(alloc, explained.extent, set, out, err);
     if status != 1 {
         return status;
     }
-    match write_hunt(name, out) {
+    match write_hunt(explained.name, out) {
         Ok(()) => status,
         Err(_fault) => {
             say_behind(WRITE_FAILED.as_bytes(), failures, err);

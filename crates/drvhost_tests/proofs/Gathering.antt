@@ -8,7 +8,6 @@ use Rattle.std.proofs.lemmas.List.Elements.{All-head, All-tail}
 use Rattle.std.proofs.lemmas.Slice.Zip.{AllZip-long}
 use Rattle.verifier.proofs.FirstRules.{neither}
 use Rattle.std.proofs.lemmas.List.Sums.{sum_by-cons}
-use Rattle.std.specs.Io.KnownBytes.{Appends}
 use Rattle.asm.specs.declared.fault.AsmFault.{AsmFault}
 use Rattle.image.specs.declared.fault.ImageFault.{ImageFault}
 use Rattle.interleave.specs.declared.schedule.ScheduleFault.{ScheduleFault}
@@ -26,8 +25,8 @@ use Rattle.drvhost_devices.specs.declared.fault.Fault.{Fault}
 use Rattle.drvhost_devices.specs.declared.fault.Fault.TheVariants.{Read, Write, Memory, Text, Image, Schedule as OfSchedule, Script as OfScript}
 use Rattle.drvhost_devices.specs.declared.verification.Verification.TheVariants.{Required}
 use Rattle.drvhost_devices.specs.Fault.{ReadsSet, failed_reads}
-use Rattle.drvhost_devices.specs.Device.{Bytes, Closed, Holds, IsSuppliedAs, Says, Supply, TakesBeginning, Unknown}
-use Rattle.drvhost_devices.specs.Ends.{Answers, Ends, OutOfMemory, Rightly, WriteFailed}
+use Rattle.drvhost_devices.specs.Device.{Bytes, Closed, Holds, IsSuppliedAs, Says, Supply, Unknown}
+use Rattle.drvhost_devices.specs.Ends.{Answers, Ends, OutOfMemory}
 use Rattle.drvhost_devices.proofs.Writing.{keeps_same}
 use Rattle.drvhost_files.specs.declared.reading.Contents.{Contents}
 use Rattle.drvhost_files.specs.declared.reading.Contents.TheVariants.{Whole, Unread, Unopened, Lacking}
@@ -368,36 +367,6 @@ refused_tested asked names supply bytes set refusal opened reads answer (inl e) 
     absurd (some (ap (λ (r : Refusal). r.rule) e))
 refused_tested asked names supply bytes set refusal opened reads answer (inr first) some right =
     inr (refusal, first, right)
-
--- an answer goes out
-pub answer_written : (whole : Answer) (reads w x e f : ℕ) (b n p q : Option (List ℕ)) → x ≡ w
-    → Appends b n whole.output → Says e f p q whole.told
-    → Answers (λ answer. answer ≡ whole) reads reads w x b n (Says e f p q) whole.status
-answer_written whole reads w x e f b n p q same out says =
-    record {
-      reads = 0;
-      writes = 0;
-      told = whole.told;
-      reads_are = omega arith;
-      writes_are = omega (arith, same);
-      tells = says;
-      ends = Rightly whole refl refl refl refl refl out;
-    }
-
--- or a beginning of it
-pub answer_broken : (whole : Answer) (reads w x e f : ℕ) (b n p q : Option (List ℕ)) → x ≡ w + 1
-    → TakesBeginning b n whole.output → Says e f p q (codes "write failed\n")
-    → Answers (λ answer. answer ≡ whole) reads reads w x b n (Says e f p q) 2
-answer_broken whole reads w x e f b n p q more taken says =
-    record {
-      reads = 0;
-      writes = 1;
-      told = codes "write failed\n";
-      reads_are = omega arith;
-      writes_are = omega (arith, more);
-      tells = says;
-      ends = WriteFailed whole refl refl refl refl refl taken;
-    }
 
 -- all is gathered, and the answer goes out
 pub tests_end : {E : Type 0} (R : ℕ → ℕ → Answer → Type 0) (o p r s w x : ℕ)

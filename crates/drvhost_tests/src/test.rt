@@ -1,8 +1,6 @@
 //! Tests of a driver set.
 
-ghost use Rattle.std.specs.Prelude.{◌≡◌, ◌<◌, ◌^◌, ℕ};
 ghost use Rattle.drvhost_devices.specs.Device.{Says};
-ghost use Rattle.drvhost_devices.specs.Ends.{Answers};
 ghost use Rattle.drvhost_devices.specs.Ready.{CanWrite};
 ghost use Rattle.drvhost_files.specs.Kept.{OnlyReads};
 ghost use Rattle.drvhost_files.specs.Ready.{CanOpenMany};
@@ -12,16 +10,14 @@ ghost use Rattle.drvhost_tests.specs.Told.{asked_of};
 
 use crate::set::test_set;
 use drvhost_commands::job::Report;
-use drvhost_devices::device::{Failed, Sink};
-use drvhost_devices::fault::{no_memory, say};
-use drvhost_devices::told::Told;
-use drvhost_devices::transfer::write_whole;
+use drvhost_devices::device::Sink;
+use drvhost_devices::fault::no_memory;
+use drvhost_devices::told::{Told, deliver};
 use drvhost_devices::verification::Verification;
 use drvhost_files::files::Files;
 use drvhost_found::sought::{Search, Sought};
 use drvhost_many::paths::find_all;
 use drvhost_options::verbosity::Verbosity;
-use report::fault::WRITE_FAILED;
 use std::alloc::{AllocError, Global};
 use std::thread::Threads;
 
@@ -107,24 +103,4 @@ pub(crate) struct Suite<'n> {
     pub alloc: Global,
     pub tests: Tests<'n>,
     pub names: &'n [String],
-}
-
-/// Writes an answer to its writers.
-fn deliver<O: Sink, E: Sink>(told: &Told, out: &mut O, err: &mut E) -> u8
-    requires { CanWrite O.Sink E.Sink out.old err.old }
-    ensures { (reads : ℕ) → Answers (λ answer. answer ≡ told.now) reads reads
-        (O.failures out.old) (O.failures out.new) (O.contents out.old) (O.contents out.new)
-        (Says (E.failures err.old) (E.failures err.new) (E.contents err.old) (E.contents err.new))
-        result }
-{
-    match write_whole(out, told.output()) {
-        Ok(()) => {
-            say(err, told.told());
-            told.status()
-        }
-        Err(Failed) => {
-            say(err, WRITE_FAILED.as_bytes());
-            2
-        }
-    }
 }

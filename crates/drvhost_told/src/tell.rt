@@ -20,6 +20,7 @@ use drvhost_formats::outcome::Outcome;
 use drvhost_formats::trace::read_schedule;
 use drvhost_options::manner::Strictness;
 use drvhost_sets::judged::Chosen;
+use drvhost_sets::taking::Taking;
 use report_json::fault::InputFault;
 use report_json::json_lines::JsonLines;
 use std::alloc::Global;
@@ -73,17 +74,22 @@ struct TellingRun<'a, P> {
     schedule: &'a mut P,
 }
 
-impl<'a, P: Source> Running for TellingRun<'a, P> {
+impl<'a, P: Source> Taking for TellingRun<'a, P> {
     ghost use Rattle.std.specs.Prelude.{◌≡◌, refl};
-    ghost use Rattle.drvhost_told.specs.Tell.{IsRunToldOf};
-
-    ghost right = { λ running. IsRunToldOf running.asked (P.supply running.schedule.now) };
 
     ghost failures = { λ running. P.failures running.schedule.now };
 
     ghost keeps = { λ old new. new.schedule.ghost_name ≡ old.schedule.ghost_name };
 
     ghost stays = { λ old new. new.schedule.now ≡ old.schedule.now };
+
+    ghost stays_kept = { λ _. (refl, refl) };
+}
+
+impl<'a, P: Source> Running for TellingRun<'a, P> {
+    ghost use Rattle.drvhost_told.specs.Tell.{IsRunToldOf};
+
+    ghost right = { λ running. IsRunToldOf running.asked (P.supply running.schedule.now) };
 
     fn run<O: Sink>(
         &mut self,
@@ -95,8 +101,6 @@ impl<'a, P: Source> Running for TellingRun<'a, P> {
     ) -> Result<Outcome, Fault> {
         tell_chosen(alloc, self.asked, bytes, chosen, self.schedule, lines)
     }
-
-    ghost stays_kept = { λ _. (refl, refl) };
 }
 
 /// Tells the run of a set.

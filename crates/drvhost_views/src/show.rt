@@ -13,15 +13,15 @@ use crate::drawing::draw_run;
 use crate::telling::{Told, tell_run};
 use checked::Checked;
 use drvhost_devices::device::{Sink, Source};
-use drvhost_devices::fault::{End, Fault, of_schedule};
-use drvhost_devices::reading::source_of;
+use drvhost_devices::fault::{End, Fault};
+use drvhost_devices::reading::{schedule_of, source_of};
 use drvhost_devices::transfer::read_whole;
 use drvhost_options::figure::Figure;
 use drvhost_options::manner::Manner;
 use drvhost_sets::job::Notes;
 use drvhost_sets::judged::{Chosen, Running};
+use drvhost_sets::taking::Taking;
 use image::DriverSet;
-use interleave::parse::parse_schedule;
 use interleave::schedule::Schedule;
 use interleave_faults::fault_words;
 use report::lines::Lines;
@@ -44,17 +44,22 @@ pub(crate) struct Shown<'a, P> {
     pub(crate) showing: Showing,
 }
 
-impl<'a, P: Source> Running for Shown<'a, P> {
+impl<'a, P: Source> Taking for Shown<'a, P> {
     ghost use Rattle.std.specs.Prelude.{◌≡◌, refl};
-    ghost use Rattle.drvhost_views.specs.Told.{IsShownRunOf};
-
-    ghost right = { λ running. IsShownRunOf running.showing (P.supply running.schedule.now) };
 
     ghost failures = { λ running. P.failures running.schedule.now };
 
     ghost keeps = { λ old new. new.schedule.ghost_name ≡ old.schedule.ghost_name };
 
     ghost stays = { λ old new. new.schedule.now ≡ old.schedule.now };
+
+    ghost stays_kept = { λ _. (refl, refl) };
+}
+
+impl<'a, P: Source> Running for Shown<'a, P> {
+    ghost use Rattle.drvhost_views.specs.Told.{IsShownRunOf};
+
+    ghost right = { λ running. IsShownRunOf running.showing (P.supply running.schedule.now) };
 
     fn run<O: Sink>(
         &mut self,
@@ -68,8 +73,6 @@ impl<'a, P: Source> Running for Shown<'a, P> {
         let set = chosen.into_set(alloc)?;
         self.show(alloc, bytes, set, notes, out)
     }
-
-    ghost stays_kept = { λ running. (refl, refl) };
 }
 
 impl<'a, P: Source> Shown<'a, P> {
@@ -144,13 +147,11 @@ fn read_schedule<P: Source>(
     ensures limits { IfOk result IsWithinLimits }
 {
     let text = read_whole(alloc, source)?;
-    match parse_schedule(alloc, text.as_slice()) {
-        Ok(schedule) => Ok(schedule),
-        Err(fault) => {
-            *words = fault_words(alloc, text.as_slice(), fault)?.into_bytes();
-            Err(of_schedule(fault))
-        }
+    let read = schedule_of(alloc, text.as_slice());
+    if let Err(Fault::Schedule(fault)) = read {
+        *words = fault_words(alloc, text.as_slice(), fault)?.into_bytes();
     }
+    read
 }
 
 /// Shows the run of a machine by a schedule: with the names and the lines of a text that names its

@@ -5,7 +5,7 @@ ghost use Rattle.drvhost_devices.specs.Device.{CanCount};
 ghost use Rattle.drvhost_devices.specs.Ends.{HoldsRun};
 ghost use Rattle.drvhost_devices.specs.Ready.{CanAnswer};
 ghost use Rattle.drvhost_sets.specs.Devices.{AnswersOver};
-ghost use Rattle.drvhost_many.specs.Painted.{IsInColor, IsShown};
+ghost use Rattle.drvhost_many.specs.Painted.{IsShown};
 ghost use Rattle.drvhost_views.specs.Told.{IsTellOf};
 
 use drvhost_devices::device::{Sink, Source, Writer};
@@ -25,7 +25,9 @@ pub(crate) struct Shown {
     pub(crate) coloring: Coloring,
 }
 
-/// Tells the run of a set by a schedule, in colour where it is always chosen.
+/// Tells the run of a set by a schedule, in colour where it is always chosen: with the paint taken
+/// out, what goes out is then what [`tell`] writes, and the exit status is the same. It stands in
+/// memory before any of it goes out.
 pub(crate) fn tell_shown<S: Source, P: Source, O: Sink, E: Sink>(
     alloc: Global,
     set: &mut S,
@@ -49,39 +51,18 @@ pub(crate) fn tell_shown<S: Source, P: Source, O: Sink, E: Sink>(
         manner: shown.manner,
     };
     match shown.coloring {
-        Coloring::Always => tell_painted(alloc, set, schedule, telling, out, err),
+        Coloring::Always => {
+            let before = failures_of(set, schedule);
+            let mut output = Writer::new(Vec::new(alloc));
+            let mut errors = Writer::new(Vec::new(alloc));
+            let exit = tell(alloc, set, schedule, telling, &mut output, &mut errors);
+            let after = failures_of(set, schedule);
+            let told = collected(exit, 0, output, errors);
+            show(alloc, before < after, told, out, err)
+        }
         Coloring::Auto => tell(alloc, set, schedule, telling, out, err),
         Coloring::Never => tell(alloc, set, schedule, telling, out, err),
     }
-}
-
-/// Tells the run in colour: with the paint taken out, what goes out is what [`tell`] writes, and
-/// the exit status is the same. It stands in memory before any of it goes out.
-fn tell_painted<S: Source, P: Source, O: Sink, E: Sink>(
-    alloc: Global,
-    set: &mut S,
-    schedule: &mut P,
-    telling: Telling,
-    out: &mut O,
-    err: &mut E,
-) -> u8
-    requires devices { CanAnswer O.Sink E.Sink (S.failures set.old) out.old err.old }
-    requires schedule { CanCount (P.failures schedule.old) }
-    ensures unread { (schedule.new ≡ schedule.old)
-        ⊎ HoldsRun telling.verification (S.supply set.old) }
-    ensures answers { AnswersOver O.Sink E.Sink (IsInColor
-        (IsTellOf telling.verification telling.manner (S.supply set.old) (P.supply schedule.old)))
-        (S.failures set.old + P.failures schedule.old)
-        (S.failures set.new + P.failures schedule.new)
-        out.old out.new err.old err.new result }
-{
-    let before = failures_of(set, schedule);
-    let mut output = Writer::new(Vec::new(alloc));
-    let mut errors = Writer::new(Vec::new(alloc));
-    let exit = tell(alloc, set, schedule, telling, &mut output, &mut errors);
-    let after = failures_of(set, schedule);
-    let told = collected(exit, 0, output, errors);
-    show(alloc, before < after, told, out, err)
 }
 
 /// How many reads of two sources failed.

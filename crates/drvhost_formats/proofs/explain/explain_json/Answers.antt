@@ -4,5 +4,6 @@ use Rattle.drvhost_formats.proofs.explain.explain_json.Goals as goal
 
 pub returns : goal.returns
 returns g c =
-    alone (IsExplainJsonOf c.args.extent c.args.name.now (g.S.Source.supply c.args.set.now))
+    let asked = c.args.explained in
+    alone (IsExplainJsonOf asked.extent asked.name.now (g.S.Source.supply c.args.set.now))
     _ _ _ _ _ _ _ _ c.answer.ensures.answers

@@ -6,7 +6,8 @@ use Rattle.drvhost_many.proofs.painting.explain_painted.Goals as goal
 pub returns : goal.returns
 returns g c =
     collected_painted
-    (IsFileExplained c.args.extent c.args.name.now (g.S.Source.supply c.args.set.now))
+    (IsFileExplained c.args.explained.extent c.args.explained.name.now
+    (g.S.Source.supply c.args.set.now))
     _ _ _ _ _ _ _ _ _ _ _ _ _ _ _ _ _ _ _ c.explain_file-exit.ensures
     c.new-output.ensures.failures c.new-errors.ensures.failures
     (c.new-output.ensures.contents ∙ ap (λ l. Some l) c.new.ensures.items)

@@ -17,4 +17,4 @@ returns-in-Err-clause-goes g c =
     (IsIfAccepted (g.R.Running.right c.args.running.now) c.args.set) _ _ _ _ _
     (λ answer refused. inr refused)
     (goes_refused c.args.set c.in-Err.refusal _ _ _ c.in-Err.ensures.refused.1
-    (rw c.requires.empty at c.refuse.ensures.refused) c.refuse.ensures.memory)
+    (rw c.requires.empty.lines at c.refuse.ensures.refused) c.refuse.ensures.memory)

@@ -12,7 +12,7 @@ returns-then-status-ne1 g c =
       reads_are = its.reads_are;
       writes_are = its.writes_are;
       tells = its.tells;
-      ends = ends_unshown c.args.extent c.args.name.now (g.S.Source.supply c.args.set.now)
+      ends = ends_unshown c.args.explained.extent c.args.explained.name.now (g.S.Source.supply c.args.set.now)
           its.reads its.writes _ _ _ its.told c.if-status-ne1.true its.ends;
     }
 
@@ -28,8 +28,8 @@ returns-in-Ok g c =
       reads_are = its.reads_are;
       writes_are = omega (arith, its.writes_are, c.in-Ok.ensures.writes);
       tells = its.tells;
-      ends = ends_shown c.args.extent c.args.name.now supply its.reads its.writes _ _ _ _ its.told
-          one (refuses c.args.extent supply its.reads its.writes _ _ _ its.told one its.ends)
+      ends = ends_shown c.args.explained.extent c.args.explained.name.now supply its.reads its.writes _ _ _ _ its.told
+          one (refuses c.args.explained.extent supply its.reads its.writes _ _ _ its.told one its.ends)
           c.in-Ok.ensures.written;
     }
 
@@ -46,7 +46,7 @@ returns-in-Err g c =
       writes_are = omega (arith, its.writes_are, rw c.in-Err.ensures.fault at c.in-Err.ensures.writes);
       tells = (rw (c.failures-failures.ensures, c.as_bytes.ensures.value) at c.say_behind.ensures)
           _ its.told its.tells;
-      ends = ends_unwritten c.args.extent c.args.name.now supply its.reads its.writes _ _ _ its.told
-          (refuses c.args.extent supply its.reads its.writes _ _ _ its.told one its.ends)
+      ends = ends_unwritten c.args.explained.extent c.args.explained.name.now supply its.reads its.writes _ _ _ its.told
+          (refuses c.args.explained.extent supply its.reads its.writes _ _ _ its.told one its.ends)
           c.in-Err.ensures.written;
     }

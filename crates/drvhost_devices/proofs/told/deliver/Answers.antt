@@ -1,5 +1,5 @@
-use Rattle.drvhost_tests.proofs.Gathering.{answer_broken, answer_written}
-use Rattle.drvhost_tests.proofs.test.deliver.Goals as goal
+use Rattle.drvhost_devices.proofs.Delivered.{answer_broken, answer_written}
+use Rattle.drvhost_devices.proofs.told.deliver.Goals as goal
 
 pub returns-in-Ok : goal.returns-in-Ok
 returns-in-Ok g c = λ reads.
