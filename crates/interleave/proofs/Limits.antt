@@ -10,7 +10,7 @@ use Rattle.text.specs.Number.{number_in}
 use Rattle.text.specs.declared.number.Numeral.{Numeral}
 use Rattle.text.specs.declared.number.Numeral.TheVariants.{Other, TooLarge, Number}
 use Rattle.interleave.specs.Line.{within, number_within, ranged, threads_line, opening_of, checked_tokens, and_then, opening_line, event_line}
-use Rattle.interleave.specs.Listing.{lengthened, events_after, at_line, listing, with_threads, opened, opening, Lists, IsWithinLimits}
+use Rattle.interleave.specs.Listing.{lengthened, events_after, at_line, listing, with_threads, started, start, opened, opening, Lists, IsWithinLimits}
 use Rattle.interleave.specs.declared.read.Repeated.{Repeated}
 use Rattle.interleave.specs.declared.schedule.Schedule.{Schedule}
 use Rattle.interleave.specs.declared.schedule.ScheduleFault.{ScheduleFault}
@@ -35,7 +35,7 @@ within_bounds least most TooLarge = tt
 within_bounds least most Other = tt
 
 -- a number of threads
-abbrev IsThreads : Option ℕ → Type 0
+abbrev pub IsThreads : Option ℕ → Type 0
 IsThreads t = IfSome t (λ k. (1 ≤ k) × (k ≤ MAX_THREADS))
 
 ranged_bounds : (t : Option ℕ) → IsThreads t → IfOk (ranged t) IsThreads
@@ -61,7 +61,7 @@ and_then_bounds : {A B : Type 0} (P : B → Type 0) (next : A → Result B Sched
 and_then_bounds P next (Ok a) later = later a
 and_then_bounds P next (Err kind) later = tt
 
-threads_bounds : (line : List ℕ) → IfOk (opening_line line) IsThreads
+pub threads_bounds : (line : List ℕ) → IfOk (opening_line line) IsThreads
 threads_bounds line = and_then_bounds IsThreads opening_of (checked_tokens line) opening_bounds
 
 -- a line takes the events to 1,000,000 at most
@@ -105,21 +105,20 @@ threads_within k (Ok events) some most few =
     record { some_threads = some; most_threads = most; most_events = few }
 threads_within k (Err fault) some most few = tt
 
-opened_within : (n : ℕ) (lines : List (List ℕ)) (t : Option ℕ)
-    (later : Result Schedule ScheduleFault)
-    → IsThreads t → IfOk later IsWithinLimits → IfOk (opened n lines t later) IsWithinLimits
-opened_within n lines (Some k) later here there =
-    threads_within k (listing [] n lines) here.0 here.1 (listing_bound [] n lines (omega arith))
-opened_within n lines None later here there = there
+opened_within : (n : ℕ) (lines : List (List ℕ)) (t : Result (Option ℕ) ScheduleKind)
+    → IfOk t IsThreads → IfOk (opening (n + 1) lines) IsWithinLimits
+    → IfOk (opened (at_line n t (λ threads. started n lines threads (start (n + 1) lines))))
+    IsWithinLimits
+opened_within n lines (Ok (Some k)) here there =
+    threads_within k (listing [] (n + 1) lines) here.0 here.1
+    (listing_bound [] (n + 1) lines (omega arith))
+opened_within n lines (Ok None) here there = there
+opened_within n lines (Err kind) here there = tt
 
 opening_within : (n : ℕ) (lines : List (List ℕ)) → IfOk (opening n lines) IsWithinLimits
 opening_within n [] = tt
 opening_within n (line ∷ lines) =
-    line_bound (λ (t : Option ℕ). IsThreads t) IsWithinLimits n (opening_line line)
-    (λ t. opened (n + 1) lines t (opening (n + 1) lines))
-    (threads_bounds line)
-    (λ t here. opened_within (n + 1) lines t (opening (n + 1) lines) here
-    (opening_within (n + 1) lines))
+    opened_within n lines (opening_line line) (threads_bounds line) (opening_within (n + 1) lines)
 
 -- a schedule that a text lists is within the limits
 pub listed_within : (text : List ℕ) (schedule : Schedule) → Lists text schedule

@@ -6,7 +6,7 @@ use Rattle.std.proofs.lemmas.List.Elements.{All-nil, All-cons, All-head, All-tai
 use Rattle.model.specs.declared.event.Event.{Event}
 use Rattle.text.specs.Cut.{lines_of}
 use Rattle.interleave.specs.Line.{and_then, opening_line, event_line}
-use Rattle.interleave.specs.Listing.{lengthened, events_after, at_line, listing, with_threads, opened, opening, schedule_in, Lists}
+use Rattle.interleave.specs.Listing.{lengthened, events_after, at_line, listing, with_threads, started, start, opened, opening, schedule_in, Lists}
 use Rattle.interleave.specs.Meaning.{times, Tell, IsBlank, Opens, IsListing, IsFirstFault, Blank, InOpening, InEvents}
 use Rattle.interleave.specs.declared.read.Repeated.{Repeated}
 use Rattle.interleave.specs.declared.schedule.Schedule.{Schedule}
@@ -103,7 +103,7 @@ opened_told n line lines s k (Err fault) is was e = let no : ⊥ = cc in absurd 
 
 told_opening : (n : ℕ) (line : List ℕ) (lines : List (List ℕ)) (s : Schedule)
     (t : Result (Option ℕ) ScheduleKind) → opening_line line ≡ t
-    → at_line n t (λ threads. opened (n + 1) lines threads (opening (n + 1) lines)) ≡ Ok s
+    → opened (at_line n t (λ threads. started n lines threads (start (n + 1) lines))) ≡ Ok s
     → (opening (n + 1) lines ≡ Ok s → Opened lines s) → Opened (line ∷ lines) s
 told_opening n line lines s (Ok (Some k)) is e later =
     opened_told n line lines s k (listing [] (n + 1) lines) is refl e
@@ -265,7 +265,7 @@ events_fault n line lines f k (Err g) is was e =
 
 fault_opening : (n : ℕ) (line : List ℕ) (lines : List (List ℕ)) (f : ScheduleFault)
     (t : Result (Option ℕ) ScheduleKind) → opening_line line ≡ t
-    → at_line n t (λ threads. opened (n + 1) lines threads (opening (n + 1) lines)) ≡ Err f
+    → opened (at_line n t (λ threads. started n lines threads (start (n + 1) lines))) ≡ Err f
     → (opening (n + 1) lines ≡ Err f → IsFirstFault (n + 1) lines f)
     → IsFirstFault n (line ∷ lines) f
 fault_opening n line lines f (Ok (Some k)) is e later =

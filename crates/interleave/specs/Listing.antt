@@ -38,17 +38,33 @@ abbrev pub with_threads : ℕ → Result (List Event) ScheduleFault → Result S
 with_threads threads (Ok events) = Ok (record { threads = threads; events = events })
 with_threads threads (Err fault) = Err fault
 
--- where a line says how many threads there are, the rest lists events; a blank line is passed over
-abbrev pub opened : ℕ → List (List ℕ) → Option ℕ → Result Schedule ScheduleFault
-    → Result Schedule ScheduleFault
-opened n lines (Some threads) later = with_threads threads (listing [] n lines)
-opened n lines None later = later
+-- how lines start: how many threads the first of them with a token says there are, its number, and
+-- the lines behind it
+pub record Start : Type 0 where
+  pub threads : ℕ
+  pub line : ℕ
+  pub rest : List (List ℕ)
+
+-- where a line of the number n says how many threads there are, they start; a blank line is passed over
+abbrev pub started : ℕ → List (List ℕ) → Option ℕ → Result Start ScheduleFault
+    → Result Start ScheduleFault
+started n lines (Some threads) later = Ok (record { threads = threads; line = n; rest = lines })
+started n lines None later = later
+
+-- how these lines start, of which the first has the number n
+abbrev pub start : ℕ → List (List ℕ) → Result Start ScheduleFault
+start n [] = Err (record { line = n; kind = UnknownWord })
+start n (line ∷ lines) =
+    at_line n (opening_line line) (λ threads. started n lines threads (start (n + 1) lines))
+
+-- the schedule of a start, with the events of the lines behind it
+abbrev pub opened : Result Start ScheduleFault → Result Schedule ScheduleFault
+opened (Ok s) = with_threads s.threads (listing [] (s.line + 1) s.rest)
+opened (Err fault) = Err fault
 
 -- the schedule of these lines, of which the first has the number n
 abbrev pub opening : ℕ → List (List ℕ) → Result Schedule ScheduleFault
-opening n [] = Err (record { line = n; kind = UnknownWord })
-opening n (line ∷ lines) =
-    at_line n (opening_line line) (λ threads. opened (n + 1) lines threads (opening (n + 1) lines))
+opening n lines = opened (start n lines)
 
 -- the schedule that a text lists, or its first fault
 abbrev pub schedule_in : List ℕ → Result Schedule ScheduleFault

@@ -46,6 +46,13 @@ impl<'a> Left<'a> {
         Some(line)
     }
 
+    /// The text of these lines.
+    pub(crate) fn rest(&self) -> &'a [u8]
+        ensures { lines_of result.now ≡ self.now }
+    {
+        self.rest
+    }
+
     /// Takes the next line, if it has the usual form and an LF, and stands for at most so many
     /// events. It isn't cut off first either.
     #[inline]

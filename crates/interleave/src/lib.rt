@@ -4,6 +4,7 @@
 pub mod events;
 mod kept;
 mod left;
+pub mod opening;
 pub mod parse;
 pub mod quick;
 pub mod read;

@@ -3,13 +3,14 @@
 ghost use Rattle.std.specs.Prelude.{◌≡◌, ◌+◌, ◌<◌, ◌^◌, ◌↔◌, ◌≢◌, ℕ, [], length, IfOk, IfErr};
 ghost use Rattle.std.specs.Prelude.{MatchResult};
 ghost use Rattle.interleave.specs.Listing.{IsFaultOf, IsWithinLimits, Lists, events_after, listing};
-ghost use Rattle.interleave.specs.Listing.{opening, schedule_in, with_threads};
+ghost use Rattle.interleave.specs.Listing.{schedule_in};
 ghost use Rattle.interleave.specs.Meaning.{IsListing, IsFirstFault};
 ghost use Rattle.text.specs.Cut.{lines_of};
 
 use crate::events::Events;
 use crate::left::Left;
-use crate::read::{event_line, opening_line};
+use crate::opening::opening_of;
+use crate::read::event_line;
 use crate::schedule::{MAX_EVENTS, Schedule, ScheduleFault, ScheduleKind};
 use std::alloc::{AllocError, Global};
 
@@ -46,9 +47,8 @@ pub fn parse_schedule(alloc: Global, text: &[u8]) -> Result<Schedule, ScheduleFa
 fn schedule_in(alloc: Global, text: &[u8]) -> Result<Result<Schedule, ScheduleFault>, AllocError>
     ensures { IfOk result (λ r. r ≡ schedule_in text.now) }
 {
-    let mut left = Left::of(text);
-    match find_opening(&mut left) {
-        Ok(opening) => match list(alloc, left, opening.line + 1)? {
+    match opening_of(text) {
+        Ok(opening) => match list(alloc, Left::of(opening.rest), opening.line + 1)? {
             Ok(events) => Ok(Ok(Schedule {
                 threads: opening.threads,
                 events,
@@ -57,35 +57,6 @@ fn schedule_in(alloc: Global, text: &[u8]) -> Result<Result<Schedule, ScheduleFa
         },
         Err(fault) => Ok(Err(fault)),
     }
-}
-
-/// What the first line with a token says, and its number.
-#[derive(Clone, Copy)]
-struct Opening {
-    threads: u8,
-    line: u64,
-}
-
-/// Takes the lines of a text to the one that says how many threads there are.
-fn find_opening(left: &mut Left<'_>) -> Result<Opening, ScheduleFault>
-    requires { length left.old < 2 ^ 63 }
-    ensures { MatchResult result (λ o. (o.line + length left.new < 2 ^ 63)
-        × (opening 1 left.old ≡ with_threads o.threads (listing [] (o.line + 1) left.new)))
-        (λ fault. opening 1 left.old ≡ Err fault) }
-{
-    let mut line: u64 = 1;
-    while let Some(raw) = left.next() {
-        match opening_line(raw) {
-            Ok(Some(threads)) => return Ok(Opening { threads, line }),
-            Ok(None) => {}
-            Err(kind) => return Err(ScheduleFault { line, kind }),
-        }
-        line += 1;
-    }
-    Err(ScheduleFault {
-        line,
-        kind: ScheduleKind::UnknownWord,
-    })
 }
 
 /// The events of lines of which the first has this number.

@@ -136,14 +136,10 @@ fn event_of(mut tokens: Tokens) -> Result<Option<Repeated>, ScheduleKind>
 fn issue_line(mut operands: Tokens) -> Result<Option<Repeated>, ScheduleKind>
     ensures { result ≡ issue_line operands.entry }
 {
-    let four = (
-        operands.next(),
-        operands.next(),
-        operands.next(),
-        operands.next(),
-    );
-    match (four, operands.next()) {
-        ((Some(thread), Some(device), Some(major), Some(argument)), None) => {
+    let place = (operands.next(), operands.next());
+    let request = (operands.next(), operands.next());
+    match (place, request, operands.next()) {
+        ((Some(thread), Some(device)), (Some(major), Some(argument)), None) => {
             issue_of(thread, device, major, argument)
         }
         _ => Err(ScheduleKind::UnknownWord),

@@ -1,11 +1,12 @@
 use Rattle.std.proofs.Common.{◌≡◌, ◌+◌, ◌≤◌, ◌^◌, length}
-use Rattle.interleave.specs.Listing.{opening}
-use Rattle.interleave.proofs.parse.find_opening.Given as goal
+use Rattle.text.specs.Cut.{lines_of}
+use Rattle.interleave.specs.Listing.{start}
+use Rattle.interleave.proofs.opening.opening_of.Given as goal
 
--- the rest opens as the whole does, and its lines can be counted
+-- the rest starts as the whole does, and its lines can be counted
 abbrev pub invariant-loop-raw : goal.invariant-loop-raw
 invariant-loop-raw l = record {
-  same : opening l.line l.left ≡ opening 1 l.fn.left;
+  same : start l.line l.left ≡ start 1 (lines_of l.text);
   counted : l.line + length l.left ≤ 2 ^ 63;
 }
 
