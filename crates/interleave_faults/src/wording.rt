@@ -110,15 +110,13 @@ pub(crate) fn add_out_of_range(
     prose: &mut String,
     line: &FaultyLine<'_>,
 ) -> Result<(), AllocError> {
-    let mut place: usize = 1;
-    for operand in operands_of(line.word()).unwrap_or(&[]) {
-        if let Some(token) = line.token(place) {
-            if let Fit::OutOfRange = operand.fit(token) {
-                add_at_fault(prose, token, ", whose number is out of range")?;
-                return add_expected(prose, operand.words());
-            }
+    let operands = operands_of(line.word()).unwrap_or(&[]);
+    for (operand, token) in operands.iter().zip(line.tokens.iter().skip(1)) {
+        let token = token.bytes();
+        if let Fit::OutOfRange = operand.fit(token) {
+            add_at_fault(prose, token, ", whose number is out of range")?;
+            return add_expected(prose, operand.words());
         }
-        place = place.saturating_add(1);
     }
     Ok(())
 }
