@@ -1,7 +1,7 @@
 //! An answer of the program, in memory.
 
-ghost use Rattle.std.specs.Prelude.{IfOk};
-ghost use Rattle.pafteis_parts.specs.Told.{Collects};
+ghost use Rattle.std.specs.Prelude.{◌≡◌, IfOk};
+ghost use Rattle.drvhost_devices.specs.Told.{Collects};
 
 use drvhost_devices::device::{Sink, Writer};
 use drvhost_devices::told::{self, Told};
@@ -17,7 +17,8 @@ pub(crate) fn collected(
     output: Writer<Vec<u8>>,
     errors: Writer<Vec<u8>>,
 ) -> Result<Told, OutOfMemory>
-    ensures { IfOk result (Collects exit unread unscheduled
+    ensures scheduled { IfOk result (λ _. unscheduled ≡ 0) }
+    ensures collects { IfOk result (Collects exit unread
         (⟦<Writer<Vec<u8>> as Sink>⟧.failures output) (⟦<Writer<Vec<u8>> as Sink>⟧.contents output)
         (⟦<Writer<Vec<u8>> as Sink>⟧.failures errors)
         (⟦<Writer<Vec<u8>> as Sink>⟧.contents errors)) }

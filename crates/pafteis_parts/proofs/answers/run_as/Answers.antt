@@ -16,4 +16,5 @@ returns c =
       c.new.ensures.items,
       c.new-2.ensures.items,
     ) at c.show-exit.ensures)
-    (rw (c.failures.ensures, c.failures-2.ensures) at c.collected.ensures)
+    (rw c.failures-2.ensures at c.collected.ensures.scheduled)
+    (rw c.failures.ensures at c.collected.ensures.collects)
