@@ -229,13 +229,8 @@ impl<'a> Names<'a> {
 fn spot_at(instructions: &[Instruction<'_>], place: Option<usize>) -> Option<Spot>
     ensures { result ≡ spot_at instructions.now place }
 {
-    match place {
-        Some(place) => match instructions.get(place) {
-            Some(instruction) => Some(instruction.spot),
-            None => None,
-        },
-        None => None,
-    }
+    let instruction = instructions.get(place?)?;
+    Some(instruction.spot)
 }
 
 /// The place of the instruction in the line of a number.
@@ -293,13 +288,8 @@ fn place_in(instructions: &[Instruction<'_>], routine: &[u8]) -> Option<usize>
 fn number_at(queues: &[Queue<'_>], place: Option<usize>) -> Option<u64>
     ensures { result ≡ number_at queues.now place }
 {
-    match place {
-        Some(place) => match queues.get(place) {
-            Some(queue) => Some(queue.number),
-            None => None,
-        },
-        None => None,
-    }
+    let queue = queues.get(place?)?;
+    Some(queue.number)
 }
 
 /// The place of the queue of a driver with this name.
@@ -313,8 +303,6 @@ fn place_named(queues: &[Queue<'_>], driver: &[u8], name: &[u8]) -> Option<usize
 fn again<'a>(name: &Option<Piece<'a>>) -> Option<Piece<'a>>
     ensures { result ≡ name.now }
 {
-    match name {
-        Some(name) => Some(name.again()),
-        None => None,
-    }
+    let name = name.as_ref()?;
+    Some(name.again())
 }
