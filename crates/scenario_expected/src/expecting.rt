@@ -161,23 +161,19 @@ fn thread_line(
 ) -> Result<Expectation, ScheduleKind>
     ensures { result ≡ thread_line names.now thread.now operands.entry }
 {
-    let four = (
-        operands.next(),
-        operands.next(),
-        operands.next(),
-        operands.next(),
-    );
-    match (four, operands.next()) {
-        ((Some(word), None, _, _), _) => {
+    let first = (operands.next(), operands.next());
+    let second = (operands.next(), operands.next());
+    match (first, second, operands.next()) {
+        ((Some(word), None), _, _) => {
             let thread = byte_of(thread)?;
             let state = thread_state(word)?;
             Ok(Expectation::Thread { thread, state })
         }
-        ((Some(word), Some(place), None, _), _) => at_label(names, thread, word, place),
-        ((Some(word), Some(line), Some(place), None), _) => {
+        ((Some(word), Some(place)), (None, _), _) => at_label(names, thread, word, place),
+        ((Some(word), Some(line)), (Some(place), None), _) => {
             at_number(names, thread, word, line, place)
         }
-        ((Some(word), Some(linking), Some(sort), Some(other)), None) => {
+        ((Some(word), Some(linking)), (Some(sort), Some(other)), None) => {
             waiting_for(thread, word, linking, sort, other)
         }
         _ => Err(ScheduleKind::UnknownWord),

@@ -256,15 +256,11 @@ fn packets_from(
 pub(crate) fn in_line(names: &Names<'_>, mut operands: Tokens) -> Result<PacketState, ScheduleKind>
     ensures { result ≡ in_line names.now operands.entry }
 {
-    let four = (
-        operands.next(),
-        operands.next(),
-        operands.next(),
-        operands.next(),
-    );
-    match (four, operands.next()) {
-        ((Some(queue), Some(of), Some(device), None), _) => in_queue(names, queue, of, device),
-        ((Some(first), Some(second), Some(of), Some(device)), None) => {
+    let first = (operands.next(), operands.next());
+    let second = (operands.next(), operands.next());
+    match (first, second, operands.next()) {
+        ((Some(queue), Some(of)), (Some(device), None), _) => in_queue(names, queue, of, device),
+        ((Some(first), Some(second)), (Some(of), Some(device)), None) => {
             in_list(names, first, second, of, device)
         }
         _ => Err(ScheduleKind::UnknownWord),
