@@ -1,8 +1,8 @@
 -- A text as a scenario: the threads and the steps that it lists, or its first faulty line with the
 -- kind of its first token that can't stand there. Lines, tokens and faults are those of a schedule.
 use Rattle.std.specs.Prelude.{◌≡◌, ◌⊎◌, ℕ, zero, suc, ◌+◌, ◌-◌, nat_lt, List, [], ◌∷◌, ◌++◌, length, option_to_list, Option, Some, None, Result, Ok, Err, if◌then◌else◌}
-use Rattle.interleave.specs.Line.{and_then, opening_line}
-use Rattle.interleave.specs.Listing.{at_line}
+use Rattle.interleave.specs.Line.{and_then}
+use Rattle.interleave.specs.Listing.{Start, at_line, start}
 use Rattle.interleave.specs.declared.schedule.ScheduleFault.{ScheduleFault}
 use Rattle.interleave.specs.declared.schedule.ScheduleKind.{ScheduleKind}
 use Rattle.interleave.specs.declared.schedule.ScheduleKind.TheVariants.{UnknownWord, TooLong, Memory}
@@ -105,23 +105,14 @@ abbrev pub with_threads : ℕ → Result (List Step) ScheduleFault → Result Li
 with_threads threads (Ok steps) = Ok (record { threads = threads; steps = steps })
 with_threads threads (Err fault) = Err fault
 
--- where a line says how many threads there are, the rest lists steps; a blank line is passed over
-abbrev pub opened : Named → ℕ → List (List ℕ) → Option ℕ → Result Listed ScheduleFault
-    → Result Listed ScheduleFault
-opened names n lines (Some threads) later =
-    with_threads threads (listing names nothing n lines)
-opened names n lines None later = later
-
--- the scenario of these lines, of which the first has the number n
-abbrev pub opening : Named → ℕ → List (List ℕ) → Result Listed ScheduleFault
-opening names n [] = Err (record { line = n; kind = UnknownWord })
-opening names n (line ∷ lines) =
-    at_line n (opening_line line)
-    (λ threads. opened names (n + 1) lines threads (opening names (n + 1) lines))
+-- the scenario of a start, with the steps of the lines behind it
+abbrev pub opened : Named → Result Start ScheduleFault → Result Listed ScheduleFault
+opened names (Ok s) = with_threads s.threads (listing names nothing (s.line + 1) s.rest)
+opened names (Err fault) = Err fault
 
 -- the scenario that a text lists, with these names, or its first fault
 abbrev pub scenario_in : Named → List ℕ → Result Listed ScheduleFault
-scenario_in names text = opening names 1 (lines_of text)
+scenario_in names text = opened names (start 1 (lines_of text))
 
 -- the fault is the text's first, or that memory ran out
 abbrev pub IsFaultOf : Named → List ℕ → ScheduleFault → Type 0

@@ -2,20 +2,18 @@
 
 ghost use Rattle.std.specs.Prelude.{◌≡◌, ◌+◌, ◌++◌, ◌<◌, ◌≤◌, ◌^◌, IfOk, IfSome, MatchResult, OnOk};
 ghost use Rattle.std.specs.Prelude.{Ok, Err, Some, length, option_to_list};
-ghost use Rattle.interleave.specs.Line.{opening_line};
 ghost use Rattle.text.specs.Cut.{tokens_of};
 ghost use Rattle.model.specs.declared.limits.TheConstants.{MAX_THREADS};
 ghost use Rattle.scenario_text.specs.Repeating.{kept};
 ghost use Rattle.scenario_text.specs.Usual.{exactly};
 ghost use Rattle.scenario_text.specs.Listing.{IsFaultOf, closed, ends, given_after, lengthened};
-ghost use Rattle.scenario_text.specs.Listing.{listing, nothing, opening, opens, repeated};
-ghost use Rattle.scenario_text.specs.Listing.{scenario_in, with_line, with_lines, with_threads};
-ghost use Rattle.scenario_text.specs.Listing.{with_tokens};
+ghost use Rattle.scenario_text.specs.Listing.{listing, nothing, opens, repeated};
+ghost use Rattle.scenario_text.specs.Listing.{scenario_in, with_line, with_lines, with_tokens};
 
 use crate::quick::{SaidUsually, usual_line};
 use crate::reading::{Said, line_of};
 use crate::repeating::{Block, Numbered, Open, block_in};
-use interleave::read::opening_line;
+use interleave::opening::opening_of;
 use interleave::schedule::{ScheduleFault, ScheduleKind};
 use scenario_names::issued::Issued;
 use scenario_names::names::Names;
@@ -72,57 +70,18 @@ fn scenario_in(
         × (1 ≤ s.threads) × (s.threads ≤ MAX_THREADS))
         (λ fault. scenario_in names.now text.now ≡ Err fault)) }
 {
-    let mut left = Lines::of(text);
-    match find_opening(names, &mut left) {
-        Ok(opening) => match list(alloc, names, left, opening.line + 1, most_steps(text))? {
-            Ok(steps) => Ok(Ok(Scenario {
-                threads: opening.threads,
-                steps,
-            })),
-            Err(fault) => Ok(Err(fault)),
-        },
+    let opening = match opening_of(text) {
+        Ok(opening) => opening,
+        Err(fault) => return Ok(Err(fault)),
+    };
+    let left = Lines::of(opening.rest);
+    match list(alloc, names, left, opening.line + 1, most_steps(text))? {
+        Ok(steps) => Ok(Ok(Scenario {
+            threads: opening.threads,
+            steps,
+        })),
         Err(fault) => Ok(Err(fault)),
     }
-}
-
-/// What the first line with a token says, and its number.
-#[derive(Clone, Copy)]
-struct Opening {
-    threads: u8,
-    line: u64,
-}
-
-/// The number of threads that a line gives, which a run may have.
-fn threads_on(line: &[u8]) -> Result<Option<u8>, ScheduleKind>
-    ensures line { result ≡ opening_line line.now }
-    ensures bounds { IfOk result
-        (λ threads. IfSome threads (λ k. (1 ≤ k) × (k ≤ MAX_THREADS))) }
-{
-    opening_line(line)
-}
-
-/// Takes the lines of a text to the one that says how many threads there are.
-fn find_opening(names: &Names<'_>, left: &mut Lines<'_>) -> Result<Opening, ScheduleFault>
-    requires { length left.old < 2 ^ 63 }
-    ensures threads { IfOk result (λ o. (1 ≤ o.threads) × (o.threads ≤ MAX_THREADS)) }
-    ensures opens { MatchResult result (λ o. (o.line + length left.new < 2 ^ 63)
-        × (opening names.now 1 left.old
-        ≡ with_threads o.threads (listing names.now nothing (o.line + 1) left.new)))
-        (λ fault. opening names.now 1 left.old ≡ Err fault) }
-{
-    let mut line: u64 = 1;
-    while let Some(raw) = left.next() {
-        match threads_on(raw) {
-            Ok(Some(threads)) => return Ok(Opening { threads, line }),
-            Ok(None) => {}
-            Err(kind) => return Err(ScheduleFault { line, kind }),
-        }
-        line += 1;
-    }
-    Err(ScheduleFault {
-        line,
-        kind: ScheduleKind::UnknownWord,
-    })
 }
 
 /// How many steps a text has at most, but for those of lines that are listed more than once.

@@ -324,14 +324,10 @@ fn issue_line(names: &Names<'_>, name: &[u8], mut operands: Tokens) -> Result<Ac
 fn request_line(names: &Names<'_>, mut operands: Tokens) -> Result<Action, ScheduleKind>
     ensures { result ≡ request_line names.now operands.entry }
 {
-    let four = (
-        operands.next(),
-        operands.next(),
-        operands.next(),
-        operands.next(),
-    );
-    match (four, operands.next()) {
-        ((Some(thread), Some(device), Some(major), Some(argument)), None) => {
+    let place = (operands.next(), operands.next());
+    let request = (operands.next(), operands.next());
+    match (place, request, operands.next()) {
+        ((Some(thread), Some(device)), (Some(major), Some(argument)), None) => {
             issues(names, thread, device, major, argument)
         }
         _ => Err(ScheduleKind::UnknownWord),

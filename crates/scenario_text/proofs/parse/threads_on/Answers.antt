@@ -1,9 +1,0 @@
-use Rattle.std.proofs.Common.{IfOk, Option, Result, subst, sym, ℕ}
-use Rattle.interleave.specs.declared.schedule.ScheduleKind.{ScheduleKind}
-use Rattle.scenario_text.proofs.Limits.{IsThreads, threads_bounds}
-use Rattle.scenario_text.proofs.parse.threads_on.Goals as goal
-
-pub returns-clause-bounds : goal.returns-clause-bounds
-returns-clause-bounds c =
-    subst (λ (r : Result (Option ℕ) ScheduleKind). IfOk r IsThreads) (sym c.opening_line.ensures)
-    (threads_bounds c.args.line.now)
