@@ -1,10 +1,7 @@
 //! The numbers in the cells of devices, read as a routine at PASSIVE_LEVEL reads them.
 
-ghost use Rattle.std.specs.Prelude.{◌≡◌, ◌<◌, IfOk, slice_get};
-ghost use Rattle.checked_frames.specs.Ran.{LeavesOn};
+ghost use Rattle.std.specs.Prelude.{◌≡◌, IfOk};
 ghost use Rattle.hunt_worlds.specs.Alike.{paged_at, plain_at};
-ghost use Rattle.model.specs.declared.limits.TheConstants.{MAX_INSTRUCTIONS};
-ghost use Rattle.model.specs.Effect.{load_effect};
 ghost use Rattle.scenario_world.specs.Expected.{is_number, number_in};
 
 use checked::Checked;
@@ -14,7 +11,7 @@ use checked_parts::Shared;
 use model::cell::Cell;
 use model::event::Reply;
 use model::register::Register;
-use model::world::{Activation, Irql, Value};
+use model::world::{Irql, Value};
 use scenario_names::operands::CellName;
 use std::alloc::AllocError;
 
@@ -65,23 +62,12 @@ pub fn number_of(machine: &Checked, device: u8, cell: CellName) -> Result<Option
     }
 }
 
-/// Reads a plain cell into a register, as the reader.
-fn read_plain(shared: &Shared, r: Register, cell: Cell, a: &mut Activation) -> Ran
-    requires { a.old.position < MAX_INSTRUCTIONS }
-    ensures { let cells = slice_get shared.now.cells a.old.device in
-        let loaded = load_effect shared.now a.old r cell cells in
-        LeavesOn (record { thread = 255; root = Irql.Passive }) shared.now a.old loaded shared.now
-        a.new result }
-{
-    shared.load(r, cell, a)
-}
-
 /// The number in a plain cell of a device.
 fn plain_number(shared: &Shared, device: u8, cell: Cell) -> Result<Option<u64>, AllocError>
     ensures { IfOk result (λ found. found ≡ plain_at shared.now device cell) }
 {
     let mut reading = entered(0, 0, device, Value::Blank);
-    match read_plain(shared, Register::FIRST, cell, &mut reading) {
+    match shared.load(Register::FIRST, cell, &mut reading) {
         Ran::Stays(Reply::Stepped) => Ok(number_of_value(reading.registers[0])),
         Ran::Stays(Reply::Wrong(_)) => Ok(None),
         _ => Err(AllocError),
