@@ -4,7 +4,7 @@ ghost use Rattle.std.specs.Prelude.{◌<◌, ◌≤◌, ◌≡◌, IsTrue, List,
 ghost use Rattle.indexmap.specs.IndexMap.{spare};
 ghost use Rattle.model.specs.declared.event.Reply.{Reply};
 ghost use Rattle.model.specs.History.{top_out_of};
-ghost use Rattle.scenario_run.specs.Tops.{AddsTop, AreTops, top_told};
+ghost use Rattle.scenario_run.specs.Tops.{AddsTop, AreTops};
 
 use indexmap::IndexMap;
 use model::event::Reply;
@@ -16,31 +16,23 @@ pub(crate) fn note_top(tops: &mut IndexMap<u64, TopOut>, reply: &Reply)
     requires { 0 < spare tops.old }
     ensures { AddsTop tops.old reply.now tops.new }
 {
-    let Some(top) = top_of(reply) else {
+    let Reply::Topped {
+        packet,
+        status,
+        info,
+    } = *reply
+    else {
         return;
+    };
+    let top = TopOut {
+        packet,
+        status,
+        info,
     };
     if tops.contains_key(&top.packet) {
         return;
     }
     if let Ok(_none) = tops.insert(top.packet, top) {}
-}
-
-/// How a packet topped out, if a reply says so.
-fn top_of(reply: &Reply) -> Option<TopOut>
-    ensures { result ≡ top_told reply.now }
-{
-    match *reply {
-        Reply::Topped {
-            packet,
-            status,
-            info,
-        } => Some(TopOut {
-            packet,
-            status,
-            info,
-        }),
-        _ => None,
-    }
 }
 
 /// Makes room for so many more of them.
