@@ -100,21 +100,22 @@ fn add_thread(key: &mut Vec<u8>, playing: &Playing, thread: u8) -> Result<(), Al
         return Ok(());
     };
     add_number(key, view.frames as u64)?;
-    match view.top {
-        Some(
-            FrameView::Routine {
-                driver,
-                routine,
-                position,
-                device: _,
-            },
-        ) => {
+    let Some(top) = view.top else {
+        return Ok(());
+    };
+    match top {
+        FrameView::Routine {
+            driver,
+            routine,
+            position,
+            device: _,
+        } => {
             key.push(driver)?;
             key.push(routine)?;
             add_number(key, u64::from(position))
         }
-        Some(FrameView::Walk(packet)) => add_number(key, packet),
-        _ => Ok(()),
+        FrameView::Walk(packet) => add_number(key, packet),
+        FrameView::Cancel(_) => Ok(()),
     }
 }
 
