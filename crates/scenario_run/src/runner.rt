@@ -37,13 +37,13 @@ impl Runner {
         requires few { threads ≤ MAX_THREADS }
         ensures { IfOk result (Begins set.now threads) }
     {
+        let ledger = Ledger::new(alloc, threads)?;
         let Ok(set) = set.copy(alloc) else {
             return Err(AllocError);
         };
         let Ok(machine) = Checked::new(alloc, set, threads) else {
             return Err(AllocError);
         };
-        let ledger = Ledger::new(alloc, threads)?;
         Ok(Runner {
             alloc,
             machine,
