@@ -16,6 +16,7 @@ use drvhost_sets::job::{Job, Notes, answer};
 use drvhost_sets::taking::Taking;
 use hunt_bounds::reach::Reach;
 use hunt_schedule::exact::tell_exactly;
+use hunt_schedule::grounds::Grounds;
 use hunt_schedule::telling::{Told, tell_hunting};
 use image::DriverSet;
 use report_progress::progress::{Progress, Silent};
@@ -141,10 +142,14 @@ pub fn told_of<P: Progress>(
     ensures memory { IfErr result (λ fault. fault ≡ Fault.Memory) }
 {
     let source = source_of(alloc, bytes, set)?;
-    let bounds = job.reach.bounds();
+    let grounds = Grounds {
+        set,
+        bounds: job.reach.bounds(),
+        source: source.as_slice(),
+    };
     let told = match job.way {
-        Way::Quick => tell_hunting(alloc, set, bounds, source.as_slice(), job.progress)?,
-        Way::Exact => tell_exactly(alloc, set, bounds, source.as_slice(), job.progress)?,
+        Way::Quick => tell_hunting(alloc, grounds, job.progress)?,
+        Way::Exact => tell_exactly(alloc, grounds, job.progress)?,
     };
     Ok(told)
 }

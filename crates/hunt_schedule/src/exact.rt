@@ -6,6 +6,7 @@ ghost use Rattle.hunt_facts.specs.Requests.{requests_of};
 ghost use Rattle.hunt_schedule.specs.Exact.{AreTold, IsToldExactly, TellsShortest, as_short};
 ghost use Rattle.model.specs.declared.limits.TheConstants.{MAX_THREADS};
 
+use crate::grounds::Grounds;
 use crate::lines::{fine_line, never_line, unlisted_line};
 use crate::telling::Told;
 use crate::writing::schedule_text;
@@ -18,30 +19,28 @@ use report_progress::progress::Progress;
 use std::alloc::{AllocError, Global};
 
 /// Searches the runs of a set within bounds exactly, of which each issues so many packets at most
-/// in all, and tells what comes of it, with the names and the lines of the text that the set was
-/// read from. How far the search has come is told meanwhile.
+/// in all, and tells what comes of it, and meanwhile how far the search has come.
 ///
 /// # Errors
 ///
 /// When memory runs out.
 pub fn tell_exactly<P: Progress>(
     alloc: Global,
-    set: &DriverSet,
-    bounds: Bounds,
-    source: &[u8],
+    grounds: Grounds<'_>,
     progress: &P,
 ) -> Result<Told, AllocError>
-    requires some { 1 ≤ bounds.threads }
-    requires few { bounds.threads ≤ MAX_THREADS }
-    ensures { IfOk result (IsToldExactly set.now bounds) }
+    requires some { 1 ≤ grounds.bounds.threads }
+    requires few { grounds.bounds.threads ≤ MAX_THREADS }
+    ensures { IfOk result (IsToldExactly grounds.entry.set.now grounds.entry.bounds) }
 {
+    let Grounds { set, bounds, .. } = grounds;
     let trying = trying_of(alloc, set, bounds)?;
     let limits = Limits {
         worlds: bounds.worlds,
         events: bounds.events,
     };
     let found = hunt_exactly(alloc, set, bounds.threads, &trying, limits, progress)?;
-    let told = tell(alloc, set, bounds, found, source)?;
+    let told = tell(alloc, grounds, found)?;
     Ok(told)
 }
 
@@ -60,54 +59,42 @@ fn trying_of(alloc: Global, set: &DriverSet, bounds: Bounds) -> Result<Trying, A
 }
 
 /// Tells what came of a search.
-fn tell(
-    alloc: Global,
-    set: &DriverSet,
-    bounds: Bounds,
-    found: Exactly,
-    source: &[u8],
-) -> Result<Told, AllocError>
-    requires some { 1 ≤ bounds.threads }
-    requires few { bounds.threads ≤ MAX_THREADS }
-    ensures { IfOk result (AreTold set.now bounds found) }
+fn tell(alloc: Global, grounds: Grounds<'_>, found: Exactly) -> Result<Told, AllocError>
+    requires some { 1 ≤ grounds.bounds.threads }
+    requires few { grounds.bounds.threads ≤ MAX_THREADS }
+    ensures { IfOk result (AreTold grounds.entry.set.now grounds.entry.bounds found) }
 {
     match found {
         Exactly::Found(find) => {
-            let told = tell_shortest(alloc, set, bounds, find, source)?;
+            let told = tell_shortest(alloc, grounds, find)?;
             Ok(told)
         }
-        Exactly::Never { worlds } => {
-            let line = never_line(alloc, bounds, worlds as u64)?;
-            Ok(Told::All { line, worlds })
-        }
-        Exactly::More { worlds, events } => {
-            let line = fine_line(alloc, bounds, worlds as u64, events as u64)?;
-            Ok(Told::More {
-                line,
-                worlds,
-                events,
-            })
-        }
+        Exactly::Never { worlds } => Ok(Told::All {
+            line: never_line(alloc, grounds.bounds, worlds as u64)?,
+            worlds,
+        }),
+        Exactly::More { worlds, events } => Ok(Told::More {
+            line: fine_line(alloc, grounds.bounds, worlds as u64, events as u64)?,
+            worlds,
+            events,
+        }),
     }
 }
 
 /// Tells a shortest run that ends amiss.
-fn tell_shortest(
-    alloc: Global,
-    set: &DriverSet,
-    bounds: Bounds,
-    find: Shortest,
-    source: &[u8],
-) -> Result<Told, AllocError>
-    requires some { 1 ≤ bounds.threads }
-    requires few { bounds.threads ≤ MAX_THREADS }
-    ensures { IfOk result (TellsShortest set.now bounds find) }
+fn tell_shortest(alloc: Global, grounds: Grounds<'_>, find: Shortest) -> Result<Told, AllocError>
+    requires some { 1 ≤ grounds.bounds.threads }
+    requires few { grounds.bounds.threads ≤ MAX_THREADS }
+    ensures { IfOk result (TellsShortest grounds.entry.set.now grounds.entry.bounds find) }
 {
     let ending = find.ending;
     let mut events = find.before;
     events.push(find.last)?;
-    let short = as_short(bounds, events.len());
-    match schedule_text(alloc, set, short, events.as_slice(), &ending, source)? {
+    let short = Grounds {
+        bounds: as_short(grounds.bounds, events.len()),
+        ..grounds
+    };
+    match schedule_text(alloc, short, events.as_slice(), &ending)? {
         Some(text) => Ok(Told::Found(text)),
         None => Ok(Told::Unlisted(unlisted_line(alloc, &ending)?)),
     }

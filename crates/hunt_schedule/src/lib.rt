@@ -3,6 +3,7 @@
 
 mod comments;
 pub mod exact;
+pub mod grounds;
 mod headline;
 mod lines;
 pub mod reading;

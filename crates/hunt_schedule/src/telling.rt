@@ -5,12 +5,11 @@ ghost use Rattle.hunt_schedule.specs.Telling.{IsToldOf};
 ghost use Rattle.hunt_search.specs.Hunts.{IsFind};
 ghost use Rattle.model.specs.declared.limits.TheConstants.{MAX_THREADS};
 
+use crate::grounds::Grounds;
 use crate::lines::{all_line, more_line, unlisted_line};
 use crate::writing::schedule_text;
-use driver_set::DriverSet;
-use hunt_bounds::bounds::Bounds;
 use hunt_search::search::{Find, Hunted, hunt};
-use report_progress::progress::{Progress, Silent};
+use report_progress::progress::Progress;
 use std::alloc::{AllocError, Global};
 
 /// What is told of a hunt.
@@ -35,45 +34,25 @@ pub enum Told {
     },
 }
 
-/// Hunts in the worlds of a set within bounds, and tells what comes of it, with the names and the
-/// lines of the text that the set was read from.
-///
-/// # Errors
-///
-/// When memory runs out.
-pub fn tell_hunt(
-    alloc: Global,
-    set: &DriverSet,
-    bounds: Bounds,
-    source: &[u8],
-) -> Result<Told, AllocError>
-    requires some { 1 ≤ bounds.threads }
-    requires few { bounds.threads ≤ MAX_THREADS }
-    ensures { IfOk result (IsToldOf set.now bounds) }
-{
-    tell_hunting(alloc, set, bounds, source, &Silent)
-}
-
-/// Hunts so, and tells meanwhile how far the search has come.
+/// Hunts in the worlds of a set within bounds, and tells what comes of it, and meanwhile how far
+/// the search has come.
 ///
 /// # Errors
 ///
 /// When memory runs out.
 pub fn tell_hunting<P: Progress>(
     alloc: Global,
-    set: &DriverSet,
-    bounds: Bounds,
-    source: &[u8],
+    grounds: Grounds<'_>,
     progress: &P,
 ) -> Result<Told, AllocError>
-    requires some { 1 ≤ bounds.threads }
-    requires few { bounds.threads ≤ MAX_THREADS }
-    ensures { IfOk result (IsToldOf set.now bounds) }
+    requires some { 1 ≤ grounds.bounds.threads }
+    requires few { grounds.bounds.threads ≤ MAX_THREADS }
+    ensures { IfOk result (IsToldOf grounds.entry.set.now grounds.entry.bounds) }
 {
-    match hunt(alloc, set, bounds, progress)? {
-        Hunted::Found(find) => tell_find(alloc, set, bounds, find, source),
+    match hunt(alloc, grounds.set, grounds.bounds, progress)? {
+        Hunted::Found(find) => tell_find(alloc, grounds, find),
         Hunted::All { worlds } => {
-            let line = all_line(alloc, bounds, worlds as u64)?;
+            let line = all_line(alloc, grounds.bounds, worlds as u64)?;
             Ok(Told::All { line, worlds })
         }
         Hunted::More { worlds, events } => {
@@ -88,22 +67,16 @@ pub fn tell_hunting<P: Progress>(
 }
 
 /// Tells a find.
-fn tell_find(
-    alloc: Global,
-    set: &DriverSet,
-    bounds: Bounds,
-    find: Find,
-    source: &[u8],
-) -> Result<Told, AllocError>
-    requires some { 1 ≤ bounds.threads }
-    requires few { bounds.threads ≤ MAX_THREADS }
-    requires found { IsFind set.now bounds find }
-    ensures { IfOk result (IsToldOf set.now bounds) }
+fn tell_find(alloc: Global, grounds: Grounds<'_>, find: Find) -> Result<Told, AllocError>
+    requires some { 1 ≤ grounds.bounds.threads }
+    requires few { grounds.bounds.threads ≤ MAX_THREADS }
+    requires found { IsFind grounds.set.now grounds.bounds find }
+    ensures { IfOk result (IsToldOf grounds.entry.set.now grounds.entry.bounds) }
 {
     let ending = find.ending;
     let mut events = find.before;
     events.push(find.last)?;
-    match schedule_text(alloc, set, bounds, events.as_slice(), &ending, source)? {
+    match schedule_text(alloc, grounds, events.as_slice(), &ending)? {
         Some(text) => Ok(Told::Found(text)),
         None => Ok(Told::Unlisted(unlisted_line(alloc, &ending)?)),
     }

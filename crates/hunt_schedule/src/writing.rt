@@ -5,12 +5,11 @@ ghost use Rattle.hunt_schedule.specs.Telling.{TellsItsEnd};
 ghost use Rattle.model.specs.declared.limits.TheConstants.{MAX_THREADS};
 
 use crate::comments::Telling;
+use crate::grounds::Grounds;
 use crate::headline::headline;
 use crate::reading::tells_its_end;
 use crate::tidying::tidied;
 use checked::Checked;
-use driver_set::DriverSet;
-use hunt_bounds::bounds::Bounds;
 use hunt_ends::ending::Ending;
 use interleave_lines::appending::{add, add_number};
 use interleave_lines::words::{add_event, goes_on};
@@ -22,31 +21,30 @@ use tell_names::Book;
 const COMMENTS: usize = 24;
 
 /// The text of a schedule for the run of these events on the threads of a hunt: its first line
-/// tells how it ends, and comments what each line does, with the names of the text that the set was
-/// read from. Steps of a thread are told together where the run ends alike. None where the run of
-/// what the text lists doesn't end so.
+/// tells how it ends, and comments what each line does. Steps of a thread are told together where
+/// the run ends alike. None where the run of what the text lists doesn't end so.
 ///
 /// # Errors
 ///
 /// When memory runs out.
 pub fn schedule_text(
     alloc: Global,
-    set: &DriverSet,
-    bounds: Bounds,
+    grounds: Grounds<'_>,
     events: &[Event],
     ending: &Ending,
-    source: &[u8],
 ) -> Result<Option<Vec<u8>>, AllocError>
-    requires some { 1 ≤ bounds.threads }
-    requires few { bounds.threads ≤ MAX_THREADS }
-    ensures { IfOk result (λ text. IfSome text (λ text. TellsItsEnd set.now bounds text.items)) }
+    requires some { 1 ≤ grounds.bounds.threads }
+    requires few { grounds.bounds.threads ≤ MAX_THREADS }
+    ensures { IfOk result (λ text. IfSome text
+        (λ text. TellsItsEnd grounds.entry.set.now grounds.entry.bounds text.items)) }
 {
+    let Grounds { set, bounds, .. } = grounds;
     let mut text = headline(alloc, ending)?;
     let order = tidied(alloc, set, bounds, events, text.as_slice())?;
     add(&mut text, b"threads ")?;
     add_number(&mut text, u64::from(bounds.threads))?;
     add(&mut text, b"\n")?;
-    add_events(alloc, &mut text, set, bounds, order.as_slice(), source)?;
+    add_events(alloc, &mut text, grounds, order.as_slice())?;
     if tells_its_end(alloc, set, bounds, text.as_slice())? {
         return Ok(Some(text));
     }
@@ -57,21 +55,19 @@ pub fn schedule_text(
 fn add_events(
     alloc: Global,
     text: &mut Vec<u8>,
-    set: &DriverSet,
-    bounds: Bounds,
+    grounds: Grounds<'_>,
     events: &[Event],
-    source: &[u8],
 ) -> Result<(), AllocError>
-    requires some { 1 ≤ bounds.threads }
-    requires few { bounds.threads ≤ MAX_THREADS }
+    requires some { 1 ≤ grounds.bounds.threads }
+    requires few { grounds.bounds.threads ≤ MAX_THREADS }
 {
-    let Ok(set) = set.copy(alloc) else {
+    let Ok(set) = grounds.set.copy(alloc) else {
         return Err(AllocError);
     };
-    let Ok(machine) = Checked::new(alloc, set, bounds.threads) else {
+    let Ok(machine) = Checked::new(alloc, set, grounds.bounds.threads) else {
         return Err(AllocError);
     };
-    let book = Book::of(alloc, source)?;
+    let book = Book::of(alloc, grounds.source)?;
     add_lines(alloc, text, &mut Telling { machine, book }, events)
 }
 

@@ -6,6 +6,6 @@ use Rattle.hunt_schedule.proofs.exact.tell.Goals as goal
 
 pub returns-in_ok-told-in-Found : goal.returns-in_ok-told-in-Found
 returns-in_ok-told-in-Found c = λ scope same exact.
-    tells_shortest scope c.args.set.now c.args.bounds c.in-Found.find c.in_ok-told-in-Found.told same
+    tells_shortest scope c.args.grounds.set.now c.args.grounds.bounds c.in-Found.find c.in_ok-told-in-Found.told same
     (subst (λ (found : Exactly). IsExact scope found) c.in-Found.is exact)
     c.in_ok-told-in-Found.ensures

@@ -10,14 +10,14 @@ returns g c =
       asking = c.in_ok-trying.ensures.requests.0;
       raised = c.in_ok-trying.trying.raised;
       tells = c.in_ok-told.ensures
-          (scope_within c.args.set.now c.args.bounds c.in_ok-trying.ensures.requests.0
+          (scope_within c.args.grounds.set.now c.args.grounds.bounds c.in_ok-trying.ensures.requests.0
           c.in_ok-trying.trying.raised)
           refl
-          (subst (λ (requests : List Request). IsExact (scope_of c.args.set.now
-          c.args.bounds.threads c.args.bounds.packets requests c.in_ok-trying.trying.raised)
+          (subst (λ (requests : List Request). IsExact (scope_of c.args.grounds.set.now
+          c.args.grounds.bounds.threads c.args.grounds.bounds.packets requests c.in_ok-trying.trying.raised)
           c.in_ok-found.found)
           c.in_ok-trying.ensures.requests.1
-          (subst (λ (packets : ℕ). IsExact (scope_of c.args.set.now c.args.bounds.threads packets
+          (subst (λ (packets : ℕ). IsExact (scope_of c.args.grounds.set.now c.args.grounds.bounds.threads packets
           c.in_ok-trying.trying.requests.items c.in_ok-trying.trying.raised)
           c.in_ok-found.found)
           c.in_ok-trying.ensures.packets c.in_ok-found.ensures));
