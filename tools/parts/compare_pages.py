@@ -1,12 +1,12 @@
 #!/usr/bin/env python3
-"""tools/try pages: whether docs/RULES.md says of each rule what its page in crates/verifier_pages/src/pages.rt says, which `drvhost
+"""tools/try pages: whether docs/RULES.md says of each rule what its page in crates/verifier_names/src/pages.rt says, which `drvhost
 explain --rule` prints: what the rule says, what it goes with, the example, refused and mended, and the hunt that shows it; and likewise of the
 warning on the order of locks. It tells each difference.
 The last line counts."""
 import os, re, sys
 
 TOP = os.path.dirname(os.path.dirname(os.path.dirname(os.path.abspath(__file__))))
-PAGES = 'crates/verifier_pages/src/pages.rt'
+PAGES = 'crates/verifier_names/src/pages.rt'
 NAMES = 'crates/model/src/words.rt'
 DOCUMENT = 'docs/RULES.md'
 WARNING = 'LockOrder'

@@ -7,7 +7,7 @@ what drvhost answers to these words, what the error writer is told behind a line
 the number of files that are opened, and of reads of them that fail. What is no such text (a faulty image, say, or a text with
 control bytes) is a file below crates/tests_stored/data, but for an image that a run before writes. The group of the wrong
 drivers is made of the answers that stand beside them (answers.txt, by gallery.py); texts of the folder examples that are
-named are taken from there. The group of the rules' pages is made of crates/verifier_pages/src/pages.rt and, with what `check`
+named are taken from there. The group of the rules' pages is made of crates/verifier_names/src/pages.rt and, with what `check`
 says of a page's example, of docs/RULES.md.
 
 Without a flag it writes from these the list of the runs (data/runs.txt), all texts (data/texts.txt), and what the program has

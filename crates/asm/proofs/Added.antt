@@ -4,7 +4,7 @@ use Rattle.model.specs.declared.instr.Instr.{Instr}
 use Rattle.asm_line.specs.declared.line.UsedNames.{UsedNames}
 use Rattle.asm.specs.declared.draft.StartIoLine.{StartIoLine}
 use Rattle.asm.specs.declared.draft.Step.{Step}
-use Rattle.asm_names.specs.declared.names.Use.{Use}
+use Rattle.asm.specs.declared.names.Use.{Use}
 use Rattle.asm.specs.Outline.{Outline, use_place, used_at}
 
 -- the outline with these table entries

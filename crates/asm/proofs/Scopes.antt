@@ -7,8 +7,8 @@ use Rattle.asm_line.specs.declared.line.Body.TheVariants.{Blank, OpenDriver, Clo
 use Rattle.asm_line.specs.declared.line.Line.{Line}
 use Rattle.asm_line.specs.declared.line.UsedNames.{UsedNames}
 use Rattle.asm_line.specs.Line.{read_line}
-use Rattle.asm_names.specs.declared.roles.Role.{Role}
-use Rattle.asm_names.specs.declared.roles.Role.TheVariants.{Handler, Completion, StartIo, Dpc, Cancel}
+use Rattle.asm.specs.declared.roles.Role.{Role}
+use Rattle.asm.specs.declared.roles.Role.TheVariants.{Handler, Completion, StartIo, Dpc, Cancel}
 pub use Rattle.asm.specs.Names.{is_known}
 use Rattle.asm.specs.Names.{is_among}
 use Rattle.asm.specs.Outline.{Outline, has_routine, draft_misfit, noted}

@@ -9,7 +9,7 @@ use Rattle.asm.specs.declared.draft.Place.{Place}
 use Rattle.asm.specs.declared.draft.Place.TheVariants.{Outside, InDriver, InRoutine}
 use Rattle.asm.specs.declared.fault.AsmKind.{AsmKind}
 use Rattle.asm.specs.declared.fault.AsmKind.TheVariants.{UnknownWord, DuplicateName, OutOfRange, OverLimit}
-use Rattle.asm_names.specs.declared.roles.Role.TheVariants.{Handler, Completion, StartIo, Dpc, Cancel}
+use Rattle.asm.specs.declared.roles.Role.TheVariants.{Handler, Completion, StartIo, Dpc, Cancel}
 use Rattle.asm.specs.Parts.{device_on, dpc_on, driver_around, driver_on, handler_on, labels_on, opens_driver, opens_routine, place_after, queue_on, routine_around, routine_on, said, startio_on, step_on, up_to}
 use Rattle.asm.specs.Names.{Inventory, inventory, is_among, is_known, is_served}
 

@@ -2,8 +2,8 @@
 use Rattle.std.specs.Prelude.{ℕ, Bool, true, List, Option, Some, None, option_and_then, is_some}
 use Rattle.model.specs.declared.set.Sort.{Sort}
 use Rattle.asm_line.specs.declared.line.Line.{Line}
-use Rattle.asm_names.specs.declared.roles.Role.{Role}
-pub use Rattle.asm_names.specs.Names.{is_among, is_known, number_of, serves, number_for, routine_named}
+use Rattle.asm.specs.declared.roles.Role.{Role}
+pub use Rattle.asm.specs.NameTable.{is_among, is_known, number_of, serves, number_for, routine_named}
 use Rattle.asm.specs.Parts.{queue_on, routine_on, said, sort_on}
 
 -- what a driver has: the names and sorts of its routines, in order, and the names of its queues

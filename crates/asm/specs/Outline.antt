@@ -19,16 +19,16 @@ use Rattle.asm.specs.declared.draft.Linked.{Linked}
 use Rattle.asm.specs.declared.draft.QueueLine.{QueueLine}
 use Rattle.asm.specs.declared.draft.StartIoLine.{StartIoLine}
 use Rattle.asm.specs.declared.draft.Step.{Step as StepOf}
-use Rattle.asm_names.specs.declared.names.Use.{Use}
-use Rattle.asm_names.specs.declared.roles.Role.{Role}
-use Rattle.asm_names.specs.declared.roles.Role.TheVariants.{Handler, Completion, StartIo as StartIoRole, Dpc as DpcRole, Cancel as CancelRole}
+use Rattle.asm.specs.declared.names.Use.{Use}
+use Rattle.asm.specs.declared.roles.Role.{Role}
+use Rattle.asm.specs.declared.roles.Role.TheVariants.{Handler, Completion, StartIo as StartIoRole, Dpc as DpcRole, Cancel as CancelRole}
 use Rattle.asm.specs.declared.fault.AsmKind.{AsmKind}
 use Rattle.asm.specs.declared.fault.AsmKind.TheVariants.{UnknownWord, DuplicateName, OutOfRange, OverLimit}
 use Rattle.asm_line.specs.declared.line.Body.{Body}
 use Rattle.asm_line.specs.declared.line.Body.TheVariants.{Blank, OpenDriver, CloseDriver, AddQueue, Handle, HandleStartIo, HandleDpc, OpenRoutine, CloseRoutine, AddDevice, Step}
 use Rattle.asm_line.specs.declared.line.Line.{Line}
 use Rattle.asm_line.specs.declared.line.UsedNames.{UsedNames}
-pub use Rattle.asm_names.specs.Uses.{earliest, is_known_label, missed, number_used, use_place, used_at}
+pub use Rattle.asm.specs.Uses.{earliest, is_known_label, missed, number_used, use_place, used_at}
 pub use Rattle.asm.specs.Names.{is_among, is_known, number_of, serves, number_for, routine_named, Inventory}
 pub use Rattle.asm.specs.Faults.{stands, is_stack_size, is_out_of_range}
 pub use Rattle.asm.specs.Said.{with_label, with_queue, with_routine}

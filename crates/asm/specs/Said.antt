@@ -12,8 +12,8 @@ use Rattle.model.specs.InstructionForm.{Operand, ARegister, ACell, APagedCell, A
 use Rattle.asm_line.specs.declared.line.Body.{Body}
 use Rattle.asm_line.specs.declared.line.Body.TheVariants.{OpenDriver, AddQueue, OpenRoutine, AddDevice, Step}
 use Rattle.asm_line.specs.declared.line.Line.{Line}
-use Rattle.asm_names.specs.declared.roles.Role.{Role}
-use Rattle.asm_names.specs.declared.roles.Role.TheVariants.{Handler, Completion, StartIo, Dpc, Cancel}
+use Rattle.asm.specs.declared.roles.Role.{Role}
+use Rattle.asm.specs.declared.roles.Role.TheVariants.{Handler, Completion, StartIo, Dpc, Cancel}
 use Rattle.asm.specs.Parts.{around, closes_driver, closes_routine, device_on, dpc_on, driver_on, handler_on, said, startio_on, up_to, waiting_on}
 use Rattle.asm.specs.Names.{Inventory, inventory, number_in, number_of}
 

@@ -6,8 +6,8 @@ ghost use Rattle.asm.specs.Outline.{is_stack_size, draft_misfit, stands};
 
 use crate::draft::{Draft, Place};
 use crate::fault::AsmKind;
+use crate::names::{Use, is_among, is_known};
 use asm_line::{Body, Line};
-use asm_names::names::{Use, is_among, is_known};
 use model::limits::{
     MAX_DEVICES, MAX_DRIVERS, MAX_INSTRUCTIONS, MAX_QUEUES, MAX_ROUTINES, MAX_STACK,
 };

@@ -2,9 +2,9 @@
 
 ghost use Rattle.std.specs.Prelude.{◌≡◌, IfOk, string_bytes};
 ghost use Rattle.asm.specs.Reading.{IsNamed};
-ghost use Rattle.asm_listing.specs.Listing.{listing};
+ghost use Rattle.asm_line.specs.Listing.{listing};
 
-use asm_listing::listing;
+use asm_line::listing;
 use driver_set::DriverSet;
 use model::memory::OutOfMemory;
 use std::alloc::Global;

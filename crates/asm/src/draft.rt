@@ -4,7 +4,7 @@ ghost use Rattle.std.specs.Prelude.{◌≡◌};
 ghost use Rattle.asm.specs.Outline.{nothing_read};
 
 use crate::code::{ClosedCode, OpenCode};
-use asm_names::names::Use;
+use crate::names::Use;
 use indexmap::IndexSet;
 use model::instr::{Instr, SpinLock};
 use model::set::{Device, Driver, Sort};

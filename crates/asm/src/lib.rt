@@ -13,9 +13,11 @@ mod draft;
 mod fault;
 pub mod laws;
 mod link;
+pub mod names;
 mod note;
 mod queues;
 mod reading;
+pub mod roles;
 mod routines;
 
 pub use disassembly::disassemble;

@@ -6,7 +6,7 @@ ghost use Rattle.asm.specs.Outline.{with_label};
 
 use crate::code::{Closed, ClosedCode, is_bare};
 use crate::draft::Step;
-use asm_names::names::{Use, earliest};
+use crate::names::{Use, earliest};
 use indexmap::IndexSet;
 use model::instr::Instr;
 use std::alloc::AllocError;

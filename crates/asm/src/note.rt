@@ -11,10 +11,10 @@ ghost use Rattle.asm.specs.Outline.{routine_opened, startio_handled, step_added,
 ghost use Rattle.asm.specs.Outline.{IsFitting, IsOrderly};
 
 use crate::draft::{ClosedRoutine, Draft, Place, QueueLine, StartIoLine, Step};
-use asm_line::{Body, Line, UsedNames};
-use asm_names::names::{
+use crate::names::{
     Use, add, add_use, earliest, missed, number_of, number_used, push_some, used_at,
 };
+use asm_line::{Body, Line, UsedNames};
 use model::instr::{Instr, SpinLock};
 use model::set::{Device, Sort};
 use model::status::Major;

@@ -5,8 +5,8 @@ ghost use Rattle.model.specs.declared.limits.TheConstants.{MAX_QUEUES, MAX_ROUTI
 ghost use Rattle.asm.specs.Outline.{finished_queue, missed_queue, queue_at, queue_used, with_queue};
 
 use crate::draft::{Draft, QueueLine};
-use asm_names::names::{earliest, missed_use, number_of};
-use asm_names::roles::Role;
+use crate::names::{earliest, missed_use, number_of};
+use crate::roles::Role;
 use model::instr::Instr;
 use model::set::Queue;
 use std::alloc::{AllocError, Global};

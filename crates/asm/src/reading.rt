@@ -11,8 +11,7 @@ ghost use Rattle.asm.specs.Reading.{kind_of, memory, set_in, IsFaultOf, IsNamed}
 
 use crate::draft::{Draft, Place};
 use crate::fault::{AsmFault, AsmKind};
-use asm_line::{LineFault, comment_line};
-use asm_usual::{plain_line, read_other_line};
+use asm_line::{LineFault, comment_line, plain_line, read_other_line};
 use driver_set::DriverSet;
 use model::instr::Instr;
 use model::limits::MAX_INSTRUCTIONS;

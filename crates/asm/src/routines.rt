@@ -10,9 +10,9 @@ ghost use Rattle.asm.specs.Outline.{with_routine};
 
 use crate::code::{ClosedCode, is_nameless};
 use crate::draft::{ClosedRoutine, Draft, Linked};
+use crate::names::{Use, earliest};
 use crate::queues::with_queue;
-use asm_names::names::{Use, earliest};
-use asm_names::roles::{Role, routine_named};
+use crate::roles::{Role, routine_named};
 use indexmap::IndexSet;
 use model::instr::Instr;
 use model::items::Items;

@@ -1,1 +1,12 @@
+pub mod Back
+pub mod Digits
+pub mod Instructions
+pub mod ListedPlain
+pub mod Marks
+pub mod Meaning
+pub mod ListedOperands
+pub mod Plain
+pub mod Steps
+pub mod Tokens
 pub mod Usual
+pub mod Written

@@ -1,5 +1,11 @@
-pub mod Words
+pub use Rattle.asm_line.specs.Cursor
+pub use Rattle.asm_line.specs.Line
+pub use Rattle.asm_line.specs.Plain
 pub mod Cursor
 pub mod Instruction
 pub mod Line
+pub mod ListedWords
+pub mod Listing
 pub mod Plain
+pub mod Usual
+pub mod Words

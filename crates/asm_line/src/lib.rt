@@ -3,11 +3,23 @@
 #![tactic(auto)]
 
 mod cursor;
+mod entry;
 pub mod form;
 mod instruction;
 pub mod line;
+mod listed_driver;
+mod listed_instruction;
+mod listed_lines;
+mod listed_routine;
+mod operands;
+mod quick;
+mod reading;
 mod words;
 
+pub use entry::Entry;
 pub use form::{comment_line, read_exactly};
 pub use line::{Body, Line, LineFault, UsedNames};
+pub use listed_lines::listing;
+pub use quick::plain_line;
+pub use reading::{read_line, read_other_line};
 pub use words::{field_text, status_text};

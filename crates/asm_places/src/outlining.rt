@@ -6,8 +6,7 @@ ghost use Rattle.asm_places.specs.Outline.{outline_lines, outlines};
 ghost use Rattle.asm_places.specs.Source.{body_on};
 ghost use Rattle.text.specs.Places.{IsIn, numbers};
 
-use asm_line::Body;
-use asm_usual::read_line;
+use asm_line::{Body, read_line};
 use std::alloc::{AllocError, Global};
 use text::class::is;
 use text::token::Tokens;

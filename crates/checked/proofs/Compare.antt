@@ -24,9 +24,9 @@ use Rattle.model.specs.Queues.{StartState, head_of}
 use Rattle.model.specs.Set.{Set, dpc_of, startio_of}
 use Rattle.model.specs.Trace.{Entry, recorded}
 use Rattle.model.specs.World.{Shared, World, is_queued, packet_of, start_of}
-use Rattle.checked_frames.specs.declared.ran.Runner.{Runner}
+use Rattle.checked_parts.specs.declared.ran.Runner.{Runner}
 use Rattle.checked.specs.Step.{Ended, moved_by, runner, top_now, step_ended, step_now, ended, event_now, is_stop}
-use Rattle.checked_frames.specs.Left.{Left, first_now, stays, unless_full, unless_wrong as wrong_left, left_by, fits, bounded}
+use Rattle.checked_parts.specs.Left.{Left, first_now, stays, unless_full, unless_wrong as wrong_left, left_by, fits, bounded}
 use Rattle.checked_parts.proofs.Lists.{set_back}
 use Rattle.checked.proofs.Stacks.{finished_more, root_more}
 use Rattle.checked.proofs.Known.{known, runs}

@@ -29,7 +29,7 @@ use Rattle.model.specs.Trace.{Actor, Entry}
 use Rattle.model.specs.World.{Shared, packet_of, packet_in, register}
 use Rattle.laws_runs.proofs.Steps.Comes.{Cancels, Comes, Queued, inserts, unlinks, removes, removes_none, starts_packet, takes_out, takes_none, puts_in, starts_next, starts_gone, dequeues_packet, works_on_queues, works_on_waiting, ends_startio, errs, awaits_lock, computes, opens_loop, turns_loop, pages, touches_gone, looks_at, writes_info, marks_packet, exchanges, takes_lock, retakes_lock, frees_lock, completes_packet, completes_gone, passes_down, calls_down, ends_dpc, returns_status, lets_go, lets_walk, resumes_walk, resumes_gone, resumes_none, stops_walk, stops_none, ends_cancel, walks_gone, walks_to, lends_to, walks_up, carries_up, tops_out, cancels, takes_cancel, retakes_cancel, awaits_cancel, flags_gone, sets_flag, exchanges_gone, finds_empty, finds_none, calls_cancel}
 use Rattle.laws_runs.proofs.Steps.Walk.{comes}
-use Rattle.checked_frames.specs.Left.{first_now}
+use Rattle.checked_parts.specs.Left.{first_now}
 use Rattle.checked.proofs.Known.{Known, runs}
 
 -- the packet that a value refers to was issued

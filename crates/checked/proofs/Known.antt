@@ -13,8 +13,8 @@ use Rattle.model.specs.Trace.{Actor, Entry}
 use Rattle.model.specs.World.{Shared, packet_of}
 use Rattle.laws_runs.specs.PastTells.{PastTells, TellsOfPacket}
 use Rattle.irql_locks.specs.Owns.{owns, owns_any, OwningTells, OwnsSome}
-use Rattle.checked_frames.specs.declared.ran.Runner.{Runner}
-use Rattle.checked_frames.specs.Left.{is_gone, is_held, is_armed, is_full, is_raised}
+use Rattle.checked_parts.specs.declared.ran.Runner.{Runner}
+use Rattle.checked_parts.specs.Left.{is_gone, is_held, is_armed, is_full, is_raised}
 
 -- who runs, of who acts
 abbrev pub runs : Actor → Runner

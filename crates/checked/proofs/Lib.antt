@@ -1,8 +1,9 @@
-pub mod Lists
-pub mod Stacks
-pub mod Known
+pub mod Compare
 pub mod Effects
 pub mod GoingOn
-pub mod Compare
-pub mod Runs
+pub mod Known
+pub mod Lists
 pub mod NoFurther
+pub mod Runs
+pub mod SameWorlds
+pub mod Stacks

@@ -15,7 +15,7 @@ use Rattle.model.specs.World.{Shared}
 use Rattle.model.specs.declared.event.Reply.TheVariants.{Stepped}
 use Rattle.model.specs.declared.status.Status.{Status}
 use Rattle.checked.specs.Step.{Moved, moved_by, runner, thread_now, told_frame}
-use Rattle.checked_frames.specs.Left.{Left, stays, frame_now}
+use Rattle.checked_parts.specs.Left.{Left, stays, frame_now}
 use Rattle.laws_runs.proofs.Lists.{before_last, last_of}
 
 -- a thread with frames has not finished, and keeps its level

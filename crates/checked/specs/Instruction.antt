@@ -7,10 +7,10 @@ use Rattle.model.specs.declared.instr.Instr.{Instr}
 use Rattle.model.specs.Effect.{Outcome, instruction_effect, top_of}
 use Rattle.model.specs.Set.{Set}
 use Rattle.model.specs.World.{Shared}
-use Rattle.checked_frames.specs.declared.ran.Ran.{Ran}
-use Rattle.checked_frames.specs.declared.ran.Runner.{Runner}
-use Rattle.checked_frames.specs.Left.{Left, judged, bounded}
-use Rattle.checked_frames.specs.Ran.{Leaves}
+use Rattle.checked_parts.specs.declared.ran.Ran.{Ran}
+use Rattle.checked_parts.specs.declared.ran.Runner.{Runner}
+use Rattle.checked_parts.specs.Left.{Left, judged, bounded}
+use Rattle.checked_parts.specs.Ran.{Leaves}
 
 -- what an instruction of a thread's activation has to leave, over these frames
 abbrev pub instruction_now : Set → Shared → Runner → List Frame → Activation → Instr → Left

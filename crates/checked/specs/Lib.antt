@@ -1,3 +1,4 @@
 pub mod GoingOn
 pub mod Instruction
+pub mod SameWorlds
 pub mod Step

@@ -13,8 +13,8 @@ use Rattle.model.specs.Events.{Change, with_stack, with_thread, issue_on, irql_o
 use Rattle.model.specs.Machine.{Machine}
 use Rattle.model.specs.Set.{Set, dpc_of, startio_of}
 use Rattle.model.specs.World.{Shared, World}
-use Rattle.checked_frames.specs.declared.ran.Runner.{Runner}
-use Rattle.checked_frames.specs.Left.{Left, frame_now}
+use Rattle.checked_parts.specs.declared.ran.Runner.{Runner}
+use Rattle.checked_parts.specs.Left.{Left, frame_now}
 
 -- a frame that is told a status
 abbrev pub told_frame : Set → Status → Frame → Frame

@@ -3,13 +3,12 @@
 ghost use Rattle.std.specs.Prelude.{◌≡◌, ◌<◌, ◌≤◌, Some};
 ghost use Rattle.checked.specs.GoingOn.{FrameGoes, FrameGoesNoFurther};
 ghost use Rattle.checked.specs.Step.{told_frame};
-ghost use Rattle.checked_frames.specs.Left.{frame_now};
-ghost use Rattle.checked_frames.specs.Ran.{left_of};
+ghost use Rattle.checked_parts.specs.Left.{frame_now};
+ghost use Rattle.checked_parts.specs.Ran.{left_of};
 ghost use Rattle.model.specs.Effect.{operand_of, answered_in, answered};
 
 use crate::{routine, running};
-use checked_frames::{Frame, Managing, Ran, Runner};
-use checked_parts::Shared;
+use checked_parts::{Frame, Managing, Ran, Runner, Shared};
 use driver_set::{DriverSet, Instr};
 use model::event::Place;
 use model::status::Status;

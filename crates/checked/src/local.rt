@@ -10,7 +10,7 @@ ghost use Rattle.model.specs.Effect.{jump_effect, loop_effect, number_effect, su
 ghost use Rattle.model.specs.Set.{Set};
 ghost use Rattle.model.specs.World.{at_label, innermost, next, with_register};
 
-use checked_frames::number_in;
+use checked_parts::number_in;
 use driver_set::{Instr, Register, Turns};
 use model::limits::MAX_LOOPS;
 use model::world::{Activation, OpenLoop, Value};

@@ -3,17 +3,16 @@
 ghost use Rattle.std.specs.Prelude.{◌≡◌, ◌<◌, if◌then◌else◌};
 ghost use Rattle.model.specs.declared.limits.TheConstants.{MAX_INSTRUCTIONS};
 ghost use Rattle.checked.specs.Instruction.{instruction_now};
-ghost use Rattle.checked_frames.specs.Left.{frame_now};
-ghost use Rattle.checked_frames.specs.Ran.{left_of, wrong_reply, LeavesOver};
+ghost use Rattle.checked_parts.specs.Left.{frame_now};
+ghost use Rattle.checked_parts.specs.Ran.{left_of, wrong_reply, LeavesOver};
 ghost use Rattle.model.specs.declared.world.Frame.TheVariants.{Routine as RoutineFrame};
 ghost use Rattle.model.specs.Effect.{return_effect, top_of};
 ghost use Rattle.model.specs.Set.{sort_of};
 ghost use Rattle.model.specs.World.{at_label, next, with_register};
 
 use crate::local;
-use checked_frames::{Frame, Ran, Runner, status_in, wrong_at};
-use checked_parts::Shared;
 use checked_parts::shared::locks::spin_lock;
+use checked_parts::{Frame, Ran, Runner, Shared, status_in, wrong_at};
 use driver_set::{DriverSet, Instr, Register, Return, Sort};
 use model::event::{Lock, Reply};
 use model::world::{Activation, Value};

@@ -8,11 +8,9 @@ ghost use Rattle.model.specs.View.{due_at, packet_at, thread_at};
 ghost use Rattle.model.specs.World.{opening};
 
 use crate::thread::Thread;
-use checked_frames::activation::entered;
-use checked_frames::{Frame, cancelling};
-use checked_parts::Shared;
-use driver_devices::{device_of, driver_of};
-use driver_set::DriverSet;
+use checked_parts::activation::entered;
+use checked_parts::{Frame, Shared, cancelling};
+use driver_set::{DriverSet, device_of, driver_of};
 use irql_locks::irql_of;
 use model::event::{Event, Place, Reply};
 use model::status::Major;

@@ -3,14 +3,13 @@
 ghost use Rattle.std.specs.Prelude.{◌≡◌, ◌<◌, ◌≤◌, ◌-◌, ◌++◌, ◌∷◌, [], Some, true, length, take};
 ghost use Rattle.checked.specs.GoingOn.{ThreadGoes, ThreadGoesNoFurther};
 ghost use Rattle.checked.specs.Step.{thread_now};
-ghost use Rattle.checked_frames.specs.Ran.{frame_over};
+ghost use Rattle.checked_parts.specs.Ran.{frame_over};
 ghost use Rattle.model.specs.declared.limits.TheConstants.{MAX_FRAMES};
 ghost use Rattle.model.specs.Effect.{told_to};
 ghost use Rattle.model.specs.Events.{is_idle, with_stack, finished_or};
 
 use crate::frame;
-use checked_frames::{Frame, Over, Ran, Runner};
-use checked_parts::Shared;
+use checked_parts::{Frame, Over, Ran, Runner, Shared};
 use driver_set::DriverSet;
 use model::event::{Place, Reply};
 use model::limits::MAX_FRAMES;

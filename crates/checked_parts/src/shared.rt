@@ -5,7 +5,7 @@ ghost use Rattle.std.specs.Prelude.{replicate};
 ghost use Rattle.model.specs.declared.limits.TheConstants.{MAX_QUEUES, MAX_STACK};
 ghost use Rattle.model.specs.Queues.{StartState, idle, without_first_to_start};
 
-use checked_frames::Runner;
+use crate::Runner;
 use devqueue::{DeviceQueue, Guarded};
 use driver_set::Device;
 use iomgr::PacketTable;
@@ -87,7 +87,7 @@ impl Shared {
     ghost use Rattle.model.specs.Events.{can_issue, with_new_packet};
     ghost use Rattle.model.specs.World.{unused, owner_of, packet_in, packet_of, start_of};
     ghost use Rattle.model.specs.World.{with_start, is_queued, with_dpc};
-    ghost use Rattle.checked_frames.specs.Left.{is_gone, is_raised};
+    ghost use Rattle.checked_parts.specs.Left.{is_gone, is_raised};
     ghost use Rattle.model.specs.View.{packet_view, due_view};
 
     /// What is there before the first event, for so many devices. An error where memory is refused;

@@ -3,8 +3,8 @@
 #![tactic(auto)]
 
 use drvhost_devices::device::Writer;
+use drvhost_devices::surroundings::Surroundings;
 use drvhost_files::files::Disk;
-use drvhost_options::surroundings::Surroundings;
 use drvhost_words::answer::{Setting, answer};
 use report_progress::meter::Meter;
 use std::env::{self, VarError};

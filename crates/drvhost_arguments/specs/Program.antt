@@ -6,10 +6,10 @@ use Rattle.clap.specs.declared.builder.ArgAction.TheVariants.{Append, Set, SetTr
 use Rattle.clap.specs.declared.builder.value_parser.ValueParser.{ValueParser}
 use Rattle.clap.specs.declared.builder.value_parser.ValueParser.TheVariants.{Signed, String as AnyText, Unsigned}
 use Rattle.model.specs.declared.limits.TheConstants.{MAX_THREADS}
-use Rattle.hunt_bounds.specs.declared.reach.TheConstants.{MAX_PACKETS, MAX_WORLDS}
-use Rattle.drvhost_options.specs.declared.jobs.TheConstants.{MAX_JOBS}
-use Rattle.drvhost_options.specs.declared.tries.TheConstants.{MAX_TRIES}
-use Rattle.drvhost_options.specs.declared.wanted.TheConstants.{MAX_OFFERS}
+use Rattle.hunt_facts.specs.declared.reach.TheConstants.{MAX_PACKETS, MAX_WORLDS}
+use Rattle.drvhost_devices.specs.declared.jobs.TheConstants.{MAX_JOBS}
+use Rattle.drvhost_devices.specs.declared.tries.TheConstants.{MAX_TRIES}
+use Rattle.drvhost_devices.specs.declared.wanted.TheConstants.{MAX_OFFERS}
 
 -- an argument with a value
 abbrev pub value_argument : Text → Rule

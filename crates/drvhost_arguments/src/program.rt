@@ -9,10 +9,10 @@ ghost use Rattle.drvhost_arguments.specs.Table.{command_for, rule_for};
 use crate::argument::{Argument, arg_of};
 use clap::Command;
 use clap::builder::ValueParser;
-use drvhost_options::jobs::MAX_JOBS;
-use drvhost_options::tries::MAX_TRIES;
-use drvhost_options::wanted::MAX_OFFERS;
-use hunt_bounds::reach::{MAX_PACKETS, MAX_WORLDS};
+use drvhost_devices::jobs::MAX_JOBS;
+use drvhost_devices::tries::MAX_TRIES;
+use drvhost_devices::wanted::MAX_OFFERS;
+use hunt_facts::reach::{MAX_PACKETS, MAX_WORLDS};
 use model::limits::MAX_THREADS;
 use std::alloc::{AllocError, Global};
 

@@ -2,34 +2,34 @@
 use Rattle.std.specs.Prelude.{ℕ, ◌≡◌, ◌-◌, ◌^◌, Bool, true, false, List, [], ◌∷◌, Option, None, Some, bytes_eq, codes, if◌then◌else◌, option_map}
 use Rattle.clap.specs.Words.{Row, Text, first_of}
 use Rattle.drvhost_arguments.specs.Given.{is_given}
-use Rattle.hunt_bounds.specs.declared.bounds.Bounds.{Bounds}
-use Rattle.hunt_bounds.specs.declared.bounds.Goal.{Goal}
-use Rattle.hunt_bounds.specs.declared.bounds.Goal.TheVariants.{Amiss, AmissOrStuck}
-use Rattle.hunt_bounds.specs.declared.reach.TheConstants.{MAX_PACKETS, MAX_WORLDS, USUAL_PACKETS, USUAL_THREADS, USUAL_WORLDS}
+use Rattle.hunt_facts.specs.declared.bounds.Bounds.{Bounds}
+use Rattle.hunt_facts.specs.declared.bounds.Goal.{Goal}
+use Rattle.hunt_facts.specs.declared.bounds.Goal.TheVariants.{Amiss, AmissOrStuck}
+use Rattle.hunt_facts.specs.declared.reach.TheConstants.{MAX_PACKETS, MAX_WORLDS, USUAL_PACKETS, USUAL_THREADS, USUAL_WORLDS}
 use Rattle.interleave.specs.Line.{number_within}
 use Rattle.model.specs.declared.limits.TheConstants.{MAX_THREADS}
 use Rattle.drvhost_devices.specs.declared.verification.Verification.{Verification}
 use Rattle.drvhost_devices.specs.declared.verification.Verification.TheVariants.{Required, Skipped}
-use Rattle.drvhost_options.specs.declared.coloring.Coloring.{Coloring}
-use Rattle.drvhost_options.specs.declared.coloring.Coloring.TheVariants.{Auto, Always, Never}
-use Rattle.drvhost_options.specs.declared.extent.Extent.{Extent}
-use Rattle.drvhost_options.specs.declared.extent.Extent.TheVariants.{First, Each}
-use Rattle.drvhost_options.specs.declared.figure.Figure.{Figure}
-use Rattle.drvhost_options.specs.declared.figure.Figure.TheVariants.{Picture, Tracks}
-use Rattle.drvhost_options.specs.declared.jobs.TheConstants.{MAX_JOBS}
-use Rattle.drvhost_options.specs.declared.logging.Passes.{Passes}
-use Rattle.drvhost_options.specs.declared.logging.Passes.TheVariants.{Listed, Omitted}
-use Rattle.drvhost_options.specs.declared.manner.Detail.{Detail}
-use Rattle.drvhost_options.specs.declared.manner.Detail.TheVariants.{Every, Usual, Quiet}
-use Rattle.drvhost_options.specs.declared.manner.Manner.{Manner}
-use Rattle.drvhost_options.specs.declared.manner.Strictness.{Strictness}
-use Rattle.drvhost_options.specs.declared.manner.Strictness.TheVariants.{Lenient, Strict}
-use Rattle.drvhost_options.specs.declared.tries.TheConstants.{MAX_TRIES, USUAL_TRIES}
-use Rattle.drvhost_options.specs.declared.verbosity.Verbosity.{Verbosity}
-use Rattle.drvhost_options.specs.declared.verbosity.Verbosity.TheVariants.{Brief, Verbose}
-use Rattle.drvhost_options.specs.declared.wanted.TheConstants.{MAX_OFFERS}
-use Rattle.drvhost_options.specs.declared.wanted.Wanted.{Wanted}
-use Rattle.drvhost_options.specs.declared.wanted.Wanted.TheVariants.{Sure, Number}
+use Rattle.drvhost_devices.specs.declared.coloring.Coloring.{Coloring}
+use Rattle.drvhost_devices.specs.declared.coloring.Coloring.TheVariants.{Auto, Always, Never}
+use Rattle.drvhost_devices.specs.declared.extent.Extent.{Extent}
+use Rattle.drvhost_devices.specs.declared.extent.Extent.TheVariants.{First, Each}
+use Rattle.drvhost_devices.specs.declared.figure.Figure.{Figure}
+use Rattle.drvhost_devices.specs.declared.figure.Figure.TheVariants.{Picture, Tracks}
+use Rattle.drvhost_devices.specs.declared.jobs.TheConstants.{MAX_JOBS}
+use Rattle.drvhost_devices.specs.declared.logging.Passes.{Passes}
+use Rattle.drvhost_devices.specs.declared.logging.Passes.TheVariants.{Listed, Omitted}
+use Rattle.drvhost_devices.specs.declared.manner.Detail.{Detail}
+use Rattle.drvhost_devices.specs.declared.manner.Detail.TheVariants.{Every, Usual, Quiet}
+use Rattle.drvhost_devices.specs.declared.manner.Manner.{Manner}
+use Rattle.drvhost_devices.specs.declared.manner.Strictness.{Strictness}
+use Rattle.drvhost_devices.specs.declared.manner.Strictness.TheVariants.{Lenient, Strict}
+use Rattle.drvhost_devices.specs.declared.tries.TheConstants.{MAX_TRIES, USUAL_TRIES}
+use Rattle.drvhost_devices.specs.declared.verbosity.Verbosity.{Verbosity}
+use Rattle.drvhost_devices.specs.declared.verbosity.Verbosity.TheVariants.{Brief, Verbose}
+use Rattle.drvhost_devices.specs.declared.wanted.TheConstants.{MAX_OFFERS}
+use Rattle.drvhost_devices.specs.declared.wanted.Wanted.{Wanted}
+use Rattle.drvhost_devices.specs.declared.wanted.Wanted.TheVariants.{Sure, Number}
 use Rattle.drvhost_commands.specs.declared.choices.Format.{Format}
 use Rattle.drvhost_commands.specs.declared.choices.Format.TheVariants.{Text as AsText, Json, Sarif}
 use Rattle.drvhost_commands.specs.declared.job.Form.{Form}

@@ -9,10 +9,10 @@ use Rattle.interleave.specs.Line.{number_within}
 use Rattle.model.specs.declared.limits.TheConstants.{MAX_THREADS}
 use Rattle.report.specs.Rule.{IsRuleWord}
 use Rattle.drvhost_devices.specs.declared.verification.Verification.{Verification}
-use Rattle.drvhost_options.specs.declared.coloring.Coloring.{Coloring}
-use Rattle.drvhost_options.specs.declared.extent.Extent.TheVariants.{First}
-use Rattle.drvhost_options.specs.declared.logging.Account.TheVariants.{Verdict, Explanation}
-use Rattle.drvhost_options.specs.declared.manner.Detail.TheVariants.{Usual}
+use Rattle.drvhost_devices.specs.declared.coloring.Coloring.{Coloring}
+use Rattle.drvhost_devices.specs.declared.extent.Extent.TheVariants.{First}
+use Rattle.drvhost_devices.specs.declared.logging.Account.TheVariants.{Verdict, Explanation}
+use Rattle.drvhost_devices.specs.declared.manner.Detail.TheVariants.{Usual}
 use Rattle.drvhost_commands.specs.Choices.{IsReach, answer_format_of, coloring_of, command_named, extent_of, figure_of, form_of, jobs_of, manner_of, passes_of, report_of, tries_of, verbosity_of, verdict_format_of, verification_of, wanted_of}
 use Rattle.drvhost_commands.specs.declared.choices.Format.{Format}
 use Rattle.drvhost_commands.specs.declared.choices.Format.TheVariants.{Text as AsText, Json, Sarif}

@@ -12,18 +12,18 @@ ghost use Rattle.drvhost_commands.specs.Choices.{wanted_of};
 use crate::job::{Form, Report};
 use clap::ArgMatches;
 use drvhost_arguments::matches::{argument, is_given};
+use drvhost_devices::coloring::Coloring;
+use drvhost_devices::extent::Extent;
+use drvhost_devices::figure::Figure;
+use drvhost_devices::jobs::MAX_JOBS;
+use drvhost_devices::logging::Passes;
+use drvhost_devices::manner::{Detail, Manner, Strictness};
+use drvhost_devices::tries::{MAX_TRIES, USUAL_TRIES};
+use drvhost_devices::verbosity::Verbosity;
 use drvhost_devices::verification::Verification;
-use drvhost_options::coloring::Coloring;
-use drvhost_options::extent::Extent;
-use drvhost_options::figure::Figure;
-use drvhost_options::jobs::MAX_JOBS;
-use drvhost_options::logging::Passes;
-use drvhost_options::manner::{Detail, Manner, Strictness};
-use drvhost_options::tries::{MAX_TRIES, USUAL_TRIES};
-use drvhost_options::verbosity::Verbosity;
-use drvhost_options::wanted::{MAX_OFFERS, Wanted};
-use hunt_bounds::bounds::{Bounds, Goal};
-use hunt_bounds::reach::{
+use drvhost_devices::wanted::{MAX_OFFERS, Wanted};
+use hunt_facts::bounds::{Bounds, Goal};
+use hunt_facts::reach::{
     MAX_PACKETS, MAX_WORLDS, Reach, USUAL_PACKETS, USUAL_THREADS, USUAL_WORLDS,
 };
 use interleave::read::number_within;

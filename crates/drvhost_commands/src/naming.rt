@@ -18,9 +18,9 @@ use crate::job::{
 use crate::subcommand::Subcommand;
 use clap::ArgMatches;
 use drvhost_arguments::matches::{argument, arguments, is_given};
-use drvhost_options::extent::Extent;
-use drvhost_options::logging::{Account, Logging};
-use drvhost_options::manner::Detail;
+use drvhost_devices::extent::Extent;
+use drvhost_devices::logging::{Account, Logging};
+use drvhost_devices::manner::Detail;
 use report::rule::rule_named;
 use std::alloc::{AllocError, Global};
 

@@ -1,5 +1,6 @@
 pub mod Collected
 pub mod Delivered
-pub mod Writing
-pub mod Jobs
 pub mod Files
+pub mod Jobs
+pub mod Painting
+pub mod Writing

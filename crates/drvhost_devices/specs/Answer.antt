@@ -4,7 +4,7 @@ use Rattle.std.specs.Prelude.{ℕ, ⊤, nat_eq, ◌≡◌, ◌+◌, ◌⊎◌, �
 use Rattle.std.specs.List.{list_any, starts_with}
 use Rattle.asm.specs.declared.fault.AsmFault.{AsmFault}
 use Rattle.asm.specs.Reading.{set_in}
-use Rattle.asm_listing.specs.Listing.{listing}
+use Rattle.asm_line.specs.Listing.{listing}
 use Rattle.image.specs.declared.edition.Edition.TheVariants.{Current}
 use Rattle.image.specs.declared.fault.ImageFault.{ImageFault}
 use Rattle.image.specs.Reading.{IsFaultOf}

@@ -13,7 +13,7 @@ use Rattle.interleave.specs.declared.schedule.ScheduleKind.TheVariants as schedu
 use Rattle.interleave.specs.Listing.{schedule_in}
 use Rattle.model.specs.Set.{Set}
 use Rattle.model.specs.declared.history.Command.{Command}
-use Rattle.interleave_script.specs.Script.{script_in}
+use Rattle.interleave_texts.specs.Script.{script_in}
 use Rattle.std.specs.Global.{Vec}
 use Rattle.report.specs.Fault.{image_fault_line, schedule_fault_line, script_fault_line, text_fault_line}
 use Rattle.drvhost_devices.specs.declared.fault.End.{End}

@@ -1,7 +1,11 @@
-pub mod Device
 pub mod Answer
-pub mod Fault
+pub mod Device
 pub mod Ends
+pub mod Fault
+pub mod Forms
 pub mod Outside
+pub mod Painted
+pub mod Painting
 pub mod Ready
+pub mod Strict
 pub mod Told

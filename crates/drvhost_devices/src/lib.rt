@@ -3,10 +3,23 @@
 //! answer, with the line that tells it and the exit status.
 #![tactic(auto)]
 
+pub mod coloring;
 pub mod device;
+pub mod extent;
 pub mod fault;
+pub mod figure;
+mod form;
+pub mod jobs;
+pub mod listing;
+pub mod logging;
+pub mod manner;
+pub mod paint;
 pub mod reading;
+pub mod surroundings;
 pub mod told;
 pub mod transfer;
+pub mod tries;
 pub mod unopened;
+pub mod verbosity;
 pub mod verification;
+pub mod wanted;

@@ -1,2 +1,3 @@
-pub mod Known
+pub mod Below
 pub mod Holding
+pub mod Known

@@ -1,4 +1,6 @@
+pub mod Below
 pub mod Files
+pub mod Found
 pub mod Kept
 pub mod Outside
 pub mod Reading

@@ -9,13 +9,13 @@ ghost use Rattle.drvhost_files.specs.Files.{blank, contents_given, contents_of, 
 ghost use Rattle.drvhost_files.specs.Files.{supply_of, Stores};
 ghost use Rattle.drvhost_files.specs.Reading.{AreAnswered, AreHeld, Opens};
 
+use crate::find::{Found, alone, find};
 use crate::reading::{
     Answered, Answering, Held, Way, answer_files, count_reads, count_unread, read_files,
 };
+use crate::sought::Search;
 use crate::standard::{Opened, STANDARD_INPUT, open};
 use drvhost_devices::device::{Failed, Reader, Sink, Source, Writer};
-use drvhost_found::find::{Found, alone, find};
-use drvhost_found::sought::Search;
 use std::alloc::AllocError;
 use std::fs::File;
 use std::io::{StdinLock, Write};
@@ -33,8 +33,8 @@ pub trait Files {
     ghost supply: { Self → List ℕ → Supply };
 
     // What a path may stand for where such files are sought.
-    ghost use Rattle.drvhost_found.specs.declared.find.Found.{Found};
-    ghost use Rattle.drvhost_found.specs.declared.sought.Sought.{Sought};
+    ghost use Rattle.drvhost_files.specs.declared.find.Found.{Found};
+    ghost use Rattle.drvhost_files.specs.declared.sought.Sought.{Sought};
 
     ghost stands: { Self → Sought → List ℕ → Found → Type 0 };
 
@@ -210,7 +210,7 @@ impl<'r> Disk<'r> {
 }
 
 impl Files for Disk<'_> {
-    ghost use Rattle.drvhost_found.specs.Found.{IsFound};
+    ghost use Rattle.drvhost_files.specs.Found.{IsFound};
 
     type File = Reader<Opened<File, StdinLock<'static>>>;
 

@@ -3,5 +3,8 @@
 #![tactic(auto)]
 
 pub mod files;
+pub mod find;
+pub mod folders;
 pub mod reading;
+pub mod sought;
 pub mod standard;

@@ -16,8 +16,8 @@ use Rattle.drvhost_evidence.specs.Regions.{refusal_region}
 use Rattle.drvhost_evidence.specs.Shown.{IsShownBy}
 use Rattle.drvhost_evidence.proofs.EachFault.{past_told, told_at, within_told}
 use Rattle.drvhost_mends.specs.Fix.{IsFix}
-use Rattle.drvhost_options.specs.declared.extent.Extent.{Extent}
-use Rattle.drvhost_options.specs.declared.extent.Extent.TheVariants.{First, Each}
+use Rattle.drvhost_devices.specs.declared.extent.Extent.{Extent}
+use Rattle.drvhost_devices.specs.declared.extent.Extent.TheVariants.{First, Each}
 use Rattle.drvhost_formats.specs.declared.outcome.Outcome.TheVariants.{Stopped}
 use Rattle.drvhost_formats.specs.Explain.{AreLinesOf, AreRefusalLines, IsRefusalExplained, IsRefusalLine}
 use Rattle.drvhost_formats.specs.Explanation.{Lesson, refusal_explained_json}

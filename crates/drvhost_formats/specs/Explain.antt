@@ -17,8 +17,8 @@ use Rattle.drvhost_evidence.specs.declared.shown.Shown.{Shown}
 use Rattle.drvhost_evidence.specs.Regions.{refusal_region}
 use Rattle.drvhost_evidence.specs.Shown.{IsShownBy}
 use Rattle.drvhost_mends.specs.Fix.{IsFix}
-use Rattle.drvhost_options.specs.declared.extent.Extent.{Extent}
-use Rattle.drvhost_options.specs.declared.extent.Extent.TheVariants.{First, Each}
+use Rattle.drvhost_devices.specs.declared.extent.Extent.{Extent}
+use Rattle.drvhost_devices.specs.declared.extent.Extent.TheVariants.{First, Each}
 use Rattle.drvhost_formats.specs.declared.outcome.Outcome.TheVariants.{Complete, Stopped}
 use Rattle.drvhost_formats.specs.Check.{certified_routines, with_names}
 use Rattle.drvhost_formats.specs.Explanation.{Lesson, acceptance_explained_json, refusal_explained_json}

@@ -1,7 +1,7 @@
 -- The objects of verdicts that are explained.
 use Rattle.std.specs.Prelude.{ℕ, List, [], ◌∷◌, codes, decimal, Option, None, Some, string_bytes}
 use Rattle.json.specs.Json.{Json, null, number, string, array, object, Items, no_items, item, no_members, member}
-use Rattle.mend_fixes.specs.declared.lines.LineEdit.{LineEdit}
+use Rattle.mend_edits.specs.declared.lines.LineEdit.{LineEdit}
 use Rattle.model.specs.declared.abs.Refusal.{Refusal}
 use Rattle.model.specs.Words.{rule_word}
 use Rattle.report.specs.Rule.{rule_name}

@@ -2,7 +2,7 @@
 use Rattle.std.proofs.Common.{◌≤◌, ℕ, List, [], ◌∷◌, Option, None, Some, arith}
 use Rattle.json.specs.Json.{max_depth}
 use Rattle.json.specs.Tree.{depth, items_depth}
-use Rattle.mend_fixes.specs.declared.lines.LineEdit.{LineEdit}
+use Rattle.mend_edits.specs.declared.lines.LineEdit.{LineEdit}
 use Rattle.model.specs.declared.abs.Refusal.{Refusal}
 use Rattle.report_json.specs.declared.verdict.CertifiedRoutine.{CertifiedRoutine}
 use Rattle.report_json.specs.Nesting.{acceptance_nests}

@@ -11,7 +11,7 @@ ghost use Rattle.drvhost_formats.specs.Explanation.{steps_json};
 
 use drvhost_evidence::shown::Shown;
 use json::Writer;
-use mend_fixes::LineEdit;
+use mend_edits::LineEdit;
 use model::abs::Refusal;
 use report_json::member::{begin, put_number, put_text};
 use report_json::to_json::ToJson;

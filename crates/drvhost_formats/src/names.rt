@@ -6,8 +6,7 @@ ghost use Rattle.asm_places.specs.Source.{body_on};
 ghost use Rattle.text.specs.Cut.{lines_of};
 ghost use Rattle.drvhost_formats.specs.Names.{named_before, names_on, routine_names};
 
-use asm_line::Body;
-use asm_usual::read_line;
+use asm_line::{Body, read_line};
 use drvhost_devices::reading::begins_image;
 use std::alloc::{AllocError, Global};
 use text::cut::Lines;

@@ -12,7 +12,7 @@ use Rattle.hunt_schedule.specs.declared.telling.Told.{Told}
 use Rattle.hunt_schedule.specs.declared.telling.Told.TheVariants.{Found, Unlisted, All, More}
 use Rattle.hunt_schedule.specs.Exact.{IsToldExactly}
 use Rattle.hunt_schedule.specs.Telling.{IsToldOf}
-use Rattle.hunt_bounds.specs.declared.bounds.Bounds.{Bounds}
+use Rattle.hunt_facts.specs.declared.bounds.Bounds.{Bounds}
 use Rattle.model.specs.Set.{Set}
 
 -- what is written of what is told

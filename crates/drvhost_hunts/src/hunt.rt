@@ -14,7 +14,7 @@ use drvhost_devices::reading::source_of;
 use drvhost_devices::transfer::write_bytes;
 use drvhost_sets::job::{Job, Notes, answer};
 use drvhost_sets::taking::Taking;
-use hunt_bounds::reach::Reach;
+use hunt_facts::reach::Reach;
 use hunt_schedule::exact::tell_exactly;
 use hunt_schedule::grounds::Grounds;
 use hunt_schedule::telling::{Told, tell_hunting};

@@ -2,4 +2,5 @@
 //! that there is none.
 #![tactic(auto)]
 
+pub mod find;
 pub mod hunt;

@@ -1,7 +1,7 @@
 -- Answers in colour, of what was collected in memory.
 use Rattle.std.proofs.Common.{◌≡◌, ◌∙◌, ◌+◌, ◌≤◌, ℕ, List, [], Bool, true, false, Option, Some, IfOk, Result, Ok, Err, arith, codes, if◌then◌else◌, nat_lt, refl, suc, subst, sym, zero}
 use Rattle.std.proofs.lemmas.Bool.Decides.{nat_tests}
-use Rattle.drvhost_colors.specs.Painted.{IsPainted}
+use Rattle.drvhost_devices.specs.Painted.{IsPainted}
 use Rattle.drvhost_devices.specs.Answer.{Answer}
 use Rattle.drvhost_devices.specs.Device.{Says}
 use Rattle.drvhost_devices.specs.Ends.{Answers, Ends, OutOfMemory, ReadFailed, Rightly, WriteFailed}

@@ -2,7 +2,7 @@
 use Rattle.std.proofs.Common.{◌≡◌, ◌∙◌, ◌+◌, ◌<◌, ◌≤◌, ℕ, List, [], ◌∷◌, ◌++◌, String, ap, append-nil, append_assoc, get_or, length, refl, subst, sym, take}
 use Rattle.std.proofs.lemmas.List.{take_all, take_more}
 use Rattle.std.specs.Global.{Global}
-use Rattle.drvhost_found.specs.declared.find.Found.{Found}
+use Rattle.drvhost_files.specs.declared.find.Found.{Found}
 use Rattle.drvhost_many.specs.All.{AreFound}
 
 -- those of one path more

@@ -5,7 +5,7 @@ use Rattle.drvhost_devices.specs.Device.{Bytes, Closed, IsSuppliedAs, MayBeClose
 use Rattle.drvhost_files.proofs.Known.{holds_known}
 use Rattle.drvhost_commands.specs.declared.job.Judging.{Judging}
 use Rattle.drvhost_commands.specs.declared.job.Judging.TheVariants.{Check, CheckJson, Explain, ExplainJson}
-use Rattle.drvhost_options.specs.declared.coloring.Coloring.TheVariants.{Auto, Always, Never}
+use Rattle.drvhost_devices.specs.declared.coloring.Coloring.TheVariants.{Auto, Always, Never}
 use Rattle.drvhost_many.specs.One.{IsJudged}
 
 pub judged_known : (judging : Judging) (name : List ℕ) (known supply : Supply)

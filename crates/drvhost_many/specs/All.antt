@@ -7,7 +7,7 @@ use Rattle.drvhost_commands.specs.declared.job.Judging.{Judging}
 use Rattle.drvhost_devices.specs.Answer.{Answer}
 use Rattle.drvhost_devices.specs.Device.{Supply, TakesBeginning}
 use Rattle.drvhost_devices.specs.Told.{joined}
-use Rattle.drvhost_found.specs.declared.find.Found.{Found}
+use Rattle.drvhost_files.specs.declared.find.Found.{Found}
 use Rattle.drvhost_many.specs.Marked.{marked, named_answer, noted}
 use Rattle.drvhost_many.specs.declared.many.Halt.{Halt}
 use Rattle.drvhost_many.specs.declared.many.Halt.TheVariants.{Memory, Write}

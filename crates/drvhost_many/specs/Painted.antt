@@ -1,9 +1,9 @@
 -- Answers in colour.
 use Rattle.std.specs.Prelude.{◌≡◌, Bool, true, false, Result, Ok, Err}
-use Rattle.drvhost_colors.specs.Painted.{IsPainted}
+use Rattle.drvhost_devices.specs.Painted.{IsPainted}
 use Rattle.drvhost_devices.specs.Answer.{Answer}
-use Rattle.drvhost_options.specs.declared.coloring.Coloring.{Coloring}
-use Rattle.drvhost_options.specs.declared.coloring.Coloring.TheVariants.{Auto, Always, Never}
+use Rattle.drvhost_devices.specs.declared.coloring.Coloring.{Coloring}
+use Rattle.drvhost_devices.specs.declared.coloring.Coloring.TheVariants.{Auto, Always, Never}
 
 -- an answer is another one, with its output painted
 pub record IsPaintedAs (plain answer : Answer) : Type 0 where

@@ -4,7 +4,7 @@ ghost use Rattle.std.specs.Prelude.{ℕ, IfNone, IfOk, IfSome, List};
 ghost use Rattle.drvhost_many.specs.All.{AreFound, IsAlone};
 
 use drvhost_files::files::Files;
-use drvhost_found::sought::Search;
+use drvhost_files::sought::Search;
 use std::alloc::{AllocError, Global};
 use std::thread::Threads;
 

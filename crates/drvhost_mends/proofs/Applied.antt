@@ -9,7 +9,7 @@ use Rattle.drvhost_devices.specs.declared.fault.End.TheVariants.{Stopped}
 use Rattle.drvhost_devices.specs.declared.fault.Fault.{Fault}
 use Rattle.drvhost_devices.specs.declared.fault.Fault.TheVariants.{Read, Write, Memory, Text, Image, Schedule as OfSchedule, Script as OfScript}
 use Rattle.drvhost_devices.proofs.Jobs.{goes_rightly, set_unread}
-use Rattle.drvhost_options.specs.declared.wanted.Wanted.{Wanted}
+use Rattle.drvhost_devices.specs.declared.wanted.Wanted.{Wanted}
 use Rattle.model.specs.declared.abs.Refusal.{Refusal}
 use Rattle.model.specs.Set.{Set}
 use Rattle.model.specs.Typable.{IsFirstFault}

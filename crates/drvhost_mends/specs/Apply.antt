@@ -8,8 +8,8 @@ use Rattle.drvhost_devices.specs.declared.fault.End.TheVariants.{Complete, Stopp
 use Rattle.drvhost_devices.specs.declared.fault.Fault.{Fault}
 use Rattle.drvhost_devices.specs.declared.fault.Fault.TheVariants.{Write}
 use Rattle.drvhost_devices.specs.Device.{Holds, Supply, TakesBeginning}
-use Rattle.drvhost_options.specs.declared.wanted.Wanted.{Wanted}
-use Rattle.drvhost_options.specs.declared.wanted.Wanted.TheVariants.{Sure, Number}
+use Rattle.drvhost_devices.specs.declared.wanted.Wanted.{Wanted}
+use Rattle.drvhost_devices.specs.declared.wanted.Wanted.TheVariants.{Sure, Number}
 use Rattle.model.specs.declared.abs.Refusal.{Refusal}
 use Rattle.model.specs.Set.{Set}
 use Rattle.model.specs.Typable.{IsFirstFault, IsTypable}

@@ -1,7 +1,7 @@
 -- What a fix is worth: edits of whole lines of a text.
 use Rattle.std.specs.Prelude.{ℕ, ◌≡◌, ◌⊎◌, List, []}
-use Rattle.mend_fixes.specs.declared.lines.LineEdit.{LineEdit}
-use Rattle.mend_fixes.specs.Lines.{edited}
+use Rattle.mend_edits.specs.declared.lines.LineEdit.{LineEdit}
+use Rattle.mend_edits.specs.Lines.{edited}
 use Rattle.model.specs.declared.abs.Refusal.{Refusal}
 use Rattle.drvhost_mends.specs.declared.judging.Extent.{Extent}
 use Rattle.drvhost_mends.specs.Mend.{NamesOf}

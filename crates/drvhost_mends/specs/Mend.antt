@@ -1,7 +1,7 @@
 -- What `mend` answers: offers of mends, each with a diff of the text that was checked.
 use Rattle.std.specs.Prelude.{ℕ, zero, suc, ◌≡◌, ◌+◌, ◌<◌, ◌++◌, ◌||◌, ◌&&◌, not, nat_eq, ◌⊎◌, Bool, true, false, if◌then◌else◌, List, [], ◌∷◌, Ok, Some, codes, decimal}
 use Rattle.std.specs.List.{starts_with}
-use Rattle.asm_listing.specs.Listing.{listing}
+use Rattle.asm_line.specs.Listing.{listing}
 use Rattle.drvhost_devices.specs.Answer.{Answer, FileSays, IsOfFile, ended, is_image}
 use Rattle.drvhost_devices.specs.declared.fault.End.{End}
 use Rattle.drvhost_devices.specs.declared.fault.End.TheVariants.{Complete, Stopped}

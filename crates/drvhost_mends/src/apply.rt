@@ -17,7 +17,7 @@ use drvhost_devices::device::{Sink, Source};
 use drvhost_devices::fault::{End, Fault, finish, no_memory};
 use drvhost_devices::reading::{begins_image, set_of};
 use drvhost_devices::transfer::{read_whole, write_bytes};
-use drvhost_options::wanted::Wanted;
+use drvhost_devices::wanted::Wanted;
 use image::DriverSet;
 use model::abs::{Refusal, Rule};
 use model::items::Items;

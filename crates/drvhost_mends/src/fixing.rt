@@ -5,8 +5,7 @@ ghost use Rattle.drvhost_mends.specs.Fix.{IsFix};
 
 use crate::judging::extent_of;
 use drvhost_devices::reading::begins_image;
-use mend_edits::Change;
-use mend_fixes::{LineEdit, edited, edits_of};
+use mend_edits::{Change, LineEdit, edited, edits_of};
 use model::abs::Refusal;
 use model::items::Items;
 use std::alloc::{AllocError, Global};

@@ -10,7 +10,7 @@ use crate::choosing::choices;
 use crate::judging::{Extent, judge};
 use crate::proposing::{Proposal, propose};
 use driver_set::DriverSet;
-use drvhost_options::wanted::Wanted;
+use drvhost_devices::wanted::Wanted;
 use mend_offers::offers::find_offers;
 use model::abs::Refusal;
 use model::items::Items;

@@ -6,7 +6,7 @@ ghost use Rattle.report.specs.Verdict.{refusal_line};
 ghost use Rattle.drvhost_mends.specs.Mend.{end_of, none_told, nothing_told, text_of, told};
 
 use crate::judged_offers::Offered;
-use asm_listing::listing;
+use asm_line::listing;
 use drvhost_devices::fault::End;
 use drvhost_devices::reading::begins_image;
 use image::DriverSet;

@@ -11,7 +11,7 @@ use Rattle.model.specs.Set.{Set}
 use Rattle.model.specs.View.{has_frames, thread_view}
 use Rattle.model.specs.World.{World, owner_of}
 use Rattle.laws_runs.proofs.Past.Packets.{lt_true}
-use Rattle.laws_locks.specs.Waiting.{other_owner, sought_by, waits_for}
+use Rattle.laws_runs.specs.Waiting.{other_owner, sought_by, waits_for}
 use Rattle.tell_audit.specs.Findings.{rings_below, ringed_threads}
 use Rattle.tell_audit.specs.Ring.{is_in_ring, is_met}
 use Rattle.workers_script.specs.Standing.{AreIdle}

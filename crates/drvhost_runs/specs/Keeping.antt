@@ -2,7 +2,7 @@
 use Rattle.std.specs.Prelude.{ℕ, ◌≡◌, ◌⊎◌, Bool, true, false, List, codes, length, None, Option, Some, Ok}
 use Rattle.std.specs.Io.KnownBytes.{Appends}
 use Rattle.interleave.specs.Listing.{Lists}
-use Rattle.interleave_script.specs.Script.{script_in}
+use Rattle.interleave_texts.specs.Script.{script_in}
 use Rattle.model.specs.declared.history.Command.{Command}
 use Rattle.model.specs.declared.history.Entry.{Entry}
 use Rattle.model.specs.History.{events_of}

@@ -12,7 +12,7 @@ use Rattle.model.specs.Set.{Set}
 use Rattle.report.specs.Fault.{script_fault_line}
 use Rattle.report.specs.Host.{agrees_line, left_line}
 use Rattle.report.specs.Reply.{reply_line}
-use Rattle.interleave_script.specs.Script.{script_in}
+use Rattle.interleave_texts.specs.Script.{script_in}
 use Rattle.drvhost_devices.specs.declared.fault.End.{End}
 use Rattle.drvhost_devices.specs.declared.fault.End.TheVariants.{Complete, Stopped}
 use Rattle.drvhost_devices.specs.Answer.{Answer, IsIfAccepted, end_status, faulty}

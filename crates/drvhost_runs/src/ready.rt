@@ -1,7 +1,7 @@
 //! What is read before workers serve a script.
 
 ghost use Rattle.std.specs.Prelude.{◌≡◌, ◌+◌, ◌≤◌, ◌⊎◌, Err, IfErr, IfOk, length};
-ghost use Rattle.interleave_script.specs.declared.parse.TheConstants.{MAX_COMMANDS};
+ghost use Rattle.interleave_texts.specs.declared.script_parse.TheConstants.{MAX_COMMANDS};
 ghost use Rattle.drvhost_devices.specs.Device.{CanCount, Says};
 ghost use Rattle.drvhost_devices.specs.Ends.{HoldsRun};
 ghost use Rattle.drvhost_devices.specs.Fault.{ReadsScript, reads_failed, writes_failed};
@@ -14,7 +14,7 @@ use drvhost_devices::fault::{Fault, of_script, say};
 use drvhost_devices::transfer::read_whole;
 use drvhost_devices::verification::Verification;
 use drvhost_sets::check::refuse;
-use interleave_script::parse::parse_script;
+use interleave_texts::script_parse::parse_script;
 use model::history::Command;
 use std::alloc::Global;
 use verifier::{Accepted, verify};

@@ -4,7 +4,7 @@ use Rattle.std.proofs.lemmas.List.{take_all, take_more}
 use Rattle.std.specs.Global.{Global}
 use Rattle.report_sarif.specs.declared.log.Finding.{Finding}
 use Rattle.drvhost_devices.specs.Device.{Supply}
-use Rattle.drvhost_options.specs.declared.logging.Logging.{Logging}
+use Rattle.drvhost_devices.specs.declared.logging.Logging.{Logging}
 use Rattle.drvhost_sarif.specs.declared.found.Found.{Found}
 use Rattle.drvhost_sarif.specs.Found.{AreFoundIn, IsFoundOf, ReadsAll}
 

@@ -7,7 +7,7 @@ use Rattle.drvhost_devices.specs.Device.{Says, Supply, TakesBeginning}
 use Rattle.drvhost_devices.specs.Ends.{Answers, Ends, OutOfMemory, Rightly, WriteFailed}
 use Rattle.drvhost_devices.proofs.Writing.{appends_none, keeps_same}
 use Rattle.drvhost_many.specs.All.{Counted}
-use Rattle.drvhost_options.specs.declared.logging.Logging.{Logging}
+use Rattle.drvhost_devices.specs.declared.logging.Logging.{Logging}
 use Rattle.drvhost_sarif.specs.declared.found.Found.{Found}
 use Rattle.drvhost_sarif.specs.Found.{ReadsAll}
 use Rattle.drvhost_sarif.specs.Log.{FilesEnd, IsLogOf, IsLogged}

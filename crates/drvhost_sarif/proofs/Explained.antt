@@ -3,7 +3,7 @@ use Rattle.std.proofs.Common.{◌≡◌, ◌∙◌, ◌+◌, ◌<◌, ◌≤◌,
 use Rattle.std.proofs.lemmas.List.{take_all, take_more}
 use Rattle.std.specs.Global.{Vec}
 use Rattle.std.specs.List.{AllZip}
-use Rattle.mend_fixes.specs.declared.lines.LineEdit.{LineEdit}
+use Rattle.mend_edits.specs.declared.lines.LineEdit.{LineEdit}
 use Rattle.model.specs.declared.abs.Refusal.{Refusal}
 use Rattle.model.specs.Set.{Set}
 use Rattle.report_sarif.specs.declared.log.Finding.{Finding}
@@ -15,8 +15,8 @@ use Rattle.drvhost_evidence.specs.declared.shown.Shown.{Shown}
 use Rattle.drvhost_evidence.specs.Shown.{IsShownBy}
 use Rattle.drvhost_evidence.proofs.EachFault.{past_told, told_at, within_told}
 use Rattle.drvhost_mends.specs.Fix.{IsFix}
-use Rattle.drvhost_options.specs.declared.extent.Extent.{Extent}
-use Rattle.drvhost_options.specs.declared.extent.Extent.TheVariants.{First, Each}
+use Rattle.drvhost_devices.specs.declared.extent.Extent.{Extent}
+use Rattle.drvhost_devices.specs.declared.extent.Extent.TheVariants.{First, Each}
 use Rattle.drvhost_sarif.specs.Found.{AreExplained, IsExplained, IsRefusal, refusal_words}
 
 zip_push : {A B : Type 0} (R : A → B → Type 0) (xs : List A) (ys : List B) (x : A) (y : B)

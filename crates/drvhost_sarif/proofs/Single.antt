@@ -6,11 +6,11 @@ use Rattle.model.specs.declared.abs.Refusal.{Refusal}
 use Rattle.model.specs.Set.{Set}
 use Rattle.report_sarif.specs.declared.log.Finding.{Finding}
 use Rattle.report_sarif.specs.declared.log.Region.{Region}
-use Rattle.drvhost_options.specs.declared.extent.Extent.{Extent}
-use Rattle.drvhost_options.specs.declared.logging.Account.{Account}
-use Rattle.drvhost_options.specs.declared.logging.Account.TheVariants.{Verdict, Explanation}
-use Rattle.drvhost_options.specs.declared.logging.Passes.{Passes}
-use Rattle.drvhost_options.specs.declared.logging.Passes.TheVariants.{Listed}
+use Rattle.drvhost_devices.specs.declared.extent.Extent.{Extent}
+use Rattle.drvhost_devices.specs.declared.logging.Account.{Account}
+use Rattle.drvhost_devices.specs.declared.logging.Account.TheVariants.{Verdict, Explanation}
+use Rattle.drvhost_devices.specs.declared.logging.Passes.{Passes}
+use Rattle.drvhost_devices.specs.declared.logging.Passes.TheVariants.{Listed}
 use Rattle.report.specs.Fault.{text_kind_name}
 use Rattle.drvhost_evidence.specs.Regions.{region_at}
 use Rattle.drvhost_sarif.specs.declared.found.Found.{Found}

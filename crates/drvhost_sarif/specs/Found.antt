@@ -21,13 +21,13 @@ use Rattle.drvhost_devices.specs.Device.{Holds, Supply}
 use Rattle.drvhost_evidence.specs.Regions.{refusal_region, region_at}
 use Rattle.drvhost_evidence.specs.Shown.{AreStepsOf, other_path, path_of, refused_lines}
 use Rattle.drvhost_mends.specs.Fix.{IsFix}
-use Rattle.drvhost_options.specs.declared.extent.Extent.{Extent}
-use Rattle.drvhost_options.specs.declared.extent.Extent.TheVariants.{First, Each}
-use Rattle.drvhost_options.specs.declared.logging.Account.{Account}
-use Rattle.drvhost_options.specs.declared.logging.Account.TheVariants.{Verdict, Explanation}
-use Rattle.drvhost_options.specs.declared.logging.Logging.{Logging}
-use Rattle.drvhost_options.specs.declared.logging.Passes.{Passes}
-use Rattle.drvhost_options.specs.declared.logging.Passes.TheVariants.{Omitted, Listed}
+use Rattle.drvhost_devices.specs.declared.extent.Extent.{Extent}
+use Rattle.drvhost_devices.specs.declared.extent.Extent.TheVariants.{First, Each}
+use Rattle.drvhost_devices.specs.declared.logging.Account.{Account}
+use Rattle.drvhost_devices.specs.declared.logging.Account.TheVariants.{Verdict, Explanation}
+use Rattle.drvhost_devices.specs.declared.logging.Logging.{Logging}
+use Rattle.drvhost_devices.specs.declared.logging.Passes.{Passes}
+use Rattle.drvhost_devices.specs.declared.logging.Passes.TheVariants.{Omitted, Listed}
 use Rattle.drvhost_sarif.specs.declared.found.Found.{Found}
 
 -- the place of a refusal in words, and as a fingerprint: the same, wherever its lines were moved

@@ -14,9 +14,9 @@ use Rattle.serde_json.specs.Written.{compact_text}
 use Rattle.drvhost_devices.specs.Answer.{Answer}
 use Rattle.drvhost_devices.specs.Device.{Supply}
 use Rattle.drvhost_devices.specs.Ends.{Ends}
-use Rattle.drvhost_found.specs.declared.find.Found.{Found}
+use Rattle.drvhost_files.specs.declared.find.Found.{Found}
 use Rattle.drvhost_many.specs.All.{AreFound, IsUnfound}
-use Rattle.drvhost_options.specs.declared.logging.Logging.{Logging}
+use Rattle.drvhost_devices.specs.declared.logging.Logging.{Logging}
 use Rattle.drvhost_sarif.specs.Found.{AreFoundIn}
 
 -- all rules, by their numbers

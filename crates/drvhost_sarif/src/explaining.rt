@@ -11,14 +11,14 @@ ghost use Rattle.drvhost_sarif.specs.Found.{AreExplained, IsExplained, IsRefusal
 
 use crate::finding::{ReadFile, of_refusal};
 use crate::found::only;
+use drvhost_devices::extent::Extent;
 use drvhost_evidence::faults::evidence_of_fault;
 use drvhost_evidence::shown::{Shown, show};
 use drvhost_mends::fixing::fix_by;
-use drvhost_options::extent::Extent;
 use drvhost_sets::advising::Advisor;
 use drvhost_sets::explaining::origin_of;
 use image::DriverSet;
-use mend_fixes::LineEdit;
+use mend_edits::LineEdit;
 use model::abs::Refusal;
 use model::items::Items;
 use report_sarif::log::Finding;

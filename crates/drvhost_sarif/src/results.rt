@@ -8,9 +8,9 @@ ghost use Rattle.drvhost_sarif.specs.Found.{ReadsAll, ReadsOne};
 use crate::finding::{ReadFile, fault_in, found_in};
 use crate::found::Found;
 use drvhost_devices::fault::Fault;
+use drvhost_devices::logging::Logging;
 use drvhost_devices::transfer::read_whole;
 use drvhost_files::files::Files;
-use drvhost_options::logging::Logging;
 use std::alloc::{AllocError, Global};
 
 /// Looks at each of these files, in order.

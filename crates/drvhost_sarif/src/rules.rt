@@ -9,7 +9,7 @@ use crate::finding::{ACCEPTED, words_of};
 use model::abs::Rule;
 use report_sarif::log::{Finding, Kind, RuleText, log};
 use std::alloc::{AllocError, Global};
-use verifier_pages::{RULES, rule_words};
+use verifier_names::{RULES, rule_words};
 
 /// All kinds of faults: of a text, of an image, and of a file that can't be read.
 const KINDS: [&str; 12] = [

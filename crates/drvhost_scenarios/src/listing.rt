@@ -6,8 +6,8 @@ ghost use Rattle.drvhost_scenarios.specs.Scenarios.{IsScheduleTold, end_of, unli
 
 use crate::telling::Told;
 use drvhost_devices::fault::End;
-use interleave_lines::appending::add;
-use interleave_lines::listing::listing;
+use interleave_texts::appending::add;
+use interleave_texts::listing::listing;
 use scenario_run::holding::events_of;
 use scenario_run::playing::Playing;
 use scenario_steps::scenario::Step;

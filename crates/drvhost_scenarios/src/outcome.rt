@@ -7,7 +7,7 @@ ghost use Rattle.drvhost_scenarios.specs.Scenarios.{IsOutcome, failure, ok_line}
 use crate::telling::Told;
 use crate::words::failure_words;
 use drvhost_devices::fault::End;
-use interleave_lines::appending::{add, add_numbered};
+use interleave_texts::appending::{add, add_numbered};
 use scenario_run::playing::Playing;
 use scenario_steps::scenario::Step;
 use std::alloc::{AllocError, Global};

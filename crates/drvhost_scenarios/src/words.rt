@@ -2,7 +2,6 @@
 
 use asm_line::status_text;
 use checked::Checked;
-use hunt_ends::amiss::Amiss;
 use interleave::schedule::MAX_EVENTS;
 use model::abs::Refusal;
 use model::event::{Lock, Reply};
@@ -17,6 +16,7 @@ use scenario_world::cells::number_of;
 use scenario_world::lists::entries_of;
 use scenario_world::marks::{is_marked, is_unmarked};
 use std::alloc::{AllocError, Global};
+use tell_audit::amiss::Amiss;
 use tell_audit::ring::waits_for;
 use tell_audit::sites::{Site, sites_of};
 use tell_names::{Book, add_lock, add_number};

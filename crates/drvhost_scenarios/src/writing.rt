@@ -1,8 +1,8 @@
 //! The text of a scenario that makes events happen.
 
 use crate::finding::Find;
-use interleave_lines::appending::{add, add_number, add_numbered};
-use interleave_lines::words::goes_on;
+use interleave_texts::appending::{add, add_number, add_numbered};
+use interleave_texts::words::goes_on;
 use model::event::Event;
 use model::status::Major;
 use scenario_names::names::Names;

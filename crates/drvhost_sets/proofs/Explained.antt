@@ -11,7 +11,7 @@ use Rattle.drvhost_devices.specs.Fault.{Goes, ReadsSet, TellsLine, failed_reads,
 use Rattle.drvhost_devices.proofs.Jobs.{ends_of, goes_rightly, right_on, set_unread}
 use Rattle.drvhost_devices.proofs.Writing.{appends_none, keeps_same}
 use Rattle.model.specs.Set.{Set}
-use Rattle.drvhost_options.specs.declared.extent.Extent.{Extent}
+use Rattle.drvhost_devices.specs.declared.extent.Extent.{Extent}
 use Rattle.drvhost_sets.specs.Explained.{IsExplained, IsExplainedOf, IsExplainedSaid}
 
 -- a fault's line alone has no words behind it

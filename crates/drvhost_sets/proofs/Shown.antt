@@ -7,7 +7,7 @@ use Rattle.drvhost_devices.specs.Answer.{Answer}
 use Rattle.drvhost_devices.specs.Device.{Supply, TakesBeginning, Writes}
 use Rattle.drvhost_devices.specs.Ends.{Ends, Rightly, ReadFailed, WriteFailed, OutOfMemory}
 use Rattle.drvhost_devices.proofs.Writing.{appends_more, begins_before, writes_behind}
-use Rattle.drvhost_options.specs.declared.extent.Extent.{Extent}
+use Rattle.drvhost_devices.specs.declared.extent.Extent.{Extent}
 use Rattle.drvhost_sets.specs.Explained.{IsExplained, IsExplainedOf, IsExplainedSaid, IsFileExplained, hunt_line}
 
 -- an answer is that on a refused set, which tells nothing, or has another exit status

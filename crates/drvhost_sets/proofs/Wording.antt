@@ -17,7 +17,7 @@ use Rattle.drvhost_devices.specs.Answer.{Answer, acceptance, ended}
 use Rattle.drvhost_devices.specs.Device.{Adds, TakesBeginning}
 use Rattle.drvhost_devices.specs.Fault.{Goes}
 use Rattle.drvhost_devices.proofs.Writing.{adds_all, adds_breaks, adds_line, begins_before}
-use Rattle.drvhost_options.specs.declared.extent.Extent.{Extent}
+use Rattle.drvhost_devices.specs.declared.extent.Extent.{Extent}
 use Rattle.drvhost_sets.specs.Explained.{AreFurther, AreWordsOf, AreWordsOn, IsAcceptanceExplained, IsBlock, IsRefusalExplained}
 
 -- the lines of a verdict and words behind them are written, or a beginning of them

@@ -9,8 +9,8 @@ use Rattle.model.specs.declared.abs.Refusal.{Refusal}
 use Rattle.model.specs.Set.{Set}
 use Rattle.model.specs.Typable.{IsFirstFault, IsTypable}
 use Rattle.report.specs.Verdict.{refusal_line}
-use Rattle.drvhost_options.specs.declared.extent.Extent.{Extent}
-use Rattle.drvhost_options.specs.declared.extent.Extent.TheVariants.{First, Each}
+use Rattle.drvhost_devices.specs.declared.extent.Extent.{Extent}
+use Rattle.drvhost_devices.specs.declared.extent.Extent.TheVariants.{First, Each}
 
 -- words on one refusal: they end with a line feed, and have nowhere two in a row
 abbrev pub IsBlock : List ℕ → Type 0

@@ -5,12 +5,12 @@ ghost use Rattle.std.specs.Prelude.{IfOk};
 ghost use Rattle.model.specs.Typable.{IsFirstFault};
 ghost use Rattle.mend_offers.specs.Offers.{AreOffersOf};
 
-use asm_listing::listing;
-use drvhost_options::extent::Extent;
+use asm_line::listing;
+use drvhost_devices::extent::Extent;
 use image::DriverSet;
-use mend_advice::advise;
 use mend_edits::Change;
 use mend_offers::advice::{find_likely, find_sure};
+use mend_offers::advise;
 use mend_offers::offers::Mending;
 use model::abs::Refusal;
 use model::items::Items;

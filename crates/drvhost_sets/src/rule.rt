@@ -13,7 +13,7 @@ use drvhost_devices::transfer::write_whole;
 use model::abs::Rule;
 use report::fault::WRITE_FAILED;
 use std::alloc::{AllocError, Global};
-use verifier_pages::{lock_order_words, rule_words};
+use verifier_names::{lock_order_words, rule_words};
 
 /// Writes a rule by its number and name, and then what it says, with an example. The answer is the
 /// exit status: 0, or 2 where the write failed, 3 where memory ran out. Faults are told on the

@@ -10,10 +10,10 @@ ghost use Rattle.drvhost_sets.specs.Explained.{IsFileExplained, hunt_line};
 
 use crate::explaining::explain;
 use drvhost_devices::device::{Sink, Source};
+use drvhost_devices::extent::Extent;
 use drvhost_devices::fault::Fault;
 use drvhost_devices::transfer::write_bytes;
 use drvhost_devices::unopened::say_behind;
-use drvhost_options::extent::Extent;
 use report::fault::WRITE_FAILED;
 use std::alloc::Global;
 

@@ -13,17 +13,17 @@ use Rattle.drvhost_devices.specs.declared.verification.Verification.TheVariants.
 use Rattle.drvhost_files.specs.declared.reading.Contents.{Contents}
 use Rattle.drvhost_files.specs.declared.reading.Contents.TheVariants.{Whole, Unread, Unopened, Lacking}
 use Rattle.drvhost_files.specs.declared.reading.Held.{Held}
-use Rattle.drvhost_found.specs.declared.find.Found.{Found}
-use Rattle.drvhost_found.specs.declared.sought.Sought.{Sought}
-use Rattle.drvhost_found.specs.declared.sought.Sought.TheVariants.{Scenarios}
+use Rattle.drvhost_files.specs.declared.find.Found.{Found}
+use Rattle.drvhost_files.specs.declared.sought.Sought.{Sought}
+use Rattle.drvhost_files.specs.declared.sought.Sought.TheVariants.{Scenarios}
 use Rattle.drvhost_devices.specs.Told.{joined}
 use Rattle.drvhost_many.specs.All.{AreFound, nothing}
 use Rattle.drvhost_many.specs.Held.{AreJoined}
-use Rattle.drvhost_options.specs.declared.manner.Detail.TheVariants.{Usual}
-use Rattle.drvhost_options.specs.declared.manner.Manner.{Manner}
-use Rattle.drvhost_options.specs.declared.manner.Strictness.TheVariants.{Lenient}
-use Rattle.drvhost_options.specs.declared.verbosity.Verbosity.{Verbosity}
-use Rattle.drvhost_options.specs.declared.verbosity.Verbosity.TheVariants.{Brief, Verbose}
+use Rattle.drvhost_devices.specs.declared.manner.Detail.TheVariants.{Usual}
+use Rattle.drvhost_devices.specs.declared.manner.Manner.{Manner}
+use Rattle.drvhost_devices.specs.declared.manner.Strictness.TheVariants.{Lenient}
+use Rattle.drvhost_devices.specs.declared.verbosity.Verbosity.{Verbosity}
+use Rattle.drvhost_devices.specs.declared.verbosity.Verbosity.TheVariants.{Brief, Verbose}
 use Rattle.drvhost_scenarios.specs.Scenarios.{IsOfScenario, IsTested, names_in, right_of}
 use Rattle.drvhost_scenarios.specs.declared.telling.Asked.TheVariants.{Schedule}
 use Rattle.drvhost_views.specs.Told.{IsTellOf}

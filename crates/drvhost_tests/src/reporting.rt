@@ -9,7 +9,7 @@ ghost use Rattle.drvhost_tests.specs.Reports.{tap_point, tap_sheet, test_case, w
 use drvhost_commands::job::Report;
 use drvhost_devices::told::Told;
 use drvhost_many::named::name_lines;
-use interleave_lines::appending::{add, add_numbered};
+use interleave_texts::appending::{add, add_numbered};
 use std::alloc::{AllocError, Global};
 
 /// What stands before a comment in the form of TAP.

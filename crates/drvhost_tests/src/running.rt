@@ -10,10 +10,10 @@ ghost use Rattle.scenario_text.specs.Listing.{scenario_in};
 
 use drvhost_devices::device::{Reader, Source, Writer};
 use drvhost_devices::fault::Fault;
+use drvhost_devices::manner::{Detail, Manner, Strictness};
 use drvhost_devices::told::{Told, collected};
+use drvhost_devices::verbosity::Verbosity;
 use drvhost_devices::verification::Verification;
-use drvhost_options::manner::{Detail, Manner, Strictness};
-use drvhost_options::verbosity::Verbosity;
 use drvhost_scenarios::telling::{Asked, tell_text};
 use drvhost_views::tell::{Telling, tell};
 use image::DriverSet;

@@ -13,11 +13,11 @@ use drvhost_commands::job::Report;
 use drvhost_devices::device::Sink;
 use drvhost_devices::fault::no_memory;
 use drvhost_devices::told::{Told, deliver};
+use drvhost_devices::verbosity::Verbosity;
 use drvhost_devices::verification::Verification;
 use drvhost_files::files::Files;
-use drvhost_found::sought::{Search, Sought};
+use drvhost_files::sought::{Search, Sought};
 use drvhost_many::paths::find_all;
-use drvhost_options::verbosity::Verbosity;
 use std::alloc::{AllocError, Global};
 use std::thread::Threads;
 

@@ -2,7 +2,7 @@
 use Rattle.std.specs.Prelude.{ℕ, ◌≡◌, ◌+◌, ◌++◌, ◌⊎◌, List, [], ◌∷◌, None, Option, Some, Result, Ok, Err, length}
 use Rattle.std.specs.Global.{Vec}
 use Rattle.interleave.specs.declared.schedule.ScheduleFault.{ScheduleFault}
-use Rattle.interleave_script.specs.Script.{script_in}
+use Rattle.interleave_texts.specs.Script.{script_in}
 use Rattle.model.specs.declared.event.Reply.{Reply}
 use Rattle.model.specs.declared.history.Command.{Command}
 use Rattle.model.specs.declared.history.Entry.{Entry}

@@ -22,8 +22,8 @@ use Rattle.tell_json.specs.declared.telling.Telling.{Telling}
 use Rattle.tell_json.specs.Telling.{is_refused}
 use Rattle.tell_uses.specs.Ledger.{Tells as TellsRun}
 use Rattle.tell_uses.specs.Pending.{disagreeing, uses_of}
-use Rattle.drvhost_options.specs.Strict.{fails_strictly}
-use Rattle.drvhost_options.specs.declared.manner.Strictness.{Strictness}
+use Rattle.drvhost_devices.specs.Strict.{fails_strictly}
+use Rattle.drvhost_devices.specs.declared.manner.Strictness.{Strictness}
 use Rattle.drvhost_devices.specs.Answer.{Answer, is_last}
 use Rattle.drvhost_devices.specs.declared.fault.End.{End}
 use Rattle.drvhost_devices.specs.declared.fault.End.TheVariants as end

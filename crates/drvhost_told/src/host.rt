@@ -29,7 +29,7 @@ use drvhost_formats::reading::said_in;
 use drvhost_runs::host::Hosting;
 use image::DriverSet;
 use interleave::schedule::{ScheduleFault, ScheduleKind};
-use interleave_script::parse::parse_script;
+use interleave_texts::script_parse::parse_script;
 use model::event::Reply;
 use model::history::Command;
 use model::memory::OutOfMemory;

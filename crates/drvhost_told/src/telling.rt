@@ -8,9 +8,9 @@ ghost use Rattle.model.specs.Machine.{ShowsWhole};
 
 use checked::Checked;
 use drvhost_devices::fault::{End, Fault};
+use drvhost_devices::manner::Strictness;
 use drvhost_devices::reading::source_of;
 use drvhost_formats::outcome::Outcome;
-use drvhost_options::manner::Strictness;
 use drvhost_runs::follow::is_last;
 use drvhost_runs::watching::{Observer, Taken, observe};
 use image::DriverSet;

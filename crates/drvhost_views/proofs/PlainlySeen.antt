@@ -18,8 +18,8 @@ use Rattle.tell_uses.specs.Ledger.{LedgerState, TellsOn}
 use Rattle.tell_uses.specs.Plain.{PlainStepsKeepLedgers, PlainStepsStepOrStay, is_plain}
 use Rattle.tell_uses.proofs.PlainSteps.{nothing_used}
 use Rattle.drvhost_views.specs.Seen.{is_stepped}
-use Rattle.drvhost_options.specs.declared.manner.Detail.{Detail}
-use Rattle.drvhost_options.specs.declared.manner.Detail.TheVariants.{Quiet, Usual}
+use Rattle.drvhost_devices.specs.declared.manner.Detail.{Detail}
+use Rattle.drvhost_devices.specs.declared.manner.Detail.TheVariants.{Quiet, Usual}
 use Rattle.drvhost_views.specs.Told.{LedgerGoesOn, is_left_out}
 use Rattle.drvhost_views.proofs.ToldAlone.{noted_by}
 

@@ -3,8 +3,8 @@ use Rattle.std.proofs.Common.{◌≡◌, ◌∙◌, ℕ, zero, suc, ◌+◌, ◌
 use Rattle.std.proofs.lemmas.Bool.{false≢true}
 use Rattle.std.proofs.lemmas.List.{append-nil, length-replicate}
 use Rattle.checked.specs.GoingOn.{GoesOn, StepsAlone, more as goes_more, none}
-use Rattle.drvhost_options.specs.declared.manner.Detail.{Detail}
-use Rattle.drvhost_options.specs.declared.manner.Detail.TheVariants.{Every, Quiet}
+use Rattle.drvhost_devices.specs.declared.manner.Detail.{Detail}
+use Rattle.drvhost_devices.specs.declared.manner.Detail.TheVariants.{Every, Quiet}
 use Rattle.drvhost_views.specs.declared.telling.Telling.{Telling}
 use Rattle.drvhost_runs.specs.Repeats.{AreReplies, RepeatsBy}
 use Rattle.drvhost_views.specs.Told.{GoesAlone, IsTelling, IsTold, LedgerGoesOn, TellsAlike, ToldAlone, ToldOnce, occurrences, occurs, told_line, unknown_step}

@@ -5,10 +5,10 @@ use Rattle.std.specs.Prelude.{codes}
 use Rattle.drvhost_devices.specs.declared.fault.End.{End}
 use Rattle.drvhost_devices.specs.declared.fault.End.TheVariants.{Complete, Stopped}
 use Rattle.drvhost_devices.specs.Answer.{ended, is_last}
-use Rattle.drvhost_options.specs.declared.manner.Detail.{Detail}
-use Rattle.drvhost_options.specs.declared.manner.Manner.{Manner}
+use Rattle.drvhost_devices.specs.declared.manner.Detail.{Detail}
+use Rattle.drvhost_devices.specs.declared.manner.Manner.{Manner}
 use Rattle.drvhost_views.specs.declared.telling.Telling.{Telling}
-use Rattle.drvhost_options.specs.Strict.{fails_strictly}
+use Rattle.drvhost_devices.specs.Strict.{fails_strictly}
 use Rattle.drvhost_views.specs.Told.{IsRunTold, IsTelling, IsTold, events_by, is_refused, occurrences, occurrences_by, past_by, replies_by, world_by}
 use Rattle.drvhost_runs.specs.Watching.{RunsTo, end_by}
 use Rattle.drvhost_runs.proofs.Observing.{shown_past}

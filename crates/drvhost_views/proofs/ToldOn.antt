@@ -5,7 +5,7 @@ use Rattle.std.proofs.lemmas.List.{append-nil, length-append, length-replicate}
 use Rattle.std.specs.List.{list_any}
 use Rattle.drvhost_devices.specs.Answer.{is_last}
 use Rattle.drvhost_views.specs.declared.page.Page.{Page}
-use Rattle.drvhost_options.specs.declared.manner.Detail.{Detail}
+use Rattle.drvhost_devices.specs.declared.manner.Detail.{Detail}
 use Rattle.drvhost_views.specs.declared.telling.Telling.{Telling}
 use Rattle.drvhost_runs.specs.Repeats.{RepeatsBy}
 use Rattle.drvhost_views.specs.Seen.{HappensBefore}

@@ -8,7 +8,7 @@ use Rattle.model.specs.Machine.{AppliesWhole, Machine, ShowsWhole}
 use Rattle.tell_uses.specs.Acting.{acting_in}
 use Rattle.tell_uses.specs.Acts.{use_step}
 use Rattle.tell_uses.specs.Plain.{is_plain}
-use Rattle.drvhost_options.specs.declared.manner.Detail.{Detail}
+use Rattle.drvhost_devices.specs.declared.manner.Detail.{Detail}
 use Rattle.drvhost_views.specs.declared.seeing.Sight.{Sight}
 use Rattle.drvhost_views.specs.Told.{LedgerGoesOn, is_left_out}
 use Rattle.tell_words.specs.declared.line.Happened.{Happened}

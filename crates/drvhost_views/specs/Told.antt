@@ -30,12 +30,12 @@ use Rattle.drvhost_devices.specs.declared.fault.Fault.{Fault}
 use Rattle.drvhost_devices.specs.declared.fault.Fault.TheVariants.{Read, Write, Memory, Text, Image, Schedule as OfSchedule, Script as OfScript}
 use Rattle.drvhost_views.specs.declared.show.Showing.{Showing}
 use Rattle.drvhost_views.specs.declared.show.Showing.TheVariants.{InWords, Drawn}
-use Rattle.drvhost_options.specs.Strict.{fails_strictly}
-use Rattle.drvhost_options.specs.declared.figure.Figure.{Figure}
-use Rattle.drvhost_options.specs.declared.manner.Detail.{Detail}
-use Rattle.drvhost_options.specs.declared.manner.Detail.TheVariants.{Every, Usual, Quiet}
-use Rattle.drvhost_options.specs.declared.manner.Manner.{Manner}
-use Rattle.drvhost_options.specs.declared.manner.Strictness.{Strictness}
+use Rattle.drvhost_devices.specs.Strict.{fails_strictly}
+use Rattle.drvhost_devices.specs.declared.figure.Figure.{Figure}
+use Rattle.drvhost_devices.specs.declared.manner.Detail.{Detail}
+use Rattle.drvhost_devices.specs.declared.manner.Detail.TheVariants.{Every, Usual, Quiet}
+use Rattle.drvhost_devices.specs.declared.manner.Manner.{Manner}
+use Rattle.drvhost_devices.specs.declared.manner.Strictness.{Strictness}
 use Rattle.drvhost_views.specs.declared.telling.Told.{Told}
 use Rattle.drvhost_views.specs.declared.telling.Telling.{Telling}
 use Rattle.drvhost_devices.specs.declared.verification.Verification.{Verification}

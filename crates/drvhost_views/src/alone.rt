@@ -7,7 +7,7 @@ ghost use Rattle.drvhost_views.specs.Told.{GoesAlone, ToldAlone, ToldOnce, unkno
 use crate::levels::FEW;
 use crate::page::{Page, length_of, words_of};
 use checked::Checked;
-use drvhost_options::manner::Detail;
+use drvhost_devices::manner::Detail;
 use model::event::{Event, Reply};
 use model::view::FrameView;
 use report::word::Word;

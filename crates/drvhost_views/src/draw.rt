@@ -9,8 +9,8 @@ ghost use Rattle.drvhost_views.specs.Told.{IsDrawOf};
 
 use crate::show::{Showing, Shown};
 use drvhost_devices::device::{Sink, Source};
+use drvhost_devices::figure::Figure;
 use drvhost_devices::verification::Verification;
-use drvhost_options::figure::Figure;
 use drvhost_sets::job::answer;
 use drvhost_sets::judged::Judged;
 use std::alloc::Global;

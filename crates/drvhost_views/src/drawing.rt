@@ -12,7 +12,7 @@ use checked::Checked;
 use draw_picture::{Drawing, Seen, add_picture};
 use draw_tracks::Tracks;
 use drvhost_devices::fault::Fault;
-use drvhost_options::figure::Figure;
+use drvhost_devices::figure::Figure;
 use drvhost_runs::follow::is_last;
 use drvhost_runs::running::Machine;
 use drvhost_runs::watching::{Observer, Taken, observe};

@@ -3,7 +3,7 @@
 ghost use Rattle.std.specs.Prelude.{◌≡◌, ◌≤◌};
 ghost use Rattle.drvhost_views.specs.Told.{happens_again, is_incidental, is_left_out, times_of};
 
-use drvhost_options::manner::Detail;
+use drvhost_devices::manner::Detail;
 use model::event::Reply;
 use tell_uses::computing::only_computes;
 use tell_words::Happened;

@@ -8,7 +8,7 @@ ghost use Rattle.drvhost_views.specs.Told.{ToldOnce, ToldTimes, has_occurred};
 
 use crate::levels::is_left_out;
 use checked::Checked;
-use drvhost_options::manner::Detail;
+use drvhost_devices::manner::Detail;
 use report::event_number::EventNumber;
 use report::lines::Lines;
 use report::word::Word;

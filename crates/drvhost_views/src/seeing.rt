@@ -8,7 +8,7 @@ ghost use Rattle.tell_uses.specs.Acting.{acting_in};
 ghost use Rattle.tell_uses.specs.Plain.{is_plain};
 
 use checked::Checked;
-use drvhost_options::manner::Detail;
+use drvhost_devices::manner::Detail;
 use model::event::{Event, Reply};
 use std::alloc::{AllocError, Global};
 use tell_changes::Moment;

@@ -9,8 +9,8 @@ ghost use Rattle.drvhost_views.specs.Told.{IsTellOf};
 
 use crate::show::{Showing, Shown};
 use drvhost_devices::device::{Sink, Source};
+use drvhost_devices::manner::Manner;
 use drvhost_devices::verification::Verification;
-use drvhost_options::manner::Manner;
 use drvhost_sets::job::answer;
 use drvhost_sets::judged::Judged;
 use std::alloc::Global;

@@ -15,7 +15,7 @@ use crate::page::Page;
 use crate::seeing::{Sight, goes_unseen};
 use checked::Checked;
 use drvhost_devices::fault::{End, Fault};
-use drvhost_options::manner::Manner;
+use drvhost_devices::manner::Manner;
 use drvhost_runs::follow::is_last;
 use drvhost_runs::watching::{Observer, Taken, observe};
 use interleave::schedule::Schedule;

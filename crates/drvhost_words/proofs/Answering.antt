@@ -16,7 +16,7 @@ use Rattle.drvhost_commands.specs.declared.job.Task.TheVariants.{Mend, List as L
 use Rattle.drvhost_commands.specs.declared.job.Way.{Way}
 use Rattle.drvhost_commands.specs.declared.job.Way.TheVariants.{Trace, TraceJson, Tell, TellJson, Draw, Schedule}
 use Rattle.drvhost_commands.specs.declared.job.JobFault.{JobFault}
-use Rattle.drvhost_options.specs.declared.coloring.Coloring.TheVariants.{Auto, Always, Never}
+use Rattle.drvhost_devices.specs.declared.coloring.Coloring.TheVariants.{Auto, Always, Never}
 use Rattle.drvhost_commands.specs.declared.job.JobFault.TheVariants.{Memory, Usage}
 use Rattle.drvhost_commands.specs.CommandLine.{Names, job_fault_status, job_fault_told, program, text_told}
 use Rattle.drvhost_files.specs.Files.{supply_of}

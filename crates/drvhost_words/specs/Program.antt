@@ -11,7 +11,7 @@ use Rattle.drvhost_devices.specs.Device.{MayBeClosed, Supply}
 use Rattle.drvhost_devices.specs.declared.verification.Verification.{Verification}
 use Rattle.drvhost_devices.specs.declared.verification.Verification.TheVariants.{Required}
 use Rattle.drvhost_devices.specs.Ends.{Ends, HoldsRun, IsCheckOf, IsListOf, IsRewriteOf, IsTraceOf}
-use Rattle.drvhost_finds.specs.Find.{IsFindOf}
+use Rattle.drvhost_hunts.specs.Find.{IsFindOf}
 use Rattle.drvhost_formats.specs.Told.{IsUnopenedJson}
 use Rattle.drvhost_formats.specs.Trace.{IsTraceJsonOf}
 use Rattle.drvhost_hunts.specs.declared.hunt.Way.TheVariants.{Quick, Exact}
@@ -40,17 +40,17 @@ use Rattle.drvhost_commands.specs.declared.job.Way.{Way}
 use Rattle.drvhost_commands.specs.declared.job.Way.TheVariants.{Trace, TraceJson, Tell, TellJson, Draw, Schedule}
 use Rattle.drvhost_commands.specs.CommandLine.{Names, NamesJob, program, usage}
 use Rattle.drvhost_files.specs.Files.{Has, IsWritten}
-use Rattle.drvhost_found.specs.declared.find.Found.{Found}
-use Rattle.drvhost_found.specs.declared.sought.Sought.{Sought}
-use Rattle.drvhost_found.specs.declared.sought.Sought.TheVariants.{Sets}
+use Rattle.drvhost_files.specs.declared.find.Found.{Found}
+use Rattle.drvhost_files.specs.declared.sought.Sought.{Sought}
+use Rattle.drvhost_files.specs.declared.sought.Sought.TheVariants.{Sets}
 use Rattle.drvhost_many.specs.All.{AreFound, EachEnds, IsAlone, IsUnfound, width_of}
 use Rattle.drvhost_many.specs.One.{IsJudged, is_in_json as judged_in_json}
 use Rattle.drvhost_many.specs.Painted.{IsShown}
-use Rattle.drvhost_options.specs.declared.coloring.Coloring.{Coloring}
-use Rattle.drvhost_options.specs.declared.coloring.Coloring.TheVariants.{Always, Never}
-use Rattle.drvhost_options.specs.declared.jobs.TheConstants.{MAX_JOBS}
-use Rattle.drvhost_options.specs.declared.surroundings.Surroundings.{Surroundings}
-use Rattle.drvhost_options.specs.Painting.{is_painted}
+use Rattle.drvhost_devices.specs.declared.coloring.Coloring.{Coloring}
+use Rattle.drvhost_devices.specs.declared.coloring.Coloring.TheVariants.{Always, Never}
+use Rattle.drvhost_devices.specs.declared.jobs.TheConstants.{MAX_JOBS}
+use Rattle.drvhost_devices.specs.declared.surroundings.Surroundings.{Surroundings}
+use Rattle.drvhost_devices.specs.Painting.{is_painted}
 use Rattle.drvhost_sarif.specs.Log.{PathsEnd as LogEnds}
 use Rattle.drvhost_tests.specs.Tests.{Asked as Tested, TestsEnd}
 use Rattle.drvhost_told.specs.Served.{IsHostJsonOf}

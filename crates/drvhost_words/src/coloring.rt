@@ -4,8 +4,8 @@ ghost use Rattle.std.specs.Prelude.{◌≡◌};
 ghost use Rattle.drvhost_words.specs.Program.{settled, settled_judging, settled_way};
 
 use drvhost_commands::job::{Judging, Way};
-use drvhost_options::coloring::Coloring;
-use drvhost_options::surroundings::Surroundings;
+use drvhost_devices::coloring::Coloring;
+use drvhost_devices::surroundings::Surroundings;
 
 /// How sets are judged: in colour always or never.
 pub(crate) fn settled_judging(surroundings: Surroundings, judging: Judging) -> Judging

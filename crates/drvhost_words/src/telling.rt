@@ -8,12 +8,12 @@ ghost use Rattle.drvhost_sets.specs.Devices.{AnswersOver};
 ghost use Rattle.drvhost_many.specs.Painted.{IsShown};
 ghost use Rattle.drvhost_views.specs.Told.{IsTellOf};
 
+use drvhost_devices::coloring::Coloring;
 use drvhost_devices::device::{Sink, Source, Writer};
+use drvhost_devices::manner::Manner;
 use drvhost_devices::told::collected;
 use drvhost_devices::verification::Verification;
 use drvhost_many::painting::show;
-use drvhost_options::coloring::Coloring;
-use drvhost_options::manner::Manner;
 use drvhost_views::tell::{Telling, tell};
 use std::alloc::Global;
 

@@ -1,7 +1,7 @@
 -- How a search ends.
 use Rattle.laws_runs.proofs.Prelude.{arith, ap, refl, subst, sym, zero, ◌∙◌, List, None, Option, Some, [], length, slice_get, suc, ℕ, Set, ◌+◌, ◌++◌, ◌∷◌, ◌≡◌, ◌≤◌, Event}
-use Rattle.hunt_ends.specs.declared.ending.Ending.{Ending}
-use Rattle.hunt_ends.specs.Ends.{EndsSo}
+use Rattle.tell_audit.specs.declared.ending.Ending.{Ending}
+use Rattle.tell_audit.specs.Ends.{EndsSo}
 use Rattle.hunt_exact.specs.declared.search.Exactly.{Exactly}
 use Rattle.hunt_exact.specs.declared.search.Searched.{Searched}
 use Rattle.hunt_exact.specs.Exact.{IsAmissBehind, IsEnded, IsExact, IsVisited, ended_by}

@@ -1,7 +1,7 @@
 -- Nothing is amiss in a world behind a reply.
 use Rattle.laws_runs.proofs.Prelude.{ap, refl, subst, sym, ◌∙◌, Bool, List, None, Option, Some, [], false, is_some, length, not, true, ℕ, ◌≡◌, Set, World, Reply}
-use Rattle.hunt_ends.specs.declared.amiss.Amiss.{Amiss}
-use Rattle.hunt_ends.specs.Ends.{first_of, or_amiss, stops_with}
+use Rattle.tell_audit.specs.declared.amiss.Amiss.{Amiss}
+use Rattle.tell_audit.specs.Ends.{first_of, or_amiss, stops_with}
 use Rattle.hunt_exact.specs.Amiss.{amiss_at}
 use Rattle.tell_audit.specs.declared.left.LeftLock.{LeftLock}
 use Rattle.tell_audit.specs.Findings.{ringed_threads}

@@ -3,8 +3,8 @@
 -- threads. A use of a stack location that was returned from otherwise than it was marked is none of
 -- these: only the past of a run tells it. No run of an accepted set has one.
 use Rattle.std.specs.Prelude.{[], length, Option}
-use Rattle.hunt_ends.specs.declared.amiss.Amiss.{Amiss}
-use Rattle.hunt_ends.specs.Ends.{first_of, or_amiss, stops_with}
+use Rattle.tell_audit.specs.declared.amiss.Amiss.{Amiss}
+use Rattle.tell_audit.specs.Ends.{first_of, or_amiss, stops_with}
 use Rattle.model.specs.declared.event.Reply.{Reply}
 use Rattle.model.specs.Set.{Set}
 use Rattle.model.specs.World.{World}

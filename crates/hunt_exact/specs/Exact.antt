@@ -1,6 +1,6 @@
 -- What an exact hunt answers.
 use Rattle.std.specs.Prelude.{ℕ, ◌≡◌, ◌+◌, ◌++◌, Bool, List, [], ◌∷◌, length, Option, None, Some, slice_get}
-use Rattle.hunt_ends.specs.Ends.{EndsSo}
+use Rattle.tell_audit.specs.Ends.{EndsSo}
 use Rattle.hunt_exact.specs.declared.search.Exactly.{Exactly}
 use Rattle.hunt_exact.specs.declared.search.Exactly.TheVariants.{Found, Never, More}
 use Rattle.hunt_exact.specs.declared.search.Searched.{Searched}

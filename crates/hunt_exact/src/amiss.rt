@@ -1,7 +1,7 @@
 //! Whether something is amiss behind an event.
 
 ghost use Rattle.std.specs.Prelude.{◌≡◌, [], IfOk, IsTrue, None, false, is_some};
-ghost use Rattle.hunt_ends.specs.Ends.{first_of, stops_with};
+ghost use Rattle.tell_audit.specs.Ends.{first_of, stops_with};
 ghost use Rattle.hunt_exact.specs.Amiss.{amiss_at};
 
 use checked::Checked;

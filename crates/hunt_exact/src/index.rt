@@ -3,8 +3,8 @@
 
 use checked::Checked;
 use hunt_facts::facts::Facts;
-use hunt_keys::keys::write_key;
-use hunt_keys::writer::Writer;
+use hunt_facts::keys::write_key;
+use hunt_facts::writer::Writer;
 use indexmap::IndexMap;
 use std::alloc::{AllocError, Global};
 

@@ -14,11 +14,11 @@ use crate::scope::Scope;
 use crate::seen::Seen;
 use crate::visiting::expand;
 use driver_set::DriverSet;
-use hunt_ends::ending::{Ending, ending_of};
 use hunt_facts::facts::Facts;
 use model::event::Event;
 use report_progress::progress::{Progress, tell_at};
 use std::alloc::{AllocError, Global};
+use tell_audit::ending::{Ending, ending_of};
 
 /// How far a search goes.
 #[derive(Clone, Copy)]

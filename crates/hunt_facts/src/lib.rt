@@ -2,7 +2,14 @@
 #![tactic(auto)]
 
 pub mod arguments;
+pub mod bounds;
+mod cells;
 pub mod facts;
+pub mod keys;
+pub mod reach;
 pub mod reaching;
 pub mod registers;
 pub mod requests;
+mod sorting;
+pub mod uses;
+pub mod writer;

@@ -1,6 +1,6 @@
 -- What is told of a shortest run is what may be told of an exact hunt.
 use Rattle.std.proofs.Common.{◌≡◌, ◌+◌, subst, sym, length}
-use Rattle.hunt_bounds.specs.declared.bounds.Bounds.{Bounds}
+use Rattle.hunt_facts.specs.declared.bounds.Bounds.{Bounds}
 use Rattle.hunt_exact.specs.declared.search.Shortest.{Shortest}
 use Rattle.hunt_exact.specs.Exact.{IsShortest}
 use Rattle.hunt_exact.specs.Within.{Scope}

@@ -2,8 +2,8 @@
 -- within the bounds that is shorter ends amiss; or that no run within the bounds does, of any length;
 -- or that none of up to so many events does.
 use Rattle.std.specs.Prelude.{ℕ, ◌≡◌, ◌+◌, Bool, List, Some, length}
-use Rattle.hunt_bounds.specs.declared.bounds.Bounds.{Bounds}
-use Rattle.hunt_bounds.specs.declared.bounds.Goal.TheVariants.{Amiss}
+use Rattle.hunt_facts.specs.declared.bounds.Bounds.{Bounds}
+use Rattle.hunt_facts.specs.declared.bounds.Goal.TheVariants.{Amiss}
 use Rattle.hunt_exact.specs.declared.search.Exactly.{Exactly}
 use Rattle.hunt_exact.specs.declared.search.Shortest.{Shortest}
 use Rattle.hunt_exact.specs.Exact.{IsExact, IsShortest, scope_of}

@@ -1,11 +1,11 @@
 -- How a run ends, in one line: at a bug check or a wrong operand as a trace tells it, with what an
 -- audit finds in its words, or with what isn't at rest.
 use Rattle.std.specs.Prelude.{ℕ, ◌++◌, List, [], ◌∷◌, codes, decimal}
-use Rattle.hunt_ends.specs.declared.amiss.Amiss.{Amiss}
-use Rattle.hunt_ends.specs.declared.amiss.Amiss.TheVariants.{Stopped, Lost, Left, Ringed, Disagrees}
-use Rattle.hunt_ends.specs.declared.ending.Ending.{Ending}
-use Rattle.hunt_ends.specs.declared.ending.Ending.TheVariants.{Fails, Stuck}
-use Rattle.hunt_ends.specs.declared.standing.Standing.{Standing}
+use Rattle.tell_audit.specs.declared.amiss.Amiss.{Amiss}
+use Rattle.tell_audit.specs.declared.amiss.Amiss.TheVariants.{Stopped, Lost, Left, Ringed, Disagrees}
+use Rattle.tell_audit.specs.declared.ending.Ending.{Ending}
+use Rattle.tell_audit.specs.declared.ending.Ending.TheVariants.{Fails, Stuck}
+use Rattle.tell_audit.specs.declared.standing.Standing.{Standing}
 use Rattle.model.specs.declared.event.Bug.{Bug as BugFound}
 use Rattle.model.specs.declared.event.Lock.{Lock}
 use Rattle.model.specs.declared.event.Lock.TheVariants.{SystemCancel, Spin}

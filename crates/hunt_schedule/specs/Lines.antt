@@ -1,7 +1,7 @@
 -- The lines that are told of a hunt that has found no run, or tells none.
 use Rattle.std.specs.Prelude.{ℕ, ◌++◌, List, codes, decimal}
-use Rattle.hunt_bounds.specs.declared.bounds.Bounds.{Bounds}
-use Rattle.hunt_ends.specs.declared.ending.Ending.{Ending}
+use Rattle.hunt_facts.specs.declared.bounds.Bounds.{Bounds}
+use Rattle.tell_audit.specs.declared.ending.Ending.{Ending}
 use Rattle.hunt_schedule.specs.Headline.{headline}
 
 -- that all worlds within bounds were seen, which are so many

@@ -3,13 +3,13 @@
 -- what isn't at rest at its end; that nothing comes to rest from there is the search's word.
 use Rattle.std.specs.Prelude.{ℕ, ◌≡◌, ◌≤◌, ◌++◌, ◌∷◌, List, [], Option, None, Some, length, ⊤, nat_eq, true}
 use Rattle.std.specs.List.{starts_with}
-use Rattle.hunt_ends.specs.declared.ending.Ending.{Ending}
-use Rattle.hunt_ends.specs.Ends.{EndsSo}
+use Rattle.tell_audit.specs.declared.ending.Ending.{Ending}
+use Rattle.tell_audit.specs.Ends.{EndsSo}
 use Rattle.hunt_schedule.specs.declared.telling.Told.{Told}
 use Rattle.hunt_schedule.specs.declared.telling.Told.TheVariants.{Found, Unlisted, All, More}
 use Rattle.hunt_schedule.specs.Headline.{headline}
 use Rattle.hunt_schedule.specs.Lines.{all_line, more_line, unlisted_line}
-use Rattle.hunt_bounds.specs.declared.bounds.Bounds.{Bounds}
+use Rattle.hunt_facts.specs.declared.bounds.Bounds.{Bounds}
 use Rattle.hunt_search.specs.declared.search.Find.{Find}
 use Rattle.hunt_search.specs.Hunts.{IsFind, IsWanted}
 use Rattle.interleave.specs.declared.schedule.Schedule.{Schedule}

@@ -1,7 +1,7 @@
 //! What is hunted in.
 
 use driver_set::DriverSet;
-use hunt_bounds::bounds::Bounds;
+use hunt_facts::bounds::Bounds;
 
 /// What is hunted in, how far, and with what it is told.
 #[derive(Clone, Copy)]

@@ -5,12 +5,12 @@ ghost use Rattle.hunt_schedule.specs.Headline.{amiss_words, bug_words, each_betw
 ghost use Rattle.hunt_schedule.specs.Headline.{headline, lock_words, of_device, place_words};
 ghost use Rattle.hunt_schedule.specs.Headline.{reply_words, standing_words, subject_words};
 
-use hunt_ends::amiss::Amiss;
-use hunt_ends::ending::Ending;
-use hunt_ends::standing::Standing;
-use interleave_lines::appending::{add, add_number, add_numbered};
+use interleave_texts::appending::{add, add_number, add_numbered};
 use model::event::{Bug, Lock, OfDevice, Place, Reply, Subject};
 use std::alloc::{AllocError, Global};
+use tell_audit::amiss::Amiss;
+use tell_audit::ending::Ending;
+use tell_audit::standing::Standing;
 
 /// The line of a text that tells how a run ends.
 pub(crate) fn headline(alloc: Global, ending: &Ending) -> Result<Vec<u8>, AllocError>

@@ -5,10 +5,10 @@ ghost use Rattle.hunt_schedule.specs.Lines.{all_line, fine_line, more_line, neve
 ghost use Rattle.hunt_schedule.specs.Lines.{unlisted_line, worlds_line};
 
 use crate::headline::headline;
-use hunt_bounds::bounds::Bounds;
-use hunt_ends::ending::Ending;
-use interleave_lines::appending::{add, add_number};
+use hunt_facts::bounds::Bounds;
+use interleave_texts::appending::{add, add_number};
 use std::alloc::{AllocError, Global};
+use tell_audit::ending::Ending;
 
 /// That a run ends so, and isn't told.
 pub(crate) fn unlisted_line(alloc: Global, ending: &Ending) -> Result<Vec<u8>, AllocError>

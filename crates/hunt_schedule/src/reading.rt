@@ -6,14 +6,14 @@ ghost use Rattle.model.specs.declared.limits.TheConstants.{MAX_THREADS};
 
 use crate::headline::headline;
 use driver_set::DriverSet;
-use hunt_bounds::bounds::Bounds;
-use hunt_ends::ending::ending_of;
+use hunt_facts::bounds::Bounds;
 use hunt_search::search::is_wanted;
 use interleave::parse::parse_schedule;
 use interleave::schedule::ScheduleKind;
-use interleave_lines::reading::events_of;
+use interleave_texts::reading::events_of;
 use model::event::Event;
 use std::alloc::{AllocError, Global};
+use tell_audit::ending::ending_of;
 
 /// Whether a text lists a schedule within the bounds of a hunt, and begins with the line of how its
 /// run ends.

@@ -5,10 +5,10 @@ ghost use Rattle.model.specs.declared.limits.TheConstants.{MAX_THREADS};
 
 use crate::headline::headline;
 use driver_set::DriverSet;
-use hunt_bounds::bounds::Bounds;
-use hunt_ends::ending::ending_of;
+use hunt_facts::bounds::Bounds;
 use model::event::Event;
 use std::alloc::{AllocError, Global};
+use tell_audit::ending::ending_of;
 use tell_uses::standing::thread_of;
 
 /// Events that stand one behind the other, and are of one thread.

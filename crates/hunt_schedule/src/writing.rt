@@ -10,11 +10,11 @@ use crate::headline::headline;
 use crate::reading::tells_its_end;
 use crate::tidying::tidied;
 use checked::Checked;
-use hunt_ends::ending::Ending;
-use interleave_lines::appending::{add, add_number};
-use interleave_lines::words::{add_event, goes_on};
+use interleave_texts::appending::{add, add_number};
+use interleave_texts::words::{add_event, goes_on};
 use model::event::Event;
 use std::alloc::{AllocError, Global};
+use tell_audit::ending::Ending;
 use tell_names::Book;
 
 /// Where the comments of lines stand.

@@ -1,12 +1,12 @@
 -- What a search answers.
 use Rattle.std.specs.Prelude.{⊤, Some}
-use Rattle.hunt_ends.specs.declared.ending.Ending.{Ending}
-use Rattle.hunt_ends.specs.declared.ending.Ending.TheVariants.{Fails, Stuck}
-use Rattle.hunt_ends.specs.Ends.{EndsSo}
-use Rattle.hunt_bounds.specs.declared.bounds.Bounds.{Bounds}
+use Rattle.tell_audit.specs.declared.ending.Ending.{Ending}
+use Rattle.tell_audit.specs.declared.ending.Ending.TheVariants.{Fails, Stuck}
+use Rattle.tell_audit.specs.Ends.{EndsSo}
+use Rattle.hunt_facts.specs.declared.bounds.Bounds.{Bounds}
 use Rattle.hunt_search.specs.declared.search.Find.{Find}
-use Rattle.hunt_bounds.specs.declared.bounds.Goal.{Goal}
-use Rattle.hunt_bounds.specs.declared.bounds.Goal.TheVariants.{Amiss, AmissOrStuck}
+use Rattle.hunt_facts.specs.declared.bounds.Goal.{Goal}
+use Rattle.hunt_facts.specs.declared.bounds.Goal.TheVariants.{Amiss, AmissOrStuck}
 use Rattle.hunt_search.specs.declared.search.Hunted.{Hunted}
 use Rattle.hunt_search.specs.declared.search.Hunted.TheVariants.{Found, All, More}
 use Rattle.model.specs.Set.{Set}

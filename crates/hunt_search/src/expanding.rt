@@ -5,9 +5,9 @@ use crate::plan::Plan;
 use crate::worlds::Worlds;
 use checked::says_unchanged;
 use driver_set::DriverSet;
-use hunt_ends::rehearsal::Rehearsal;
 use model::event::Event;
 use std::alloc::{AllocError, Global};
+use tell_audit::rehearsal::Rehearsal;
 
 /// A world to go on from.
 #[derive(Drop)]

@@ -1,7 +1,7 @@
 //! The events that are tried in a world, in a fixed order.
 
 use checked::Checked;
-use hunt_bounds::bounds::Bounds;
+use hunt_facts::bounds::Bounds;
 use hunt_facts::facts::Facts;
 use model::event::Event;
 use std::alloc::{AllocError, Global};

@@ -4,7 +4,7 @@ ghost use Rattle.std.specs.Prelude.{◌≡◌, ◌≤◌, IfOk};
 ghost use Rattle.model.specs.declared.limits.TheConstants.{MAX_THREADS};
 
 use driver_set::DriverSet;
-use hunt_bounds::bounds::Bounds;
+use hunt_facts::bounds::Bounds;
 use hunt_facts::facts::Facts;
 use model::abs::Rule;
 use std::alloc::{AllocError, Global};
@@ -22,7 +22,7 @@ pub(crate) struct Plan {
 
 impl Model for Plan {
     ghost use Rattle.std.specs.Prelude.{◌≤◌};
-    ghost use Rattle.hunt_bounds.specs.declared.bounds.Bounds.{Bounds};
+    ghost use Rattle.hunt_facts.specs.declared.bounds.Bounds.{Bounds};
     ghost use Rattle.model.specs.declared.limits.TheConstants.{MAX_THREADS};
 
     ghost Value = { Bounds };

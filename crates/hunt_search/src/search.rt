@@ -1,7 +1,7 @@
 //! A shortest run that ends amiss, or else one that is stuck.
 
 ghost use Rattle.std.specs.Prelude.{◌≤◌, IfOk, IfSome, IsTrue};
-ghost use Rattle.hunt_bounds.specs.declared.bounds.Bounds.{Bounds};
+ghost use Rattle.hunt_facts.specs.declared.bounds.Bounds.{Bounds};
 ghost use Rattle.hunt_search.specs.Hunts.{IsFind, IsHunted, IsWanted};
 ghost use Rattle.model.specs.declared.limits.TheConstants.{MAX_THREADS};
 ghost use Rattle.model.specs.Set.{Set};
@@ -10,11 +10,11 @@ use crate::expanding::{expand, run_at};
 use crate::plan::Plan;
 use crate::worlds::Worlds;
 use driver_set::DriverSet;
-use hunt_bounds::bounds::{Bounds, Goal};
-use hunt_ends::ending::{Ending, ending_of};
+use hunt_facts::bounds::{Bounds, Goal};
 use model::event::Event;
 use report_progress::progress::{Progress, tell_at};
 use std::alloc::{AllocError, Global};
+use tell_audit::ending::{Ending, ending_of};
 
 /// A run that was looked for.
 #[derive(Drop)]

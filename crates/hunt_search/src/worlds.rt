@@ -2,14 +2,14 @@
 
 use crate::graph::{Graph, Stand};
 use crate::plan::Plan;
-use hunt_bounds::bounds::Goal;
-use hunt_ends::rehearsal::Rehearsal;
-use hunt_keys::keys::write_key;
-use hunt_keys::uses::add_uses;
-use hunt_keys::writer::Writer;
+use hunt_facts::bounds::Goal;
+use hunt_facts::keys::write_key;
+use hunt_facts::uses::add_uses;
+use hunt_facts::writer::Writer;
 use indexmap::IndexSet;
 use model::event::Event;
 use std::alloc::{AllocError, Global};
+use tell_audit::rehearsal::Rehearsal;
 
 /// How a world was reached: by which event from which other one, and after how many events from the
 /// first one.

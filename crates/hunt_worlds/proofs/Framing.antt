@@ -1,8 +1,8 @@
 -- Frames are the same where what they show is.
 use Rattle.laws_runs.proofs.Prelude.{ap, sym, ◌∙◌, Some, ◌≡◌, Activation, Frame, CancelFrame, Routine, Walk}
-use Rattle.checked_frames.specs.declared.frame.Managing.{Managing}
-use Rattle.checked_frames.specs.declared.frame.Managing.TheVariants.{Cancels, Completes}
-use Rattle.checked_frames.specs.Frames.{activation_of, manager_frame, manager_of}
+use Rattle.checked_parts.specs.declared.frame.Managing.{Managing}
+use Rattle.checked_parts.specs.declared.frame.Managing.TheVariants.{Cancels, Completes}
+use Rattle.checked_parts.specs.Frames.{activation_of, manager_frame, manager_of}
 
 routine_is : (f : Frame) (a : Activation) → activation_of f ≡ Some a → f ≡ Routine a
 routine_is (Routine b) a h = let same : b ≡ a = cc in ap (λ (x : Activation). Routine x) same

@@ -1,15 +1,14 @@
 //! The numbers in the cells of devices, read as a routine at PASSIVE_LEVEL reads them.
 
 ghost use Rattle.std.specs.Prelude.{◌≡◌, ◌<◌, IfSome, IsTrue, Some, slice_get};
-ghost use Rattle.checked_frames.specs.Ran.{LeavesOn};
+ghost use Rattle.checked_parts.specs.Ran.{LeavesOn};
 ghost use Rattle.hunt_worlds.specs.Alike.{CellsBelow, SameCells, SamePaged, SamePlain, paged_at};
 ghost use Rattle.hunt_worlds.specs.Alike.{plain_at};
 ghost use Rattle.model.specs.declared.limits.TheConstants.{CELLS, MAX_INSTRUCTIONS};
 ghost use Rattle.model.specs.Effect.{load_effect};
 
-use checked_frames::activation::entered;
-use checked_frames::{Ran, Runner, number_in};
-use checked_parts::Shared;
+use checked_parts::activation::entered;
+use checked_parts::{Ran, Runner, Shared, number_in};
 use model::cell::Cell;
 use model::limits::CELLS;
 use model::register::Register;

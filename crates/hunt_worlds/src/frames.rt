@@ -4,7 +4,7 @@ ghost use Rattle.std.specs.Prelude.{◌≡◌, IsTrue};
 
 use crate::same::{Same, same_all};
 use checked::Thread;
-use checked_frames::{Frame, Managing};
+use checked_parts::{Frame, Managing};
 use model::world::{Activation, CancelStep, Irql, OpenLoop, Value};
 
 impl Same for Value {

@@ -4,7 +4,7 @@ ghost use Rattle.std.specs.Prelude.{◌≡◌, ◌≤◌, IfOk, IfErr};
 ghost use Rattle.model.specs.declared.limits.TheConstants.{MAX_THREADS};
 ghost use Rattle.model.specs.Machine.{Shows};
 ghost use Rattle.laws_runs.specs.Rules.{KeepsTheRules};
-ghost use Rattle.laws_locks.specs.Rest.{ComesToRest};
+ghost use Rattle.laws_runs.specs.Rest.{ComesToRest};
 
 use machine::World;
 use model::event::Event;

@@ -11,12 +11,14 @@ ghost use Rattle.laws_runs.specs.Holder.{PacketsHaveOneHolder};
 ghost use Rattle.laws_runs.specs.KindsAgree.{AcceptedRunsKeepKinds};
 ghost use Rattle.laws_runs.specs.Lifetime.{ActivationsKeepTheirCertificate};
 ghost use Rattle.laws_runs.specs.NeverStops.{AcceptedRunsNeverStop};
-ghost use Rattle.laws_runs.specs.NothingSkipped.{NothingIsSkipped};
 ghost use Rattle.laws_runs.specs.NoWrong.{AcceptedRunsNeverGoWrong};
+ghost use Rattle.laws_runs.specs.NothingSkipped.{NothingIsSkipped};
 ghost use Rattle.laws_runs.specs.OneToken.{BusyDevicesHaveOneToken};
 ghost use Rattle.laws_runs.specs.OwnLocks.{ThreadsOwnWhatTheirFramesSay};
 ghost use Rattle.laws_runs.specs.PastTells.{PastTellsOfTheWorld};
 ghost use Rattle.laws_runs.specs.PendingReturns.{AcceptedRunsAgreeOnPending};
+ghost use Rattle.laws_runs.specs.Rest.{AcceptedRunsComeToRest};
+ghost use Rattle.laws_runs.specs.RingAt.{AcceptedRingsAreAtOneDevice};
 ghost use Rattle.laws_runs.specs.Rules.{AcceptedRunsKeepTheRules};
 ghost use Rattle.laws_runs.specs.SharedMark.{SharedByBoth};
 ghost use Rattle.laws_runs.specs.ToldTops.{TopOutsAreTold};
@@ -158,4 +160,21 @@ pub fn a_token_is_doubled()
 #[tactic(auto, using(crate::proofs::Prelude::refl))]
 pub fn a_held_packet_is_completed_again()
     ensures { HeldAndCompleted }
+{}
+
+/// In any run of an accepted set each event that begins something brings about only so many steps
+/// that change anything, a number of the set. From the world of any run only so many change
+/// anything before another event comes: every routine ends. Where the locks of each driver stand in
+/// an order in which its routines take them, no threads wait for each other's locks in a ring,
+/// while any thread has frames one with frames goes on, and all threads are idle after so many
+/// rounds of steps, in each of which every thread has a turn.
+pub fn accepted_runs_come_to_rest()
+    ensures { AcceptedRunsComeToRest }
+{}
+
+/// Of any accepted set: threads that wait for each other in a ring are all in routines for one
+/// device, and where each stands its routine takes the lock that it waits for under the one that it
+/// is waited for; so they show a cycle in the order of its driver.
+pub fn accepted_rings_are_at_one_device()
+    ensures { AcceptedRingsAreAtOneDevice }
 {}

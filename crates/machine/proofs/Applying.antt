@@ -11,11 +11,11 @@ use Rattle.model.specs.Typable.{IsTypable}
 use Rattle.machine.specs.Runs.{GoesOn, IsMeant, StepsThreads}
 use Rattle.laws_runs.specs.NeverStops.{LetsGoOn}
 use Rattle.laws_runs.specs.Rules.{AcceptedRunsKeepTheRules}
-use Rattle.laws_words.specs.WordsDone.{WordEventsShowRuns, WordEventDone, WordsMeanAfter}
-use Rattle.laws_words.specs.WordsFit.{WordEventFits, WordEventsFit}
-use Rattle.laws_words.specs.ShownWords.{WordsMeanWhatTheyShow, WordsShowWhatTheyMean, shown_words}
-use Rattle.laws_words.specs.WordStep.{WordAnswer}
-use Rattle.laws_words.specs.Words.{WordWorld}
+use Rattle.laws_slots.specs.WordsDone.{WordEventsShowRuns, WordEventDone, WordsMeanAfter}
+use Rattle.laws_slots.specs.WordsFit.{WordEventFits, WordEventsFit}
+use Rattle.laws_slots.specs.ShownWords.{WordsMeanWhatTheyShow, WordsShowWhatTheyMean, shown_words}
+use Rattle.laws_slots.specs.WordStep.{WordAnswer}
+use Rattle.laws_slots.specs.Words.{WordWorld}
 
 -- what an event left, and the reply
 abbrev pub answered : WordWorld → Reply → WordAnswer

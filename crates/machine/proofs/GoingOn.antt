@@ -9,11 +9,11 @@ use Rattle.machine.proofs.Applying.{applies_shown, meant_after}
 use Rattle.machine.proofs.Stepping.{none_made, stepped_on}
 use Rattle.machine.specs.Runs.{IsMeant}
 use Rattle.machine.specs.Steps.{Stepping}
-use Rattle.laws_words.specs.WordsDone.{WordEventsShowRuns}
-use Rattle.laws_words.specs.WordsFit.{WordEventFits, WordEventsFit}
-use Rattle.laws_words.specs.ShownWords.{WordsMeanWhatTheyShow, WordsShowWhatTheyMean, shown_words}
-use Rattle.laws_words.specs.Words.{WordWorld}
-use Rattle.machine_world.specs.GoingOn.{after, reply_after}
+use Rattle.laws_slots.specs.WordsDone.{WordEventsShowRuns}
+use Rattle.laws_slots.specs.WordsFit.{WordEventFits, WordEventsFit}
+use Rattle.laws_slots.specs.ShownWords.{WordsMeanWhatTheyShow, WordsShowWhatTheyMean, shown_words}
+use Rattle.laws_slots.specs.Words.{WordWorld}
+use Rattle.machine.specs.GoingOn.{after, reply_after}
 
 module _ (law : WordEventsShowRuns) (same : WordsMeanWhatTheyShow) (set : Set)
     (typable : IsTypable set) (sound : IsSound set)

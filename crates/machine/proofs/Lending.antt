@@ -13,7 +13,7 @@ use Rattle.model.specs.Sound.{IsSound}
 use Rattle.model.specs.Typable.{IsTypable}
 use Rattle.model.specs.World.{Shared, World, register}
 use Rattle.machine.proofs.LiveRegisters.{live_at}
-use Rattle.machine.proofs.Slots.{are_slots, live_here, named_here}
+use Rattle.machine.proofs.OverSlots.{are_slots, live_here, named_here}
 use Rattle.machine.proofs.Registers.{StandsOn, registers_shown, stands_on, status_is, threads_none, unmapped}
 use Rattle.machine.proofs.Whole.{run_shown}
 use Rattle.machine.specs.Registers.{LendsWords, WordIs, WordsOfRoutine, routine_at}
@@ -24,9 +24,9 @@ use Rattle.laws_slots.proofs.Keys.{Keyed}
 use Rattle.laws_slots.proofs.Laws.{keyed_before}
 use Rattle.laws_slots.specs.Rep.{named}
 use Rattle.laws_slots.specs.Slots.{SlotShared}
-use Rattle.laws_words.specs.Reads.{WordsMean}
-use Rattle.laws_words.specs.ShownWords.{TellsRegisters, WordsMeanWhatTheyShow, WordsShowWhatTheyMean, WordsTellRegisters, shown_word, shown_words, words_at}
-use Rattle.laws_words.specs.Words.{WordWorld}
+use Rattle.laws_slots.specs.Reads.{WordsMean}
+use Rattle.laws_slots.specs.ShownWords.{TellsRegisters, WordsMeanWhatTheyShow, WordsShowWhatTheyMean, WordsTellRegisters, shown_word, shown_words, words_at}
+use Rattle.laws_slots.specs.Words.{WordWorld}
 
 -- a word by what is shown of it
 word_is : (name : ℕ → ℕ) (m : Shown) (s : Shared) (word : ℕ) (v : Value)

@@ -18,9 +18,9 @@ use Rattle.machine.proofs.Walking.{top_above}
 use Rattle.machine.specs.Registers.{routine_of_frame, routine_of_thread}
 use Rattle.laws_slots.proofs.Words.{map_get}
 use Rattle.laws_slots.specs.Rep.{named}
-use Rattle.laws_words.specs.ShownWords.{shown_frame, shown_thread, shown_word, shown_words, words_at, words_of_frame, words_of_thread}
-use Rattle.laws_words.specs.Words.{WordCancel, WordFrame, WordRoutine, WordThread, WordWalk, WordWorld, coded_status}
-use Rattle.laws_words.specs.WordStep.{top_frame}
+use Rattle.laws_slots.specs.ShownWords.{shown_frame, shown_thread, shown_word, shown_words, words_at, words_of_frame, words_of_thread}
+use Rattle.laws_slots.specs.Words.{WordCancel, WordFrame, WordRoutine, WordThread, WordWalk, WordWorld, coded_status}
+use Rattle.laws_slots.specs.WordStep.{top_frame}
 
 -- the registers that are shown of the routine on the top of a thread, if one stands there
 abbrev pub registers_of_frame : Option ShownFrame → Option (List ShownRegister)

@@ -13,10 +13,10 @@ use Rattle.laws_runs.specs.Holder.{HasOneHolder}
 use Rattle.laws_slots.specs.ShownSlots.{SlotsShowWhatTheyMean, meant, meant_shared, shown_slots}
 use Rattle.machine.proofs.Telling.{tells_due, tells_packet, tells_thread}
 use Rattle.machine.specs.Runs.{IsMeant}
-use Rattle.laws_words.specs.Reads.{WordsMean}
-use Rattle.laws_words.specs.ShownWords.{WordsMeanWhatTheyShow, shown_words}
-use Rattle.laws_words.specs.WordViews.{TellsAsSlots, WordsTellAsSlots, word_thread_at}
-use Rattle.laws_words.specs.Words.{WordWorld}
+use Rattle.laws_slots.specs.Reads.{WordsMean}
+use Rattle.laws_slots.specs.ShownWords.{WordsMeanWhatTheyShow, shown_words}
+use Rattle.laws_slots.specs.WordViews.{TellsAsSlots, WordsTellAsSlots, word_thread_at}
+use Rattle.laws_slots.specs.Words.{WordWorld}
 
 module _ (same : WordsMeanWhatTheyShow) (slots : SlotsShowWhatTheyMean) (tell : WordsTellAsSlots)
     (set : Set) (typable : IsTypable set) (sound : IsSound set) (w : WordWorld)

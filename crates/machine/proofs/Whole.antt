@@ -2,11 +2,11 @@
 use Rattle.std.proofs.Common.{◌≡◌, ℕ, [], length, ap, sym, ◌∙◌, subst}
 use Rattle.model.specs.Run.{run}
 use Rattle.model.specs.Set.{Set}
-use Rattle.laws_words.specs.WordsDone.{FreeWordsMeanTheBeginning}
-use Rattle.laws_words.specs.Reads.{WordsMean}
-use Rattle.laws_words.specs.ShownWords.{WordsShowWhatTheyMean, shown_words}
-use Rattle.laws_words.specs.WordEvents.{opening_words}
-use Rattle.laws_words.specs.Words.{WordWorld}
+use Rattle.laws_slots.specs.WordsDone.{FreeWordsMeanTheBeginning}
+use Rattle.laws_slots.specs.Reads.{WordsMean}
+use Rattle.laws_slots.specs.ShownWords.{WordsShowWhatTheyMean, shown_words}
+use Rattle.laws_slots.specs.WordEvents.{opening_words}
+use Rattle.laws_slots.specs.Words.{WordWorld}
 use Rattle.machine.specs.Runs.{IsMeant, IsShown}
 
 -- before the first event

@@ -11,9 +11,9 @@ use Rattle.model.specs.Shown.{Shown}
 use Rattle.model.specs.World.{World}
 use Rattle.laws_runs.specs.NeverStops.{LetsGoOn}
 use Rattle.laws_runs.specs.Rules.{KeepsTheRules}
-use Rattle.laws_locks.specs.Rest.{ComesToRest}
-use Rattle.laws_words.specs.Reads.{WordsMean}
-use Rattle.laws_words.specs.Words.{WordWorld}
+use Rattle.laws_runs.specs.Rest.{ComesToRest}
+use Rattle.laws_slots.specs.Reads.{WordsMean}
+use Rattle.laws_slots.specs.Words.{WordWorld}
 
 -- words mean the world of some run of a set
 pub record IsMeant (set : Set) (v : WordWorld) : Type 0 where

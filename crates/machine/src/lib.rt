@@ -2,6 +2,20 @@
 //! no bug check and no wrong operand.
 #![tactic(auto)]
 
+mod cells;
+mod forwarding;
+mod locks;
+mod manager;
+mod packets;
+mod queues;
+mod reading;
+mod routine;
+mod running;
+pub mod slots;
+mod starting;
+mod steps;
+mod thread;
 pub mod world;
 
+pub use slots::Slots;
 pub use world::World;

@@ -13,18 +13,16 @@ ghost use Rattle.model.specs.declared.limits.TheConstants.{MAX_THREADS};
 ghost use Rattle.model.specs.Machine.{Applies, Shows};
 ghost use Rattle.model.specs.View.{due_at, packet_at, thread_at};
 ghost use Rattle.laws_runs.specs.Rules.{KeepsTheRules};
-ghost use Rattle.laws_locks.specs.Rest.{ComesToRest};
+ghost use Rattle.laws_runs.specs.Rest.{ComesToRest};
 
+use crate::Slots;
 use driver_set::DriverSet;
-use laws_locks::accepted_runs_come_to_rest;
-use laws_runs::accepted_runs_keep_the_rules;
-use laws_slots::slots_show_what_they_mean;
-use laws_words::{
-    free_words_mean_the_beginning, word_events_fit, word_events_show_runs,
-    words_mean_what_they_show, words_show_what_they_mean, words_tell_as_slots,
-    words_tell_registers,
+use laws_runs::{accepted_runs_come_to_rest, accepted_runs_keep_the_rules};
+use laws_slots::{
+    free_words_mean_the_beginning, slots_show_what_they_mean, word_events_fit,
+    word_events_show_runs, words_mean_what_they_show, words_show_what_they_mean,
+    words_tell_as_slots, words_tell_registers,
 };
-use machine_world::Slots;
 use model::event::{Event, Lock, Reply};
 use model::instr::Field;
 use model::limits::REGISTERS;
@@ -61,7 +59,7 @@ impl Model for World {
     ghost use Rattle.model.specs.Shown.{Shown};
     ghost use Rattle.model.specs.Sound.{IsSound};
     ghost use Rattle.model.specs.Typable.{IsTypable};
-    ghost use Rattle.laws_words.specs.ShownWords.{shown_words};
+    ghost use Rattle.laws_slots.specs.ShownWords.{shown_words};
 
     ghost Value = { Shown };
 

@@ -1,3 +1,4 @@
+pub mod FrameLists
 pub mod Issuing
 pub mod Lists
 pub mod Showing

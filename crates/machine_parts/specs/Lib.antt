@@ -1,4 +1,9 @@
+pub mod Alone
 pub mod Devices
+pub mod Frames
+pub mod Left
+pub mod Lending
 pub mod Lists
 pub mod Packets
+pub mod Turns
 pub mod Walks

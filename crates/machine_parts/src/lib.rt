@@ -3,8 +3,16 @@
 //! there.
 #![tactic(auto)]
 
+pub mod activation;
 mod device_lists;
+pub mod frame;
+pub mod local;
+pub mod ran;
+pub mod reading;
 pub mod shared;
+pub mod telling;
 
+pub use frame::Frame;
+pub use ran::{Managing, Over, Ran};
 pub use shared::Shared;
 pub use shared::walking::Walked;

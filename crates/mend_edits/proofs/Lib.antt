@@ -1,1 +1,2 @@
+pub mod Edits
 pub mod Turns

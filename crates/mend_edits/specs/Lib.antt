@@ -1,2 +1,3 @@
-pub mod Patch
 pub mod Diff
+pub mod Lines
+pub mod Patch

@@ -1,1 +1,2 @@
+pub mod Advice
 pub mod Offers

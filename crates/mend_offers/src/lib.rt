@@ -4,5 +4,7 @@
 pub mod advice;
 pub mod offers;
 mod spread;
+mod sure;
 
 pub use offers::{Ending, Mending, Offer, Offers, Standing, find_offers};
+pub use sure::{Advice, advise};

@@ -1,8 +1,8 @@
 //! Which labels stand where behind edits: old ones are kept where that can be.
 
 use crate::rows::{How, Row};
+use crate::{Label, add_label};
 use driver_set::Instr;
-use mend_sentences::{Label, add_label};
 use std::alloc::{AllocError, Global};
 
 /// The labels of a routine behind edits, by positions.

@@ -1,7 +1,7 @@
 //! How a line is laid out: what stands before its words, its label, its comment. A line that is
 //! written anew keeps that.
 
-use mend_sentences::{Label, add_label};
+use crate::{Label, add_label};
 use model::items::Items;
 use std::alloc::{AllocError, Global};
 

@@ -1,8 +1,7 @@
 //! A driver text by its lines, with the names in it and where things stand.
 
-use asm_line::Body;
+use asm_line::{Body, read_line};
 use asm_places::outline;
-use asm_usual::read_line;
 use std::alloc::{AllocError, Global};
 use text::cut::Lines;
 use text::{Spots, line_at};

@@ -5,10 +5,10 @@ use crate::layout::{Parts, laid_out, line_of, parts_of};
 use crate::page::{Page, number_of};
 use crate::rows::{How, Row};
 use crate::texts::Mended;
-use driver_set::Instr;
-use mend_sentences::{
+use crate::{
     Label, add_label, guessed, inserted, instruction_text, labels_line, moved, replaced, taken_out,
 };
+use driver_set::Instr;
 use model::abs::Rule;
 use model::items::Items;
 use std::alloc::{AllocError, Global};

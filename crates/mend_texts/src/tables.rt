@@ -4,11 +4,10 @@ use crate::layout::{line_of, parts_of, with_word};
 use crate::page::{Page, Thing, number_of};
 use crate::texts::Mended;
 use crate::tracing::LineEdit;
-use asm_line::Body;
-use asm_usual::read_line;
+use crate::{inserted, replaced};
+use asm_line::{Body, read_line};
 use driver_set::QueueName;
 use mend_changes::edit::{Change, Edit};
-use mend_sentences::{inserted, replaced};
 use std::alloc::{AllocError, Global};
 
 /// A line that is changed, or put in before another one.

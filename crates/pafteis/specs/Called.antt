@@ -5,8 +5,8 @@ use Rattle.drvhost_devices.specs.declared.verification.Verification.TheVariants.
 use Rattle.drvhost_devices.specs.Answer.{Answer, IsRuleExplained}
 use Rattle.drvhost_devices.specs.Device.{Bytes}
 use Rattle.drvhost_devices.specs.Ends.{IsTraceOf}
-use Rattle.drvhost_options.specs.declared.extent.Extent.{Extent}
-use Rattle.drvhost_options.specs.declared.extent.Extent.TheVariants.{First, Each}
+use Rattle.drvhost_devices.specs.declared.extent.Extent.{Extent}
+use Rattle.drvhost_devices.specs.declared.extent.Extent.TheVariants.{First, Each}
 use Rattle.drvhost_sets.specs.Explained.{IsExplainedOf}
 use Rattle.model.specs.declared.memory.OutOfMemory.{OutOfMemory}
 use Rattle.pafteis_parts.specs.Delivery.{bytes_of, placed}

@@ -1,11 +1,11 @@
 -- What the exported functions about names answer.
 use Rattle.std.specs.Prelude.{ℕ, List, nat_eq, if◌then◌else◌, Option, None, Some}
 use Rattle.pafteis.specs.Called.{PutsBytes}
-use Rattle.pafteis_names.specs.Constants.{bug_check_named, rule_named, status_named}
-use Rattle.pafteis_names.specs.Named.{name_in}
-use Rattle.pafteis_names.specs.declared.named.Part.TheVariants.{Routine, Queue}
-use Rattle.pafteis_names.specs.declared.named.Sought.{Sought}
-use Rattle.pafteis_names.specs.declared.named.Sought.TheVariants.{Driver, Device, Of}
+use Rattle.pafteis_values.specs.Constants.{bug_check_named, rule_named, status_named}
+use Rattle.pafteis_values.specs.Named.{name_in}
+use Rattle.pafteis_values.specs.declared.named.Part.TheVariants.{Routine, Queue}
+use Rattle.pafteis_values.specs.declared.named.Sought.{Sought}
+use Rattle.pafteis_values.specs.declared.named.Sought.TheVariants.{Driver, Device, Of}
 
 -- what a name is sought of, by its kind and its numbers
 abbrev pub sought_named : ℕ → ℕ → ℕ → Option Sought

@@ -4,9 +4,9 @@ use Rattle.drvhost_devices.specs.Device.{Bytes}
 use Rattle.drvhost_hunts.specs.Hunt.{IsHuntOf}
 use Rattle.drvhost_mends.specs.declared.mend.Asked.{Asked}
 use Rattle.drvhost_mends.specs.Mend.{IsMendOf}
-use Rattle.hunt_bounds.specs.declared.bounds.Bounds.{Bounds}
-use Rattle.hunt_bounds.specs.declared.bounds.Goal.{Goal}
-use Rattle.hunt_bounds.specs.declared.bounds.Goal.TheVariants.{Amiss, AmissOrStuck}
+use Rattle.hunt_facts.specs.declared.bounds.Bounds.{Bounds}
+use Rattle.hunt_facts.specs.declared.bounds.Goal.{Goal}
+use Rattle.hunt_facts.specs.declared.bounds.Goal.TheVariants.{Amiss, AmissOrStuck}
 use Rattle.pafteis.specs.Called.{AnswersIf}
 use Rattle.pafteis.specs.declared.seeking.HuntValue.{HuntValue}
 

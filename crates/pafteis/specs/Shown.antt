@@ -3,11 +3,11 @@ use Rattle.std.specs.Prelude.{ℕ, ◌/◌, ◌%◌, List, nat_eq, if◌then◌e
 use Rattle.drvhost_devices.specs.declared.verification.Verification.{Verification}
 use Rattle.drvhost_devices.specs.declared.verification.Verification.TheVariants.{Required, Skipped}
 use Rattle.drvhost_devices.specs.Device.{Bytes}
-use Rattle.drvhost_options.specs.declared.figure.Figure.TheVariants.{Picture}
-use Rattle.drvhost_options.specs.declared.manner.Detail.{Detail}
-use Rattle.drvhost_options.specs.declared.manner.Detail.TheVariants.{Every, Usual, Quiet}
-use Rattle.drvhost_options.specs.declared.manner.Strictness.{Strictness}
-use Rattle.drvhost_options.specs.declared.manner.Strictness.TheVariants.{Lenient, Strict}
+use Rattle.drvhost_devices.specs.declared.figure.Figure.TheVariants.{Picture}
+use Rattle.drvhost_devices.specs.declared.manner.Detail.{Detail}
+use Rattle.drvhost_devices.specs.declared.manner.Detail.TheVariants.{Every, Usual, Quiet}
+use Rattle.drvhost_devices.specs.declared.manner.Strictness.{Strictness}
+use Rattle.drvhost_devices.specs.declared.manner.Strictness.TheVariants.{Lenient, Strict}
 use Rattle.drvhost_views.specs.declared.tell.Telling.{Telling}
 use Rattle.drvhost_views.specs.Told.{IsDrawOf, IsTellOf}
 use Rattle.pafteis.specs.Called.{AnswersIf, verification_named}

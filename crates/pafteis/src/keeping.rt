@@ -5,7 +5,7 @@ ghost use Rattle.drvhost_devices.specs.Device.{Bytes};
 ghost use Rattle.drvhost_devices.specs.Ends.{IsListOf, IsTraceOf};
 ghost use Rattle.drvhost_hunts.specs.Hunt.{IsHuntOf};
 ghost use Rattle.drvhost_mends.specs.Mend.{IsMendOf};
-ghost use Rattle.drvhost_options.specs.declared.figure.Figure.TheVariants.{Picture};
+ghost use Rattle.drvhost_devices.specs.declared.figure.Figure.TheVariants.{Picture};
 ghost use Rattle.drvhost_sets.specs.Explained.{IsExplainedOf};
 ghost use Rattle.drvhost_views.specs.Told.{IsDrawOf, IsTellOf};
 ghost use Rattle.pafteis.specs.Called.{extent_named, verification_named};

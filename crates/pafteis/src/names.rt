@@ -5,8 +5,8 @@ ghost use Rattle.pafteis.specs.Called.{PutsBytes};
 ghost use Rattle.pafteis.specs.Names.{TellsName, TellsNameIn, constant_named, sought_named};
 
 use crate::texts::{put_bytes, wrong};
-use pafteis_names::constants::{bug_check_name, rule_name, status_name};
-use pafteis_names::named::{Part, Sought, name_in};
+use pafteis_values::constants::{bug_check_name, rule_name, status_name};
+use pafteis_values::named::{Part, Sought, name_in};
 
 /// The name that a driver text gives to something: 1 to a driver, 2 a device, 3 a routine of a
 /// driver, 4 a queue of a driver, each by its number in the order of the text.

@@ -7,9 +7,9 @@ ghost use Rattle.pafteis.specs.Called.{Answers, ExplainsRule, ExplainsSet, IsChe
 ghost use Rattle.pafteis.specs.Called.{PutsBytes, Traces, extent_named, verification_named};
 
 use crate::worlds::DONE;
+use drvhost_devices::extent::Extent;
 use drvhost_devices::told::Told;
 use drvhost_devices::verification::Verification;
-use drvhost_options::extent::Extent;
 use model::memory::OutOfMemory;
 use pafteis_parts::answers::{self, Run, run_as};
 use pafteis_parts::delivery::{deliver, place};

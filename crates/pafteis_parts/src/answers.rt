@@ -14,15 +14,15 @@ ghost use Rattle.pafteis_parts.specs.Shown.{IsRunAs};
 
 use crate::returned::collected;
 use drvhost_devices::device::{Reader, Sink, Source, Writer};
+use drvhost_devices::extent::Extent;
+use drvhost_devices::figure::Figure;
 use drvhost_devices::told::Told;
 use drvhost_devices::verification::Verification;
 use drvhost_mends::mend::Asked;
-use drvhost_options::extent::Extent;
-use drvhost_options::figure::Figure;
 use drvhost_runs::trace::trace;
 use drvhost_views::draw::{Drawing, draw};
 use drvhost_views::tell::{Telling, tell};
-use hunt_bounds::reach::Reach;
+use hunt_facts::reach::Reach;
 use model::abs::Rule;
 use model::memory::OutOfMemory;
 use std::alloc::Global;

@@ -1,5 +1,7 @@
+pub mod Constants
 pub mod Event
 pub mod Locks
+pub mod Named
 pub mod Reply
 pub mod Rule
 pub mod Shape

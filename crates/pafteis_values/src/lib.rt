@@ -2,8 +2,10 @@
 //! locks, an event, a reply, and what a world tells.
 #![tactic(auto)]
 
+pub mod constants;
 pub mod event;
 pub mod locks;
+pub mod named;
 pub mod reply;
 pub mod rule;
 pub mod shape;

@@ -3,7 +3,7 @@
 use Rattle.laws_runs.proofs.Common.{ap, arith, inl, inr, refl, subst, sym, ◌∙◌, cases_eq, cases_lt, get_or_from_slice_get, slice_get_within, ◌⊎◌, All, List, Some, [], false, true, Bool, length, slice_get, suc, zero, ℕ, ◌+◌, ◌<◌, ◌∷◌, ◌≡◌, ◌≢◌, ◌≤◌, Set, member, IsSound, IsTypable, Abs, CancelLock, DeviceLock, Guard}
 use Rattle.std.proofs.Common.{get_or-set_other, length-set, replicate, slice_set, if◌then◌else◌}
 use Rattle.std.specs.Prelude.{get_or}
-use Rattle.laws_locks.specs.Order.{TakesUnder}
+use Rattle.laws_runs.specs.Order.{TakesUnder}
 use Rattle.model.specs.LocalRule.{holds_guard, is_held}
 use Rattle.pafteis_world.specs.Locks.{IsShort}
 use Rattle.verifier_orders.specs.declared.names.Edge.{Edge}

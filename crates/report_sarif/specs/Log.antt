@@ -4,7 +4,7 @@
 use Rattle.std.specs.Prelude.{ℕ, ◌++◌, List, [], ◌∷◌, map, codes, decimal, Option, None, Some, string_bytes}
 use Rattle.serde_json.specs.Data.{Data, number, unsigned, string, array, object, no_items, item, member, no_members}
 use Rattle.serde_json.specs.View.{items_of}
-use Rattle.mend_fixes.specs.declared.lines.LineEdit.{LineEdit}
+use Rattle.mend_edits.specs.declared.lines.LineEdit.{LineEdit}
 use Rattle.report_sarif.specs.declared.log.Finding.{Finding}
 use Rattle.report_sarif.specs.declared.log.Kind.{Kind}
 use Rattle.report_sarif.specs.declared.log.Kind.TheVariants.{Fail, Pass}

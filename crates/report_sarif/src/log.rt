@@ -12,7 +12,7 @@ ghost use Rattle.report_sarif.specs.Log.{region_data, replacement_data, result_d
 ghost use Rattle.report_sarif.specs.Log.{run_data, step_data, steps_flows, text_data, tool_data};
 
 use crate::uri::uri_of;
-use mend_fixes::LineEdit;
+use mend_edits::LineEdit;
 use model::items::Items;
 use serde_json::{Value, json};
 use std::alloc::{AllocError, Global};

@@ -2,7 +2,7 @@
 //! them.
 
 use crate::operand::{DEVICE_STATES, Operand, PACKET_STATES, is_one_of};
-use interleave_faults::faulty::FaultyLine;
+use interleave_texts::faulty::FaultyLine;
 use scenario_expected::expectation::MAX_LISTED;
 use text::class::is;
 

@@ -1,7 +1,7 @@
 //! What the lines of a scenario may name.
 
 use interleave::schedule::ScheduleKind;
-use interleave_faults::faulty::{FaultyLine, tokens_of};
+use interleave_texts::faulty::{FaultyLine, tokens_of};
 use scenario_names::names::Names;
 use scenario_names::operands::{device_of, queue_of};
 use std::alloc::{AllocError, Global};

@@ -3,7 +3,7 @@
 use crate::known::{Known, device_on, packets_before};
 use crate::wording::add_misfit;
 use interleave::schedule::{ScheduleFault, ScheduleKind};
-use interleave_faults::faulty::FaultyLine;
+use interleave_texts::faulty::FaultyLine;
 use scenario_names::names::Names;
 use std::alloc::{AllocError, Global};
 use text_faults::advice::{add_expected, add_wrong};

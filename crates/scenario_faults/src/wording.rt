@@ -3,8 +3,8 @@
 use crate::form::{Form, LINES, STEPS, bound_form, expect_form, form_of};
 use crate::known::Known;
 use crate::operand::Operand;
-use interleave_faults::faulty::FaultyLine;
-use interleave_faults::wording::add_major;
+use interleave_texts::faulty::FaultyLine;
+use interleave_texts::wording::add_major;
 use std::alloc::AllocError;
 use text::class::is;
 use text::piece::Piece;

@@ -7,8 +7,7 @@ ghost use Rattle.scenario_names.specs.Names.{labelled, more, names_of, noted, no
 ghost use Rattle.scenario_names.specs.Names.{on_line, queue_at, queue_named, spot_at};
 ghost use Rattle.scenario_names.specs.Names.{with_instruction, with_queue};
 
-use asm_line::{Body, Line};
-use asm_usual::read_line;
+use asm_line::{Body, Line, read_line};
 use std::alloc::{AllocError, Global};
 use std::marker::Model;
 use text::class::is;

@@ -22,7 +22,7 @@ use text::class::{is, is_number};
 use text::major::major_of;
 use text::number::{Numeral, numbered};
 use text::piece::Piece;
-use verifier_pages::RULES;
+use verifier_names::RULES;
 
 /// The statuses that a packet may top out with.
 const STATUSES: [Status; 7] = [

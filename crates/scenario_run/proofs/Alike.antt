@@ -7,7 +7,7 @@ use Rattle.std.specs.HashMap.{get}
 use Rattle.std.specs.List.{list_any}
 use Rattle.std.specs.Map.{lookup}
 use Rattle.indexmap.specs.IndexMap.{IndexMap}
-use Rattle.laws_worlds.specs.SameWorlds.{GoOnAlike, SameWorldsGoOnAlike}
+use Rattle.checked.specs.SameWorlds.{GoOnAlike, SameWorldsGoOnAlike}
 use Rattle.model.specs.declared.event.Event.{Event}
 use Rattle.model.specs.declared.event.Reply.{Reply}
 use Rattle.model.specs.declared.history.TopOut.{TopOut}

@@ -3,8 +3,8 @@ use Rattle.std.proofs.Common.{◌≡◌, ◌∙◌, ◌++◌, ◌∷◌, [], ℕ
 use Rattle.std.specs.Prelude.{◌&&◌, IfSome, is_none, not}
 use Rattle.std.proofs.Math.Dec.{eqb-suc-zero}
 use Rattle.checked.specs.GoingOn.{GoesOn}
-use Rattle.hunt_ends.specs.Ends.{amiss_in, first_of}
-use Rattle.hunt_ends.proofs.Rehearsing.{finds_first, goes_on}
+use Rattle.tell_audit.specs.Ends.{amiss_in, first_of}
+use Rattle.tell_audit.proofs.Rehearsing.{finds_first, goes_on}
 use Rattle.model.specs.declared.event.Event.{Event}
 use Rattle.model.specs.declared.event.Event.TheVariants.{Step}
 use Rattle.model.specs.declared.event.Reply.{Reply}

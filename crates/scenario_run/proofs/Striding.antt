@@ -3,7 +3,7 @@ use Rattle.std.proofs.Common.{◌≡◌, ◌≢◌, ◌∙◌, ◌∷◌, [], �
 use Rattle.std.specs.Prelude.{◌&&◌, ◌||◌, not, is_none, is_some, nat_eq, option_and_then, option_map}
 use Rattle.std.proofs.lemmas.Bool.Decides.{eqb_tells}
 use Rattle.checked.specs.GoingOn.{GoesAlone, GoesOn, GoesUpTo, StepsAlone, here, is_there, more, nearer, none, with_top}
-use Rattle.laws_locks.specs.Waiting.{acquired_by, other_owner, sought_by, waits_for}
+use Rattle.laws_runs.specs.Waiting.{acquired_by, other_owner, sought_by, waits_for}
 use Rattle.laws_runs.proofs.Lists.{last_of, set_other}
 use Rattle.model.specs.declared.event.Lock.{Lock}
 use Rattle.model.specs.declared.event.Lock.TheVariants.{SystemCancel}

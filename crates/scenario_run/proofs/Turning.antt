@@ -3,7 +3,7 @@ use Rattle.std.proofs.Common.{◌≡◌, ◌≢◌, ◌∙◌, ◌<◌, ◌≤�
 use Rattle.std.specs.Prelude.{◌&&◌, ◌||◌, is_none, is_some, nat_eq, not}
 use Rattle.std.proofs.lemmas.Bool.{ne_eqb, or_parts}
 use Rattle.std.proofs.lemmas.Bool.Decides.{eqb_tells}
-use Rattle.laws_locks.specs.Waiting.{waits_for}
+use Rattle.laws_runs.specs.Waiting.{waits_for}
 use Rattle.model.specs.declared.event.Event.TheVariants as event
 use Rattle.model.specs.Set.{Set}
 use Rattle.model.specs.View.{busy_at}

@@ -3,7 +3,7 @@
 -- one of an accepted set may still be different.
 use Rattle.std.specs.Prelude.{ℕ, ◌≡◌, List, length}
 use Rattle.std.specs.List.{list_any}
-use Rattle.laws_worlds.specs.SameWorlds.{StandAlike}
+use Rattle.checked.specs.SameWorlds.{StandAlike}
 use Rattle.model.specs.declared.event.Event.{Event}
 use Rattle.model.specs.declared.event.Reply.{Reply}
 use Rattle.model.specs.History.{replies, top_out_of}

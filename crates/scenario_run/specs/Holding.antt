@@ -1,7 +1,7 @@
 -- What is expected of a run holds in it, or doesn't.
 use Rattle.std.specs.Prelude.{ℕ, ◌&&◌, not, Bool, false, List, [], ◌∷◌, nat_eq, is_none, Option, None, Some}
 use Rattle.std.specs.List.{list_any}
-use Rattle.hunt_ends.specs.Ends.{amiss_in}
+use Rattle.tell_audit.specs.Ends.{amiss_in}
 use Rattle.model.specs.declared.event.Reply.{Reply}
 use Rattle.model.specs.declared.event.Reply.TheVariants.{Started, Stepped, Finished, Topped as ToppedReply, Waited, Idle, Refused, Bug, Wrong}
 use Rattle.model.specs.History.{top_out_of}

@@ -1,6 +1,6 @@
 -- A machine that runs events, with the ledger of its run where that is kept.
 use Rattle.std.specs.Prelude.{ℕ, ◌≡◌, ◌++◌, ⊤, Bool, List, [], ◌∷◌, is_none, IfSome, Option}
-use Rattle.hunt_ends.specs.Ends.{amiss_in}
+use Rattle.tell_audit.specs.Ends.{amiss_in}
 use Rattle.model.specs.declared.event.Event.{Event}
 use Rattle.model.specs.declared.event.Reply.{Reply}
 use Rattle.model.specs.Machine.{ShowsWhole, reply_to}

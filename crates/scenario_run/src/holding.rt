@@ -1,15 +1,13 @@
 //! Whether what is expected holds in a run.
 
 ghost use Rattle.std.specs.Prelude.{◌≡◌, ◌++◌, IfOk, OnOk, replicate};
-ghost use Rattle.hunt_ends.specs.Ends.{Rehearses, amiss_in};
+ghost use Rattle.tell_audit.specs.Ends.{Rehearses, amiss_in};
 ghost use Rattle.scenario_run.specs.Holding.{holds, is_clean, numbers_of, packet_holds};
 ghost use Rattle.scenario_run.specs.Past.{events_of};
 ghost use Rattle.scenario_run.specs.Playing.{number_of, replies_of, run_of, world_of};
 ghost use Rattle.scenario_world.specs.Expected.{entries_of, has_entries};
 
 use crate::playing::Playing;
-use hunt_ends::amiss::Amiss;
-use hunt_ends::rehearsal::Rehearsal;
 use interleave::read::Repeated;
 use model::event::{Event, Reply};
 use scenario_expected::expectation::{Expectation, List, MAX_LISTED, PacketState, is_verdict};
@@ -19,6 +17,8 @@ use scenario_world::locks::is_owned;
 use scenario_world::marks::{is_marked, is_unmarked};
 use scenario_world::states::{device_holds, is_cancelled, is_live, thread_holds, topped_as};
 use std::alloc::{AllocError, Global};
+use tell_audit::amiss::Amiss;
+use tell_audit::rehearsal::Rehearsal;
 
 /// Whether what is expected holds.
 ///

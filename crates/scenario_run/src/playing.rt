@@ -4,7 +4,7 @@ ghost use Rattle.std.specs.Prelude.{◌≡◌, ◌≤◌, ◌<◌, ◌-◌, [], 
 ghost use Rattle.std.specs.Prelude.{option_map, true};
 ghost use Rattle.model.specs.declared.limits.TheConstants.{MAX_THREADS};
 ghost use Rattle.model.specs.History.{started_by, top_out_of};
-ghost use Rattle.hunt_ends.specs.Ends.{amiss_in};
+ghost use Rattle.tell_audit.specs.Ends.{amiss_in};
 ghost use Rattle.std.specs.List.{list_any};
 ghost use Rattle.scenario_run.specs.Alike.{AreAlike};
 ghost use Rattle.scenario_run.specs.Going.{Gone};

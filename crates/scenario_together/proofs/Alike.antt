@@ -1,7 +1,7 @@
 -- Interleavings that lead to one world go on alike.
 use Rattle.std.proofs.Common.{◌≡◌, ◌∙◌, ◌++◌, ◌&&◌, ◌<◌, ◌≤◌, ◌+◌, ℕ, Bool, true, false, not, List, [], ◌∷◌, append_assoc, ap, get_or, length, nat_lt, refl, subst, sym, take, if◌then◌else◌}
 use Rattle.std.proofs.lemmas.List.{take_all, take_more}
-use Rattle.laws_worlds.specs.SameWorlds.{SameWorldsGoOnAlike}
+use Rattle.checked.specs.SameWorlds.{SameWorldsGoOnAlike}
 use Rattle.model.specs.declared.event.Event.{Event}
 use Rattle.model.specs.declared.event.Event.TheVariants.{Step}
 use Rattle.model.specs.declared.event.Reply.{Reply}

@@ -1,7 +1,7 @@
 -- Plays that cover steps, with one step more.
 use Rattle.std.proofs.Common.{◌≡◌, ◌∙◌, ◌<◌, ◌++◌, ℕ, zero, suc, Bool, true, List, [], ◌∷◌, Option, None, Some, ap, append_assoc, append-nil, arith, get_or, inl, inr, length, refl, slice_get, subst, sym}
 use Rattle.std.proofs.lemmas.Option.{slice_get-get_or, slice_get_within}
-use Rattle.laws_worlds.specs.SameWorlds.{SameWorldsGoOnAlike}
+use Rattle.checked.specs.SameWorlds.{SameWorldsGoOnAlike}
 use Rattle.model.specs.declared.event.Event.{Event}
 use Rattle.model.specs.declared.event.Event.TheVariants.{Step as StepEvent}
 use Rattle.model.specs.Set.{Set}

@@ -3,7 +3,7 @@ use Rattle.std.proofs.Common.{◌≡◌, ◌∙◌, ◌+◌, ◌++◌, ◌&&◌,
 use Rattle.std.proofs.lemmas.Bool.{cases_lt}
 use Rattle.std.proofs.lemmas.List.{take_all, take_more}
 use Rattle.std.specs.Global.{Vec}
-use Rattle.laws_worlds.specs.SameWorlds.{SameWorldsGoOnAlike}
+use Rattle.checked.specs.SameWorlds.{SameWorldsGoOnAlike}
 use Rattle.model.specs.Sound.{IsSound}
 use Rattle.scenario_run.specs.Playing.{Playing}
 use Rattle.scenario_together.proofs.Alike.{lead_alike}

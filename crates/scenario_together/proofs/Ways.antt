@@ -1,7 +1,7 @@
 -- What a step does goes the same way from plays that go the same way.
 use Rattle.std.proofs.Common.{◌≡◌, ◌∙◌, ◌++◌, ◌&&◌, ◌||◌, ◌-◌, ℕ, zero, suc, Bool, true, false, not, List, [], ◌∷◌, Option, None, Some, ap, is_none, length, nat_lt, refl, subst, sym, if◌then◌else◌}
-use Rattle.hunt_ends.specs.Ends.{first_of}
-use Rattle.laws_worlds.specs.SameWorlds.{SameWorldsGoOnAlike}
+use Rattle.tell_audit.specs.Ends.{first_of}
+use Rattle.checked.specs.SameWorlds.{SameWorldsGoOnAlike}
 use Rattle.model.specs.declared.event.Event.{Event}
 use Rattle.model.specs.declared.event.Event.TheVariants as event
 use Rattle.model.specs.declared.event.Reply.{Reply}
@@ -14,7 +14,7 @@ use Rattle.model.specs.Sound.{IsSound}
 use Rattle.model.specs.Trace.{Serving}
 use Rattle.model.specs.Typable.{IsTypable}
 use Rattle.model.specs.View.{busy_at, thread_at}
-use Rattle.laws_locks.specs.Waiting.{waits_for}
+use Rattle.laws_runs.specs.Waiting.{waits_for}
 use Rattle.model.specs.World.{World, owner_of}
 use Rattle.scenario_run.proofs.Alike.{go_alike, reply_alike}
 use Rattle.scenario_run.specs.Acting.{acted, expected}

@@ -11,8 +11,8 @@ ghost use Rattle.scenario_together.specs.Plays.{ArePlain, Plays, PlaysPlainly};
 
 use crate::interleaving::is_named;
 use crate::together::{MOVES, Together, run_together};
+use checked::same_worlds_go_on_alike;
 use driver_set::DriverSet;
-use laws_worlds::same_worlds_go_on_alike;
 use scenario_run::holding::events_of;
 use scenario_run::play::{act, passes, play as play_each};
 use scenario_run::playing::Playing;

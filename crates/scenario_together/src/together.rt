@@ -9,10 +9,10 @@ ghost use Rattle.scenario_together.specs.Together.{AreEnds, AreKept, IsFailing, 
 ghost use Rattle.hunt_walks.specs.Walks.{FailsBehind};
 
 use crate::interleaving::Interleaving;
+use checked::same_worlds_go_on_alike;
 use hunt_walks::ends::at_end;
 use hunt_walks::search::{Failed, Walked, walk};
 use hunt_walks::walker::Walker;
-use laws_worlds::same_worlds_go_on_alike;
 use model::event::Event;
 use model::items::Items;
 use scenario_run::playing::Playing;

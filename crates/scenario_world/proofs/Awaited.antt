@@ -3,7 +3,7 @@ use Rattle.std.proofs.Common.{◌≡◌, ◌≢◌, ◌∙◌, ◌<◌, ◌-◌,
 use Rattle.std.specs.Prelude.{◌&&◌, is_none, nat_eq, option_and_then, option_map, slice_get}
 use Rattle.std.proofs.lemmas.Bool.{and_parts}
 use Rattle.std.proofs.lemmas.Bool.Decides.{eqb_tells}
-use Rattle.laws_locks.specs.Waiting.{other_owner, sought_by, sought_on, waits_for}
+use Rattle.laws_runs.specs.Waiting.{other_owner, sought_by, sought_on, waits_for}
 use Rattle.model.specs.declared.event.Lock.{Lock}
 use Rattle.model.specs.declared.world.Thread.{Thread}
 use Rattle.model.specs.Effect.{top_of}

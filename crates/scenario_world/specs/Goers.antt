@@ -1,7 +1,7 @@
 -- Threads that go on while the locks that others wait for keep their owners.
 use Rattle.std.specs.List.{list_all}
 use Rattle.std.specs.Prelude.{ℕ, zero, suc, ◌≡◌, ◌<◌, ◌⊎◌, Bool, true, false, List, [], ◌∷◌, Option, Some, if◌then◌else◌, option_and_then, option_map, slice_get}
-use Rattle.laws_locks.specs.Waiting.{other_owner, sought_on}
+use Rattle.laws_runs.specs.Waiting.{other_owner, sought_on}
 use Rattle.model.specs.declared.event.Lock.{Lock}
 use Rattle.model.specs.Set.{Set}
 use Rattle.model.specs.World.{Locks, World, owner_of}

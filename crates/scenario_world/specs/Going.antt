@@ -1,6 +1,6 @@
 -- Threads that go on: they have frames and wait for no lock.
 use Rattle.std.specs.Prelude.{ℕ, zero, suc, ◌≡◌, ◌<◌, ◌&&◌, ◌||◌, not, Bool, true, false, nat_eq, is_none}
-use Rattle.laws_locks.specs.Waiting.{waits_for}
+use Rattle.laws_runs.specs.Waiting.{waits_for}
 use Rattle.model.specs.Set.{Set}
 use Rattle.model.specs.View.{busy_at}
 use Rattle.model.specs.World.{World}

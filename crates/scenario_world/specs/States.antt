@@ -1,6 +1,6 @@
 -- How packets, threads and devices stand in a world, as may be expected of them.
 use Rattle.std.specs.Prelude.{ℕ, ◌&&◌, not, Bool, true, false, nat_eq, is_some, Option, None, Some}
-use Rattle.laws_locks.specs.Waiting.{waits_for}
+use Rattle.laws_runs.specs.Waiting.{waits_for}
 use Rattle.model.specs.declared.history.TopOut.{TopOut}
 use Rattle.model.specs.declared.status.Status.{Status}
 use Rattle.model.specs.declared.view.FrameView.{FrameView}

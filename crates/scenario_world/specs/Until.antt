@@ -1,6 +1,6 @@
 -- Where the steps that a thread makes one after another are to end.
 use Rattle.std.specs.Prelude.{ℕ, ◌≡◌, ◌≤◌, ◌⊎◌, Bool, true, false, if◌then◌else◌, is_some}
-use Rattle.laws_locks.specs.Waiting.{waits_for}
+use Rattle.laws_runs.specs.Waiting.{waits_for}
 use Rattle.model.specs.declared.event.Place.{Place}
 use Rattle.model.specs.Set.{Set}
 use Rattle.model.specs.View.{busy_at, thread_at}

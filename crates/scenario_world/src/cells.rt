@@ -5,9 +5,8 @@ ghost use Rattle.hunt_worlds.specs.Alike.{paged_at, plain_at};
 ghost use Rattle.scenario_world.specs.Expected.{is_number, number_in};
 
 use checked::Checked;
-use checked_frames::activation::entered;
-use checked_frames::{Ran, Runner, number_in as number_of_value};
-use checked_parts::Shared;
+use checked_parts::activation::entered;
+use checked_parts::{Ran, Runner, Shared, number_in as number_of_value};
 use model::cell::Cell;
 use model::event::Reply;
 use model::register::Register;

@@ -6,7 +6,7 @@ ghost use Rattle.scenario_world.specs.Expected.{frame_has, is_held, runs_with, t
 ghost use Rattle.tell_audit.specs.Naming.{value_names};
 
 use checked::{Checked, Thread};
-use checked_frames::Frame;
+use checked_parts::Frame;
 use model::limits::REGISTERS;
 use model::world::{Activation, Value};
 

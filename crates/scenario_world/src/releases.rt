@@ -4,7 +4,7 @@ ghost use Rattle.std.specs.Prelude.{◌≡◌, Some};
 ghost use Rattle.scenario_world.specs.Releases.{is_release, releases, stands_before_release};
 
 use checked::Checked;
-use checked_frames::Frame;
+use checked_parts::Frame;
 use driver_set::{DriverSet, Instr};
 use tell_uses::standing::{instruction_at, top_frame};
 

@@ -5,9 +5,9 @@ use Rattle.model.specs.declared.limits.TheConstants.{MAX_THREADS}
 use Rattle.model.specs.Run.{run}
 use Rattle.model.specs.Set.{Set}
 use Rattle.model.specs.World.{World}
-use Rattle.laws_locks.specs.Order.{HasLockOrders}
-use Rattle.laws_locks.specs.Rest.{AcceptedRunsComeToRest}
-use Rattle.laws_locks.specs.Waiting.{WaitInTurn, waits_for}
+use Rattle.laws_runs.specs.Order.{HasLockOrders}
+use Rattle.laws_runs.specs.Rest.{AcceptedRunsComeToRest}
+use Rattle.laws_runs.specs.Waiting.{WaitInTurn, waits_for}
 use Rattle.tell_audit.specs.Findings.{IsOfAccepted, rings_below, ringed_threads}
 use Rattle.tell_audit.specs.Laws.{AcceptedRunsHaveNoRing}
 use Rattle.tell_audit.specs.Ring.{is_in_ring, is_met}

@@ -10,7 +10,7 @@ use Rattle.model.specs.Sound.{IsSound}
 use Rattle.model.specs.Trace.{Entry, Serving}
 use Rattle.model.specs.Typable.{IsTypable}
 use Rattle.model.specs.World.{World}
-use Rattle.laws_locks.specs.Order.{HasLockOrders}
+use Rattle.laws_runs.specs.Order.{HasLockOrders}
 use Rattle.tell_audit.specs.declared.findings.Findings.{Findings}
 use Rattle.tell_audit.specs.declared.left.LeftLock.{LeftLock}
 use Rattle.tell_uses.specs.Ledger.{Disagreeing, LedgerState, NoneIfAccepted}

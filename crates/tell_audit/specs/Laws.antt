@@ -10,7 +10,7 @@ use Rattle.model.specs.Set.{Set}
 use Rattle.model.specs.Sound.{IsSound}
 use Rattle.model.specs.Typable.{IsTypable}
 use Rattle.model.specs.World.{World}
-use Rattle.laws_locks.specs.Order.{HasLockOrders}
+use Rattle.laws_runs.specs.Order.{HasLockOrders}
 use Rattle.tell_audit.specs.Findings.{ringed_threads}
 use Rattle.tell_audit.specs.Left.{left_locks}
 use Rattle.tell_audit.specs.Naming.{lost_packets}

@@ -1,8 +1,10 @@
+pub mod Ends
 pub mod Findings
 pub mod Laws
 pub mod Left
 pub mod Missed
 pub mod Naming
 pub mod Refusal
+pub mod Rest
 pub mod Ring
 pub mod Sites

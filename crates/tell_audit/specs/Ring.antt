@@ -3,7 +3,7 @@ use Rattle.std.specs.Prelude.{ℕ, ◌||◌, zero, suc, Bool, false, Option, Non
 use Rattle.model.specs.declared.limits.TheConstants.{MAX_THREADS}
 use Rattle.model.specs.Set.{Set}
 use Rattle.model.specs.World.{World}
-use Rattle.laws_locks.specs.Waiting.{waits_for}
+use Rattle.laws_runs.specs.Waiting.{waits_for}
 
 -- a thread is met again within so many steps from one to the thread that it waits for
 abbrev pub is_met : Set → World → ℕ → ℕ → Option ℕ → Bool

@@ -3,8 +3,7 @@
 ghost use Rattle.tell_audit.specs.Laws.{AcceptedRunsHaveNoRing, AcceptedRunsLeaveNoLock};
 ghost use Rattle.tell_audit.specs.Laws.{AcceptedRunsLoseNoPacket, RefusalsHaveReasons};
 
-use laws_locks::accepted_runs_come_to_rest;
-use laws_runs::packets_have_one_holder;
+use laws_runs::{accepted_runs_come_to_rest, packets_have_one_holder};
 
 /// No run of an accepted set loses a packet.
 pub fn accepted_runs_lose_no_packet()

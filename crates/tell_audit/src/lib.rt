@@ -3,11 +3,15 @@
 //! machine that ran, and is exactly what a definition over its world says.
 #![tactic(auto)]
 
+pub mod amiss;
+pub mod ending;
 pub mod findings;
 pub mod laws;
 pub mod left;
 pub mod missed;
 pub mod naming;
 pub mod refusal;
+pub mod rehearsal;
 pub mod ring;
 pub mod sites;
+pub mod standing;

@@ -7,7 +7,7 @@ ghost use Rattle.tell_audit.specs.Missed.{missed_at, missed_packets, thread_canc
 ghost use Rattle.model.specs.World.{packet_of};
 
 use checked::{Checked, Thread};
-use checked_frames::{Frame, Managing};
+use checked_parts::{Frame, Managing};
 use irp::Packet;
 use std::alloc::{AllocError, Global};
 

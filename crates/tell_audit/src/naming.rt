@@ -8,7 +8,7 @@ ghost use Rattle.tell_audit.specs.Naming.{value_names};
 ghost use Rattle.model.specs.World.{packet_of};
 
 use checked::{Checked, Thread};
-use checked_frames::Frame;
+use checked_parts::Frame;
 use devqueue::{DeviceQueue, Guarded};
 use model::limits::{MAX_QUEUES, REGISTERS};
 use model::world::Value;

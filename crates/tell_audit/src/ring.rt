@@ -1,12 +1,12 @@
 //! Threads that wait for each other in a ring.
 
 ghost use Rattle.std.specs.Prelude.{◌≡◌, Some};
-ghost use Rattle.laws_locks.specs.Waiting.{acquired_by, other_owner, sought_by, waits_for};
+ghost use Rattle.laws_runs.specs.Waiting.{acquired_by, other_owner, sought_by, waits_for};
 ghost use Rattle.tell_audit.specs.Ring.{is_in_ring, is_met};
 
 use checked::Checked;
-use checked_frames::{Frame, Managing};
 use checked_parts::shared::locks::spin_lock;
+use checked_parts::{Frame, Managing};
 use driver_set::Instr;
 use model::event::Lock;
 use model::limits::MAX_THREADS;

@@ -9,7 +9,7 @@ ghost use Rattle.tell_audit.specs.Sites.{start_sites, threads_below, word_sites}
 
 use crate::naming::value_names;
 use checked::Checked;
-use checked_frames::Frame;
+use checked_parts::Frame;
 use devqueue::DeviceQueue;
 use model::limits::{MAX_QUEUES, REGISTERS};
 use model::world::{Activation, Armer};

@@ -4,7 +4,7 @@ ghost use Rattle.std.specs.Prelude.{◌≡◌};
 ghost use Rattle.tell_uses.specs.Acting.{acting_in};
 
 use checked::Checked;
-use checked_frames::status_in;
+use checked_parts::status_in;
 use model::event::Event;
 use model::instr::{Instr, Return};
 use model::status::Status;

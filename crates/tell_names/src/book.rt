@@ -2,8 +2,7 @@
 
 use crate::blanks::blanks_before_change;
 use crate::words::add_number;
-use asm_line::{Body, Line};
-use asm_usual::read_line;
+use asm_line::{Body, Line, read_line};
 use model::view::FrameView;
 use std::alloc::{AllocError, Global};
 use text::piece::Piece;

@@ -3,7 +3,7 @@
 use crate::book::Book;
 use crate::words::{CellKind, add_cell, add_number, add_value, register_name, status_name};
 use checked::Checked;
-use checked_frames::number_in;
+use checked_parts::number_in;
 use model::event::OfDevice;
 use model::instr::{Cell, Field, Instr, Register};
 use model::view::FrameView;

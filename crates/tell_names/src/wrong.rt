@@ -4,7 +4,7 @@ use crate::book::Book;
 use crate::values::{add_had, value_at};
 use crate::words::register_name;
 use checked::Checked;
-use checked_frames::{number_in, status_in};
+use checked_parts::{number_in, status_in};
 use model::instr::{Instr, Register, Return};
 use model::set::Sort;
 use model::world::Activation;

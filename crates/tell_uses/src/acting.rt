@@ -7,7 +7,7 @@ ghost use Rattle.tell_uses.specs.Acting.{packet_by, packet_register};
 
 use crate::standing::{instruction_at, packet_in, top_frame};
 use checked::Checked;
-use checked_frames::{Frame, Managing};
+use checked_parts::{Frame, Managing};
 use driver_set::{DriverSet, Instr, Register};
 use model::event::Event;
 use model::view::FrameView;

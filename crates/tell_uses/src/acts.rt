@@ -9,7 +9,7 @@ ghost use Rattle.tell_uses.specs.Acts.{live_in, onward_of, status_by, use_step};
 use crate::acting::Acting;
 use crate::standing::{instruction_at, packet_in, top_frame};
 use checked::Checked;
-use checked_frames::{Frame, status_in};
+use checked_parts::{Frame, status_in};
 use driver_set::{Instr, Register, Return, Sort};
 use irp::Packet;
 use model::event::Event;

@@ -11,7 +11,7 @@ use crate::acts::{Onward, UseStep};
 use crate::standing::{frames_on, thread_of};
 use crate::uses::{LocationUse, Note, Uses};
 use checked::{Checked, says_unchanged};
-use checked_frames::Frame;
+use checked_parts::Frame;
 use driver_set::{DriverSet, Sort};
 use laws_runs::pending_returns_agree;
 use model::event::{Event, Reply};

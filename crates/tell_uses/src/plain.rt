@@ -9,7 +9,7 @@ ghost use Rattle.tell_uses.specs.Plain.{is_plain_at, is_plain_on};
 
 use crate::standing::{instruction_at, top_frame};
 use checked::Checked;
-use checked_frames::Frame;
+use checked_parts::Frame;
 use driver_set::{DriverSet, Instr};
 use model::event::Event;
 

@@ -8,7 +8,7 @@ ghost use Rattle.model.specs.Set.{instruction_at};
 ghost use Rattle.model.specs.World.{packet_in};
 
 use checked::Checked;
-use checked_frames::Frame;
+use checked_parts::Frame;
 use driver_set::{DriverSet, Instr};
 use model::event::Event;
 use model::world::{Activation, Value};

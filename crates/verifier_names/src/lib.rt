@@ -3,12 +3,18 @@
 //! writes nothing itself.
 #![tactic(auto)]
 
+mod code;
+mod lesson;
 mod listing;
 mod locks;
 mod names;
+mod pages;
 mod quotes;
 
+pub use code::{lesson_of_code, not_entered, of_devices, of_level, of_set, sent_down};
+pub use lesson::{About, Lesson};
 pub use listing::{ListedPart, listed_devices, listed_routine};
 pub use locks::{add_lock, spin_number};
 pub use names::{Names, SetNames};
+pub use pages::{RULES, lock_order_words, rule_words};
 pub use quotes::{Origin, Source, add_lines, add_title};

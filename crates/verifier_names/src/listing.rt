@@ -1,7 +1,7 @@
 //! The parts of a set's listing that tell of a routine and of the devices. The whole listing isn't
 //! written for them: the numbers of lines are counted.
 
-use asm_listing::Entry;
+use asm_line::Entry;
 use driver_set::DriverSet;
 use model::instr::Instr;
 use model::set::{Driver, Routine};

@@ -1,7 +1,6 @@
 //! What things are called: as a text names them, or by their numbers, as a listing does.
 
-use asm_line::Body;
-use asm_usual::read_line;
+use asm_line::{Body, read_line};
 use model::set::QueueName;
 use std::alloc::{AllocError, Global};
 use text::piece::Piece;

@@ -1,6 +1,6 @@
 -- The orders of the drivers one after another.
 use Rattle.laws_runs.proofs.Common.{ap, arith, inl, inr, refl, subst, sym, zero, ◌∙◌, cases_lt, slice_get_within, List, Some, [], length, slice_get, suc, ℕ, ◌++◌, ◌+◌, ◌<◌, ◌∷◌, ◌≡◌, ◌≤◌, ◌⊎◌, Set, Guard}
-use Rattle.laws_locks.specs.Order.{HasLockOrders, IsOrder}
+use Rattle.laws_runs.specs.Order.{HasLockOrders, IsOrder}
 use Rattle.verifier_orders.specs.declared.order.LockOrder.{LockOrder}
 use Rattle.verifier_orders.specs.declared.order.LockOrder.TheVariants.{Ordered, Cycle}
 use Rattle.verifier_orders.specs.Orders.{AreAllOrdered, AreLockOrders, IsLockOrder, IsOrdered}

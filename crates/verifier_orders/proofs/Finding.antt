@@ -6,7 +6,7 @@ use Rattle.model.specs.Typable.{IsFineAt}
 use Rattle.verifier_evidence.specs.declared.arrivals.Arrival.{Arrival}
 use Rattle.verifier_evidence.specs.Path.{member_of}
 use Rattle.verifier_evidence.specs.Table.{AreKnown, HasArrival}
-use Rattle.laws_locks.specs.Order.{TakesUnder, lock_named}
+use Rattle.laws_runs.specs.Order.{TakesUnder, lock_named}
 use Rattle.verifier_orders.specs.declared.ranking.NumberedEdge.{NumberedEdge}
 use Rattle.verifier_orders.specs.Edges.{AreAdded, AreEdgesOf, AreEdgesTo, AreInOrder, AreOnce, HasEdge, IsAdded, IsFirstEdge, IsNew, IsNumberedEdge, IsPast, edge, holds_number, number_of, number_taken}
 use Rattle.verifier_orders.specs.Ranking.{AreWithin, IsWithin}

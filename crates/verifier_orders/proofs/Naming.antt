@@ -1,7 +1,7 @@
 -- What is told of locks and edges by name, of what is known by number.
 use Rattle.laws_runs.proofs.Common.{ap, arith, inl, inr, refl, subst, sym, zero, ◌∙◌, cases_eq, eq-eqb, ne_eqb, All, List, Some, [], length, slice_get, suc, ℕ, ◌++◌, ◌+◌, ◌<◌, ◌∷◌, ◌≡◌, ◌≢◌, ◌≤◌, ◌⊎◌, Set, IsSound, IsTypable, CancelLock, DeviceLock, Guard}
 use Rattle.std.specs.Prelude.{get_or, take}
-use Rattle.laws_locks.specs.Order.{TakesUnder}
+use Rattle.laws_runs.specs.Order.{TakesUnder}
 use Rattle.verifier_orders.specs.declared.names.Edge.{Edge}
 use Rattle.verifier_orders.specs.declared.ranking.NumberedEdge.{NumberedEdge}
 use Rattle.verifier_orders.specs.Cycle.{LeadFrom}

@@ -1,7 +1,7 @@
 -- From places to an order of the locks, and from a cycle to that there is none.
 use Rattle.laws_runs.proofs.Common.{ap, arith, inl, inr, refl, subst, sym, ◌∙◌, cases_eq, cases_lt, eq-eqb, ◌⊎◌, get_or_from_slice_get, slice_get_within, ne_eqb, All, List, Some, [], false, length, slice_get, suc, zero, true, ℕ, ◌<◌, ◌∷◌, ◌≡◌, ◌≢◌, ◌≤◌, Set, member, IsSound, IsTypable, OperandFits, Abs, Instr, Acquire, AcquireCancel, CancelLock, DeviceLock, Guard, led}
 use Rattle.std.specs.Prelude.{get_or}
-use Rattle.laws_locks.specs.Order.{IsOrder, TakesUnder, lock_named}
+use Rattle.laws_runs.specs.Order.{IsOrder, TakesUnder, lock_named}
 use Rattle.verifier_orders.specs.declared.ranking.NumberedEdge.{NumberedEdge}
 use Rattle.verifier_orders.specs.Cycle.{AreFirst, HasWay, IsAmong, IsLeastCycle, LeadFrom, Returns}
 use Rattle.verifier_orders.specs.Edges.{AreEdgesOf, HasEdge, HasNoOrder, IsNumberedEdge, IsNumberedCycle, number_of, place_in}

@@ -2,7 +2,7 @@
 use Rattle.laws_runs.proofs.Common.{ap, arith, inl, inr, refl, subst, sym, zero, ◌∙◌, cases_lt, slice_get_within, All, List, Some, [], length, slice_get, suc, ℕ, ◌++◌, ◌+◌, ◌<◌, ◌∷◌, ◌≡◌, ◌⊎◌, Set, Abs, Guard}
 use Rattle.std.specs.Prelude.{get_or}
 use Rattle.std.proofs.lemmas.List.Elements.{All-push}
-use Rattle.laws_locks.specs.Order.{TakesUnder}
+use Rattle.laws_runs.specs.Order.{TakesUnder}
 use Rattle.verifier_orders.specs.declared.ranking.NumberedEdge.{NumberedEdge}
 use Rattle.verifier_orders.specs.Edges.{AreAdded, AreInOrder, ComesBefore, HasEdge, IsAdded, IsFirstEdge, IsNew, IsPast, edge, holds_number, number_of}
 use Rattle.verifier_orders.proofs.Ways.{at_place}

@@ -8,7 +8,7 @@ use Rattle.model.specs.declared.set.Guard.{Guard}
 use Rattle.model.specs.declared.set.Guard.TheVariants.{DeviceLock, CancelLock}
 use Rattle.model.specs.LocalRule.{is_held}
 use Rattle.model.specs.Set.{Set}
-use Rattle.laws_locks.specs.Order.{IsOrder, TakesUnder}
+use Rattle.laws_runs.specs.Order.{IsOrder, TakesUnder}
 use Rattle.verifier_orders.specs.Cycle.{LeadFrom}
 use Rattle.verifier_orders.specs.Ranking.{AreWithin}
 use Rattle.verifier_orders.specs.declared.ranking.NumberedEdge.{NumberedEdge}

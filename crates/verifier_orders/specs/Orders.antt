@@ -2,7 +2,7 @@
 use Rattle.std.specs.Prelude.{ℕ, ◌≡◌, ◌≢◌, ◌≤◌, ◌<◌, ◌⊎◌, List, [], ◌∷◌, All, Some, slice_get, length, ⊤}
 use Rattle.model.specs.declared.set.Guard.{Guard}
 use Rattle.model.specs.Set.{Set}
-use Rattle.laws_locks.specs.Order.{IsOrder, TakesUnder, lock_names}
+use Rattle.laws_runs.specs.Order.{IsOrder, TakesUnder, lock_names}
 use Rattle.verifier_orders.specs.declared.names.Edge.{Edge}
 use Rattle.verifier_orders.specs.declared.order.LockOrder.{LockOrder}
 use Rattle.verifier_orders.specs.declared.order.LockOrder.TheVariants.{Ordered, Cycle}

@@ -1,7 +1,7 @@
 //! The order of the locks of each driver.
 
 ghost use Rattle.std.specs.Prelude.{IfOk, length};
-ghost use Rattle.laws_locks.specs.Order.{HasLockOrders};
+ghost use Rattle.laws_runs.specs.Order.{HasLockOrders};
 ghost use Rattle.verifier_orders.specs.Orders.{AreAllOrdered, AreLockOrders, IsLockOrder};
 
 use crate::cycle::shortest_cycle;

@@ -8,8 +8,7 @@ use model::instr::{Instr, Register};
 use model::set::{Guard, QueueName, Sort};
 use model::spin_lock::SpinLock;
 use verifier_evidence::{Path, Step};
-use verifier_lessons::About;
-use verifier_names::spin_number;
+use verifier_names::{About, spin_number};
 
 /// An instruction of a routine of a driver of a set, that breaks a rule where a path leads.
 #[derive(Drop)]

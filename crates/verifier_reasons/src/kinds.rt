@@ -5,7 +5,7 @@ use crate::returns::no_lower;
 use model::abs::{Abs, Duty, Kind};
 use model::instr::{Instr, Register, Return};
 use model::set::QueueName;
-use verifier_lessons::{About, Lesson};
+use verifier_names::{About, Lesson};
 
 /// What an instruction wants of a register and doesn't find there.
 #[derive(Clone, Copy)]

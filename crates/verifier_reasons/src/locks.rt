@@ -5,7 +5,7 @@ use crate::kinds::packet_of;
 use model::abs::{Kind, Rule, Stage};
 use model::instr::Instr;
 use model::set::{Guard, QueueName, Sort};
-use verifier_lessons::{About, Lesson, sent_down};
+use verifier_names::{About, Lesson, sent_down};
 
 /// The rules on who holds a lock.
 pub(crate) fn of_locks(case: &Case<'_>) -> Lesson {

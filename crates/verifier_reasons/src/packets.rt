@@ -8,7 +8,7 @@ use crate::tokens::of_token;
 use model::abs::{Kind, Rule, Stage};
 use model::instr::{Instr, Return};
 use model::set::{Guard, QueueName, Sort};
-use verifier_lessons::{About, Lesson, sent_down};
+use verifier_names::{About, Lesson, sent_down};
 
 const QUEUES: &str = "the Driver Kit on driver-managed IRP queues and IoSetCancelRoutine";
 

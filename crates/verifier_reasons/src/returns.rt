@@ -4,7 +4,7 @@ use crate::case::Case;
 use model::abs::{Duty, Kind};
 use model::instr::{Instr, Return};
 use model::set::Sort;
-use verifier_lessons::{About, Lesson, sent_down};
+use verifier_names::{About, Lesson, sent_down};
 
 /// The rule on pending marks.
 pub(crate) fn of_marks(case: &Case<'_>) -> Lesson {

@@ -9,7 +9,7 @@ use crate::tokens::{not_taken, of_token};
 use model::abs::{Kind, Rule, Settled};
 use model::instr::{Instr, Return};
 use model::set::Sort;
-use verifier_lessons::{About, Lesson, lesson_of_code, of_devices, of_level, sent_down};
+use verifier_names::{About, Lesson, lesson_of_code, of_devices, of_level, sent_down};
 
 /// What a rule says at an instruction, in the state that arrives there.
 pub fn lesson_of(case: &Case<'_>) -> Lesson {

@@ -3,7 +3,7 @@
 use crate::case::{Case, Fact};
 use model::instr::Instr;
 use model::set::{QueueName, Sort};
-use verifier_lessons::Lesson;
+use verifier_names::Lesson;
 
 /// The rule on the token: it was spent, was never there, or is still there at the end.
 pub(crate) fn of_token(case: &Case<'_>) -> Lesson {

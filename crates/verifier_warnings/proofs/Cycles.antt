@@ -1,7 +1,7 @@
 -- The cycles among some orders are told one after another.
 use Rattle.laws_runs.proofs.Common.{ap, arith, inl, inr, subst, sym, cases_lt, slice_get-get_or, slice_get_within, List, Some, Bool, true, false, length, slice_get, ℕ, ◌+◌, ◌<◌, ◌≡◌, ◌≤◌, ◌∙◌, ◌++◌}
 use Rattle.std.specs.Prelude.{get_or, ◌||◌}
-use Rattle.laws_locks.specs.Order.{HasLockOrders}
+use Rattle.laws_runs.specs.Order.{HasLockOrders}
 use Rattle.model.specs.Set.{Set}
 use Rattle.verifier_orders.specs.declared.order.LockOrder.{LockOrder}
 use Rattle.verifier_orders.specs.declared.order.LockOrder.TheVariants.{Ordered, Cycle}

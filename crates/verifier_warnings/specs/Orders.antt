@@ -1,6 +1,6 @@
 -- What is told of the orders in which the drivers of a set take their locks.
 use Rattle.std.specs.Prelude.{ℕ, ⊤, ◌≡◌, ◌++◌, ◌⊎◌, Bool, true, false, List, Some, codes, slice_get}
-use Rattle.laws_locks.specs.Order.{HasLockOrders}
+use Rattle.laws_runs.specs.Order.{HasLockOrders}
 use Rattle.model.specs.Set.{Set}
 use Rattle.verifier_orders.specs.declared.order.LockOrder.{LockOrder}
 use Rattle.verifier_orders.specs.declared.order.LockOrder.TheVariants.{Cycle}

@@ -1,6 +1,6 @@
 -- The warnings of the drivers of a set that take their locks in a cycle.
 use Rattle.std.specs.Prelude.{ℕ, ◌≡◌, ◌++◌, ◌⊎◌, List, [], Some, zero, suc, codes, length, slice_get}
-use Rattle.laws_locks.specs.Order.{IsOrder}
+use Rattle.laws_runs.specs.Order.{IsOrder}
 use Rattle.model.specs.declared.set.Guard.{Guard}
 use Rattle.model.specs.Set.{Set}
 use Rattle.verifier_orders.specs.declared.order.LockOrder.{LockOrder}

@@ -1,8 +1,7 @@
 //! The `device` and `queue` lines that a rule is about.
 
 use crate::place::Scene;
-use asm_line::Body;
-use asm_usual::read_line;
+use asm_line::{Body, read_line};
 use driver_set::DriverSet;
 use model::abs::Rule;
 use model::instr::Instr;

@@ -7,8 +7,7 @@ use driver_set::DriverSet;
 use model::abs::{Abs, Refusal, Rule};
 use std::alloc::{AllocError, Global};
 use verifier_evidence::Evidence;
-use verifier_lessons::of_set;
-use verifier_names::{Names, Origin};
+use verifier_names::{Names, Origin, of_set};
 
 /// A routine that is refused, as its text has it, if there is one: what words on its refusal are
 /// made with.

@@ -18,8 +18,10 @@ use model::abs::{Refusal, Rule};
 use model::set::{Driver, Routine};
 use std::alloc::{AllocError, Global};
 use verifier_evidence::{Evidence, Path, Subject, evidence_at, evidence_of};
-use verifier_lessons::{lesson_of_code, not_entered, of_set};
-use verifier_names::{Names, Origin, SetNames, Source, listed_devices, listed_routine};
+use verifier_names::{
+    Names, Origin, SetNames, Source, lesson_of_code, listed_devices, listed_routine, not_entered,
+    of_set,
+};
 use verifier_reasons::{Case, lesson_of};
 
 /// A refusal of a set, told in words: where it stands in the text, the path that

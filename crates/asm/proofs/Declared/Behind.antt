@@ -15,7 +15,7 @@ use Rattle.asm_line.specs.declared.line.Line.{Line}
 use Rattle.asm_line.specs.declared.line.UsedNames.{UsedNames}
 use Rattle.asm.specs.declared.draft.Place.TheVariants.{Outside, InRoutine}
 use Rattle.asm.specs.declared.draft.Step.{Step}
-use Rattle.asm_names.specs.declared.names.Use.{Use}
+use Rattle.asm.specs.declared.names.Use.{Use}
 use Rattle.asm.specs.declared.fault.AsmKind.TheVariants.{UnknownWord, DuplicateName, OutOfRange, OverLimit}
 use Rattle.asm.specs.Outline as outline
 use Rattle.asm.specs.Outline.{Outline, nothing_read, noted, handled, stepped, used_at, draft_has_room, draft_is_again, draft_misfit}

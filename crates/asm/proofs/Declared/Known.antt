@@ -7,8 +7,8 @@ use Rattle.asm_line.specs.declared.line.Body.TheVariants.{OpenDriver, CloseDrive
 use Rattle.asm_line.specs.declared.line.Line.{Line}
 use Rattle.asm.specs.declared.draft.Place.{Place}
 use Rattle.asm.specs.declared.draft.Place.TheVariants.{Outside, InRoutine}
-use Rattle.asm_names.specs.declared.roles.Role.{Role}
-use Rattle.asm_names.specs.declared.roles.Role.TheVariants.{Completion, StartIo, Cancel}
+use Rattle.asm.specs.declared.roles.Role.{Role}
+use Rattle.asm.specs.declared.roles.Role.TheVariants.{Completion, StartIo, Cancel}
 use Rattle.asm.specs.Outline.{Outline, noted}
 use Rattle.asm.proofs.Scopes as laws
 use Rattle.asm.proofs.Scopes.{Reads, Scope, labelled_ahead, labels_ahead, named_ahead, nothing_named, queued_ahead, queues_ahead, routines_ahead, scope_after, sorted_ahead, sorts_ahead}

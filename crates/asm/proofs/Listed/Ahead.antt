@@ -14,12 +14,12 @@ use Rattle.model.specs.declared.status.Major.TheVariants.{Read, Write, Control}
 use Rattle.asm_line.specs.declared.line.Line.{Line}
 use Rattle.asm.specs.Outline.{is_among}
 use Rattle.asm.proofs.Scopes.{labels_ahead, queues_ahead, routines_ahead, sorts_ahead}
-use Rattle.asm_listing.specs.declared.entry.Entry.{Entry}
-use Rattle.asm_listing.specs.declared.entry.Entry.TheVariants as line
-use Rattle.asm_listing.specs.Words.{label, numbered}
-use Rattle.asm_listing.specs.Listing.{jumps_to, label_at, listed, naming, queue_lines, routine_lines, step_lines, table_lines}
-use Rattle.asm_listing.proofs.Digits.{IsSmall}
-use Rattle.asm_listing.proofs.Meaning.{meant}
+use Rattle.asm_line.specs.declared.entry.Entry.{Entry}
+use Rattle.asm_line.specs.declared.entry.Entry.TheVariants as line
+use Rattle.asm_line.specs.ListedWords.{label, numbered}
+use Rattle.asm_line.specs.Listing.{jumps_to, label_at, listed, naming, queue_lines, routine_lines, step_lines, table_lines}
+use Rattle.asm_line.proofs.Digits.{IsSmall}
+use Rattle.asm_line.proofs.Meaning.{meant}
 use Rattle.asm.proofs.Listed.Names.{names_from, same_bytes}
 use Rattle.asm.proofs.Listed.Sets.{sorts_of}
 

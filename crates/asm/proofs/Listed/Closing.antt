@@ -12,13 +12,13 @@ use Rattle.model.specs.Sound.{DeviceFits}
 use Rattle.asm.specs.declared.draft.ClosedRoutine.{ClosedRoutine}
 use Rattle.asm.specs.declared.draft.Place.TheVariants.{Outside, InDriver}
 use Rattle.asm.specs.declared.draft.QueueLine.{QueueLine}
-use Rattle.asm_names.specs.declared.names.Use.{Use}
-use Rattle.asm_names.specs.declared.roles.Role.{Role}
-use Rattle.asm_names.specs.declared.roles.Role.TheVariants.{Handler, StartIo, Dpc, Cancel}
+use Rattle.asm.specs.declared.names.Use.{Use}
+use Rattle.asm.specs.declared.roles.Role.{Role}
+use Rattle.asm.specs.declared.roles.Role.TheVariants.{Handler, StartIo, Dpc, Cancel}
 use Rattle.asm.specs.Outline.{Outline, device_of, entry_in, finished, finished_driver, finished_queue, is_stack_size, number_used, serves, startio_named, used_at, waiting_named}
-use Rattle.asm_listing.specs.declared.entry.Entry.TheVariants as line
-use Rattle.asm_listing.specs.Words.{device, driver, routine}
-use Rattle.asm_listing.proofs.Digits.{IsSmall}
+use Rattle.asm_line.specs.declared.entry.Entry.TheVariants as line
+use Rattle.asm_line.specs.ListedWords.{device, driver, routine}
+use Rattle.asm_line.proofs.Digits.{IsSmall}
 use Rattle.asm.proofs.Listed.Names.{names_from, numbered_as}
 use Rattle.asm.proofs.Listed.Stage.{no_misfit, no_shape, one_reaches, read_queue, set_queue, shape_of, IsAt, Names, Reaches, Shape, Stage}
 use Rattle.asm.proofs.Listed.Turns.{has_place, is_new, more_of}

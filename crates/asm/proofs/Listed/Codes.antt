@@ -16,17 +16,17 @@ use Rattle.model.specs.Set.{label_of, Set}
 use Rattle.model.specs.Sound.{completion_named, queue_named, CallsFit, DriverFits, IsCompletion, QueuesFit, RoutineFits, IsSound}
 use Rattle.asm_line.specs.declared.line.Body.TheVariants.{Step as TakeStep}
 use Rattle.asm_line.specs.declared.line.Line.{Line}
-use Rattle.asm_names.specs.declared.roles.Role.{Role}
-use Rattle.asm_names.specs.declared.roles.Role.TheVariants.{Completion}
+use Rattle.asm.specs.declared.roles.Role.{Role}
+use Rattle.asm.specs.declared.roles.Role.TheVariants.{Completion}
 use Rattle.asm.specs.Names.{number_in, routine_named, Inventory}
 use Rattle.asm.specs.Said.{instruction_on, is_labelled, jump_place, label_place, queue_number, with_label, with_queue, with_routine}
 use Rattle.asm.proofs.Codes.{all_codes, codes_of, driver_code, driver_codes, instructions_on, inventory_ahead, routine_code, routine_codes, routine_lines as code_lines}
-use Rattle.asm_listing.specs.declared.entry.Entry.{Entry}
-use Rattle.asm_listing.specs.declared.entry.Entry.TheVariants as line
-use Rattle.asm_listing.specs.Words.{label, queue, routine}
-use Rattle.asm_listing.specs.Listing.{device_lines, driver_lines, is_position, jumps_to, label_at, listed, queue_lines, routine_lines, set_lines, step_lines, table_lines}
-use Rattle.asm_listing.proofs.Digits.{IsSmall}
-use Rattle.asm_listing.proofs.Meaning.{meant, names_used, unlinked}
+use Rattle.asm_line.specs.declared.entry.Entry.{Entry}
+use Rattle.asm_line.specs.declared.entry.Entry.TheVariants as line
+use Rattle.asm_line.specs.ListedWords.{label, queue, routine}
+use Rattle.asm_line.specs.Listing.{device_lines, driver_lines, is_position, jumps_to, label_at, listed, queue_lines, routine_lines, set_lines, step_lines, table_lines}
+use Rattle.asm_line.proofs.Digits.{IsSmall}
+use Rattle.asm_line.proofs.Meaning.{meant, names_used, unlinked}
 use Rattle.asm.proofs.Listed.Ahead.{before, before_all, before_append, driver_rest, each_append, looked_past, queues_each, queues_past, queues_there, rest_split, routines_there, sorts_there, steps_each, steps_past, table_each, table_past, Each, IsPast, IsTarget}
 use Rattle.asm.proofs.Listed.Closing.{Served}
 use Rattle.asm.proofs.Listed.Names.{differ, names_from, numbered_as, same_bytes}

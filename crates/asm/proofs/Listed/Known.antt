@@ -13,15 +13,15 @@ use Rattle.model.specs.declared.status.Major.TheVariants.{Read, Write, Control}
 use Rattle.model.specs.Set.{label_of, Set}
 use Rattle.model.specs.Sound.{completion_named, queue_named, CallsFit, CancelFits, DevicesFit, DriverFits, HasSort, IsCancel, IsDispatch, IsDpc, IsSound, IsStartIo, QueuesFit, RoutineFits, WaitingFits}
 use Rattle.asm_line.specs.declared.line.Line.{Line}
-use Rattle.asm_names.specs.declared.roles.Role.{Role}
-use Rattle.asm_names.specs.declared.roles.Role.TheVariants.{Handler, Completion, StartIo, Dpc, Cancel}
+use Rattle.asm.specs.declared.roles.Role.{Role}
+use Rattle.asm.specs.declared.roles.Role.TheVariants.{Handler, Completion, StartIo, Dpc, Cancel}
 use Rattle.asm.specs.Outline.{is_among}
 use Rattle.asm.proofs.Scopes.{all_known as names_known, is_known, is_served, labels_ahead, nothing_named, scope_after, unknown_at, unknown_from, Scope}
-use Rattle.asm_listing.specs.declared.entry.Entry.{Entry}
-use Rattle.asm_listing.specs.declared.entry.Entry.TheVariants as line
-use Rattle.asm_listing.specs.Words.{device, label, numbered, queue, routine}
-use Rattle.asm_listing.specs.Listing.{device_lines, driver_lines, label_at, listed, naming, queue_lines, routine_lines, set_lines, starting, step_lines, table_lines}
-use Rattle.asm_listing.proofs.Meaning.{body_meant, meant, names_used}
+use Rattle.asm_line.specs.declared.entry.Entry.{Entry}
+use Rattle.asm_line.specs.declared.entry.Entry.TheVariants as line
+use Rattle.asm_line.specs.ListedWords.{device, label, numbered, queue, routine}
+use Rattle.asm_line.specs.Listing.{device_lines, driver_lines, label_at, listed, naming, queue_lines, routine_lines, set_lines, starting, step_lines, table_lines}
+use Rattle.asm_line.proofs.Meaning.{body_meant, meant, names_used}
 use Rattle.asm.proofs.Listed.Ahead.{before, before_all, before_append, driver_rest, label_there, queues_there, rest_split, routines_there, sorts_there, IsTarget}
 use Rattle.asm.proofs.Listed.Closing.{Served}
 use Rattle.asm.proofs.Listed.Codes.{all_known, routine_found, InstrKnown}

@@ -19,13 +19,13 @@ use Rattle.asm.specs.Drafting.{draft_after_line, draft_ended, draft_fitted, draf
 use Rattle.asm.specs.Reading.{IsNamed}
 use Rattle.asm.proofs.Scopes.{Reads}
 use Rattle.asm.proofs.Codes.{all_codes, codes_of}
-use Rattle.asm_listing.specs.declared.entry.Entry.{Entry}
-use Rattle.asm_listing.specs.declared.entry.Entry.TheVariants as line
-use Rattle.asm_listing.specs.Words.{joined, words_of}
-use Rattle.asm_listing.specs.Listing.{device_lines, driver_lines, jumps_to, label_at, listed, listing, naming, queue_lines, routine_lines, set_lines, step_lines, table_lines}
-use Rattle.asm_listing.proofs.Back.{lines_back, AllFit}
-use Rattle.asm_listing.proofs.Digits.{IsSmall}
-use Rattle.asm_listing.proofs.Meaning.{meant, EntryFits, InstrFits}
+use Rattle.asm_line.specs.declared.entry.Entry.{Entry}
+use Rattle.asm_line.specs.declared.entry.Entry.TheVariants as line
+use Rattle.asm_line.specs.ListedWords.{joined, words_of}
+use Rattle.asm_line.specs.Listing.{device_lines, driver_lines, jumps_to, label_at, listed, listing, naming, queue_lines, routine_lines, set_lines, step_lines, table_lines}
+use Rattle.asm_line.proofs.Back.{lines_back, AllFit}
+use Rattle.asm_line.proofs.Digits.{IsSmall}
+use Rattle.asm_line.proofs.Meaning.{meant, EntryFits, InstrFits}
 use Rattle.asm.proofs.Tidy.{nothing_tidy}
 use Rattle.asm.proofs.Unknown.Lines.{unknown_is}
 use Rattle.asm.proofs.Declared.Answer.{set_same}

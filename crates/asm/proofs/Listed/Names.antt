@@ -5,8 +5,8 @@ use Rattle.std.specs.List.{position_or_len}
 use Rattle.std.proofs.lemmas.Bool.Decides.{nat_tests}
 use Rattle.std.proofs.lemmas.Slice.Eq.{bytes_eq-Decides}
 use Rattle.asm.specs.Outline.{is_among, number_of}
-use Rattle.asm_listing.specs.Words.{numbered}
-use Rattle.asm_listing.proofs.Digits.{same_number, IsSmall}
+use Rattle.asm_line.specs.ListedWords.{numbered}
+use Rattle.asm_line.proofs.Digits.{same_number, IsSmall}
 
 abbrev pub names_from : ℕ → ℕ → ℕ → List (List ℕ)
 names_from letter j zero = []

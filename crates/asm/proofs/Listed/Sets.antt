@@ -12,11 +12,11 @@ use Rattle.model.specs.declared.set.Sort.{Sort}
 use Rattle.model.specs.declared.set.Sort.TheVariants as sort
 use Rattle.model.specs.Set.{Set}
 use Rattle.model.specs.Sound.{CancelFits, DevicesFit, DriverFits, HasSort, IsCancel, IsCompletion, IsDispatch, IsDpc, IsSound, IsStartIo, RoutineFits, WaitingFits}
-use Rattle.asm_names.specs.declared.roles.Role.{Role}
-use Rattle.asm_names.specs.declared.roles.Role.TheVariants.{Handler, Completion, StartIo, Dpc, Cancel}
+use Rattle.asm.specs.declared.roles.Role.{Role}
+use Rattle.asm.specs.declared.roles.Role.TheVariants.{Handler, Completion, StartIo, Dpc, Cancel}
 use Rattle.asm.specs.Outline.{nothing_read, serves, Outline}
-use Rattle.asm_listing.specs.declared.entry.Entry.TheVariants as line
-use Rattle.asm_listing.specs.Listing.{device_lines, driver_lines, listed, queue_lines, routine_lines, set_lines, table_lines}
+use Rattle.asm_line.specs.declared.entry.Entry.TheVariants as line
+use Rattle.asm_line.specs.Listing.{device_lines, driver_lines, listed, queue_lines, routine_lines, set_lines, table_lines}
 use Rattle.asm.proofs.Listed.Closing.{device_turn, end_driver_turn, CancelsServed, Served, ShapeFits}
 use Rattle.asm.proofs.Listed.Stage.{inside, no_shape, none_reaches, outside, shape_of, then_reaches, IsAt, Reaches, Shape}
 use Rattle.asm.proofs.Listed.Turns.{driver_turn, longer}

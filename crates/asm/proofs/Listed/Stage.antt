@@ -11,14 +11,14 @@ use Rattle.asm.specs.declared.draft.Place.{Place}
 use Rattle.asm.specs.declared.draft.Place.TheVariants.{Outside, InDriver, InRoutine}
 use Rattle.asm.specs.declared.draft.QueueLine.{QueueLine}
 use Rattle.asm.specs.declared.draft.Step.{Step as StepOf}
-use Rattle.asm_names.specs.declared.names.Use.{Use}
+use Rattle.asm.specs.declared.names.Use.{Use}
 use Rattle.asm.specs.Outline.{Outline, draft_has_room, draft_is_again, is_among, is_out_of_range, draft_misfit, noted, stands, startio_named, waiting_named}
 use Rattle.asm.proofs.Scopes.{Reads}
-use Rattle.asm_listing.specs.declared.entry.Entry.{Entry}
-use Rattle.asm_listing.specs.Words.{joined, label, routine, words_of}
-use Rattle.asm_listing.proofs.Back.{entry_back, AllFit}
-use Rattle.asm_listing.proofs.Digits.{IsSmall}
-use Rattle.asm_listing.proofs.Meaning.{body_meant, label_meant, meant}
+use Rattle.asm_line.specs.declared.entry.Entry.{Entry}
+use Rattle.asm_line.specs.ListedWords.{joined, label, routine, words_of}
+use Rattle.asm_line.proofs.Back.{entry_back, AllFit}
+use Rattle.asm_line.proofs.Digits.{IsSmall}
+use Rattle.asm_line.proofs.Meaning.{body_meant, label_meant, meant}
 use Rattle.asm.proofs.Listed.Names.{names_from}
 
 -- a driver without the instructions of its routines

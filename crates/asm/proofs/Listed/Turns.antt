@@ -12,12 +12,12 @@ use Rattle.asm.specs.declared.draft.Place.TheVariants.{Outside, InDriver, InRout
 use Rattle.asm.specs.declared.draft.ClosedRoutine.{ClosedRoutine}
 use Rattle.asm.specs.declared.draft.QueueLine.{QueueLine}
 use Rattle.asm.specs.declared.draft.StartIoLine.{StartIoLine}
-use Rattle.asm_names.specs.declared.names.Use.{Use}
+use Rattle.asm.specs.declared.names.Use.{Use}
 use Rattle.model.specs.declared.instr.Instr.{Instr}
 use Rattle.asm.specs.Outline.{Outline, is_among, is_known_label, label_resolved, startio_named, used_at, waiting_named}
-use Rattle.asm_listing.specs.declared.entry.Entry.TheVariants as line
-use Rattle.asm_listing.specs.Words.{label, numbered, routine}
-use Rattle.asm_listing.proofs.Digits.{IsSmall}
+use Rattle.asm_line.specs.declared.entry.Entry.TheVariants as line
+use Rattle.asm_line.specs.ListedWords.{label, numbered, routine}
+use Rattle.asm_line.proofs.Digits.{IsSmall}
 use Rattle.asm.proofs.Added.{with_entries}
 use Rattle.asm.proofs.Listed.Names.{differ, fresh, length_names, names_from, names_more}
 use Rattle.asm.proofs.Listed.Stage.{guarded, no_misfit, one_reaches, read_queue, set_queue, IsAt, Names, Reaches, Shape, Stage}

@@ -11,9 +11,9 @@ use Rattle.model.specs.declared.status.Major.TheVariants.{Read, Write, Control}
 use Rattle.model.specs.Sound.{WaitingFits}
 use Rattle.asm.specs.declared.draft.Place.TheVariants.{InRoutine}
 use Rattle.asm.specs.Outline.{Outline}
-use Rattle.asm_listing.specs.declared.entry.Entry.{Entry}
-use Rattle.asm_listing.specs.declared.entry.Entry.TheVariants as line
-use Rattle.asm_listing.specs.Listing.{jumps_to, label_at, listed, naming, queue_lines, routine_lines, starting, step_lines, table_lines}
+use Rattle.asm_line.specs.declared.entry.Entry.{Entry}
+use Rattle.asm_line.specs.declared.entry.Entry.TheVariants as line
+use Rattle.asm_line.specs.Listing.{jumps_to, label_at, listed, naming, queue_lines, routine_lines, starting, step_lines, table_lines}
 use Rattle.asm.proofs.Listed.Stage.{inside, no_shape, none_reaches, shape_of, then_reaches, IsAt, Reaches, Shape, Stage}
 use Rattle.asm.proofs.Listed.Turns.{control_turn, dpc_turn, end_routine_turn, longer, queue_turn, read_turn, routine_turn, startio_turn, step_turn, write_turn, OwnLabel}
 

@@ -12,9 +12,9 @@ use Rattle.model.specs.declared.instr.Instr.{Instr}
 use Rattle.model.specs.declared.instr.Instr.TheVariants.{Insert, Call}
 use Rattle.asm.specs.declared.draft.ClosedRoutine.{ClosedRoutine}
 use Rattle.asm.specs.declared.draft.StartIoLine.{StartIoLine}
-use Rattle.asm_names.specs.declared.names.Use.{Use}
-use Rattle.asm_names.specs.declared.roles.Role.{Role}
-use Rattle.asm_names.specs.declared.roles.Role.TheVariants.{Handler, Completion, StartIo as StartIoRole, Dpc as DpcRole, Cancel as CancelRole}
+use Rattle.asm.specs.declared.names.Use.{Use}
+use Rattle.asm.specs.declared.roles.Role.{Role}
+use Rattle.asm.specs.declared.roles.Role.TheVariants.{Handler, Completion, StartIo as StartIoRole, Dpc as DpcRole, Cancel as CancelRole}
 use Rattle.asm.specs.Outline.{Outline, with_queue, with_routine, number_of, number_for, routine_called, entry_in, called, finished, finished_driver, finished_queue, earliest, missed_calls, missed_cancels, missed_entry, missed_handler, missed_queue, missed_routine, missed_server, missed_startio, missed_use, queue_at, routine_named, startio_named, waiting_named, ClosedFits, IsUse, QueuesOrderly, RoutinesOrderly}
 use Rattle.asm.proofs.Orderly.Names.{neither, use_known, number_within}
 

@@ -10,7 +10,7 @@ use Rattle.model.specs.declared.instr.Instr.{Instr}
 use Rattle.model.specs.declared.instr.Instr.TheVariants.{Jump}
 use Rattle.asm.specs.declared.draft.ClosedRoutine.{ClosedRoutine}
 use Rattle.asm.specs.declared.draft.Linked.{Linked}
-use Rattle.asm_names.specs.declared.names.Use.{Use}
+use Rattle.asm.specs.declared.names.Use.{Use}
 use Rattle.asm.specs.Outline.{Outline, with_label, label_resolved, target_position, number_of, ClosedFits, IsUse, QueueUsed, StepsOrderly}
 
 -- a label's position, or 0, is below a count that is above the positions of all labels

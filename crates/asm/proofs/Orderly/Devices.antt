@@ -7,7 +7,7 @@ use Rattle.std.proofs.lemmas.Bool.Decides.{nat_tests}
 use Rattle.model.specs.declared.set.Device.{Device}
 use Rattle.model.specs.Sound.{DeviceFits, DevicesFit}
 use Rattle.model.specs.declared.limits.TheConstants.{MAX_STACK}
-use Rattle.asm_names.specs.declared.names.Use.{Use}
+use Rattle.asm.specs.declared.names.Use.{Use}
 use Rattle.asm.specs.Outline.{Outline, is_among, is_stack_size, number_of, number_used, missed, earliest, device_added, DevicesKnown}
 use Rattle.asm.proofs.Orderly.Names.{neither, number_below, number_there, is_there}
 

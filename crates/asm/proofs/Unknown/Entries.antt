@@ -6,10 +6,10 @@ use Rattle.model.specs.declared.status.Major.TheVariants.{Read, Write, Control}
 use Rattle.model.specs.declared.set.Sort.{Sort}
 use Rattle.asm.specs.declared.draft.QueueLine.{QueueLine}
 use Rattle.asm.specs.declared.draft.StartIoLine.{StartIoLine}
-use Rattle.asm_names.specs.declared.names.Use.{Use}
+use Rattle.asm.specs.declared.names.Use.{Use}
 use Rattle.asm_line.specs.declared.line.Body.TheVariants.{AddQueue, Handle, HandleStartIo, HandleDpc}
 use Rattle.asm_line.specs.declared.line.Line.{Line}
-use Rattle.asm_names.specs.declared.roles.Role.TheVariants.{Handler, StartIo, Dpc, Cancel}
+use Rattle.asm.specs.declared.roles.Role.TheVariants.{Handler, StartIo, Dpc, Cancel}
 use Rattle.asm.specs.Outline.{Outline, dpc_handled, earliest, handled, handler_of, has_routine, missed_cancels, missed_entry, missed_handler, missed_server, missed_startio, missed_use, queue_added, startio_handled, used_at}
 use Rattle.asm.proofs.Scopes.{is_served, unknown_from}
 use Rattle.asm.proofs.Unknown.Earliest.{earliest_none, earliest_assoc, earliest_comm, earliest_swap, both_count, use_counts}

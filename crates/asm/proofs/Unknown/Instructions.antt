@@ -5,7 +5,7 @@ use Rattle.asm_line.specs.declared.line.Body.TheVariants.{Step as TakeStep}
 use Rattle.asm_line.specs.declared.line.Line.{Line}
 use Rattle.asm_line.specs.declared.line.UsedNames.{UsedNames}
 use Rattle.model.specs.declared.instr.Instr.{Instr}
-use Rattle.asm_names.specs.declared.roles.Role.TheVariants.{Completion}
+use Rattle.asm.specs.declared.roles.Role.TheVariants.{Completion}
 use Rattle.asm.specs.Outline.{Outline, earliest, missed, missed_entry, missed_server, stands, stepped, used_at}
 use Rattle.asm.proofs.Scopes.{Scope, is_known, is_served, unknown_at, unknown_from}
 use Rattle.asm.proofs.Added.{added_step}

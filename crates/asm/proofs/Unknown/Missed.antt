@@ -4,9 +4,9 @@ use Rattle.std.specs.Prelude.{option_to_list, if◌then◌else◌}
 use Rattle.model.specs.declared.set.Sort.{Sort}
 use Rattle.asm.specs.declared.draft.QueueLine.{QueueLine}
 use Rattle.asm.specs.declared.draft.Step.{Step}
-use Rattle.asm_names.specs.declared.names.Use.{Use}
-use Rattle.asm_names.specs.declared.roles.Role.{Role}
-use Rattle.asm_names.specs.declared.roles.Role.TheVariants.{Completion, Cancel}
+use Rattle.asm.specs.declared.names.Use.{Use}
+use Rattle.asm.specs.declared.roles.Role.{Role}
+use Rattle.asm.specs.declared.roles.Role.TheVariants.{Completion, Cancel}
 use Rattle.asm.specs.Outline.{Outline, earliest, missed, missed_calls, missed_cancels, missed_entry, missed_from, missed_server, missed_use, missed_uses, used_at}
 use Rattle.asm.proofs.Scopes.{Scope, is_known, is_served}
 use Rattle.asm.proofs.Unknown.Earliest.{earliest_none, earliest_assoc}

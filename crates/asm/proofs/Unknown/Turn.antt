@@ -6,7 +6,7 @@ use Rattle.asm.specs.declared.draft.Place.TheVariants.{Outside, InRoutine}
 use Rattle.asm_line.specs.declared.line.Body.{Body}
 use Rattle.asm_line.specs.declared.line.Body.TheVariants.{AddQueue, Handle, HandleStartIo, HandleDpc, AddDevice, Step as TakeStep}
 use Rattle.asm_line.specs.declared.line.Line.{Line}
-use Rattle.asm_names.specs.declared.roles.Role.TheVariants.{Handler, StartIo, Dpc, Cancel}
+use Rattle.asm.specs.declared.roles.Role.TheVariants.{Handler, StartIo, Dpc, Cancel}
 use Rattle.asm.specs.Outline.{Outline, earliest, has_routine, is_among}
 use Rattle.asm.proofs.Scopes.{Scope, all_known, scope_after, drivers_after, devices_after, is_known, is_served, labelled_ahead, labels_ahead, labels_around, named_ahead, routines_ahead, routines_around, sorted_ahead, sorts_ahead, sorts_around, queued_ahead, queues_ahead, queues_around, unknown_at, unknown_from}
 use Rattle.asm.proofs.Tidy.{IsEmpty}

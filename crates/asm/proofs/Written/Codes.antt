@@ -9,13 +9,13 @@ use Rattle.model.specs.declared.status.Major.TheVariants.{Read, Write, Control}
 use Rattle.asm_line.specs.declared.line.Body.{Body}
 use Rattle.asm_line.specs.declared.line.Body.TheVariants.{Step as TakeStep}
 use Rattle.asm_line.specs.declared.line.Line.{Line}
-use Rattle.asm_names.specs.declared.roles.Role.TheVariants.{Handler, Completion, StartIo, Dpc, Cancel}
+use Rattle.asm.specs.declared.roles.Role.TheVariants.{Handler, Completion, StartIo, Dpc, Cancel}
 use Rattle.asm.specs.declared.draft.ClosedRoutine.{ClosedRoutine}
 use Rattle.asm.specs.declared.draft.Linked.{Linked}
 use Rattle.asm.specs.declared.draft.Place.{Place}
 use Rattle.asm.specs.declared.draft.Place.TheVariants.{Outside, InDriver, InRoutine}
 use Rattle.asm.specs.declared.draft.QueueLine.{QueueLine}
-use Rattle.asm_names.specs.declared.names.Use.{Use}
+use Rattle.asm.specs.declared.names.Use.{Use}
 use Rattle.asm.specs.Outline.{Outline, entry_in, label_resolved, startio_named, waiting_named}
 use Rattle.asm.specs.Names.{number_of, routine_named, Inventory}
 use Rattle.asm.specs.Parts.{closes_driver, closes_routine, dpc_on, handler_on, place_next, queue_on, routine_on, said, sort_on, startio_on, up_to, waiting_on}

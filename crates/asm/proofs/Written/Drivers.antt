@@ -9,13 +9,13 @@ use Rattle.model.specs.declared.status.Major.{Major}
 use Rattle.model.specs.declared.status.Major.TheVariants.{Read, Write, Control}
 use Rattle.asm_line.specs.declared.line.Body.TheVariants.{OpenDriver, CloseDriver, AddQueue, Handle, HandleStartIo, HandleDpc}
 use Rattle.asm_line.specs.declared.line.Line.{Line}
-use Rattle.asm_names.specs.declared.roles.Role.{Role}
-use Rattle.asm_names.specs.declared.roles.Role.TheVariants.{Handler, Completion, StartIo, Dpc, Cancel}
+use Rattle.asm.specs.declared.roles.Role.{Role}
+use Rattle.asm.specs.declared.roles.Role.TheVariants.{Handler, Completion, StartIo, Dpc, Cancel}
 use Rattle.asm.specs.declared.draft.ClosedRoutine.{ClosedRoutine}
 use Rattle.asm.specs.declared.draft.Linked.{Linked}
 use Rattle.asm.specs.declared.draft.Place.TheVariants.{Outside, InDriver}
 use Rattle.asm.specs.declared.draft.QueueLine.{QueueLine}
-use Rattle.asm_names.specs.declared.names.Use.{Use}
+use Rattle.asm.specs.declared.names.Use.{Use}
 use Rattle.asm.specs.Outline.{Outline, called, dpc_handled, driver_closed, driver_opened, entry_in, finished, finished_driver, handled, handler_of, queue_added, queue_at, routine_called, startio_handled, startio_named, used_at, waiting_named}
 use Rattle.asm.specs.Names.{number_of, routine_named, Inventory}
 use Rattle.asm.specs.Parts.{closes_driver, queue_on, said, up_to}

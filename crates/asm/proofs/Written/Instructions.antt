@@ -8,10 +8,10 @@ use Rattle.model.specs.declared.set.Sort.{Sort}
 use Rattle.asm_line.specs.declared.line.Body.TheVariants.{OpenRoutine, CloseRoutine, Step as TakeStep}
 use Rattle.asm_line.specs.declared.line.Line.{Line}
 use Rattle.asm_line.specs.declared.line.UsedNames.{UsedNames}
-use Rattle.asm_names.specs.declared.roles.Role.TheVariants.{Completion}
+use Rattle.asm.specs.declared.roles.Role.TheVariants.{Completion}
 use Rattle.asm.specs.declared.draft.ClosedRoutine.{ClosedRoutine}
 use Rattle.asm.specs.declared.draft.Place.TheVariants.{InDriver, InRoutine}
-use Rattle.asm_names.specs.declared.names.Use.{Use}
+use Rattle.asm.specs.declared.names.Use.{Use}
 use Rattle.asm.specs.Outline.{Outline, label_resolved, routine_closed, routine_opened, stepped, target_position, use_place, used_at}
 use Rattle.asm.specs.Names.{number_in, number_of, routine_named, Inventory}
 use Rattle.asm.specs.Parts.{closes_driver, closes_routine, routine_on, said, sort_on, up_to}

@@ -8,7 +8,7 @@ use Rattle.model.specs.declared.instr.Instr.{Instr}
 use Rattle.asm_line.specs.declared.line.Body.{Body}
 use Rattle.asm_line.specs.declared.line.Body.TheVariants.{Step as TakeStep}
 use Rattle.asm_line.specs.declared.line.Line.{Line}
-use Rattle.asm_names.specs.declared.roles.Role.TheVariants.{Completion}
+use Rattle.asm.specs.declared.roles.Role.TheVariants.{Completion}
 use Rattle.asm.specs.Outline.{position_of}
 use Rattle.asm.specs.Names.{number_in, Inventory}
 use Rattle.asm.specs.Parts.{said}

@@ -8,16 +8,16 @@ ghost use Rattle.model.specs.declared.world.Frame.TheVariants.{Cancel as CancelF
 
 use super::Shared;
 use super::locks::lock_bug;
-use checked_frames::activation::cancelled_by;
-use checked_frames::{Ran, Runner, cancelling, packet_bug, wrong_at};
+use crate::activation::cancelled_by;
+use crate::{Ran, Runner, cancelling, packet_bug, wrong_at};
 use driver_set::{DriverSet, QueueName, Register};
 use model::event::{BugCheck, Lock, Reply};
 use model::world::{Activation, Armer, CancelStep, Canceller};
 
 impl Shared {
-    ghost use Rattle.checked_frames.specs.Frames.{cancels_next};
-    ghost use Rattle.checked_frames.specs.Ran.{left_of, Leaves};
-    ghost use Rattle.checked_frames.specs.Left.{frame_now, judged};
+    ghost use Rattle.checked_parts.specs.Frames.{cancels_next};
+    ghost use Rattle.checked_parts.specs.Ran.{left_of, Leaves};
+    ghost use Rattle.checked_parts.specs.Left.{frame_now, judged};
     ghost use Rattle.irql_locks.specs.Owns.{owns};
     ghost use Rattle.model.specs.Effect.{arm_effect, disarm_effect, cancel_ends};
     ghost use Rattle.model.specs.Set.{Set, cancel_routine_of};

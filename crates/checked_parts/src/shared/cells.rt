@@ -5,7 +5,7 @@ ghost use Rattle.model.specs.declared.limits.TheConstants.{MAX_INSTRUCTIONS};
 ghost use Rattle.model.specs.Effect.{cell_of};
 
 use super::Shared;
-use checked_frames::{Ran, Runner, number_in, wrong_at};
+use crate::{Ran, Runner, number_in, wrong_at};
 use driver_set::{Cell, Register};
 use model::event::{Bug, BugCheck, OfDevice, Reply, Subject};
 use model::world::{Activation, Value};
@@ -25,7 +25,7 @@ fn paged_bug(a: &Activation, cell: Cell) -> Reply
 }
 
 impl Shared {
-    ghost use Rattle.checked_frames.specs.Ran.{Leaves, LeavesOn};
+    ghost use Rattle.checked_parts.specs.Ran.{Leaves, LeavesOn};
     ghost use Rattle.model.specs.Effect.{load_effect, load_paged_effect, store_effect};
     ghost use Rattle.model.specs.Effect.{store_paged_effect};
     ghost use Rattle.model.specs.World.{register, number_in as number_in_of};

@@ -3,22 +3,21 @@
 ghost use Rattle.std.specs.Prelude.{◌≡◌, ◌<◌, is_some, option_and_then};
 ghost use Rattle.model.specs.declared.limits.TheConstants.{MAX_INSTRUCTIONS};
 ghost use Rattle.model.specs.Effect.{top_of};
-ghost use Rattle.checked_frames.specs.declared.ran.Runner.{Runner};
+ghost use Rattle.checked_parts.specs.declared.ran.Runner.{Runner};
 ghost use Rattle.model.specs.declared.world.Frame.TheVariants.{Walk as WalkFrame};
 
 use super::Shared;
-use checked_frames::activation::completing;
-use checked_frames::{Frame, Managing, Over, Ran, is_last, packet_bug, wrong_at};
-use driver_devices::driver_of;
-use driver_set::{DriverSet, Register, Sort};
+use crate::activation::completing;
+use crate::{Frame, Managing, Over, Ran, is_last, packet_bug, wrong_at};
+use driver_set::{DriverSet, Register, Sort, driver_of};
 use iomgr::WalkStep;
 use model::event::{BugCheck, Reply};
 use model::status::Status;
 use model::world::{Activation, Completion};
 
 impl Shared {
-    ghost use Rattle.checked_frames.specs.Ran.{left_of, LeavesOver};
-    ghost use Rattle.checked_frames.specs.Left.{bounded, judged, frame_now};
+    ghost use Rattle.checked_parts.specs.Ran.{left_of, LeavesOver};
+    ghost use Rattle.checked_parts.specs.Left.{bounded, judged, frame_now};
     ghost use Rattle.iomgr.specs.Walk.{lent_if};
     ghost use Rattle.model.specs.Effect.{complete_effect, continued, let_on, stopped};
     ghost use Rattle.model.specs.Effect.{sort_of_completion};

@@ -5,8 +5,8 @@ ghost use Rattle.model.specs.declared.limits.TheConstants.{MAX_INSTRUCTIONS};
 ghost use Rattle.model.specs.Effect.{set_by};
 
 use super::Shared;
-use checked_frames::activation::dispatched;
-use checked_frames::{Frame, Ran, is_last, packet_bug, wrong_at};
+use crate::activation::dispatched;
+use crate::{Frame, Ran, is_last, packet_bug, wrong_at};
 use driver_set::{DriverSet, Register};
 use model::event::{BugCheck, Reply};
 use model::world::{Activation, Completion};
@@ -23,7 +23,7 @@ fn completion(a: &Activation, routine: Option<u8>) -> Option<Completion>
 }
 
 impl Shared {
-    ghost use Rattle.checked_frames.specs.Ran.{LeavesOver};
+    ghost use Rattle.checked_parts.specs.Ran.{LeavesOver};
     ghost use Rattle.model.specs.Effect.{pass_effect, call_effect};
     ghost use Rattle.model.specs.Set.{lower_of};
     ghost use Rattle.model.specs.World.{packet_in, register};

@@ -5,7 +5,7 @@ ghost use Rattle.model.specs.declared.limits.TheConstants.{MAX_INSTRUCTIONS};
 ghost use Rattle.model.specs.Effect.{spin_lock as spin_lock_of};
 
 use super::Shared;
-use checked_frames::{Ran, Runner, wrong_at};
+use crate::{Ran, Runner, wrong_at};
 use driver_set::SpinLock;
 use model::event::{Bug, BugCheck, Lock, OfDevice, Reply, Subject};
 use model::world::Activation;
@@ -31,7 +31,7 @@ pub fn lock_bug(check: BugCheck, lock: Lock) -> Reply
 }
 
 impl Shared {
-    ghost use Rattle.checked_frames.specs.Ran.{LeavesOn};
+    ghost use Rattle.checked_parts.specs.Ran.{LeavesOn};
     ghost use Rattle.model.specs.Effect.{acquire_effect, release_effect};
     ghost use Rattle.model.specs.World.{owner_of};
 

@@ -4,14 +4,14 @@ ghost use Rattle.std.specs.Prelude.{◌≡◌, ◌<◌, option_map};
 ghost use Rattle.model.specs.declared.limits.TheConstants.{MAX_INSTRUCTIONS};
 
 use super::Shared;
-use checked_frames::{Ran, packet_bug, wrong_at};
+use crate::{Ran, packet_bug, wrong_at};
 use devqueue::Guarded;
 use driver_set::Register;
 use model::event::{BugCheck, Reply};
 use model::world::{Activation, Value};
 
 impl Shared {
-    ghost use Rattle.checked_frames.specs.Ran.{Leaves};
+    ghost use Rattle.checked_parts.specs.Ran.{Leaves};
     ghost use Rattle.model.specs.Effect.{insert_effect, remove_effect, unlink_effect};
     ghost use Rattle.model.specs.World.{packet_in, queue_of, register};
 

@@ -5,7 +5,7 @@ ghost use Rattle.model.specs.declared.limits.TheConstants.{MAX_INSTRUCTIONS};
 ghost use Rattle.model.specs.Effect.{next_disarmed as disarmed_of};
 
 use super::Shared;
-use checked_frames::{Ran, packet_bug, wrong_at};
+use crate::{Ran, packet_bug, wrong_at};
 use devqueue::DeviceQueue;
 use driver_set::{DriverSet, QueueName, Register};
 use model::event::{BugCheck, Reply};
@@ -24,7 +24,7 @@ fn next_disarmed(set: &DriverSet, start: &DeviceQueue, a: &Activation) -> Option
 }
 
 impl Shared {
-    ghost use Rattle.checked_frames.specs.Ran.{Leaves};
+    ghost use Rattle.checked_parts.specs.Ran.{Leaves};
     ghost use Rattle.model.specs.Effect.{start_effect, take_effect, begin_effect};
     ghost use Rattle.model.specs.Effect.{next_effect, dequeue_effect};
     ghost use Rattle.model.specs.World.{packet_in, start_of, register};

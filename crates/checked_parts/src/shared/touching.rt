@@ -4,13 +4,13 @@ ghost use Rattle.std.specs.Prelude.{◌<◌};
 ghost use Rattle.model.specs.declared.limits.TheConstants.{MAX_INSTRUCTIONS};
 
 use super::Shared;
-use checked_frames::{Ran, number_in, packet_bug, wrong_at};
+use crate::{Ran, number_in, packet_bug, wrong_at};
 use driver_set::{Field, Register};
 use model::event::{BugCheck, Reply};
 use model::world::{Activation, Value};
 
 impl Shared {
-    ghost use Rattle.checked_frames.specs.Ran.{Leaves};
+    ghost use Rattle.checked_parts.specs.Ran.{Leaves};
     ghost use Rattle.model.specs.Effect.{get_effect, put_effect, mark_effect, look_effect};
     ghost use Rattle.model.specs.Effect.{ask_effect};
     ghost use Rattle.model.specs.World.{packet_in, register, number_in as number_in_of};

@@ -4,7 +4,7 @@ use Rattle.drvhost_arguments.specs.Given.{given_by}
 use Rattle.drvhost_commands.specs.declared.job.Job.{Job}
 use Rattle.drvhost_commands.specs.declared.job.Job.TheVariants.{Page as OfPage}
 use Rattle.drvhost_commands.specs.declared.subcommand.Subcommand.TheVariants.{Explain as ToExplain}
-use Rattle.drvhost_options.specs.declared.coloring.Coloring.{Coloring}
+use Rattle.drvhost_devices.specs.declared.coloring.Coloring.{Coloring}
 use Rattle.drvhost_commands.specs.Choices.{coloring_of}
 use Rattle.drvhost_commands.specs.CommandLine.{IsNamed, NamesExplained, NamesJudged, NamesOf, explaining}
 use Rattle.drvhost_commands.proofs.naming.sets_to_explain.Goals as goal

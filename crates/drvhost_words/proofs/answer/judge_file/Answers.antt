@@ -2,8 +2,8 @@ use Rattle.std.proofs.Common.{◌≡◌, ◌⊎◌, ℕ, List, Option, inl, inr,
 use Rattle.drvhost_commands.specs.declared.job.Judging.{Judging}
 use Rattle.drvhost_commands.specs.declared.job.Judging.TheVariants.{Check, CheckJson, Explain, ExplainJson}
 use Rattle.drvhost_devices.specs.Device.{Supply}
-use Rattle.drvhost_options.specs.declared.coloring.Coloring.{Coloring}
-use Rattle.drvhost_options.specs.declared.extent.Extent.{Extent}
+use Rattle.drvhost_devices.specs.declared.coloring.Coloring.{Coloring}
+use Rattle.drvhost_devices.specs.declared.extent.Extent.{Extent}
 use Rattle.drvhost_words.specs.declared.work.Work.TheVariants.{Judge}
 use Rattle.drvhost_words.specs.Program.{FileEnds, WorkEnds}
 use Rattle.drvhost_words.proofs.Ending.{counted_alone, counted_as, counted_telling}

@@ -1,7 +1,7 @@
 use Rattle.std.proofs.Common.{◌≡◌, List, Option, ℕ, nat_eq, rules, subst, true}
 use Rattle.std.specs.List.{starts_with}
-use Rattle.hunt_ends.specs.declared.ending.Ending.{Ending}
-use Rattle.hunt_ends.specs.Ends.{EndsSo}
+use Rattle.tell_audit.specs.declared.ending.Ending.{Ending}
+use Rattle.tell_audit.specs.Ends.{EndsSo}
 use Rattle.hunt_schedule.proofs.reading.tells_end.Goals as goal
 
 pub returns : goal.returns

@@ -1,7 +1,7 @@
 use Rattle.std.proofs.Common.{List, Option, Some, rules, subst}
-use Rattle.hunt_ends.specs.declared.ending.Ending.{Ending}
-use Rattle.hunt_ends.specs.Ends.{EndsSo}
-use Rattle.hunt_bounds.specs.declared.bounds.Bounds.{Bounds}
+use Rattle.tell_audit.specs.declared.ending.Ending.{Ending}
+use Rattle.tell_audit.specs.Ends.{EndsSo}
+use Rattle.hunt_facts.specs.declared.bounds.Bounds.{Bounds}
 use Rattle.hunt_search.specs.declared.search.Find.{Find}
 use Rattle.hunt_search.specs.Hunts.{IsFind, IsWanted}
 use Rattle.model.specs.declared.event.Event.{Event}

@@ -1,5 +1,5 @@
 use Rattle.std.proofs.Common.{IfSome, Option, subst}
-use Rattle.hunt_bounds.specs.declared.bounds.Bounds.{Bounds}
+use Rattle.hunt_facts.specs.declared.bounds.Bounds.{Bounds}
 use Rattle.hunt_search.specs.declared.search.Find.{Find}
 use Rattle.hunt_search.specs.Hunts.{IsFind}
 use Rattle.hunt_search.proofs.search.hunt.Goals as goal

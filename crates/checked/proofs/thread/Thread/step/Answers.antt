@@ -7,7 +7,7 @@ use Rattle.model.specs.declared.world.Thread.{Thread}
 use Rattle.model.specs.Effect.{told_to}
 use Rattle.model.specs.Events.{finished_or, root_over}
 use Rattle.checked.specs.Step.{Moved}
-use Rattle.checked_frames.specs.Ran.{frame_over}
+use Rattle.checked_parts.specs.Ran.{frame_over}
 use Rattle.checked.proofs.Stacks.{moved_as, moved_gone, moved_stays, moved_stopped, moved_under, popped, rewritten, standing, with_items}
 use Rattle.checked.proofs.thread.Thread.step.Goals as goal
 

@@ -6,11 +6,11 @@ use Rattle.model.specs.declared.world.Frame.{Frame}
 use Rattle.model.specs.declared.world.Frame.TheVariants.{Cancel}
 use Rattle.model.specs.Set.{Set}
 use Rattle.model.specs.World.{Shared}
-use Rattle.checked_frames.specs.declared.ran.Ran.{Ran}
-use Rattle.checked_frames.specs.declared.ran.Runner.{Runner}
-use Rattle.checked_frames.specs.Frames.{cancels_next}
-use Rattle.checked_frames.specs.Ran.{left_of}
-use Rattle.checked_frames.specs.Left.{frame_now}
+use Rattle.checked_parts.specs.declared.ran.Ran.{Ran}
+use Rattle.checked_parts.specs.declared.ran.Runner.{Runner}
+use Rattle.checked_parts.specs.Frames.{cancels_next}
+use Rattle.checked_parts.specs.Ran.{left_of}
+use Rattle.checked_parts.specs.Left.{frame_now}
 use Rattle.checked_parts.proofs.shared.Shared.cancel.Goals as goal
 
 -- a step of a frame that does this next

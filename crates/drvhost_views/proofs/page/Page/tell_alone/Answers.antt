@@ -1,6 +1,6 @@
 use Rattle.std.proofs.Common.{◌≡◌, ◌∙◌, ◌≤◌, arith, refl}
 use Rattle.checked.specs.GoingOn.{none}
-use Rattle.drvhost_options.specs.declared.manner.Detail.TheVariants.{Every}
+use Rattle.drvhost_devices.specs.declared.manner.Detail.TheVariants.{Every}
 use Rattle.drvhost_views.proofs.ToldAlone.{goes_one, told_none, told_one}
 use Rattle.drvhost_views.proofs.page.Page.tell_alone.Goals as goal
 

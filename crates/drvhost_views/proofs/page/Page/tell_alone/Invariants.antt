@@ -1,6 +1,6 @@
 use Rattle.std.proofs.Common.{◌≡◌, ◌+◌, ◌≤◌}
 use Rattle.checked.specs.GoingOn.{GoesOn}
-use Rattle.drvhost_options.specs.declared.manner.Detail.TheVariants.{Every}
+use Rattle.drvhost_devices.specs.declared.manner.Detail.TheVariants.{Every}
 use Rattle.drvhost_views.specs.Told.{ToldAlone}
 use Rattle.drvhost_views.proofs.page.Page.tell_alone.Given as goal
 

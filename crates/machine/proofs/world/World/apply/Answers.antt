@@ -2,9 +2,9 @@ use Rattle.std.proofs.Common.{[], ◌∷◌, ◌++◌, subst, sym}
 use Rattle.model.specs.Machine.{Applies}
 use Rattle.model.specs.Set.{Set}
 use Rattle.model.specs.Shown.{Shown}
-use Rattle.laws_words.specs.WordsFit.{WordEventFits}
-use Rattle.laws_words.specs.WordsDone.{WordEventDone}
-use Rattle.laws_words.specs.ShownWords.{shown_words}
+use Rattle.laws_slots.specs.WordsFit.{WordEventFits}
+use Rattle.laws_slots.specs.WordsDone.{WordEventDone}
+use Rattle.laws_slots.specs.ShownWords.{shown_words}
 use Rattle.machine.proofs.Applying.{answered, applies_shown, fits, goes_on, meant_after, steps_threads}
 use Rattle.machine.specs.Runs.{GoesOn, RestKept, RulesKept, StepsThreads}
 use Rattle.machine.proofs.world.World.apply.Goals as goal

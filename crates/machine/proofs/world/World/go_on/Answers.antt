@@ -3,10 +3,10 @@ use Rattle.model.specs.declared.event.Event.TheVariants.{Step}
 use Rattle.model.specs.declared.event.Reply.TheVariants.{Stepped}
 use Rattle.model.specs.Set.{Set}
 use Rattle.model.specs.Shown.{Shown}
-use Rattle.laws_words.specs.WordsFit.{WordEventFits}
-use Rattle.laws_words.specs.ShownWords.{shown_words}
-use Rattle.laws_words.specs.Words.{WordWorld}
-use Rattle.machine_world.specs.GoingOn.{after, reply_after}
+use Rattle.laws_slots.specs.WordsFit.{WordEventFits}
+use Rattle.laws_slots.specs.ShownWords.{shown_words}
+use Rattle.laws_slots.specs.Words.{WordWorld}
+use Rattle.machine.specs.GoingOn.{after, reply_after}
 use Rattle.machine.proofs.Stepping.{none_made}
 use Rattle.machine.proofs.GoingOn.{all_fit, steps_made, still_meant}
 use Rattle.machine.specs.Runs.{IsMeant}

@@ -3,8 +3,8 @@ use Rattle.model.specs.declared.set.Device.{Device}
 use Rattle.model.specs.Run.{run}
 use Rattle.model.specs.Set.{Set}
 use Rattle.model.specs.Sound.{IsSound}
-use Rattle.laws_words.specs.Reads.{WordsMean}
-use Rattle.laws_words.specs.WordEvents.{opening_words}
+use Rattle.laws_slots.specs.Reads.{WordsMean}
+use Rattle.laws_slots.specs.WordEvents.{opening_words}
 use Rattle.machine.proofs.Whole.{begun_meant, opening_meant}
 use Rattle.machine.proofs.world.World.new.Goals as goal
 

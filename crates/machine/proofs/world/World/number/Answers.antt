@@ -1,7 +1,7 @@
 use Rattle.std.proofs.Common.{◌∙◌, ap, subst, sym}
 use Rattle.model.specs.Shown.{Shown}
 use Rattle.machine.proofs.Lending.{has_slots}
-use Rattle.machine.proofs.Slots.{number_is}
+use Rattle.machine.proofs.OverSlots.{number_is}
 use Rattle.machine.specs.Slots.{HasSlots, number_at}
 use Rattle.machine.proofs.world.World.number.Goals as goal
 

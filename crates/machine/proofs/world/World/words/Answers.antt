@@ -2,7 +2,7 @@ use Rattle.std.proofs.Common.{ℕ, List, Option, subst, sym}
 use Rattle.model.specs.Shown.{Shown}
 use Rattle.machine.proofs.Lending.{words_lent}
 use Rattle.machine.specs.Registers.{LendsWords}
-use Rattle.laws_words.specs.ShownWords.{words_at}
+use Rattle.laws_slots.specs.ShownWords.{words_at}
 use Rattle.machine.proofs.world.World.words.Goals as goal
 
 pub returns : goal.returns

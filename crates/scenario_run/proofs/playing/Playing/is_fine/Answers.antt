@@ -1,6 +1,6 @@
 use Rattle.std.proofs.Common.{◌≡◌, IfOk, subst}
 use Rattle.std.specs.Prelude.{IfSome, is_none}
-use Rattle.hunt_ends.specs.Ends.{amiss_in}
+use Rattle.tell_audit.specs.Ends.{amiss_in}
 use Rattle.scenario_run.specs.Past.{events_of}
 use Rattle.scenario_run.specs.Playing.{Playing, run_of}
 use Rattle.scenario_run.proofs.Running.{fine_in}

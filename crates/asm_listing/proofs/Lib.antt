@@ -1,9 +1,0 @@
-pub mod Written
-pub mod Marks
-pub mod Digits
-pub mod Tokens
-pub mod Meaning
-pub mod Operands
-pub mod Instructions
-pub mod Plain
-pub mod Back

@@ -1,2 +1,0 @@
-pub mod Plain
-pub mod Steps

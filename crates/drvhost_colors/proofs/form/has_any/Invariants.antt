@@ -1,8 +1,0 @@
-use Rattle.std.proofs.Common.{◌≡◌, drop, map}
-use Rattle.drvhost_colors.specs.Forms.{has_any}
-use Rattle.drvhost_colors.proofs.form.has_any.Given as goal
-
-abbrev pub invariant-loop-words : goal.invariant-loop-words
-invariant-loop-words l =
-    has_any l.line (map (λ words. words.now) (drop l.words-index l.all))
-    ≡ has_any l.line (map (λ words. words.now) l.all)

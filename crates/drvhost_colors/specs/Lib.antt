@@ -1,2 +1,0 @@
-pub mod Painted
-pub mod Forms

@@ -1,2 +1,0 @@
-pub mod Found
-pub mod Below

@@ -1,9 +1,0 @@
-use Rattle.std.proofs.Common.{IfOk, Option, subst, sym}
-use Rattle.hunt_ends.specs.declared.amiss.Amiss.{Amiss}
-use Rattle.hunt_ends.specs.Ends.{EndsAs}
-use Rattle.hunt_ends.proofs.ending.ending_at.Goals as goal
-
-pub returns-in-None : goal.returns-in-None
-returns-in-None c =
-    subst (λ (found : Option Amiss). IfOk c.standing_at.result (EndsAs found c.args.machine.now.world))
-    (sym c.in-None.is) c.standing_at.ensures

@@ -1,6 +1,0 @@
-use Rattle.std.proofs.Common.{take}
-use Rattle.hunt_ends.specs.Ends.{Rehearses}
-use Rattle.hunt_ends.proofs.rehearsal.Rehearsal.replay.Given as goal
-
-abbrev pub invariant-loop-event : goal.invariant-loop-event
-invariant-loop-event l = Rehearses l.set l.threads (take l.event-index l.events) l.run

@@ -1,6 +1,0 @@
-use Rattle.std.proofs.Common.{◌≡◌}
-use Rattle.hunt_ends.specs.Rest.{live_below}
-use Rattle.hunt_ends.proofs.standing.live_packets.Given as goal
-
-abbrev pub invariant-loop-packet : goal.invariant-loop-packet
-invariant-loop-packet l = l.packets.items ≡ live_below l.machine.world l.packet

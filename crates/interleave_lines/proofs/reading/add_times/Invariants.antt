@@ -1,5 +1,0 @@
-use Rattle.std.proofs.Common.{◌≡◌, ◌++◌, replicate}
-use Rattle.interleave_lines.proofs.reading.add_times.Given as goal
-
-abbrev pub invariant-loop : goal.invariant-loop
-invariant-loop l = l.all.items ≡ l.initial.all.items ++ replicate l.counter l.event

@@ -1,0 +1,4 @@
+pub mod Meaning
+pub mod Script
+pub mod Usual
+pub mod Words

@@ -1,0 +1,18 @@
+//! A fault of a schedule told in plain words: the line with two round it, the token that is at
+//! fault, what may stand in its place, and the word that comes nearest. Plain code, which takes
+//! what memory it needs and writes nothing itself.
+#![tactic(auto)]
+
+pub mod appending;
+pub mod faulty;
+mod form;
+pub mod listing;
+pub mod reading;
+pub mod script_parse;
+mod script_quick;
+pub mod script_read;
+mod telling;
+pub mod wording;
+pub mod words;
+
+pub use telling::fault_words;

@@ -1,5 +1,0 @@
-use Rattle.laws_locks.proofs.Beginning.{accepted_rest}
-use Rattle.laws_locks.proofs.accepted_runs_come_to_rest.Goals as goal
-
-pub returns : goal.returns
-returns c = accepted_rest

@@ -1,5 +1,0 @@
-use Rattle.laws_words.proofs.Meant.{words_mean_shown}
-use Rattle.laws_words.proofs.words_mean_what_they_show.Goals as goal
-
-pub returns : goal.returns
-returns c = words_mean_shown

@@ -1,5 +1,0 @@
-use Rattle.laws_worlds.proofs.SameWorlds.{same_go_on}
-use Rattle.laws_worlds.proofs.same_worlds_go_on_alike.Goals as goal
-
-pub returns : goal.returns
-returns c = same_go_on c.the_past_tells_of_the_world.ensures c.owning_tells.ensures

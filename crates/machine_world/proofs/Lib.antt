@@ -1,4 +1,0 @@
-pub mod GoingOn
-pub mod Runs
-pub mod Stacks
-pub mod Worlds

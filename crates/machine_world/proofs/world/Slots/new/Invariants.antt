@@ -1,6 +1,0 @@
-use Rattle.std.proofs.Common.{◌≡◌, replicate}
-use Rattle.laws_words.specs.WordEvents.{idle_words}
-use Rattle.machine_world.proofs.world.Slots.new.Given as goal
-
-abbrev pub invariant-loop-thread : goal.invariant-loop-thread
-invariant-loop-thread l = l.thread_list.items ≡ replicate l._thread idle_words

@@ -1,2 +1,0 @@
-pub mod GoingOn
-pub mod Threads
