@@ -4,6 +4,7 @@
 //! The lines are read once, in order. The first fault of any kind but an unknown name ends the
 //! reading: the least line, on it the least kind. The least line that uses an unknown name is noted
 //! on the way, as drivers and routines are closed, and told only where there is no other fault.
+//! `names` and `roles` keep what the names of a text number, and what routines are named for.
 #![tactic(auto)]
 
 mod check;

@@ -1,5 +1,10 @@
-//! One line of a driver text, read by its form alone: its words, its operands and the instruction
-//! that they make. Whether it may stand where it does, and what its names are, is not asked here.
+//! One line of a driver text by its form alone: its words, its operands and the instruction that
+//! they make. Whether it may stand where it does, and what its names are, is not asked here.
+//!
+//! `quick`, `operands` and `reading` read a line by its usual form first, a word and its operands
+//! each after one space; the `listed_` modules and `entry` write a driver set as a text, in which
+//! each thing has the name of its kind and number: drivers `d0`, routines `f0`, queues `q0`, devices
+//! `v0`, and an instruction that is jumped to the label `a` and its position.
 #![tactic(auto)]
 
 mod cursor;

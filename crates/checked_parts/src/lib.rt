@@ -1,4 +1,5 @@
-//! What the threads of the reference machine share, and what an instruction does to it.
+//! What the threads of the reference machine share, the frames that they stack, and what an
+//! instruction does to both.
 #![tactic(auto)]
 
 pub mod activation;

@@ -1,5 +1,6 @@
-//! Files by their names: those of a system, its standard input among them, and those that are
-//! opened once they are read or written.
+//! Files by their names: those of a system, its standard input among them, those that are opened
+//! once they are read or written, and those that a path on the command line stands for: itself, or
+//! the driver sets or scenarios in the folder that it is, and below it.
 #![tactic(auto)]
 
 pub mod files;

@@ -1,4 +1,5 @@
-//! What of a driver set says which events and which numbers may matter to a hunt.
+//! What of a driver set says which events and which numbers may matter to a hunt, how far one goes,
+//! and the key of a world, which worlds share that differ in nothing that may matter.
 #![tactic(auto)]
 
 pub mod arguments;

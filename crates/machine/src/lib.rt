@@ -1,5 +1,7 @@
 //! The machine of accepted driver sets, for a simulator to embed: it runs event by event, and shows
-//! no bug check and no wrong operand.
+//! no bug check and no wrong operand. `world` is what callers hold; the other modules carry events
+//! out on packets in slots and on registers of plain words, without a test of anything that an
+//! accepted set can never do.
 #![tactic(auto)]
 
 mod cells;

@@ -1,6 +1,6 @@
 //! What a run has left: locks that idle threads own, threads that wait in a ring, packets that no
-//! place names or whose cancellation was missed, and why events were refused. Each is read from the
-//! machine that ran, and is exactly what a definition over its world says.
+//! place names or whose cancellation was missed, why events were refused, and how a run ends. Each
+//! is read from the machine that ran, and is exactly what a definition over its world says.
 #![tactic(auto)]
 
 pub mod amiss;
