@@ -1,6 +1,6 @@
 pub mod Collected
 pub mod Delivered
 pub mod Files
-pub mod Jobs
+pub mod Doing
 pub mod Painting
 pub mod Writing

@@ -8,7 +8,7 @@ use Rattle.drvhost_devices.specs.declared.fault.End.{End}
 use Rattle.drvhost_devices.specs.declared.fault.End.TheVariants.{Stopped}
 use Rattle.drvhost_devices.specs.declared.fault.Fault.{Fault}
 use Rattle.drvhost_devices.specs.declared.fault.Fault.TheVariants.{Read, Write, Memory, Text, Image, Schedule as OfSchedule, Script as OfScript}
-use Rattle.drvhost_devices.proofs.Jobs.{goes_rightly, set_unread}
+use Rattle.drvhost_devices.proofs.Doing.{goes_rightly, set_unread}
 use Rattle.drvhost_devices.specs.declared.wanted.Wanted.{Wanted}
 use Rattle.model.specs.declared.abs.Refusal.{Refusal}
 use Rattle.model.specs.Set.{Set}

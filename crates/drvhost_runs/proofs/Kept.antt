@@ -14,7 +14,7 @@ use Rattle.drvhost_devices.specs.declared.fault.Fault.TheVariants.{Read, Write, 
 use Rattle.drvhost_devices.specs.Answer.{Answer, end_status}
 use Rattle.drvhost_devices.specs.Device.{Adds, Supply, TakesBeginning}
 use Rattle.drvhost_devices.specs.Fault.{Goes, fault_status, status_of}
-use Rattle.drvhost_devices.proofs.Jobs.{goes_rightly}
+use Rattle.drvhost_devices.proofs.Doing.{goes_rightly}
 use Rattle.drvhost_runs.specs.Hosted.{IsServedBy}
 use Rattle.drvhost_runs.specs.Hosting.{GoesTold, ended_with}
 use Rattle.drvhost_runs.specs.Keeping.{IsHistory, IsKeptOf, IsKeptWith, IsServedWith, LeavesFor, TakesWith, Touches, WithText, listed_as, listed_end}

@@ -14,7 +14,7 @@ use Rattle.drvhost_devices.specs.declared.fault.Fault.TheVariants.{Read, Write, 
 use Rattle.drvhost_devices.specs.Answer.{Answer, IsIfAccepted, IsRefused}
 use Rattle.drvhost_devices.specs.Device.{Says, Supply}
 use Rattle.drvhost_devices.specs.Fault.{Goes, ReadsScript, ReadsSet, fault_status}
-use Rattle.drvhost_devices.proofs.Jobs.{goes_refused, goes_rightly, right_on, set_unread}
+use Rattle.drvhost_devices.proofs.Doing.{goes_refused, goes_rightly, right_on, set_unread}
 use Rattle.drvhost_devices.proofs.Writing.{keeps_same, writes_behind}
 use Rattle.drvhost_runs.specs.declared.page.Page.{Page}
 use Rattle.drvhost_runs.specs.declared.ready.Ready.{Ready}

@@ -9,7 +9,7 @@ use Rattle.drvhost_devices.specs.Answer.{Answer}
 use Rattle.drvhost_devices.specs.Device.{TakesBeginning}
 use Rattle.drvhost_devices.specs.Ends.{Ends, Rightly}
 use Rattle.drvhost_devices.specs.Fault.{Goes, reads_failed, status_of, writes_failed}
-use Rattle.drvhost_devices.proofs.Jobs.{ends_of, goes_rightly}
+use Rattle.drvhost_devices.proofs.Doing.{ends_of, goes_rightly}
 use Rattle.drvhost_devices.proofs.Writing.{adds_all, adds_breaks}
 use Rattle.drvhost_runs.specs.Hosting.{GoesTold, ended_with, told_behind}
 

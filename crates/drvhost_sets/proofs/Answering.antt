@@ -12,7 +12,7 @@ use Rattle.drvhost_devices.specs.declared.fault.Fault.TheVariants.{Read, Write, 
 use Rattle.drvhost_devices.specs.Answer.{Answer, IsIfAccepted, faulty}
 use Rattle.drvhost_devices.specs.Ends.{Answers, OutOfMemory, Rightly}
 use Rattle.drvhost_devices.specs.Fault.{Goes, TellsLine, reads_failed, status_of, told_of, writes_failed}
-use Rattle.drvhost_devices.proofs.Jobs.{ends_of}
+use Rattle.drvhost_devices.proofs.Doing.{ends_of}
 use Rattle.drvhost_devices.proofs.Writing.{appends_none}
 use Rattle.drvhost_sets.specs.Worded.{TakesWords, TellsEnd}
 

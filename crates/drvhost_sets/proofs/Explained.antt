@@ -8,7 +8,7 @@ use Rattle.drvhost_devices.specs.declared.fault.End.{End}
 use Rattle.drvhost_devices.specs.declared.fault.Fault.{Fault}
 use Rattle.drvhost_devices.specs.declared.fault.Fault.TheVariants.{Read, Write, Memory, Text, Image, Schedule as OfSchedule, Script as OfScript}
 use Rattle.drvhost_devices.specs.Fault.{Goes, ReadsSet, TellsLine, failed_reads, failed_writes, fault_status, fault_told, reads_failed, status_of, told_of, writes_failed}
-use Rattle.drvhost_devices.proofs.Jobs.{ends_of, goes_rightly, right_on, set_unread}
+use Rattle.drvhost_devices.proofs.Doing.{ends_of, goes_rightly, right_on, set_unread}
 use Rattle.drvhost_devices.proofs.Writing.{appends_none, keeps_same}
 use Rattle.model.specs.Set.{Set}
 use Rattle.drvhost_devices.specs.declared.extent.Extent.{Extent}

@@ -12,7 +12,7 @@ use Rattle.drvhost_devices.specs.Device.{Supply}
 use Rattle.drvhost_devices.specs.Ends.{IsRewriteOf}
 use Rattle.drvhost_devices.specs.Fault.{ReadsImage, ReadsSet}
 use Rattle.drvhost_sets.specs.Laws.{RewritingIsStable}
-use Rattle.drvhost_devices.proofs.Jobs.{right_on}
+use Rattle.drvhost_devices.proofs.Doing.{right_on}
 
 -- the image of the set that a source has
 pub image_read : (held : Supply) (set : Set) (image : Vec ℕ) → ReadsSet held (Ok set) → IsSound set

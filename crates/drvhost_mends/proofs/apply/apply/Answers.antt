@@ -2,7 +2,7 @@ use Rattle.std.proofs.Common.{arith, refl}
 use Rattle.drvhost_devices.specs.declared.fault.Fault.TheVariants.{Memory}
 use Rattle.drvhost_devices.specs.Ends.{OutOfMemory}
 use Rattle.drvhost_devices.specs.Fault.{fault_told, reads_failed, told_of, writes_failed}
-use Rattle.drvhost_devices.proofs.Jobs.{ends_of}
+use Rattle.drvhost_devices.proofs.Doing.{ends_of}
 use Rattle.drvhost_devices.proofs.Writing.{keeps_same}
 use Rattle.drvhost_mends.specs.Apply.{IsApplyOf}
 use Rattle.drvhost_mends.proofs.apply.apply.Goals as goal

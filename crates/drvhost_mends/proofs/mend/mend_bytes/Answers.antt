@@ -3,7 +3,7 @@ use Rattle.std.proofs.lemmas.Result.{err_from_is_err_and}
 use Rattle.std.specs.Prelude.{List, ℕ}
 use Rattle.drvhost_devices.specs.Answer.{ended}
 use Rattle.drvhost_devices.specs.Device.{Adds, Bytes, TakesBeginning}
-use Rattle.drvhost_devices.proofs.Jobs.{right_on, set_unread}
+use Rattle.drvhost_devices.proofs.Doing.{right_on, set_unread}
 use Rattle.drvhost_mends.specs.Mend.{IsMend}
 use Rattle.drvhost_mends.proofs.mend.mend_bytes.Goals as goal
 

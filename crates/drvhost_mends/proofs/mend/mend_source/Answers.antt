@@ -2,7 +2,7 @@ use Rattle.std.proofs.Common.{List, subst, sym, ℕ, []}
 use Rattle.std.proofs.lemmas.Result.{err_from_is_err_and}
 use Rattle.drvhost_devices.specs.Device.{Bytes, Holds}
 use Rattle.drvhost_devices.specs.Ends.{IsOfSupply}
-use Rattle.drvhost_devices.proofs.Jobs.{goes_rightly}
+use Rattle.drvhost_devices.proofs.Doing.{goes_rightly}
 use Rattle.drvhost_mends.specs.Mend.{IsMend, IsMendOf}
 use Rattle.drvhost_mends.proofs.Mends.{on_source, unread}
 use Rattle.drvhost_mends.proofs.mend.mend_source.Goals as goal

@@ -1,5 +1,5 @@
 use Rattle.std.proofs.Common.{Err, Ok, []}
-use Rattle.drvhost_devices.proofs.Jobs.{goes_left}
+use Rattle.drvhost_devices.proofs.Doing.{goes_left}
 use Rattle.drvhost_runs.specs.Served.{IsHostOf, IsUnhosted}
 use Rattle.drvhost_runs.proofs.Readying.{served_host, unhosted_right, unserved_host}
 use Rattle.drvhost_runs.proofs.RingsTold.{told_rightly}

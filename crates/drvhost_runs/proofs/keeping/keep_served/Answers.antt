@@ -1,6 +1,6 @@
 use Rattle.std.proofs.Common.{[], Err, List, None, Some, inl, refl, ℕ}
 use Rattle.drvhost_devices.specs.Answer.{Answer}
-use Rattle.drvhost_devices.proofs.Jobs.{goes_left}
+use Rattle.drvhost_devices.proofs.Doing.{goes_left}
 use Rattle.drvhost_runs.specs.Keeping.{IsKeptOf, IsKeptWith, IsServedWith, WithText}
 use Rattle.drvhost_runs.specs.Served.{IsUnhosted}
 use Rattle.drvhost_runs.proofs.Kept.{fault_leaves, served_kept, told_leaves, touches_rightly, unserved_kept}

@@ -4,7 +4,7 @@ use Rattle.drvhost_devices.specs.declared.fault.End.TheVariants.{Complete}
 use Rattle.model.specs.Set.{Set}
 use Rattle.drvhost_devices.specs.Device.{TakesBeginning}
 use Rattle.drvhost_devices.specs.Answer.{IsRefused, IsVerdict, acceptance, ended}
-use Rattle.drvhost_devices.proofs.Jobs.{goes_refused, goes_rightly}
+use Rattle.drvhost_devices.proofs.Doing.{goes_refused, goes_rightly}
 use Rattle.drvhost_sets.proofs.check.judge.Goals as goal
 
 pub returns-in_err-accept-in-Ok-clause-goes : goal.returns-in_err-accept-in-Ok-clause-goes

@@ -1,5 +1,5 @@
 use Rattle.std.proofs.Common.{[], inl, inr, subst}
-use Rattle.drvhost_devices.proofs.Jobs.{goes_rightly}
+use Rattle.drvhost_devices.proofs.Doing.{goes_rightly}
 use Rattle.model.specs.Set.{Set}
 use Rattle.drvhost_devices.specs.Fault.{Goes}
 use Rattle.drvhost_sets.specs.Explained.{IsAcceptanceExplained, IsExplained, IsRefusalExplained}

@@ -1,6 +1,6 @@
 use Rattle.std.proofs.lemmas.Result.{err_from_is_err_and}
 use Rattle.drvhost_sets.specs.Explained.{IsExplained}
-use Rattle.drvhost_devices.proofs.Jobs.{goes_broken}
+use Rattle.drvhost_devices.proofs.Doing.{goes_broken}
 use Rattle.drvhost_sets.proofs.explaining.explain_set.Goals as goal
 
 pub returns-in_err-write_lines-clause-goes : goal.returns-in_err-write_lines-clause-goes

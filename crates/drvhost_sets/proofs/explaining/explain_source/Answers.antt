@@ -3,7 +3,7 @@ use Rattle.drvhost_devices.specs.Device.{Bytes, Holds}
 use Rattle.drvhost_devices.specs.Fault.{failed_reads, failed_writes, fault_told}
 use Rattle.drvhost_sets.specs.Explained.{IsExplainedOf}
 use Rattle.drvhost_sets.proofs.Explained.{ends_rightly, explained_held, none_written, unnamed_ends}
-use Rattle.drvhost_devices.proofs.Jobs.{bytes_unread}
+use Rattle.drvhost_devices.proofs.Doing.{bytes_unread}
 use Rattle.drvhost_sets.proofs.explaining.explain_source.Goals as goal
 
 pub returns-in-Ok : goal.returns-in-Ok

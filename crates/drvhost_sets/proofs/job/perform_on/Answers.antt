@@ -3,7 +3,7 @@ use Rattle.std.proofs.lemmas.Result.{err_from_is_err_and}
 use Rattle.drvhost_devices.specs.Device.{Holds}
 use Rattle.drvhost_devices.specs.Ends.{IsOfSupply}
 use Rattle.drvhost_devices.proofs.Files.{set_read}
-use Rattle.drvhost_devices.proofs.Jobs.{bytes_unread, goes_broken, goes_left, goes_rightly, goes_written, right_on, set_unread}
+use Rattle.drvhost_devices.proofs.Doing.{bytes_unread, goes_broken, goes_left, goes_rightly, goes_written, right_on, set_unread}
 use Rattle.drvhost_sets.proofs.Answering.{words_rightly}
 use Rattle.drvhost_sets.proofs.job.perform_on.Goals as goal
 

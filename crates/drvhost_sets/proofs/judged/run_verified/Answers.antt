@@ -1,6 +1,6 @@
 use Rattle.std.proofs.Common.{inr}
 use Rattle.drvhost_devices.specs.Answer.{IsIfAccepted, IsRefused}
-use Rattle.drvhost_devices.proofs.Jobs.{goes_refused, goes_rightly}
+use Rattle.drvhost_devices.proofs.Doing.{goes_refused, goes_rightly}
 use Rattle.drvhost_sets.proofs.Answering.{accepted_words}
 use Rattle.drvhost_sets.proofs.judged.run_verified.Goals as goal
 

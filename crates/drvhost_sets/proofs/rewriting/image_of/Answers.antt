@@ -3,7 +3,7 @@ use Rattle.std.proofs.lemmas.Result.{err_from_is_err_and}
 use Rattle.drvhost_devices.specs.Device.{Holds}
 use Rattle.drvhost_devices.proofs.Files.{set_read}
 use Rattle.drvhost_sets.proofs.Images.{image_read}
-use Rattle.drvhost_devices.proofs.Jobs.{bytes_unread}
+use Rattle.drvhost_devices.proofs.Doing.{bytes_unread}
 use Rattle.drvhost_sets.proofs.rewriting.image_of.Goals as goal
 
 pub returns-in_err-bytes-clause-image : goal.returns-in_err-bytes-clause-image

@@ -1,7 +1,7 @@
 use Rattle.std.proofs.Common.{[]}
 use Rattle.std.proofs.lemmas.Result.{err_from_is_err_and}
 use Rattle.drvhost_devices.specs.Answer.{IsRewritten}
-use Rattle.drvhost_devices.proofs.Jobs.{set_unread}
+use Rattle.drvhost_devices.proofs.Doing.{set_unread}
 use Rattle.drvhost_sets.proofs.rewriting.rewrite_set.Goals as goal
 
 pub returns-in_err-image-clause-goes : goal.returns-in_err-image-clause-goes
