@@ -1,12 +1,13 @@
 //! What things are called and where instructions stand, as a text has it.
 
 use crate::blanks::blanks_before_change;
-use crate::words::add_number;
+use crate::named::add_number;
 use asm_line::{Body, Line, read_line};
 use model::view::FrameView;
 use std::alloc::{AllocError, Global};
 use text::piece::Piece;
 use text::{PlacedLines, add_bytes};
+use words::Words;
 
 /// Where an instruction stands.
 #[derive(Clone, Copy)]
@@ -32,7 +33,14 @@ struct DriverPage<'a> {
     places: Vec<Vec<Place>>,
 }
 
-impl DriverPage<'_> {
+impl<'a> DriverPage<'a> {
+    /// Notes a routine, which has no instructions yet.
+    fn open_routine(&mut self, alloc: Global, name: Piece<'a>) -> Result<(), AllocError> {
+        self.routines.push(name)?;
+        self.places.push(Vec::new(alloc))?;
+        Ok(())
+    }
+
     /// Notes the place of an instruction of the last routine.
     fn note_place(&mut self, place: Place) -> Result<(), AllocError> {
         if let Some(places) = self.places.last_mut() {
@@ -48,7 +56,7 @@ pub struct Book<'a> {
     drivers: Vec<DriverPage<'a>>,
     devices: Vec<Piece<'a>>,
     /// The words on all places, made once: they are told again at each step.
-    places: String,
+    places: Words,
 }
 
 impl<'a> Book<'a> {
@@ -61,7 +69,7 @@ impl<'a> Book<'a> {
         let mut book = Book {
             drivers: Vec::new(alloc),
             devices: Vec::new(alloc),
-            places: String::new(alloc),
+            places: Words::new(alloc),
         };
         let mut left = PlacedLines::of(text);
         while let Some(raw) = left.next() {
@@ -77,16 +85,18 @@ impl<'a> Book<'a> {
         };
         let label = label_length(&line);
         match line.body {
-            Body::OpenDriver(name) => self.drivers.push(DriverPage {
-                name,
-                routines: Vec::new(alloc),
-                queues: Vec::new(alloc),
-                places: Vec::new(alloc),
-            })?,
+            Body::Step(_, _) => self.note_instruction(raw, number, label),
+            body => self.note_name(alloc, body),
+        }
+    }
+
+    /// Notes what a line names, if it names something.
+    fn note_name(&mut self, alloc: Global, body: Body<'a>) -> Result<(), AllocError> {
+        match body {
+            Body::OpenDriver(name) => self.open_driver(alloc, name)?,
             Body::OpenRoutine(name, _) => {
                 if let Some(page) = self.drivers.last_mut() {
-                    page.routines.push(name)?;
-                    page.places.push(Vec::new(alloc))?;
+                    page.open_routine(alloc, name)?;
                 }
             }
             Body::AddQueue(name, _, _) => {
@@ -95,9 +105,19 @@ impl<'a> Book<'a> {
                 }
             }
             Body::AddDevice(name, _, _, _) => self.devices.push(name)?,
-            Body::Step(_, _) => self.note_instruction(raw, number, label)?,
             _ => {}
         }
+        Ok(())
+    }
+
+    /// Notes a driver, which has no routines yet.
+    fn open_driver(&mut self, alloc: Global, name: Piece<'a>) -> Result<(), AllocError> {
+        self.drivers.push(DriverPage {
+            name,
+            routines: Vec::new(alloc),
+            queues: Vec::new(alloc),
+            places: Vec::new(alloc),
+        })?;
         Ok(())
     }
 
@@ -108,36 +128,44 @@ impl<'a> Book<'a> {
         number: u64,
         label_length: usize,
     ) -> Result<(), AllocError> {
-        let start = self.places.len();
-        self.make_head(number)?;
-        let label = self.places.len();
-        add_bytes(&mut self.places, without_comment(raw).trim_ascii())?;
-        let end = self.places.len();
-        self.places
-            .push_str(blanks_before_change(end.saturating_sub(start)))?;
-        let place = Place {
-            number,
-            start,
-            end,
-            padded: self.places.len(),
-            label,
-            label_end: label.saturating_add(label_length),
-        };
+        let place = self.make_place(raw, number, label_length);
+        if self.places.lacks {
+            return Err(AllocError);
+        }
         match self.drivers.last_mut() {
             Some(page) => page.note_place(place),
             None => Ok(()),
         }
     }
 
+    /// Makes the words on the place of that instruction.
+    fn make_place(&mut self, raw: &[u8], number: u64, label_length: usize) -> Place {
+        let start = self.places.text.len();
+        self.make_head(number);
+        let label = self.places.text.len();
+        add_letters(&mut self.places, without_comment(raw).trim_ascii());
+        let end = self.places.text.len();
+        self.places
+            .add(blanks_before_change(end.saturating_sub(start)));
+        Place {
+            number,
+            start,
+            end,
+            padded: self.places.text.len(),
+            label,
+            label_end: label.saturating_add(label_length),
+        }
+    }
+
     /// Makes the beginning of the words on a place: the routine, and the number of the line. Behind
     /// it comes what stands there without its comment and blanks round it.
-    fn make_head(&mut self, number: u64) -> Result<(), AllocError> {
+    fn make_head(&mut self, number: u64) {
         if let Some(name) = self.drivers.last().and_then(|page| page.routines.last()) {
-            add_bytes(&mut self.places, name.bytes())?;
+            add_letters(&mut self.places, name.bytes());
         }
-        self.places.push_str(" ")?;
-        add_number(&mut self.places, number)?;
-        self.places.push_str(": ")
+        self.places.add(" ");
+        add_number(&mut self.places, number);
+        self.places.add(": ")
     }
 
     /// Where the instruction of a position of a routine stands.
@@ -163,6 +191,7 @@ impl<'a> Book<'a> {
     /// The routine and the line of that instruction.
     pub fn words_of(&self, place: Place) -> &str {
         self.places
+            .text
             .as_str()
             .get(place.start..place.end)
             .unwrap_or("")
@@ -171,6 +200,7 @@ impl<'a> Book<'a> {
     /// The same, with the blanks up to where it is told what changed.
     pub fn words_before_change(&self, place: Place) -> &str {
         self.places
+            .text
             .as_str()
             .get(place.start..place.padded)
             .unwrap_or("")
@@ -184,50 +214,26 @@ impl<'a> Book<'a> {
     }
 
     /// Adds the label of a position of a routine to which an instruction jumps.
-    ///
-    /// # Errors
-    ///
-    /// When memory runs out.
-    pub fn add_label(
-        &self,
-        words: &mut String,
-        driver: u8,
-        routine: u8,
-        position: u16,
-    ) -> Result<(), AllocError> {
-        let Some(place) = self.line_of(driver, routine, position) else {
-            return Ok(());
-        };
-        let label = self.places.as_str().get(place.label..place.label_end);
-        words.push_str(label.unwrap_or(""))
+    pub fn add_label(&self, words: &mut Words, driver: u8, routine: u8, position: u16) {
+        if let Some(place) = self.line_of(driver, routine, position) {
+            let label = self.places.text.as_str().get(place.label..place.label_end);
+            words.add(label.unwrap_or(""))
+        }
     }
 
     /// Adds the routine and the line of that instruction.
-    ///
-    /// # Errors
-    ///
-    /// When memory runs out.
-    pub fn add_place(
-        &self,
-        words: &mut String,
-        driver: u8,
-        routine: u8,
-        position: u16,
-    ) -> Result<(), AllocError> {
+    pub fn add_place(&self, words: &mut Words, driver: u8, routine: u8, position: u16) {
         if let Some(place) = self.line_of(driver, routine, position) {
-            return words.push_str(self.words_of(place));
+            return words.add(self.words_of(place));
         }
-        self.add_routine(words, driver, routine)?;
-        write!(words, " at {position}")
+        self.add_routine(words, driver, routine);
+        words.add(" at ");
+        add_number(words, u64::from(position))
     }
 
     /// Adds where a frame stands: its routine and the line of its instruction by its number, or
     /// what the I/O manager does.
-    ///
-    /// # Errors
-    ///
-    /// When memory runs out.
-    pub fn add_spot(&self, words: &mut String, frame: FrameView) -> Result<(), AllocError> {
+    pub fn add_spot(&self, words: &mut Words, frame: FrameView) {
         match frame {
             FrameView::Routine {
                 driver,
@@ -235,59 +241,54 @@ impl<'a> Book<'a> {
                 position,
                 device: _,
             } => {
-                self.add_routine(words, driver, routine)?;
-                match self.line_of(driver, routine, position) {
-                    Some(place) => write!(words, " {}", place.number),
-                    None => Ok(()),
+                self.add_routine(words, driver, routine);
+                if let Some(place) = self.line_of(driver, routine, position) {
+                    words.add(" ");
+                    add_number(words, place.number)
                 }
             }
-            FrameView::Walk(_) => words.push_str("IoCompleteRequest"),
-            FrameView::Cancel(_) => words.push_str("IoCancelIrp"),
+            FrameView::Walk(_) => words.add("IoCompleteRequest"),
+            FrameView::Cancel(_) => words.add("IoCancelIrp"),
         }
     }
 
     /// Adds the name of a routine.
-    ///
-    /// # Errors
-    ///
-    /// When memory runs out.
-    pub fn add_routine(
-        &self,
-        words: &mut String,
-        driver: u8,
-        routine: u8,
-    ) -> Result<(), AllocError> {
+    pub fn add_routine(&self, words: &mut Words, driver: u8, routine: u8) {
         let page = self.drivers.get(driver as usize);
         match page.and_then(|page| page.routines.get(routine as usize)) {
-            Some(name) => add_bytes(words, name.bytes()),
-            None => words.push_str("(default)"),
+            Some(name) => add_letters(words, name.bytes()),
+            None => words.add("(default)"),
         }
     }
 
     /// Adds the name of a queue of a driver.
-    ///
-    /// # Errors
-    ///
-    /// When memory runs out.
-    pub fn add_queue(&self, words: &mut String, driver: u8, queue: u8) -> Result<(), AllocError> {
+    pub fn add_queue(&self, words: &mut Words, driver: u8, queue: u8) {
         let page = self.drivers.get(driver as usize);
-        match page.and_then(|page| page.queues.get(queue as usize)) {
-            Some(name) => add_bytes(words, name.bytes()),
-            None => write!(words, "q{queue}"),
-        }
+        let name = page.and_then(|page| page.queues.get(queue as usize));
+        add_name(words, name, "q", queue)
     }
 
     /// Adds the name of a device.
-    ///
-    /// # Errors
-    ///
-    /// When memory runs out.
-    pub fn add_device(&self, words: &mut String, device: u8) -> Result<(), AllocError> {
-        match self.devices.get(device as usize) {
-            Some(name) => add_bytes(words, name.bytes()),
-            None => write!(words, "device {device}"),
+    pub fn add_device(&self, words: &mut Words, device: u8) {
+        add_name(words, self.devices.get(device as usize), "device ", device)
+    }
+}
+
+/// Adds a name, or in its place these words and a number.
+fn add_name(words: &mut Words, name: Option<&Piece<'_>>, unnamed: &str, number: u8) {
+    match name {
+        Some(name) => add_letters(words, name.bytes()),
+        None => {
+            words.add(unnamed);
+            add_number(words, u64::from(number))
         }
     }
+}
+
+/// Adds bytes of the text.
+fn add_letters(words: &mut Words, bytes: &[u8]) {
+    let done = add_bytes(&mut words.text, bytes);
+    words.note(done)
 }
 
 /// How many bytes the label of a line has.

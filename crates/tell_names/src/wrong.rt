@@ -1,15 +1,15 @@
 //! What is wrong with an instruction that couldn't be executed, in words.
 
 use crate::book::Book;
+use crate::named::{add_number, register_name};
 use crate::values::{add_had, value_at};
-use crate::words::register_name;
 use checked::Checked;
 use checked_parts::{number_in, status_in};
 use model::instr::{Instr, Register, Return};
 use model::set::Sort;
 use model::world::Activation;
-use std::alloc::AllocError;
 use tell_uses::standing::packet_in;
+use words::Words;
 
 /// What an instruction wants, and hasn't.
 #[derive(Clone, Copy)]
@@ -100,58 +100,51 @@ fn wanted_form(sort: Sort, form: Return) -> Wanted {
 
 /// Adds what is wrong with an instruction that couldn't be executed, by the machine that it left as
 /// it was.
-///
-/// # Errors
-///
-/// When memory runs out.
 pub fn add_wrong(
-    words: &mut String,
+    words: &mut Words,
     book: &Book<'_>,
     machine: &Checked,
     a: &Activation,
     instruction: Option<Instr>,
-) -> Result<(), AllocError> {
+) {
     let Some(instr) = instruction else {
         return add_ended(words, book, a);
     };
     let Some(wanted) = wanted_by(machine, a, instr) else {
-        return Ok(());
+        return;
     };
     match wanted {
         Wanted::Number(r) => add_register_without(words, a, r, " has no number: it has "),
         Wanted::Packet(r) => add_register_without(words, a, r, " has no packet: it has "),
         Wanted::Status(r) => add_register_without(words, a, r, " has no status: it has "),
         Wanted::CancelRoutine(queue) => {
-            words.push_str("queue ")?;
-            book.add_queue(words, a.driver, queue)?;
-            words.push_str(" has no cancel routine")
+            words.add("queue ");
+            book.add_queue(words, a.driver, queue);
+            words.add(" has no cancel routine")
         }
         Wanted::LowerDevice => {
-            book.add_device(words, a.device)?;
-            words.push_str(" has no device under it")
+            book.add_device(words, a.device);
+            words.add(" has no device under it")
         }
-        Wanted::RoomForLoop => words.push_str("four loops are open already"),
-        Wanted::OpenLoop => words.push_str("no loop is open"),
+        Wanted::RoomForLoop => words.add("four loops are open already"),
+        Wanted::OpenLoop => words.add("no loop is open"),
         Wanted::Form(sort) => add_forms(words, sort),
     }
 }
 
 /// Adds a register, what it hasn't, and what it has.
-fn add_register_without(
-    words: &mut String,
-    a: &Activation,
-    r: Register,
-    lack: &str,
-) -> Result<(), AllocError> {
-    words.push_str(register_name(r))?;
-    words.push_str(lack)?;
+fn add_register_without(words: &mut Words, a: &Activation, r: Register, lack: &str) {
+    words.add(register_name(r));
+    words.add(lack);
     add_had(words, value_at(r, a))
 }
 
 /// Adds how routines of a sort end.
-fn add_forms(words: &mut String, sort: Sort) -> Result<(), AllocError> {
-    write!(words, "a {} routine ends with ", sort.as_str())?;
-    words.push_str(match sort {
+fn add_forms(words: &mut Words, sort: Sort) {
+    words.add("a ");
+    words.add(sort.as_str());
+    words.add(" routine ends with ");
+    words.add(match sort {
         Sort::Dispatch => "`ret STATUS` or `ret lower`",
         Sort::StartIo | Sort::Dpc | Sort::Cancel => "`ret void`",
         Sort::Propagate | Sort::Hold => "`ret continue` or `ret stop`",
@@ -159,13 +152,12 @@ fn add_forms(words: &mut String, sort: Sort) -> Result<(), AllocError> {
 }
 
 /// Adds that a routine has ended.
-fn add_ended(words: &mut String, book: &Book<'_>, a: &Activation) -> Result<(), AllocError> {
+fn add_ended(words: &mut Words, book: &Book<'_>, a: &Activation) {
     match book.last_line(a.driver, a.routine) {
-        Some(place) => write!(
-            words,
-            "the routine has ended: no instruction stands behind line {}",
-            place.number
-        ),
-        None => words.push_str("the routine has no instruction"),
+        Some(place) => {
+            words.add("the routine has ended: no instruction stands behind line ");
+            add_number(words, place.number)
+        }
+        None => words.add("the routine has no instruction"),
     }
 }

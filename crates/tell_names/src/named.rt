@@ -6,7 +6,7 @@ use model::event::{Bug, BugCheck, Lock, OfDevice, Subject};
 use model::instr::Register;
 use model::status::{Major, Status};
 use model::world::Value;
-use std::alloc::AllocError;
+use words::Words;
 
 /// The name of a status value.
 pub fn status_name(status: Status) -> &'static str {
@@ -75,72 +75,46 @@ pub fn register_name(r: Register) -> &'static str {
 const DIGITS: [&str; 10] = ["0", "1", "2", "3", "4", "5", "6", "7", "8", "9"];
 
 /// Adds a number.
-///
-/// # Errors
-///
-/// When memory runs out.
-pub fn add_number(words: &mut String, number: u64) -> Result<(), AllocError> {
+pub fn add_number(words: &mut Words, number: u64) {
     if let Some(digit) = DIGITS.get(number as usize) {
-        return words.push_str(digit);
+        return words.add(digit);
     }
     let mut buffer = Buffer::new();
-    words.push_str(buffer.format(number))
+    words.add(buffer.format(number))
 }
 
 /// Adds a packet by its number, and these words behind it.
-///
-/// # Errors
-///
-/// When memory runs out.
-pub fn add_packet(words: &mut String, packet: u64, behind: &str) -> Result<(), AllocError> {
-    words.push_str("packet ")?;
-    add_number(words, packet)?;
-    words.push_str(behind)
+pub fn add_packet(words: &mut Words, packet: u64, behind: &str) {
+    words.add("packet ");
+    add_number(words, packet);
+    words.add(behind)
 }
 
 /// Adds the value of a register.
-///
-/// # Errors
-///
-/// When memory runs out.
-pub fn add_value(words: &mut String, value: Value) -> Result<(), AllocError> {
+pub fn add_value(words: &mut Words, value: Value) {
     match value {
-        Value::Blank => words.push_str("nothing"),
+        Value::Blank => words.add("nothing"),
         Value::Num(number) => add_number(words, number),
         Value::Ref(packet) => add_packet(words, packet, ""),
-        Value::Status(status) => words.push_str(status_name(status)),
+        Value::Status(status) => words.add(status_name(status)),
     }
 }
 
 /// Adds with what a packet topped out, behind these words.
-///
-/// # Errors
-///
-/// When memory runs out.
-pub fn add_top_out(
-    words: &mut String,
-    packet: u64,
-    before: &str,
-    status: Status,
-    info: u64,
-) -> Result<(), AllocError> {
-    add_packet(words, packet, before)?;
-    words.push_str(status_name(status))?;
-    words.push_str(", information ")?;
+pub fn add_top_out(words: &mut Words, packet: u64, before: &str, status: Status, info: u64) {
+    add_packet(words, packet, before);
+    words.add(status_name(status));
+    words.add(", information ");
     add_number(words, info)
 }
 
 /// Adds a lock.
-///
-/// # Errors
-///
-/// When memory runs out.
-pub fn add_lock(words: &mut String, book: &Book<'_>, lock: Lock) -> Result<(), AllocError> {
+pub fn add_lock(words: &mut Words, book: &Book<'_>, lock: Lock) {
     match lock {
-        Lock::SystemCancel => words.push_str("the system cancel spin lock"),
+        Lock::SystemCancel => words.add("the system cancel spin lock"),
         Lock::Spin(OfDevice { device, number }) => {
-            book.add_device(words, device)?;
-            words.push_str(".l")?;
+            book.add_device(words, device);
+            words.add(".l");
             add_number(words, u64::from(number))
         }
     }
@@ -154,37 +128,24 @@ pub enum CellKind {
 }
 
 /// Adds a cell of a device.
-///
-/// # Errors
-///
-/// When memory runs out.
-pub fn add_cell(
-    words: &mut String,
-    book: &Book<'_>,
-    kind: CellKind,
-    cell: OfDevice,
-) -> Result<(), AllocError> {
-    book.add_device(words, cell.device)?;
-    words.push_str(match kind {
+pub fn add_cell(words: &mut Words, book: &Book<'_>, kind: CellKind, cell: OfDevice) {
+    book.add_device(words, cell.device);
+    words.add(match kind {
         CellKind::Plain => ".c",
         CellKind::Paged => ".p",
-    })?;
+    });
     add_number(words, u64::from(cell.number))
 }
 
 /// Adds a bug check: its name, what it is about, and why it is raised.
-///
-/// # Errors
-///
-/// When memory runs out.
-pub fn add_bug(words: &mut String, book: &Book<'_>, bug: Bug) -> Result<(), AllocError> {
-    words.push_str(check_name(bug.check))?;
-    words.push_str(": ")?;
+pub fn add_bug(words: &mut Words, book: &Book<'_>, bug: Bug) {
+    words.add(check_name(bug.check));
+    words.add(": ");
     match bug.subject {
-        Subject::Packet(packet) => add_packet(words, packet, "")?,
-        Subject::Lock(lock) => add_lock(words, book, lock)?,
-        Subject::Cell(cell) => add_cell(words, book, CellKind::Paged, cell)?,
+        Subject::Packet(packet) => add_packet(words, packet, ""),
+        Subject::Lock(lock) => add_lock(words, book, lock),
+        Subject::Cell(cell) => add_cell(words, book, CellKind::Paged, cell),
     }
-    words.push_str(": ")?;
-    words.push_str(cause_of(bug.check, bug.subject))
+    words.add(": ");
+    words.add(cause_of(bug.check, bug.subject))
 }
