@@ -2,7 +2,7 @@
 
 use crate::{Names, add_lock, spin_number};
 use model::set::{Guard, QueueName};
-use std::alloc::AllocError;
+use words::Words;
 
 /// Why a rule is broken, where that is written, and how to mend it. In the words `$R` stands for
 /// the register that they are about, `$Q` for the name of the queue, `$L` for the lock, `$A` and
@@ -85,80 +85,80 @@ impl Lesson {
     }
 
     /// Adds its three lines.
-    pub fn add(&self, prose: &mut String, names: Names<'_, '_>) -> Result<(), AllocError> {
-        prose.push_str("why: ")?;
-        self.add_words(prose, names, self.why)?;
-        write!(prose, "\nsee: {}\nmend it: ", self.source)?;
-        self.add_words(prose, names, self.mend)?;
-        prose.push_str("\n")
+    pub fn add(&self, words: &mut Words, names: Names<'_, '_>) {
+        words.add("why: ");
+        self.add_words(words, names, self.why);
+        words.add("\nsee: ");
+        words.add(self.source);
+        words.add("\nmend it: ");
+        self.add_words(words, names, self.mend);
+        words.add("\n")
     }
 
-    /// Adds words, with what they are about.
-    fn add_words(
-        &self,
-        prose: &mut String,
-        names: Names<'_, '_>,
-        words: &str,
-    ) -> Result<(), AllocError> {
-        for (number, piece) in words.split('$').enumerate() {
+    /// Adds such words, with what they are about.
+    fn add_words(&self, words: &mut Words, names: Names<'_, '_>, told: &str) {
+        for (number, piece) in told.split('$').enumerate() {
             if number == 0 {
-                prose.push_str(piece)?;
+                words.add(piece);
             } else {
-                self.add_piece(prose, names, piece)?;
+                self.add_piece(words, names, piece);
             }
         }
-        Ok(())
     }
 
     /// Adds what the first letter of a piece stands for, and the rest of the piece.
-    fn add_piece(
-        &self,
-        prose: &mut String,
-        names: Names<'_, '_>,
-        piece: &str,
-    ) -> Result<(), AllocError> {
+    fn add_piece(&self, words: &mut Words, names: Names<'_, '_>, piece: &str) {
         if let Some(rest) = piece.strip_prefix('R') {
-            match self.about.register {
-                Some(number) => write!(prose, "r{number}")?,
-                None => prose.push_str("the register")?,
-            }
-            prose.push_str(rest)
+            self.add_register(words);
+            words.add(rest)
         } else if let Some(rest) = piece.strip_prefix('Q') {
             if let Some(queue) = self.about.queue {
-                names.add_queue_alone(prose, queue)?;
+                names.add_queue_alone(words, queue);
             }
-            prose.push_str(rest)
+            words.add(rest)
         } else {
-            self.add_lock_piece(prose, piece)
+            self.add_lock_piece(words, piece)
         }
     }
 
-    /// The same of a piece about the lock.
-    fn add_lock_piece(&self, prose: &mut String, piece: &str) -> Result<(), AllocError> {
+    /// Adds the register that the words are about.
+    fn add_register(&self, words: &mut Words) {
+        match self.about.register {
+            Some(number) => {
+                words.add("r");
+                words.add_number(number as u64)
+            }
+            None => words.add("the register"),
+        }
+    }
+
+    /// The same as `add_piece` for a piece about the lock.
+    fn add_lock_piece(&self, words: &mut Words, piece: &str) {
         if let Some(rest) = piece.strip_prefix('A') {
-            add_taking(prose, "acquire", "acqc", self.about.lock)?;
-            prose.push_str(rest)
+            add_taking(words, "acquire l", "acqc", self.about.lock);
+            words.add(rest)
         } else if let Some(rest) = piece.strip_prefix('E') {
-            add_taking(prose, "release", "relc", self.about.lock)?;
-            prose.push_str(rest)
+            add_taking(words, "release l", "relc", self.about.lock);
+            words.add(rest)
         } else if let Some(rest) = piece.strip_prefix('L') {
-            add_lock(prose, self.about.lock)?;
-            prose.push_str(rest)
+            add_lock(words, self.about.lock);
+            words.add(rest)
         } else {
-            prose.push_str(piece)
+            words.add(piece)
         }
     }
 }
 
-/// Adds the instruction that acquires or releases a lock, by its words for either kind of lock.
-fn add_taking(
-    prose: &mut String,
-    device: &str,
-    cancel: &str,
-    spin: Option<usize>,
-) -> Result<(), AllocError> {
+/// Adds the instruction that acquires or releases a lock: by its words before the number of a spin
+/// lock, or for the system cancel spin lock.
+fn add_taking(words: &mut Words, device: &str, cancel: &str, spin: Option<usize>) {
+    words.add("`");
     match spin {
-        Some(number) => write!(prose, "`{device} l{number}`"),
-        None => write!(prose, "`{cancel}`"),
+        Some(number) => {
+            words.add(device);
+            words.add_number(number as u64);
+        }
+        None => words.add(cancel),
     }
+    words.add("`")
 }

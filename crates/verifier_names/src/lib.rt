@@ -1,6 +1,7 @@
-//! What the things in a set are called, and the lines in which they stand: as a text names and has
-//! them, or as a listing does. The words are plain code, which takes what memory it needs and
-//! writes nothing itself.
+//! What words about a set are made of: what the things in it are called and the lines in which
+//! they stand, as a text or a listing has them; lessons, which tell why a rule is broken, where
+//! that is written and how to mend it; and the pages of the rules. The words are plain code, which
+//! takes what memory it needs and writes nothing itself.
 #![tactic(auto)]
 
 mod code;

@@ -8,6 +8,7 @@ use model::set::{Driver, Routine};
 use model::status::Major;
 use std::alloc::{AllocError, Global};
 use text::{PlacedLines, Spots};
+use words::Words;
 
 /// More lines than stand in a listing.
 const MOST: u64 = 1 << 32;
@@ -29,31 +30,53 @@ pub fn listed_routine(
     driver: u8,
     routine: u8,
 ) -> Result<ListedPart, AllocError> {
-    let mut text = String::new(alloc);
+    let mut words = Words::new(alloc);
     let mut count = 0;
     let mut before = 0;
     if let Some(its) = set.drivers().get(driver as usize) {
         let routines = its.routines.as_slice();
         if let Some(found) = routines.get(routine as usize) {
-            write_round(alloc, &mut text, driver, its, routine, found)?;
+            add_round(alloc, &mut words, driver, its, routine, found);
             count = found.code.as_slice().len();
         }
         before = lines_of_drivers(set.drivers(), driver)
             .saturating_add(lines_of_head(its))
             .saturating_add(lines_of_routines(routines, routine));
     }
-    let spots = spots_of(alloc, text.as_bytes(), before.saturating_sub(1), 2, count)?;
-    Ok(ListedPart { text, spots })
+    part_of(alloc, words, before.saturating_sub(1), 2, count)
 }
 
 /// The lines of the devices of a set, and where they stand.
 pub fn listed_devices(alloc: Global, set: &DriverSet) -> Result<ListedPart, AllocError> {
-    let mut text = String::new(alloc);
+    let mut words = Words::new(alloc);
     for (number, device) in set.devices().iter().enumerate() {
-        Entry::Device(number, *device).write(&mut text)?;
+        add_entry(&mut words, Entry::Device(number, *device));
     }
     let before = lines_of_drivers(set.drivers(), u8::MAX);
-    let spots = spots_of(alloc, text.as_bytes(), before, 0, set.devices().len())?;
+    part_of(alloc, words, before, 0, set.devices().len())
+}
+
+/// These words, and where so many of their lines stand, likewise.
+fn part_of(
+    alloc: Global,
+    words: Words,
+    skipped: u64,
+    first: usize,
+    count: usize,
+) -> Result<ListedPart, AllocError> {
+    let text = words.finish()?;
+    placed(alloc, text, skipped, first, count)
+}
+
+/// A text, and where so many of its lines stand, likewise.
+fn placed(
+    alloc: Global,
+    text: String,
+    skipped: u64,
+    first: usize,
+    count: usize,
+) -> Result<ListedPart, AllocError> {
+    let spots = spots_of(alloc, text.as_bytes(), skipped, first, count)?;
     Ok(ListedPart { text, spots })
 }
 
@@ -76,32 +99,39 @@ fn spots_of(
 }
 
 /// Adds the lines of a routine of a driver, with a line on each side.
-fn write_round(
+fn add_round(
     alloc: Global,
-    text: &mut String,
+    words: &mut Words,
     driver: u8,
     its: &Driver,
     number: u8,
     routine: &Routine,
-) -> Result<(), AllocError> {
-    line_before(driver, its, number).write(text)?;
-    Entry::Routine(number as usize, routine.sort).write(text)?;
-    write_code(alloc, text, routine.code.as_slice())?;
-    Entry::EndRoutine.write(text)?;
-    line_behind(its.routines.as_slice(), number).write(text)
+) {
+    add_entry(words, line_before(driver, its, number));
+    add_entry(words, Entry::Routine(number as usize, routine.sort));
+    match marks_of(alloc, routine.code.as_slice()) {
+        Ok(marks) => add_code(words, routine.code.as_slice(), marks.as_slice()),
+        Err(AllocError) => words.lacks = true,
+    }
+    add_entry(words, Entry::EndRoutine);
+    add_entry(words, line_behind(its.routines.as_slice(), number))
 }
 
-/// Adds the lines of instructions.
-fn write_code(alloc: Global, text: &mut String, code: &[Instr]) -> Result<(), AllocError> {
-    let marks = marks_of(alloc, code)?;
+/// Adds the line of an entry.
+fn add_entry(words: &mut Words, entry: Entry) {
+    let done = entry.write(&mut words.text);
+    words.note(done)
+}
+
+/// Adds the lines of instructions, with labels where a mark is.
+fn add_code(words: &mut Words, code: &[Instr], marks: &[bool]) {
     for (position, instr) in code.iter().enumerate() {
         let label = match marks.get(position) {
             Some(true) => Some(position),
             _ => None,
         };
-        Entry::Step(label, *instr).write(text)?;
+        add_entry(words, Entry::Step(label, *instr));
     }
-    Ok(())
 }
 
 /// Marks the positions that instructions jump to.

@@ -1,7 +1,7 @@
 //! What locks are called.
 
 use model::set::Guard;
-use std::alloc::AllocError;
+use words::Words;
 
 /// The number of a spin lock, where a lock is one of the device.
 pub fn spin_number(lock: &Guard) -> Option<usize> {
@@ -12,9 +12,12 @@ pub fn spin_number(lock: &Guard) -> Option<usize> {
 }
 
 /// Adds the name of the spin lock of a number, or of the system cancel spin lock.
-pub fn add_lock(prose: &mut String, spin: Option<usize>) -> Result<(), AllocError> {
+pub fn add_lock(words: &mut Words, spin: Option<usize>) {
     match spin {
-        Some(number) => write!(prose, "l{number}"),
-        None => prose.push_str("the system cancel spin lock"),
+        Some(number) => {
+            words.add("l");
+            words.add_number(number as u64)
+        }
+        None => words.add("the system cancel spin lock"),
     }
 }

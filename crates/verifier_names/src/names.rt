@@ -5,6 +5,7 @@ use model::set::QueueName;
 use std::alloc::{AllocError, Global};
 use text::piece::Piece;
 use text::{Spots, add_bytes, line_at};
+use words::Words;
 
 /// The name of a driver, and those of its routines and queues, in order.
 #[derive(Drop)]
@@ -83,84 +84,86 @@ pub enum Names<'n, 'a> {
     Listed,
 }
 
-impl Names<'_, '_> {
+impl<'n, 'a> Names<'n, 'a> {
     /// Adds the name of the driver, which has this number.
-    pub fn add_driver(self, prose: &mut String, number: u8) -> Result<(), AllocError> {
-        match self {
-            Names::Given(Some(names)) => add_name(prose, Some(&names.driver), "driver", number),
-            Names::Given(None) => add_name(prose, None, "driver", number),
-            Names::Listed => write!(prose, "driver d{number}"),
-        }
+    pub fn add_driver(self, words: &mut Words, number: u8) {
+        let name = match self {
+            Names::Given(Some(names)) => Some(&names.driver),
+            _ => None,
+        };
+        words.add("driver ");
+        add_name(words, name, self.letter("d"), number)
     }
 
     /// Adds the name of a queue, or that it is the device queue.
-    pub fn add_queue(self, prose: &mut String, name: QueueName) -> Result<(), AllocError> {
+    pub fn add_queue(self, words: &mut Words, name: QueueName) {
         match name {
-            QueueName::Declared(number) => self.add_declared(prose, number),
-            QueueName::DeviceQueue => prose.push_str("the device queue"),
+            QueueName::Declared(number) => {
+                words.add("queue ");
+                add_name(words, self.queue(number), self.letter("q"), number)
+            }
+            QueueName::DeviceQueue => words.add("the device queue"),
         }
     }
 
     /// Adds the name of a queue as an instruction has it.
-    pub fn add_queue_alone(self, prose: &mut String, name: QueueName) -> Result<(), AllocError> {
-        let QueueName::Declared(number) = name else {
-            return prose.push_str("the device queue");
-        };
-        match self {
-            Names::Given(Some(names)) => match names.queues.get(number as usize) {
-                Some(name) => add_bytes(prose, name.bytes()),
-                None => write!(prose, "q{number}"),
-            },
-            _ => write!(prose, "q{number}"),
-        }
-    }
-
-    /// Adds the name of the queue of a number.
-    fn add_declared(self, prose: &mut String, number: u8) -> Result<(), AllocError> {
-        match self {
-            Names::Given(Some(names)) => {
-                add_name(prose, names.queues.get(number as usize), "queue", number)
-            }
-            Names::Given(None) => add_name(prose, None, "queue", number),
-            Names::Listed => write!(prose, "queue q{number}"),
-        }
-    }
-
-    /// Adds the name of a routine without saying that it is one.
-    pub fn add_routine_alone(self, prose: &mut String, number: u8) -> Result<(), AllocError> {
-        match self {
-            Names::Given(Some(names)) => match names.routines.get(number as usize) {
-                Some(name) => add_bytes(prose, name.bytes()),
-                None => write!(prose, "routine {number}"),
-            },
-            Names::Given(None) => write!(prose, "routine {number}"),
-            Names::Listed => write!(prose, "f{number}"),
+    pub fn add_queue_alone(self, words: &mut Words, name: QueueName) {
+        match name {
+            QueueName::Declared(number) => add_name(words, self.queue(number), "q", number),
+            QueueName::DeviceQueue => words.add("the device queue"),
         }
     }
 
     /// Adds the name of a routine.
-    pub fn add_routine(self, prose: &mut String, number: u8) -> Result<(), AllocError> {
+    pub fn add_routine(self, words: &mut Words, number: u8) {
+        words.add("routine ");
+        add_name(words, self.routine(number), self.letter("f"), number)
+    }
+
+    /// Adds the name of a routine without saying that it is one.
+    pub fn add_routine_alone(self, words: &mut Words, number: u8) {
+        let before = match self {
+            Names::Given(_) => "routine ",
+            Names::Listed => "f",
+        };
+        add_name(words, self.routine(number), before, number)
+    }
+
+    /// The letter before the number of a thing, where a listing has it.
+    fn letter(self, letter: &'static str) -> &'static str {
         match self {
-            Names::Given(Some(names)) => {
-                let name = names.routines.get(number as usize);
-                add_name(prose, name, "routine", number)
-            }
-            Names::Given(None) => add_name(prose, None, "routine", number),
-            Names::Listed => write!(prose, "routine f{number}"),
+            Names::Given(_) => "",
+            Names::Listed => letter,
+        }
+    }
+
+    /// The name of the queue of a number, if a text has one.
+    fn queue(self, number: u8) -> Option<&'n Piece<'a>> {
+        match self {
+            Names::Given(Some(names)) => names.queues.get(number as usize),
+            _ => None,
+        }
+    }
+
+    /// The name of the routine of a number, if a text has one.
+    fn routine(self, number: u8) -> Option<&'n Piece<'a>> {
+        match self {
+            Names::Given(Some(names)) => names.routines.get(number as usize),
+            _ => None,
         }
     }
 }
 
-/// Adds a thing with its name, or its number where it has none.
-fn add_name(
-    prose: &mut String,
-    name: Option<&Piece<'_>>,
-    thing: &str,
-    number: u8,
-) -> Result<(), AllocError> {
-    write!(prose, "{thing} ")?;
+/// Adds a name, or the number of what has none, with words before that.
+fn add_name(words: &mut Words, name: Option<&Piece<'_>>, before: &str, number: u8) {
     match name {
-        Some(name) => add_bytes(prose, name.bytes()),
-        None => write!(prose, "{number}"),
+        Some(name) => {
+            let done = add_bytes(&mut words.text, name.bytes());
+            words.note(done)
+        }
+        None => {
+            words.add(before);
+            words.add_number(number as u64)
+        }
     }
 }

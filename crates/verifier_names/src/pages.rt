@@ -3,6 +3,7 @@
 
 use model::abs::Rule;
 use std::alloc::{AllocError, Global};
+use words::Words;
 
 /// All rules, by their numbers.
 pub const RULES: [Rule; 20] = [
@@ -53,10 +54,7 @@ impl Side {
         if line.starts_with(other) {
             return None;
         }
-        match line.strip_prefix(own) {
-            Some(rest) => Some(rest),
-            None => Some(line),
-        }
+        Some(line.strip_prefix(own).unwrap_or(line))
     }
 }
 
@@ -80,39 +78,39 @@ struct Titles {
     mended: &'static str,
 }
 
-const REFUSAL: Titles = Titles {
+static REFUSAL: Titles = Titles {
     refused: "this is refused",
     mended: "this is accepted",
 };
 
-const WARNING: Titles = Titles {
+static WARNING: Titles = Titles {
     refused: "this is accepted, with a warning",
     mended: "this is accepted, without one",
 };
 
 /// The page of a rule.
-fn page_of(rule: Rule) -> Page {
+fn page_of(rule: Rule) -> &'static Page {
     match rule {
-        Rule::Malformed => MALFORMED,
-        Rule::Unreachable => UNREACHABLE,
-        Rule::StatesDiffer => STATES_DIFFER,
-        Rule::WrongKind => WRONG_KIND,
-        Rule::DoubleCompletion => DOUBLE_COMPLETION,
-        Rule::MarkIrpPending => MARK_IRP_PENDING,
-        Rule::CancelSpinLock => CANCEL_SPIN_LOCK,
-        Rule::SpinLock => SPIN_LOCK,
-        Rule::LockHeld => LOCK_HELD,
-        Rule::Level => LEVEL,
-        Rule::Guard => GUARD,
-        Rule::CancelState => CANCEL_STATE,
-        Rule::Dropped => DROPPED,
-        Rule::Token => TOKEN,
-        Rule::Sort => SORT,
-        Rule::Completion => COMPLETION,
-        Rule::StackTooSmall => STACK_TOO_SMALL,
-        Rule::NoLower => NO_LOWER,
-        Rule::TooLong => TOO_LONG,
-        Rule::Memory => MEMORY,
+        Rule::Malformed => &MALFORMED,
+        Rule::Unreachable => &UNREACHABLE,
+        Rule::StatesDiffer => &STATES_DIFFER,
+        Rule::WrongKind => &WRONG_KIND,
+        Rule::DoubleCompletion => &DOUBLE_COMPLETION,
+        Rule::MarkIrpPending => &MARK_IRP_PENDING,
+        Rule::CancelSpinLock => &CANCEL_SPIN_LOCK,
+        Rule::SpinLock => &SPIN_LOCK,
+        Rule::LockHeld => &LOCK_HELD,
+        Rule::Level => &LEVEL,
+        Rule::Guard => &GUARD,
+        Rule::CancelState => &CANCEL_STATE,
+        Rule::Dropped => &DROPPED,
+        Rule::Token => &TOKEN,
+        Rule::Sort => &SORT,
+        Rule::Completion => &COMPLETION,
+        Rule::StackTooSmall => &STACK_TOO_SMALL,
+        Rule::NoLower => &NO_LOWER,
+        Rule::TooLong => &TOO_LONG,
+        Rule::Memory => &MEMORY,
     }
 }
 
@@ -122,7 +120,7 @@ fn page_of(rule: Rule) -> Page {
 ///
 /// When memory runs out.
 pub fn rule_words(alloc: Global, rule: Rule) -> Result<String, AllocError> {
-    page_words(alloc, page_of(rule), REFUSAL)
+    page_words(alloc, page_of(rule), &REFUSAL)
 }
 
 /// What is told of the warning `LockOrder` behind its name, likewise.
@@ -131,43 +129,49 @@ pub fn rule_words(alloc: Global, rule: Rule) -> Result<String, AllocError> {
 ///
 /// When memory runs out.
 pub fn lock_order_words(alloc: Global) -> Result<String, AllocError> {
-    page_words(alloc, LOCK_ORDER, WARNING)
+    page_words(alloc, &LOCK_ORDER, &WARNING)
 }
 
 /// A page in words, with these above the texts of its example.
-fn page_words(alloc: Global, page: Page, titles: Titles) -> Result<String, AllocError> {
-    let Page {
-        says,
-        source,
-        example,
-        shown_by,
-    } = page;
-    let mut prose = String::new(alloc);
-    write!(prose, "\n{says}\nsee: {source}\n")?;
-    if let Some(Example { text, mend }) = example {
-        write!(prose, "\n{}:\n\n", titles.refused)?;
-        add_side(&mut prose, text, Side::Refused)?;
-        write!(prose, "\nmend it: {mend}\n{}:\n\n", titles.mended)?;
-        add_side(&mut prose, text, Side::Mended)?;
+fn page_words(alloc: Global, page: &Page, titles: &Titles) -> Result<String, AllocError> {
+    let mut words = Words::new(alloc);
+    add_between(&mut words, "\n", page.says, "\nsee: ");
+    add_between(&mut words, "", page.source, "\n");
+    if let Some(example) = &page.example {
+        add_example(&mut words, example, titles);
     }
-    if let Some(hunted) = shown_by {
-        write!(prose, "\nshow it: drvhost hunt {hunted}\n")?;
+    if let Some(hunted) = page.shown_by {
+        add_between(&mut words, "\nshow it: drvhost hunt ", hunted, "\n");
     }
-    Ok(prose)
+    words.finish()
+}
+
+/// Adds both texts of an example, with these above them.
+fn add_example(words: &mut Words, example: &Example, titles: &Titles) {
+    add_between(words, "\n", titles.refused, ":\n\n");
+    add_side(words, example.text, Side::Refused);
+    add_between(words, "\nmend it: ", example.mend, "\n");
+    add_between(words, "", titles.mended, ":\n\n");
+    add_side(words, example.text, Side::Mended);
+}
+
+/// Adds a text between two others.
+fn add_between(words: &mut Words, before: &str, text: &str, behind: &str) {
+    words.add(before);
+    words.add(text);
+    words.add(behind);
 }
 
 /// Adds one of the two texts of an example.
-fn add_side(prose: &mut String, text: &str, side: Side) -> Result<(), AllocError> {
+fn add_side(words: &mut Words, text: &str, side: Side) {
     for line in text.lines() {
         if let Some(shown) = side.shown(line) {
-            prose.push_str(shown)?;
-            prose.push('\n')?;
+            add_between(words, "", shown, "\n");
         }
     }
-    Ok(())
 }
 
-const MALFORMED: Page = Page {
+static MALFORMED: Page = Page {
     says: "A set has a device. A routine has instructions, the last of which is a `ret`; a jump
 leads forward, and not into or out of a loop's body; each `loop` has its `end`, and
 at most four are nested.",
@@ -187,7 +191,7 @@ device v d 1
     shown_by: Some(FIRST_TEXT),
 };
 
-const UNREACHABLE: Page = Page {
+static UNREACHABLE: Page = Page {
     says: "A path leads to each instruction.",
     source: "nothing of the Kit: what no path reaches was meant for a path that is not there",
     example: Some(Example {
@@ -204,7 +208,7 @@ device v d 1
     shown_by: None,
 };
 
-const STATES_DIFFER: Page = Page {
+static STATES_DIFFER: Page = Page {
     says: "Where two paths meet, the verifier knows the same on both: the same kinds of
 registers, the same locks, the same that is still owed. At an `end` the same is known
 as at its `loop`.",
@@ -226,7 +230,7 @@ device v d 1
     shown_by: None,
 };
 
-const WRONG_KIND: Page = Page {
+static WRONG_KIND: Page = Page {
     says: "An operand has the kind that the instruction takes: a number, a packet, or a lower
 driver's status. A register whose packet was completed or given away is blank.",
     source: "touching a packet after IoCompleteRequest, IoCallDriver or IoStartPacket; in a run, \
@@ -248,7 +252,7 @@ device v d 1
     shown_by: Some(FIRST_TEXT),
 };
 
-const DOUBLE_COMPLETION: Page = Page {
+static DOUBLE_COMPLETION: Page = Page {
     says: "What is completed is a packet, and not one that was completed or given away already.",
     source: "Static Driver Verifier, DoubleCompletion; IoCompleteRequest; bug check 0x44",
     example: Some(Example {
@@ -267,7 +271,7 @@ device v d 1
     shown_by: Some(FIRST_TEXT),
 };
 
-const MARK_IRP_PENDING: Page = Page {
+static MARK_IRP_PENDING: Page = Page {
     says: "A dispatch routine returns STATUS_PENDING exactly if it marked its packet; what the
 lower driver returned exactly if it sent the packet down without a mark; another
 status only where it did neither. No packet is completed with STATUS_PENDING. A
@@ -291,7 +295,7 @@ device v d 1
     shown_by: Some(FIRST_TEXT),
 };
 
-const CANCEL_SPIN_LOCK: Page = Page {
+static CANCEL_SPIN_LOCK: Page = Page {
     says: "The system cancel spin lock (`acqc`, `relc`) is acquired where it is not held,
 released where it is, and not kept at a return. A cancel routine begins with it held,
 and releases it.",
@@ -313,7 +317,7 @@ device v d 1
     shown_by: Some(FIRST_TEXT),
 };
 
-const SPIN_LOCK: Page = Page {
+static SPIN_LOCK: Page = Page {
     says: "A spin lock (`l0` to `l7`) is acquired where it is not held, released where it is,
 and not kept at a return.",
     source: "Static Driver Verifier, SpinLock; KeAcquireSpinLock, KeReleaseSpinLock; bug checks \
@@ -334,7 +338,7 @@ device v d 1
     shown_by: Some(FIRST_TEXT),
 };
 
-const LOCK_HELD: Page = Page {
+static LOCK_HELD: Page = Page {
     says: "No packet is completed or sent down while a lock is held.",
     source: "the Driver Kit on IoCompleteRequest and on spin locks: completion routines of the \
         drivers above, or the lower driver, may come back to the lock",
@@ -355,7 +359,7 @@ device v d 1
     shown_by: None,
 };
 
-const LEVEL: Page = Page {
+static LEVEL: Page = Page {
     says: "A paged cell (`p0` to `p15`) is touched by a dispatch routine alone, while it holds
 no lock. All others may run at DISPATCH_LEVEL.",
     source: "the Driver Kit on IRQL; bug check 0x0A",
@@ -375,7 +379,7 @@ device v d 1
     shown_by: Some(FIRST_TEXT),
 };
 
-const GUARD: Page = Page {
+static GUARD: Page = Page {
     says: "`insert`, `remove`, `unlink` and `arm` stand where the lock of their queue is held.
 Where the device queue has a cancel routine, `start`, `next` and `dequeue` stand where
 the system cancel spin lock is held. A guard is not released while a register has a
@@ -400,7 +404,7 @@ device v d 1
     shown_by: Some("examples/guide/step-5-wrong.drv"),
 };
 
-const CANCEL_STATE: Page = Page {
+static CANCEL_STATE: Page = Page {
     says: "A packet of a queue with a cancel routine is the routine's own, to be completed or
 moved, only when that is settled: after `unlink` by one who listed it or by the
 cancel routine, after `dequeue` by the cancel routine of the device queue, or after a
@@ -427,7 +431,7 @@ device v d 1
     shown_by: Some("examples/race.drv"),
 };
 
-const DROPPED: Page = Page {
+static DROPPED: Page = Page {
     says: "No packet is lost: at a return no register has one, and none is written over.",
     source: "the Driver Kit on dispatch routines: a packet is completed, passed on, or marked \
         pending and kept",
@@ -446,7 +450,7 @@ device v d 1
     shown_by: Some(FIRST_TEXT),
 };
 
-const TOKEN: Page = Page {
+static TOKEN: Page = Page {
     says: "A busy device has one token: a StartIo routine begins with it, and a DPC routine gets
 it by `take`. Who has it begins a packet (`begin`) or starts the next one (`next`)
 before it returns, once. Who has none does neither, and who has it takes no second
@@ -468,7 +472,7 @@ device v d 1
     shown_by: Some("--stuck examples/stuck.drv"),
 };
 
-const SORT: Page = Page {
+static SORT: Page = Page {
     says: "Each sort of routine has its forms of return: `ret STATUS` and `ret lower` for
 dispatch, `ret continue` for propagate and hold, `ret stop` for hold, `ret void` for
 the others. `take` is for DPC routines, `pass` and `call` for dispatch routines,
@@ -492,7 +496,7 @@ device v d 1
     shown_by: Some(FIRST_TEXT),
 };
 
-const COMPLETION: Page = Page {
+static COMPLETION: Page = Page {
     says: "A completion routine neither completes nor sends down. One that lets the completion
 go on (`propagate`) looks at PendingReturned, once, and marks the packet exactly
 where it is set. One that may hold its packet (`hold`) marks it before it keeps it,
@@ -516,7 +520,7 @@ device v d 1
     shown_by: Some("examples/forgets.drv"),
 };
 
-const STACK_TOO_SMALL: Page = Page {
+static STACK_TOO_SMALL: Page = Page {
     says: "Where a driver calls (`call`), each of its devices has at least one stack location
 more than the device under it; where it passes on (`pass`), at least as many.",
     source: "the Driver Kit on I/O stack locations and StackSize; bug check 0x35",
@@ -539,7 +543,7 @@ device low disk 1
     shown_by: Some(FIRST_TEXT),
 };
 
-const NO_LOWER: Page = Page {
+static NO_LOWER: Page = Page {
     says: "Where a driver passes on or calls, each of its devices stands over another one.",
     source: "the Driver Kit on IoCallDriver; a run stops there with `wrong`",
     example: Some(Example {
@@ -562,7 +566,7 @@ endd
     shown_by: Some(FIRST_TEXT),
 };
 
-const TOO_LONG: Page = Page {
+static TOO_LONG: Page = Page {
     says: "A routine's certificate, how many instructions it executes at most, is at most
 1,000,000. Each instruction counts as often as the turns of the loops round it,
 multiplied. What is told is the position at which the sum passes that.",
@@ -585,7 +589,7 @@ device v d 1
     shown_by: None,
 };
 
-const MEMORY: Page = Page {
+static MEMORY: Page = Page {
     says: "The verifier found no memory. The program tells it as `out of memory` on standard
 error, with status 3, and says nothing of the set. No text mends it.",
     source: "nothing of the Kit: it is no fault of the set",
@@ -593,7 +597,7 @@ error, with status 3, and says nothing of the set. No text mends it.",
     shown_by: None,
 };
 
-const LOCK_ORDER: Page = Page {
+static LOCK_ORDER: Page = Page {
     says: "Each driver takes its locks in one order: its spin locks and the system cancel spin
 lock stand in an order, and none of them is acquired while a later one is held. Else
 threads that run its routines for one device may wait for each other for ever. This

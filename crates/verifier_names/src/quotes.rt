@@ -1,8 +1,8 @@
 //! What is quoted of a set: lines of the text that names it, or of its listing.
 
 use crate::names::Names;
-use std::alloc::AllocError;
 use text::{Spot, add_excerpt};
+use words::Words;
 
 /// What a set was read from, which is quoted.
 #[derive(Clone, Copy)]
@@ -33,30 +33,25 @@ impl Source<'_> {
 }
 
 /// Adds the names of a driver and of a routine of it, behind an empty line.
-pub fn add_title(
-    prose: &mut String,
-    names: Names<'_, '_>,
-    driver: u8,
-    routine: u8,
-) -> Result<(), AllocError> {
-    prose.push_str("\nin ")?;
-    names.add_driver(prose, driver)?;
-    prose.push_str(", ")?;
-    names.add_routine(prose, routine)
+pub fn add_title(words: &mut Words, names: Names<'_, '_>, driver: u8, routine: u8) {
+    words.add("\nin ");
+    names.add_driver(words, driver);
+    words.add(", ");
+    names.add_routine(words, routine)
 }
 
 /// Adds a position, and the lines round the one that has it.
-pub fn add_lines(
-    prose: &mut String,
-    text: &[u8],
-    at: u16,
-    line: Option<Spot>,
-) -> Result<(), AllocError> {
+pub fn add_lines(words: &mut Words, text: &[u8], at: u16, line: Option<Spot>) {
+    words.add(", position ");
+    words.add_number(at as u64);
     match line {
         Some(line) => {
-            write!(prose, ", position {at}, line {}:\n", line.number)?;
-            add_excerpt(prose, text, line)
+            words.add(", line ");
+            words.add_number(line.number);
+            words.add(":\n");
+            let done = add_excerpt(&mut words.text, text, line);
+            words.note(done)
         }
-        None => write!(prose, ", position {at}\n"),
+        None => words.add("\n"),
     }
 }
