@@ -1,8 +1,8 @@
 //! Letters that aren't ASCII, and files that aren't of plain bytes.
 
 use crate::quoting::add_excerpt;
-use std::alloc::AllocError;
 use text::Spot;
+use words::Words;
 
 /// How a file is encoded that no text is, by its first bytes.
 #[derive(Clone, Copy)]
@@ -43,14 +43,10 @@ impl Encoding {
 }
 
 /// Adds a line and two lines round it, unless the text is UTF-16, whose lines can't be shown.
-///
-/// # Errors
-///
-/// When memory runs out.
-pub fn add_lines_round(prose: &mut String, text: &[u8], spot: Spot) -> Result<(), AllocError> {
+pub fn add_lines_round(words: &mut Words, text: &[u8], spot: Spot) {
     match Encoding::of(text) {
-        Some(Encoding::Wide) => Ok(()),
-        _ => add_excerpt(prose, text, spot),
+        Some(Encoding::Wide) => {}
+        _ => add_excerpt(words, text, spot),
     }
 }
 

@@ -7,6 +7,7 @@ use text::class::{is_name, is_token};
 use text::cut::is_clean;
 use text::token::Tokens;
 use text::{Spot, line_at};
+use words::Words;
 
 /// What a token is, in words.
 const TOKENS: &str = "a name (small letters, digits and `_`, at most 32, not beginning with a \
@@ -17,29 +18,14 @@ const BYTES: &str = "tab, space, and the letters, digits and signs of ASCII; in 
 
 /// Adds why bytes or tokens of a line are of no form: how the file is encoded, or the first byte
 /// that no text has, or the first token of no form.
-///
-/// # Errors
-///
-/// When memory runs out.
-pub fn add_lex(
-    alloc: Global,
-    prose: &mut String,
-    text: &[u8],
-    spot: Spot,
-) -> Result<(), AllocError> {
-    if let Some(encoding) = encoding_at(text, spot) {
-        add_wrong(prose, encoding.wrong())?;
-        return add_remedy(prose, encoding.remedy());
-    }
-    let line = line_at(text, spot).unwrap_or(&[]);
-    let mut column: usize = 0;
-    for byte in line {
-        if !is_clean(&[*byte]) {
-            return add_unclean(prose, line, column);
+pub fn add_lex(alloc: Global, words: &mut Words, text: &[u8], spot: Spot) {
+    match encoding_at(text, spot) {
+        Some(encoding) => {
+            add_wrong(words, encoding.wrong());
+            add_remedy(words, encoding.remedy())
         }
-        column = column.saturating_add(1);
+        None => add_formless(alloc, words, line_at(text, spot).unwrap_or(&[])),
     }
-    add_token_of_no_form(alloc, prose, line)
 }
 
 /// How the file is encoded, if no text is, and its first line is at fault for it.
@@ -51,56 +37,85 @@ fn encoding_at(text: &[u8], spot: Spot) -> Option<Encoding> {
     }
 }
 
+/// Adds the first byte of a line that no text has, or the first token of no form.
+fn add_formless(alloc: Global, words: &mut Words, line: &[u8]) {
+    let mut column: usize = 0;
+    for byte in line {
+        if !is_clean(&[*byte]) {
+            return add_unclean(words, line, column);
+        }
+        column = column.saturating_add(1);
+    }
+    add_token_of_no_form(alloc, words, line)
+}
+
 /// Adds the byte or the letter behind so many, which no text has.
-fn add_unclean(prose: &mut String, line: &[u8], before: usize) -> Result<(), AllocError> {
+fn add_unclean(words: &mut Words, line: &[u8], before: usize) {
     let rest = line.get(before..).unwrap_or(&[]);
     let byte = rest.first().copied().unwrap_or(0);
-    let column = before.saturating_add(1);
-    if byte.is_ascii() {
-        write!(
-            prose,
-            "at fault: the byte {byte} at column {column}, which no text has\n"
-        )?;
-        return add_expected(prose, BYTES);
+    words.add("at fault: ");
+    let why = add_byte_or_letter(words, rest, byte);
+    words.add(" at column ");
+    words.add_number(before.saturating_add(1) as u64);
+    words.add(why);
+    words.add("\n");
+    add_expected(words, BYTES);
+    if !byte.is_ascii() {
+        add_remedy(words, "write it with letters of ASCII, or leave it out")
     }
-    match letter_at(rest) {
+}
+
+/// Adds the letter that bytes begin with, or else their first byte, and answers what is wrong with
+/// it.
+fn add_byte_or_letter(words: &mut Words, bytes: &[u8], first: u8) -> &'static str {
+    match letter_at(bytes) {
         Some(letter) => {
-            write!(
-                prose,
-                "at fault: `{letter}` at column {column}, a letter that isn't ASCII\n"
-            )?;
+            words.add("`");
+            words.add(letter);
+            words.add("`");
+            ", a letter that isn't ASCII"
         }
-        None => write!(
-            prose,
-            "at fault: the byte {byte} at column {column}, of a letter that isn't ASCII\n"
-        )?,
+        None => {
+            words.add("the byte ");
+            words.add_number(u64::from(first));
+            if first.is_ascii() {
+                ", which no text has"
+            } else {
+                ", of a letter that isn't ASCII"
+            }
+        }
     }
-    add_expected(prose, BYTES)?;
-    add_remedy(prose, "write it with letters of ASCII, or leave it out")
 }
 
 /// Adds the first token of no form.
-fn add_token_of_no_form(alloc: Global, prose: &mut String, line: &[u8]) -> Result<(), AllocError> {
+fn add_token_of_no_form(alloc: Global, words: &mut Words, line: &[u8]) {
     let mut tokens = Tokens::of(line);
     while let Some(token) = tokens.next() {
         if !is_token(token) {
-            add_at_fault(prose, token, ", which has the form of no token")?;
-            add_expected(prose, TOKENS)?;
-            return add_small(alloc, prose, token);
+            add_at_fault(words, token, ", which has the form of no token");
+            add_expected(words, TOKENS);
+            return add_small(alloc, words, token);
         }
     }
-    Ok(())
 }
 
 /// Adds the token in small letters, where that is a name.
-fn add_small(alloc: Global, prose: &mut String, token: &[u8]) -> Result<(), AllocError> {
+fn add_small(alloc: Global, words: &mut Words, token: &[u8]) {
+    match small(alloc, token) {
+        Ok(name) => {
+            if is_name(name.as_slice()) {
+                add_meant(words, name.as_slice(), ": a name has no capitals")
+            }
+        }
+        Err(lack) => words.note(Err(lack)),
+    }
+}
+
+/// The token in small letters.
+fn small(alloc: Global, token: &[u8]) -> Result<Vec<u8>, AllocError> {
     let mut small = Vec::new(alloc);
     for byte in token {
         small.push(byte.to_ascii_lowercase())?;
     }
-    if is_name(small.as_slice()) {
-        add_meant(prose, small.as_slice(), ": a name has no capitals")
-    } else {
-        Ok(())
-    }
+    Ok(small)
 }

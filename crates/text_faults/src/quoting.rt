@@ -1,67 +1,73 @@
 //! Bytes of a text as a person can read them.
 
 use crate::letters::letter_at;
-use std::alloc::AllocError;
 use text::{PlacedLines, Spot};
+use words::Words;
 
 /// How many letters of a line or of a token are shown.
 const SHOWN: usize = 160;
 
 /// Adds bytes of a text: letters as they are, other bytes by their numbers, and at most so many of
 /// both. How many bytes are left out is told then.
-///
-/// # Errors
-///
-/// When memory runs out.
-pub(crate) fn add_shown(prose: &mut String, bytes: &[u8]) -> Result<(), AllocError> {
+pub(crate) fn add_shown(words: &mut Words, bytes: &[u8]) {
     let mut rest = bytes;
     for _ in 0..SHOWN {
         let Some(first) = rest.first() else {
-            return Ok(());
+            break;
         };
-        let count = add_letter(prose, rest, *first)?;
+        let count = add_letter(words, rest, *first);
         rest = rest.get(count..).unwrap_or(&[]);
     }
-    if rest.is_empty() {
-        Ok(())
-    } else {
-        write!(prose, " .. and {} bytes more", rest.len())
+    if !rest.is_empty() {
+        words.add(" .. and ");
+        words.add_number(rest.len() as u64);
+        words.add(" bytes more")
     }
 }
 
 /// Adds the letter that bytes begin with, or else the number of their first, and answers how many
 /// bytes were shown.
-fn add_letter(prose: &mut String, bytes: &[u8], first: u8) -> Result<usize, AllocError> {
-    if let Some(letter) = letter_at(bytes) {
-        prose.push_str(letter)?;
-        return Ok(letter.len());
+fn add_letter(words: &mut Words, bytes: &[u8], first: u8) -> usize {
+    match letter_at(bytes) {
+        Some(letter) => {
+            words.add(letter);
+            letter.len()
+        }
+        None => {
+            add_byte(words, first);
+            1
+        }
     }
-    if first == b'\t' || (b' '..=b'~').contains(&first) {
-        prose.push(char::from(first))?;
+}
+
+/// Adds a byte as it is, or its number.
+fn add_byte(words: &mut Words, byte: u8) {
+    let done = if byte == b'\t' || (b' '..=b'~').contains(&byte) {
+        words.text.push(char::from(byte))
     } else {
-        write!(prose, "\\x{first:02X}")?;
-    }
-    Ok(1)
+        write!(words.text, "\\x{byte:02X}")
+    };
+    words.note(done)
 }
 
 /// Adds a line and two lines round it, with their numbers; the line itself is marked.
-///
-/// # Errors
-///
-/// When memory runs out.
-pub(crate) fn add_excerpt(prose: &mut String, text: &[u8], spot: Spot) -> Result<(), AllocError> {
+pub(crate) fn add_excerpt(words: &mut Words, text: &[u8], spot: Spot) {
     let mut left = PlacedLines::of(text.get(spot.earlier..).unwrap_or(&[]));
     let first = spot.number.saturating_sub(2).max(1);
     for number in first..spot.number.saturating_add(3) {
         let Some(line) = left.next() else {
-            return Ok(());
+            break;
         };
-        let sign = if number == spot.number { ">" } else { " " };
-        write!(prose, "  {sign} {number}  ")?;
-        add_shown(prose, without_return(line))?;
-        prose.push_str("\n")?;
+        words.add(if number == spot.number {
+            "  > "
+        } else {
+            "    "
+        });
+        words.add_number(number);
+        words.add("  ");
+        add_shown(words, without_return(line));
+        words.add("\n");
     }
-    Ok(())
 }
 
 /// A line without the carriage return that may end it.
