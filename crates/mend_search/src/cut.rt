@@ -54,12 +54,13 @@ impl Cut {
         }
     }
 
-    /// Adds the code that is searched, with its labels as its own positions count.
-    pub(crate) fn add_code(self, code: &[Instr], out: &mut Vec<Instr>) -> Result<(), AllocError> {
-        for instr in code.iter().skip(self.first as usize) {
-            out.push(lowered(*instr, self.first))?;
+    /// The code that is searched, with its labels as its own positions count.
+    pub(crate) fn code(self, alloc: Global, whole: &[Instr]) -> Result<Vec<Instr>, AllocError> {
+        let mut code = Vec::new(alloc);
+        for instr in whole.iter().skip(self.first as usize) {
+            code.push(lowered(*instr, self.first))?;
         }
-        Ok(())
+        Ok(code)
     }
 
     /// A change of the code that is searched as one of the whole.

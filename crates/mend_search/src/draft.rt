@@ -56,8 +56,17 @@ impl Draft {
         Ok(true)
     }
 
+    /// The same, and notes what they touch.
+    pub(crate) fn follow(&mut self, changes: &[Placed]) -> Result<bool, AllocError> {
+        let have_places = self.apply(changes)?;
+        if have_places {
+            self.touch(changes)?;
+        }
+        Ok(have_places)
+    }
+
     /// Notes which instructions changes of code touch.
-    pub(crate) fn touch(&mut self, changes: &[Placed]) -> Result<(), AllocError> {
+    fn touch(&mut self, changes: &[Placed]) -> Result<(), AllocError> {
         for placed in changes {
             self.touch_one(placed.at as usize, &placed.change)?;
         }

@@ -63,7 +63,14 @@ pub(crate) struct Ledger {
 impl Ledger {
     /// Begins with no edit.
     pub(crate) fn begin(alloc: Global, aim: Aim) -> Result<Ledger, AllocError> {
-        let mut ledger = Ledger {
+        let mut ledger = Ledger::empty(alloc, aim);
+        ledger.open()?;
+        Ok(ledger)
+    }
+
+    /// Nothing tried.
+    fn empty(alloc: Global, aim: Aim) -> Ledger {
+        Ledger {
             alloc,
             nodes: Vec::new(alloc),
             changes: Vec::new(alloc),
@@ -74,15 +81,18 @@ impl Ledger {
             made: Vec::new(alloc),
             sets: 0,
             aim,
-        };
+        }
+    }
+
+    /// Lets the node wait that has no edit.
+    fn open(&mut self) -> Result<(), AllocError> {
         let made = Made {
             manner: Manner::Line,
             new: None,
             old: None,
         };
-        let number = ledger.add(None, made, 0, 0, &[])?;
-        ledger.wait(number, 0)?;
-        Ok(ledger)
+        let number = self.add(None, made, 0, 0, &[])?;
+        self.wait(number, 0)
     }
 
     /// Whether a try of code of so many instructions is left, which is used.

@@ -7,6 +7,7 @@ mod draft;
 mod ledger;
 mod pairs;
 pub mod search;
+mod task;
 
 pub use aim::Aim;
 pub use draft::has_line;

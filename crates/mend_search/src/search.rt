@@ -1,17 +1,17 @@
 //! The search: best first by cost, ties by the order in which candidates were made.
 
-use crate::aim::{Aim, size_of};
-use crate::cut::Cut;
+use crate::aim::Aim;
 use crate::draft::{Draft, changes_at, first_changed, followed};
 use crate::ledger::{LEAST, Ledger, MAX_EDITS, Node};
 use crate::pairs::{Made, rebate};
+use crate::task::Task;
 use absstate::Rule;
 use driver_set::{DriverSet, Instr, Items};
 use mend_candidates::Scene;
 use mend_changes::{Edit, edited};
 use mend_groups::add_all;
 use mend_reading::form::form_of;
-use mend_reading::usual::{Usual, empties, mismatches};
+use mend_reading::usual::{empties, mismatches};
 use mend_reading::{Candidate, Candidates, Fault, Manner, Placed, Reading, Subject};
 use std::alloc::{AllocError, Global};
 use verifier::check_routine;
@@ -35,63 +35,6 @@ pub struct Found {
     pub cost: u32,
 }
 
-/// The routine that is mended, by number, the part of it that is searched, what is usual in its
-/// set, and how many instructions that has.
-#[derive(Drop)]
-struct Task {
-    alloc: Global,
-    driver: u8,
-    routine: u8,
-    cut: Cut,
-    code: Vec<Instr>,
-    usual: Usual,
-    size: usize,
-}
-
-impl Task {
-    /// The task of mending a routine, if it is there.
-    fn of(
-        alloc: Global,
-        set: &DriverSet,
-        driver: u8,
-        routine: u8,
-    ) -> Result<Option<Task>, AllocError> {
-        let Some(subject) = Subject::of(set, driver, routine) else {
-            return Ok(None);
-        };
-        let whole = code_of(&subject);
-        let cut = Cut::of(alloc, &subject, whole)?;
-        let mut code = Vec::new(alloc);
-        cut.add_code(whole, &mut code)?;
-        Ok(Some(Task {
-            alloc,
-            driver,
-            routine,
-            cut,
-            code,
-            usual: Usual::of(alloc, set)?,
-            size: size_of(set),
-        }))
-    }
-
-    /// The part of the routine that is searched, in a set.
-    fn subject<'s>(&self, set: &'s DriverSet) -> Option<Subject<'s>> {
-        let subject = Subject::of(set, self.driver, self.routine)?;
-        Some(self.cut.subject(subject))
-    }
-}
-
-/// The code of a routine.
-fn code_of<'s>(subject: &Subject<'s>) -> &'s [Instr] {
-    let Some(driver) = subject.set.drivers().get(subject.driver as usize) else {
-        return &[];
-    };
-    match driver.routines.as_slice().get(subject.routine as usize) {
-        Some(routine) => routine.code.as_slice(),
-        None => &[],
-    }
-}
-
 /// The set that is mended, and those with edited lines.
 #[derive(Drop)]
 struct Sets<'a> {
@@ -110,6 +53,17 @@ struct Bench {
 }
 
 impl Bench {
+    /// Nothing yet.
+    fn new(alloc: Global) -> Bench {
+        Bench {
+            draft: Draft::new(alloc),
+            child: Draft::new(alloc),
+            reading: Reading::new(alloc),
+            next: Reading::new(alloc),
+            list: Candidates::new(alloc),
+        }
+    }
+
     /// A candidate, with the code that was made of it last.
     fn tried(&self, candidate: Candidate) -> Tried<'_> {
         let changes = self.list.changes_of(&candidate);
@@ -155,32 +109,61 @@ pub fn find_mends(
     routine: u8,
     aim: Aim,
 ) -> Result<Vec<Found>, AllocError> {
-    let task = match Task::of(alloc, set, driver, routine)? {
-        Some(task) if task.cut.jumps <= aim.jumps => task,
-        _ => return Ok(Vec::new(alloc)),
-    };
+    match Task::of(alloc, set, driver, routine)? {
+        Some(task) if task.cut.jumps <= aim.jumps => mends_of(&task, set, aim),
+        _ => Ok(Vec::new(alloc)),
+    }
+}
+
+/// The mends of a task, the best first.
+fn mends_of(task: &Task, set: &DriverSet, aim: Aim) -> Result<Vec<Found>, AllocError> {
+    let mut ledger = Ledger::begin(task.alloc, aim)?;
+    search(task, set, &mut ledger, aim.tries)?;
+    found_edits(task, &ledger)
+}
+
+/// Looks at the nodes of a ledger in their order, at most so many.
+fn search(task: &Task, set: &DriverSet, ledger: &mut Ledger, tries: u64) -> Result<(), AllocError> {
     let mut sets = Sets {
         base: set,
-        edited: Vec::new(alloc),
+        edited: Vec::new(task.alloc),
     };
-    let mut bench = Bench {
-        draft: Draft::new(alloc),
-        child: Draft::new(alloc),
-        reading: Reading::new(alloc),
-        next: Reading::new(alloc),
-        list: Candidates::new(alloc),
-    };
-    let mut ledger = Ledger::begin(alloc, aim)?;
-    for _ in 0..aim.tries {
+    let mut bench = Bench::new(task.alloc);
+    look_at_all(task, &mut sets, ledger, &mut bench, tries)
+}
+
+/// The same, by what is used again from node to node.
+fn look_at_all(
+    task: &Task,
+    sets: &mut Sets,
+    ledger: &mut Ledger,
+    bench: &mut Bench,
+    tries: u64,
+) -> Result<(), AllocError> {
+    for _ in 0..tries {
         let Some((number, node)) = ledger.next() else {
             break;
         };
-        if node.edits < MAX_EDITS && rebuild(&task, &ledger, number, &mut bench.draft)? {
-            expand(&task, &sets, &mut ledger, &mut bench, number)?;
-            sets.take(&mut ledger)?;
+        if node.edits < MAX_EDITS {
+            look_at(task, sets, ledger, bench, number)?;
         }
     }
-    found_edits(&task, &ledger)
+    Ok(())
+}
+
+/// Tries the candidates of a node, if its code can be made, and takes the sets that they made.
+fn look_at(
+    task: &Task,
+    sets: &mut Sets,
+    ledger: &mut Ledger,
+    bench: &mut Bench,
+    number: usize,
+) -> Result<(), AllocError> {
+    if rebuild(task, ledger, number, &mut bench.draft)? {
+        expand(task, sets, ledger, bench, number)?;
+        sets.take(ledger)?;
+    }
+    Ok(())
 }
 
 impl<'a> Sets<'a> {
@@ -211,11 +194,9 @@ fn rebuild(
 ) -> Result<bool, AllocError> {
     draft.take(task.code.as_slice())?;
     for node in ledger.path(number)?.as_slice() {
-        let changes = ledger.changes_of(node);
-        if !draft.apply(changes)? {
+        if !draft.follow(ledger.changes_of(node))? {
             return Ok(false);
         }
-        draft.touch(changes)?;
     }
     Ok(true)
 }
@@ -231,15 +212,28 @@ fn expand(
     let Some(node) = ledger.node(number) else {
         return Ok(());
     };
-    let Some(subject) = task.subject(sets.get(node.set)) else {
-        return Ok(());
-    };
-    let code = bench.draft.code.as_slice();
-    bench.reading.read(&subject, code)?;
+    match task.subject(sets.get(node.set)) {
+        Some(subject) => expand_in(task, &subject, ledger, bench, number, node),
+        None => Ok(()),
+    }
+}
+
+/// Tries the candidates of a node whose routine is there, and has a fault.
+fn expand_in(
+    task: &Task,
+    subject: &Subject,
+    ledger: &mut Ledger,
+    bench: &mut Bench,
+    number: usize,
+    node: Node,
+) -> Result<(), AllocError> {
+    bench.reading.read(subject, bench.draft.code.as_slice())?;
     let Some(fault) = bench.reading.fault else {
         return Ok(());
     };
+    gather(task, subject, bench)?;
     let path = ledger.path(number)?;
+    let code = bench.draft.code.as_slice();
     let here = Here {
         number,
         node,
@@ -249,12 +243,18 @@ fn expand(
         mismatches: mismatches(code),
         empties: empties(code),
     };
+    try_all(task, subject, &here, ledger, bench)
+}
+
+/// Lists the candidates of the node that was read.
+fn gather(task: &Task, subject: &Subject, bench: &mut Bench) -> Result<(), AllocError> {
     bench.list.clear();
-    let touched = bench.draft.touched.as_slice();
-    if let Some(scene) = Scene::of(task.alloc, &subject, code, &bench.reading, touched)? {
-        add_all(task.alloc, &scene, &mut bench.list)?;
+    let draft = &bench.draft;
+    let (code, touched) = (draft.code.as_slice(), draft.touched.as_slice());
+    match Scene::of(task.alloc, subject, code, &bench.reading, touched)? {
+        Some(scene) => add_all(task.alloc, &scene, &mut bench.list),
+        None => Ok(()),
     }
-    try_all(task, &subject, &here, ledger, bench)
 }
 
 /// Tries the candidates in their order; where there are more than tries are left, the cheapest.
@@ -270,23 +270,40 @@ fn try_all(
         ledger.bind(probe(task, subject, here, bench)?);
     }
     let by_cost = ledger.lacks_tries(count, length);
-    for place in order_of(task.alloc, &bench.list, by_cost)? {
-        let Some(candidate) = bench.list.as_slice().get(place).copied() else {
-            return Ok(());
-        };
-        if !ledger.counts(least_cost(here, &candidate)) {
-            continue;
+    let places = order_of(task.alloc, &bench.list, by_cost)?;
+    for place in places.iter() {
+        if !try_at(task, subject, here, ledger, bench, *place)? {
+            break;
         }
-        let read = match candidate.manner {
-            Manner::Line => task.size,
-            _ => length,
-        };
-        if !ledger.uses_try(read) {
-            return Ok(());
-        }
-        try_candidate(task, subject, here, ledger, bench, candidate)?;
     }
     Ok(())
+}
+
+/// Tries the candidate at a place, if it may be among the cheapest; whether one behind it may be
+/// tried then.
+fn try_at(
+    task: &Task,
+    subject: &Subject,
+    here: &Here,
+    ledger: &mut Ledger,
+    bench: &mut Bench,
+    place: usize,
+) -> Result<bool, AllocError> {
+    let Some(candidate) = bench.list.as_slice().get(place).copied() else {
+        return Ok(false);
+    };
+    if !ledger.counts(least_cost(here, &candidate)) {
+        return Ok(true);
+    }
+    let read = match candidate.manner {
+        Manner::Line => task.size,
+        _ => bench.draft.code.len(),
+    };
+    let is_left = ledger.uses_try(read);
+    if is_left {
+        try_candidate(task, subject, here, ledger, bench, candidate)?;
+    }
+    Ok(is_left)
 }
 
 /// What a solution costs which is one of the cheapest candidates, if one of them is.
@@ -298,17 +315,31 @@ fn probe(
 ) -> Result<u32, AllocError> {
     let places = order_of(task.alloc, &bench.list, true)?;
     for place in places.iter().take(PROBES) {
-        let Some(candidate) = bench.list.as_slice().get(*place).copied() else {
-            break;
-        };
-        if candidate.manner == Manner::Line || !make(subject, here, bench, &candidate)? {
-            continue;
-        }
-        if bench.next.fault.is_none() {
-            return Ok(cost_of(task, subject, here, &bench.tried(candidate)));
+        if let Some(cost) = probe_at(task, subject, here, bench, *place)? {
+            return Ok(cost);
         }
     }
     Ok(u32::MAX)
+}
+
+/// What the candidate at a place costs, if it is a solution, and no edit of lines.
+fn probe_at(
+    task: &Task,
+    subject: &Subject,
+    here: &Here,
+    bench: &mut Bench,
+    place: usize,
+) -> Result<Option<u32>, AllocError> {
+    let Some(candidate) = bench.list.as_slice().get(place).copied() else {
+        return Ok(None);
+    };
+    if candidate.manner == Manner::Line || !make(subject, here, bench, &candidate)? {
+        return Ok(None);
+    }
+    match bench.next.fault {
+        Some(_) => Ok(None),
+        None => Ok(Some(cost_of(task, subject, here, &bench.tried(candidate)))),
+    }
 }
 
 /// The places of candidates, in their order or by what they cost.
@@ -545,34 +576,81 @@ fn try_line(
     ledger: &mut Ledger,
     tried: &Tried,
 ) -> Result<(), AllocError> {
-    let Some(set) = set_with(task, subject.set, tried.changes)? else {
-        return Ok(());
-    };
-    let Some(edited) = task.subject(&set) else {
-        return Ok(());
+    match set_with(task, subject.set, tried.changes)? {
+        Some(set) => try_set(task, subject, here, ledger, tried, set),
+        None => Ok(()),
+    }
+}
+
+/// The same, by the set with the edited lines.
+fn try_set(
+    task: &Task,
+    subject: &Subject,
+    here: &Here,
+    ledger: &mut Ledger,
+    tried: &Tried,
+    set: DriverSet,
+) -> Result<(), AllocError> {
+    let cost = cost_of(task, subject, here, tried);
+    match outcome_in(task, &set, tried.code)? {
+        Outcome::Absent => Ok(()),
+        Outcome::Fine => {
+            let spoils = spoils_others(task, subject.set, &set)?;
+            let more = if spoils { 120 } else { 0 };
+            solve_line(here, ledger, tried, cost.saturating_add(more))
+        }
+        Outcome::Faulty(fault) => match cost_on(here, tried, fault) {
+            Some(more) => keep_set(here, ledger, tried, cost.saturating_add(more), set),
+            None => Ok(()),
+        },
+    }
+}
+
+/// How the routine stands in a set with edited lines.
+#[derive(Clone, Copy)]
+enum Outcome {
+    Absent,
+    Fine,
+    Faulty(Fault),
+}
+
+/// How code of the routine stands in a set.
+fn outcome_in(task: &Task, set: &DriverSet, code: &[Instr]) -> Result<Outcome, AllocError> {
+    let Some(subject) = task.subject(set) else {
+        return Ok(Outcome::Absent);
     };
     let mut reading = Reading::new(task.alloc);
-    reading.read(&edited, tried.code)?;
-    let cost = cost_of(task, subject, here, tried);
-    let made = made_by(&tried.candidate);
-    let number = ledger.next_set();
-    let Some(fault) = reading.fault else {
-        let spoils = spoils_others(task, subject.set, &set)?;
-        let cost = if spoils {
-            cost.saturating_add(120)
-        } else {
-            cost
-        };
-        let next = ledger.add(Some(here.number), made, cost, number, tried.changes)?;
-        return ledger.solve(next, cost, u64::MAX);
-    };
-    if let Some(more) = cost_on(here, tried, fault) {
-        let cost = cost.saturating_add(more);
-        let next = ledger.add(Some(here.number), made, cost, number, tried.changes)?;
-        ledger.keep(set)?;
-        ledger.wait(next, cost)?;
-    }
-    Ok(())
+    reading.read(&subject, code)?;
+    Ok(match reading.fault {
+        Some(fault) => Outcome::Faulty(fault),
+        None => Outcome::Fine,
+    })
+}
+
+/// Keeps an edit of lines behind which there is no fault.
+fn solve_line(
+    here: &Here,
+    ledger: &mut Ledger,
+    tried: &Tried,
+    cost: u32,
+) -> Result<(), AllocError> {
+    let (made, set) = (made_by(&tried.candidate), ledger.next_set());
+    let next = ledger.add(Some(here.number), made, cost, set, tried.changes)?;
+    ledger.solve(next, cost, u64::MAX)
+}
+
+/// Keeps an edit of lines that leads on, with the set that it makes.
+fn keep_set(
+    here: &Here,
+    ledger: &mut Ledger,
+    tried: &Tried,
+    cost: u32,
+    set: DriverSet,
+) -> Result<(), AllocError> {
+    let (made, number) = (made_by(&tried.candidate), ledger.next_set());
+    ledger.keep(set)?;
+    let next = ledger.add(Some(here.number), made, cost, number, tried.changes)?;
+    ledger.wait(next, cost)
 }
 
 /// A set with these changes of lines.
