@@ -19,6 +19,14 @@ pub(crate) fn add_guess(list: &mut Vec<Guess>, instr: Instr, extra: u32) -> Resu
     Ok(())
 }
 
+/// Adds guesses that cost no more than others.
+pub(crate) fn add_guesses(list: &mut Vec<Guess>, instrs: &[Instr]) -> Result<(), AllocError> {
+    for instr in instrs {
+        add_guess(list, *instr, 0)?;
+    }
+    Ok(())
+}
+
 /// Statuses that a return is guessed to have.
 const RETURNED: [Status; 3] = [Status::Success, Status::Unsuccessful, Status::Cancelled];
 

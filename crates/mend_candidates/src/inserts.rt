@@ -1,6 +1,6 @@
 //! Insertions of one instruction, led by the state that arrives there.
 
-use crate::guesses::{Guess, add_guess};
+use crate::guesses::{Guess, add_guess, add_guesses};
 use crate::scene::{Scene, is_packet, registers};
 use absstate::{Abs, Kind, Rule, Stage, Tracked};
 use driver_set::{Cell, Field, Instr, Register, Sort};
@@ -84,8 +84,6 @@ impl<'a> Scene<'a> {
     ) -> Result<(), AllocError> {
         if is_packet(kind) {
             self.guess_packet(at, register, kind, list)?;
-            self.guess_calls(register, list)?;
-            self.guess_completions(at, register, list)?;
         }
         if self.is_named(register) {
             self.guess_named(register, kind, list)?;
@@ -93,6 +91,11 @@ impl<'a> Scene<'a> {
         if self.fault.rule == Rule::Unreachable && kind == Kind::Num {
             add_guess(list, Instr::JumpIfZero(register, 0), 30)?;
         }
+        self.guess_alike(register, list)
+    }
+
+    /// Guesses that a register is set where states that arrive at the fault differ in it.
+    fn guess_alike(&self, register: Register, list: &mut Vec<Guess>) -> Result<(), AllocError> {
         if self
             .differing
             .iter()
@@ -112,23 +115,47 @@ impl<'a> Scene<'a> {
         kind: Kind,
         list: &mut Vec<Guess>,
     ) -> Result<(), AllocError> {
+        self.guess_queueing(register, list)?;
+        self.guess_handling(at, register, kind, list)?;
+        self.guess_calls(register, list)?;
+        self.guess_completions(at, register, list)
+    }
+
+    /// Guesses that a packet is marked, or put into a queue or taken off it.
+    fn guess_queueing(&self, register: Register, list: &mut Vec<Guess>) -> Result<(), AllocError> {
         add_guess(list, Instr::Mark(register), 0)?;
         for queue in 0..self.queues() {
-            add_guess(list, Instr::Insert(register, queue), 0)?;
-            add_guess(list, Instr::Unlink(register, queue), 0)?;
-            add_guess(list, Instr::Arm(register, queue), 0)?;
+            let instrs = [
+                Instr::Insert(register, queue),
+                Instr::Unlink(register, queue),
+                Instr::Arm(register, queue),
+            ];
+            add_guesses(list, instrs.as_slice())?;
         }
-        add_guess(list, Instr::Disarm(register, 0), 0)?;
+        add_guess(list, Instr::Disarm(register, 0), 0)
+    }
+
+    /// Guesses what else may be done with a packet.
+    fn guess_handling(
+        &self,
+        at: u16,
+        register: Register,
+        kind: Kind,
+        list: &mut Vec<Guess>,
+    ) -> Result<(), AllocError> {
         let armed = matches!(kind, Kind::Queued(_, Stage::Armed));
         let starts = matches!(self.instr(at), Some(Instr::Start(_)));
         if self.fault.rule == Rule::Unreachable || armed || starts {
             add_guess(list, Instr::IfCancel(register, 0), 0)?;
         }
-        add_guess(list, Instr::Start(register), 0)?;
-        add_guess(list, Instr::Begin(register), 0)?;
-        add_guess(list, Instr::Pass(register), 0)?;
-        add_guess(list, Instr::Dequeue(register), 0)?;
-        add_guess(list, Instr::IfPending(register, 0), 0)
+        let instrs = [
+            Instr::Start(register),
+            Instr::Begin(register),
+            Instr::Pass(register),
+            Instr::Dequeue(register),
+            Instr::IfPending(register, 0),
+        ];
+        add_guesses(list, instrs.as_slice())
     }
 
     /// Guesses that a packet is sent down, with or without each completion routine.
@@ -172,20 +199,21 @@ impl<'a> Scene<'a> {
         if matches!(self.subject.sort, Sort::Dpc) && self.breaks(starts.as_slice()) {
             add_guess(list, Instr::Take(register, 0), 0)?;
         }
-        if self.fault.rule != Rule::WrongKind || kind != Kind::Blank {
-            return Ok(());
+        if self.fault.rule == Rule::WrongKind && kind == Kind::Blank {
+            self.guess_numbers(register, list)
+        } else {
+            Ok(())
         }
+    }
+
+    /// Guesses that a number is put into a register.
+    fn guess_numbers(&self, register: Register, list: &mut Vec<Guess>) -> Result<(), AllocError> {
         // a condition on a constant is no condition
         let decides = matches!(self.bad, Instr::JumpIfZero(..));
         let made_up = if decides { 60 } else { 0 };
         add_guess(list, Instr::Const(register, 0), made_up)?;
         add_guess(list, Instr::Const(register, 1), made_up + 20)?;
-        for number in 0..2_u8 {
-            if let Some(cell) = Cell::of(number) {
-                let extra = if number == 0 { 20 } else { 30 };
-                add_guess(list, Instr::Load(register, cell), extra)?;
-            }
-        }
+        guess_loads(register, list)?;
         for packet in registers() {
             add_guess(list, Instr::Get(register, packet, Field::Argument), 10)?;
         }
@@ -198,9 +226,8 @@ impl<'a> Scene<'a> {
             add_guess(list, Instr::Acquire(*lock), 0)?;
             add_guess(list, Instr::Release(*lock), 0)?;
         }
-        add_guess(list, Instr::AcquireCancel, 0)?;
-        add_guess(list, Instr::ReleaseCancel, 0)?;
-        add_guess(list, Instr::Next, 0)
+        let others = [Instr::AcquireCancel, Instr::ReleaseCancel, Instr::Next];
+        add_guesses(list, others.as_slice())
     }
 
     /// Guesses that the way to a label is left before it.
@@ -264,4 +291,15 @@ impl<'a> Scene<'a> {
             cost.saturating_add(50)
         }
     }
+}
+
+/// Guesses that a number is loaded from one of the first cells.
+fn guess_loads(register: Register, list: &mut Vec<Guess>) -> Result<(), AllocError> {
+    for number in 0..2_u8 {
+        if let Some(cell) = Cell::of(number) {
+            let extra = if number == 0 { 20 } else { 30 };
+            add_guess(list, Instr::Load(register, cell), extra)?;
+        }
+    }
+    Ok(())
 }

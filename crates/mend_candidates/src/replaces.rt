@@ -69,41 +69,55 @@ impl<'a> Scene<'a> {
 
     /// Guesses what may stand in place of an instruction.
     fn guess_words(&self, at: u16, instr: Instr, list: &mut Vec<Guess>) -> Result<(), AllocError> {
-        let here = at == self.fault.at;
         match instr {
             Instr::Ret(form) => self.guess_returns(at, form, list),
             Instr::Jump(_) => self.guess_leaving(at, list),
-            Instr::Acquire(lock) => {
-                self.guess_locks_for(instr, list)?;
-                if here {
-                    add_guess(list, Instr::Release(lock), 130)
-                } else {
-                    Ok(())
-                }
+            Instr::Acquire(_) | Instr::Release(_) | Instr::AcquireCancel => {
+                self.guess_other_lock(at, instr, list)
             }
-            Instr::Release(_) => self.guess_locks_for(instr, list),
-            Instr::AcquireCancel if here => add_guess(list, Instr::ReleaseCancel, 130),
             Instr::Complete(r, _) => self.guess_statuses(at, r, list),
             Instr::Loop(turns) => self.guess_turns(turns.count(), list),
-            Instr::LoadPaged(r, cell) => {
-                let cost = if self.is_written_back(at, &instr) {
-                    110
-                } else {
-                    190
-                };
-                add_guess(list, Instr::Load(r, cell), cost)
-            }
-            Instr::StorePaged(cell, r) => {
-                let cost = if self.is_written_back(at, &instr) {
-                    110
-                } else {
-                    190
-                };
-                add_guess(list, Instr::Store(cell, r), cost)
-            }
+            Instr::LoadPaged(..) | Instr::StorePaged(..) => self.guess_resident(at, instr, list),
             Instr::Pass(r) | Instr::Call(r, _) => self.guess_forwards(r, list),
             _ => self.guess_queues(instr, list),
         }
+    }
+
+    /// Guesses that another lock is meant, or its release where the fault is.
+    fn guess_other_lock(
+        &self,
+        at: u16,
+        instr: Instr,
+        list: &mut Vec<Guess>,
+    ) -> Result<(), AllocError> {
+        let release = match instr {
+            Instr::Acquire(lock) => Some(Instr::Release(lock)),
+            Instr::AcquireCancel => Some(Instr::ReleaseCancel),
+            _ => None,
+        };
+        if !matches!(instr, Instr::AcquireCancel) {
+            self.guess_locks_for(instr, list)?;
+        }
+        match release {
+            Some(release) if at == self.fault.at => add_guess(list, release, 130),
+            _ => Ok(()),
+        }
+    }
+
+    /// Guesses that a cell is meant which isn't paged.
+    fn guess_resident(
+        &self,
+        at: u16,
+        instr: Instr,
+        list: &mut Vec<Guess>,
+    ) -> Result<(), AllocError> {
+        let resident = match instr {
+            Instr::LoadPaged(r, cell) => Instr::Load(r, cell),
+            Instr::StorePaged(cell, r) => Instr::Store(cell, r),
+            other => other,
+        };
+        let is_written_back = self.is_written_back(at, &instr);
+        add_guess(list, resident, if is_written_back { 110 } else { 190 })
     }
 
     /// Guesses other returns.

@@ -332,9 +332,20 @@ impl<'a> Blocks<'a> {
         let Some(turns) = Turns::of(100) else {
             return Ok(());
         };
-        if !jumps || !self.scene.are_in_same_loops(label, self.scene.fault.at) {
-            return Ok(());
+        if jumps && self.scene.are_in_same_loops(label, self.scene.fault.at) {
+            self.add_loop_round(label, turns, out)
+        } else {
+            Ok(())
         }
+    }
+
+    /// Adds a loop of so many turns from what a jump back leads to up to the jump.
+    fn add_loop_round(
+        &self,
+        label: u16,
+        turns: Turns,
+        out: &mut Candidates,
+    ) -> Result<(), AllocError> {
         let behind = self.scene.fault.at.saturating_add(1);
         let one = out.begin(Manner::Block, 90, None, None);
         out.change(behind, Change::Insert(Instr::End, Landing::Kept))?;

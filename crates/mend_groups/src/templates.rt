@@ -48,21 +48,33 @@ impl<'a> Templates<'a> {
         out: &mut Candidates,
     ) -> Result<(), AllocError> {
         for register in registers() {
-            let kind = state.kinds[register.index()];
-            match kind {
-                Kind::View => self.add_carried(at, landing, state, register, out)?,
-                Kind::Queued(QueueName::Declared(q), Stage::Cancelling) => {
-                    self.add_unlinked(at, landing, state, (register, q), out)?;
-                }
-                Kind::Queued(QueueName::Declared(q), Stage::Listed) => {
-                    self.add_cancelable(at, landing, (register, q), out)?;
-                }
-                Kind::New => self.add_kept(at, landing, state, (register, true, lines), out)?,
-                Kind::Own => self.add_kept(at, landing, state, (register, false, lines), out)?,
-                _ => {}
-            }
+            self.add_templates_for(at, landing, state, (register, lines), out)?;
         }
         self.add_next(at, landing, state, out)
+    }
+
+    /// Adds those for what a register holds.
+    fn add_templates_for(
+        &self,
+        at: u16,
+        landing: Landing,
+        state: &Abs,
+        held: (Register, &mut Vec<Instr>),
+        out: &mut Candidates,
+    ) -> Result<(), AllocError> {
+        let (register, lines) = held;
+        match state.kinds[register.index()] {
+            Kind::View => self.add_carried(at, landing, state, register, out),
+            Kind::Queued(QueueName::Declared(q), Stage::Cancelling) => {
+                self.add_unlinked(at, landing, state, (register, q), out)
+            }
+            Kind::Queued(QueueName::Declared(q), Stage::Listed) => {
+                self.add_cancelable(at, landing, (register, q), out)
+            }
+            Kind::New => self.add_kept(at, landing, state, (register, true, lines), out),
+            Kind::Own => self.add_kept(at, landing, state, (register, false, lines), out),
+            _ => Ok(()),
+        }
     }
 
     /// Adds that the pending mark is carried up.
@@ -165,15 +177,11 @@ impl<'a> Templates<'a> {
             let Some(guard) = self.guard_of(q) else {
                 continue;
             };
-            lines.clear();
             let held = state.locks[guard.index()];
+            lines.clear();
             if new {
                 lines.push(Instr::Mark(register))?;
             }
-            if !held {
-                lines.push(Instr::Acquire(guard))?;
-            }
-            lines.push(Instr::Insert(register, q))?;
             self.add_keeping(register, q, held, lines)?;
             let cost = self.keeping_cost(at, guard, held, lines.len());
             out.add_template(cost, at, landing, lines.as_slice())?;
@@ -181,7 +189,7 @@ impl<'a> Templates<'a> {
         Ok(())
     }
 
-    /// Adds what follows the insertion of a packet into a queue.
+    /// Adds the insertion of a packet into a queue, and what follows it.
     fn add_keeping(
         &self,
         register: Register,
@@ -192,6 +200,10 @@ impl<'a> Templates<'a> {
         let Some(guard) = self.guard_of(q) else {
             return Ok(());
         };
+        if !held {
+            lines.push(Instr::Acquire(guard))?;
+        }
+        lines.push(Instr::Insert(register, q))?;
         if self
             .scene
             .subject
