@@ -3,86 +3,81 @@
 
 use crate::place::Scene;
 use model::instr::Instr;
-use std::alloc::{AllocError, Global};
+use std::alloc::Global;
 use verifier_names::{add_lock, spin_number};
 use verifier_reasons::{Case, Fact, blank_register, is_held, lock_meant};
+use words::Words;
 
 /// Adds where the register went blank of which an instruction wants something, and why, where it
 /// did so on the path there.
-pub(crate) fn add_blanking(
-    prose: &mut String,
-    scene: &Scene<'_>,
-    case: &Case<'_>,
-) -> Result<(), AllocError> {
-    let Some(register) = blank_register(case.instr, case.state()) else {
-        return Ok(());
-    };
-    let number = register.index();
-    match case.last_so(&Fact::Full(register)) {
-        None => write!(prose, "r{number} was never set on this path\n"),
-        Some(at) => {
-            let why = match case.code.get(at as usize) {
-                Some(emptying) => why_blank(emptying),
-                None => "",
-            };
-            write!(prose, "r{number} went blank")?;
-            prose.push_str(why)?;
-            add_end(prose, scene, " ", at)
+pub(crate) fn add_blanking(words: &mut Words, scene: &Scene<'_>, case: &Case<'_>) {
+    if let Some(register) = blank_register(case.instr, case.state()) {
+        words.add("r");
+        words.add_number(register.index() as u64);
+        match case.last_so(&Fact::Full(register)) {
+            None => words.add(" was never set on this path\n"),
+            Some(at) => {
+                words.add(" went blank");
+                words.add(why_blank(case.code.get(at as usize)));
+                add_end(words, scene, " ", at)
+            }
         }
     }
 }
 
 /// Adds words and the position that they are about.
-fn add_end(prose: &mut String, scene: &Scene<'_>, words: &str, at: u16) -> Result<(), AllocError> {
-    prose.push_str(words)?;
-    scene.add_position(prose, at)?;
-    prose.push_str("\n")
+fn add_end(words: &mut Words, scene: &Scene<'_>, before: &str, at: u16) {
+    words.add(before);
+    scene.add_position(words, at);
+    words.add("\n")
+}
+
+/// Adds words on the position where something was so, or others where it never was.
+fn add_since(words: &mut Words, scene: &Scene<'_>, at: Option<u16>, since: &str, never: &str) {
+    match at {
+        Some(at) => add_end(words, scene, since, at),
+        None => words.add(never),
+    }
 }
 
 /// Adds where the lock was acquired or released that a rule is about.
-pub(crate) fn add_lock_history(
-    prose: &mut String,
-    scene: &Scene<'_>,
-    case: &Case<'_>,
-) -> Result<(), AllocError> {
-    let Some(lock) = lock_meant(case) else {
-        return Ok(());
-    };
-    add_lock(prose, spin_number(&lock))?;
-    if is_held(case.state(), &lock) {
-        match case.last_so(&Fact::Unheld(lock)) {
-            Some(at) => add_end(prose, scene, " was acquired ", at),
-            None => prose.push_str(" was held when the routine was called\n"),
-        }
-    } else {
-        match case.last_so(&Fact::Held(lock)) {
-            Some(at) => add_end(prose, scene, " was released ", at),
-            None => prose.push_str(" wasn't acquired on this path\n"),
+pub(crate) fn add_lock_history(words: &mut Words, scene: &Scene<'_>, case: &Case<'_>) {
+    if let Some(lock) = lock_meant(case) {
+        add_lock(words, spin_number(&lock));
+        if is_held(case.state(), &lock) {
+            let at = case.last_so(&Fact::Unheld(lock));
+            let never = " was held when the routine was called\n";
+            add_since(words, scene, at, " was acquired ", never)
+        } else {
+            let at = case.last_so(&Fact::Held(lock));
+            add_since(
+                words,
+                scene,
+                at,
+                " was released ",
+                " wasn't acquired on this path\n",
+            )
         }
     }
 }
 
 /// Adds what became of the token of the busy device, where there was one.
-pub(crate) fn add_token(
-    prose: &mut String,
-    scene: &Scene<'_>,
-    case: &Case<'_>,
-) -> Result<(), AllocError> {
+pub(crate) fn add_token(words: &mut Words, scene: &Scene<'_>, case: &Case<'_>) {
     if case.state().token {
-        match case.last_so(&Fact::NoToken) {
-            Some(at) => add_end(prose, scene, "the token was taken ", at),
-            None => prose.push_str("the routine was called with the token\n"),
-        }
+        let at = case.last_so(&Fact::NoToken);
+        let never = "the routine was called with the token\n";
+        add_since(words, scene, at, "the token was taken ", never)
     } else {
-        match case.last_so(&Fact::Token) {
-            Some(at) => add_end(prose, scene, "the token was spent ", at),
-            None => Ok(()),
-        }
+        let at = case.last_so(&Fact::Token);
+        add_since(words, scene, at, "the token was spent ", "")
     }
 }
 
-/// Why an instruction left a register blank.
-fn why_blank(instr: &Instr) -> &'static str {
+/// Why an instruction left a register blank, if there is one.
+fn why_blank(instr: Option<&Instr>) -> &'static str {
+    let Some(instr) = instr else {
+        return "";
+    };
     match instr {
         Instr::Complete(_, _) => ", since its packet was completed,",
         Instr::Pass(_) | Instr::Call(_, _) => ", since its packet was sent down,",
@@ -100,44 +95,38 @@ fn why_blank(instr: &Instr) -> &'static str {
 /// Adds the loops up to a position, with how often the body of each counts.
 pub(crate) fn add_loops(
     alloc: Global,
-    prose: &mut String,
+    words: &mut Words,
     scene: &Scene<'_>,
     code: &[Instr],
     last: u16,
-) -> Result<(), AllocError> {
+) {
     let mut open: Vec<u64> = Vec::new(alloc);
     let mut at: u16 = 0;
     for instr in code {
         if at <= last {
-            add_loop(prose, scene, &mut open, instr, at)?;
+            add_loop(words, scene, &mut open, instr, at);
         }
         at = at.saturating_add(1);
     }
-    Ok(())
 }
 
 /// Adds an instruction, if it begins a loop, with how often the loop's body counts. The bodies of
 /// the loops round it count so often.
-fn add_loop(
-    prose: &mut String,
-    scene: &Scene<'_>,
-    open: &mut Vec<u64>,
-    instr: &Instr,
-    at: u16,
-) -> Result<(), AllocError> {
+fn add_loop(words: &mut Words, scene: &Scene<'_>, open: &mut Vec<u64>, instr: &Instr, at: u16) {
     match instr {
         Instr::Loop(turns) => {
             let around = open.last().copied().unwrap_or(1);
             let times = around.saturating_mul(turns.count() as u64);
-            open.push(times)?;
-            write!(prose, "  {times} times the body of the loop ")?;
-            scene.add_position(prose, at)?;
-            prose.push_str("\n")
+            if open.push(times).is_err() {
+                words.lacks = true;
+            }
+            words.add("  ");
+            words.add_number(times);
+            add_end(words, scene, " times the body of the loop ", at)
         }
         Instr::End => {
             let _ = open.pop();
-            Ok(())
         }
-        _ => Ok(()),
+        _ => {}
     }
 }

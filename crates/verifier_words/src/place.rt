@@ -2,9 +2,9 @@
 
 use model::abs::Refusal;
 use model::set::Sort;
-use std::alloc::AllocError;
 use text::{Spot, Spots, add_line};
 use verifier_names::{Names, SetNames, Source, add_lines, add_title};
+use words::Words;
 
 /// A routine that is refused, as its text has it.
 #[derive(Drop)]
@@ -33,26 +33,30 @@ impl<'a> Scene<'a> {
     }
 
     /// Adds a position with its line.
-    pub(crate) fn add_position(&self, prose: &mut String, at: u16) -> Result<(), AllocError> {
-        match self.line_at(at) {
-            Some(line) => {
-                write!(prose, "at {at}, line {}: ", line.number)?;
-                add_line(prose, self.source.bytes(), line)
-            }
-            None => write!(prose, "at {at}"),
+    pub(crate) fn add_position(&self, words: &mut Words, at: u16) {
+        words.add("at ");
+        words.add_number(at as u64);
+        if let Some(line) = self.line_at(at) {
+            words.add(", line ");
+            words.add_number(line.number);
+            words.add(": ");
+            let done = add_line(&mut words.text, self.source.bytes(), line);
+            words.note(done)
         }
     }
 
     /// Adds the names of the driver and the routine, and the lines round the place.
-    pub(crate) fn add_place(&self, prose: &mut String) -> Result<(), AllocError> {
+    pub(crate) fn add_place(&self, words: &mut Words) {
         let Refusal {
             driver,
             routine,
             at,
             rule: _,
         } = self.refusal;
-        add_title(prose, self.names(), driver, routine)?;
-        write!(prose, " ({})", self.sort.as_str())?;
-        add_lines(prose, self.source.bytes(), at, self.line_at(at))
+        add_title(words, self.names(), driver, routine);
+        words.add(" (");
+        words.add(self.sort.as_str());
+        words.add(")");
+        add_lines(words, self.source.bytes(), at, self.line_at(at))
     }
 }

@@ -8,6 +8,7 @@ use model::abs::{Abs, Refusal, Rule};
 use std::alloc::{AllocError, Global};
 use verifier_evidence::Evidence;
 use verifier_names::{Names, Origin, of_set};
+use words::Words;
 
 /// A routine that is refused, as its text has it, if there is one: what words on its refusal are
 /// made with.
@@ -41,11 +42,12 @@ impl<'a> RefusedRoutine<'a> {
     ///
     /// When memory runs out.
     pub fn known(&self, alloc: Global, state: &Abs) -> Result<String, AllocError> {
-        let mut prose = String::new(alloc);
+        let mut words = Words::new(alloc);
         if let Some(scene) = &self.scene {
-            add_state(&mut prose, scene.names(), state)?;
+            add_state(&mut words, scene.names(), state);
         }
-        in_one_line(alloc, prose.as_str())
+        let lines = words.finish()?;
+        in_one_line(alloc, lines.as_str())
     }
 
     /// Why the rule is broken, where that is written, and how to mend it, in lines.
@@ -59,13 +61,13 @@ impl<'a> RefusedRoutine<'a> {
         set: &DriverSet,
         evidence: &Evidence,
     ) -> Result<String, AllocError> {
-        let mut prose = String::new(alloc);
+        let mut words = Words::new(alloc);
         if let Some(scene) = &self.scene {
             if let Some(routine) = routine_of(set, &scene.refusal) {
-                add_reasons(alloc, &mut prose, scene, set, routine, evidence)?;
+                add_reasons(alloc, &mut words, scene, set, routine, evidence);
             }
         }
-        Ok(prose)
+        words.finish()
     }
 }
 
@@ -75,19 +77,17 @@ impl<'a> RefusedRoutine<'a> {
 ///
 /// When memory runs out.
 pub fn set_refused(alloc: Global, rule: Rule) -> Result<String, AllocError> {
-    let mut prose = String::new(alloc);
-    of_set(rule).add(&mut prose, Names::Listed)?;
-    Ok(prose)
+    let mut words = Words::new(alloc);
+    of_set(rule).add(&mut words, Names::Listed);
+    words.finish()
 }
 
 /// Lines in one, each without the blanks round it.
 fn in_one_line(alloc: Global, lines: &str) -> Result<String, AllocError> {
-    let mut line = String::new(alloc);
+    let mut words = Words::new(alloc);
     for (number, part) in lines.trim_end().split('\n').enumerate() {
-        if number > 0 {
-            line.push_str("; ")?;
-        }
-        line.push_str(part.trim())?;
+        words.add(if number > 0 { "; " } else { "" });
+        words.add(part.trim());
     }
-    Ok(line)
+    words.finish()
 }

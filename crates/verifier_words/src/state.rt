@@ -1,49 +1,52 @@
 //! What is known of registers and locks, in words.
 
 use model::abs::{Abs, Duty, Kind, Settled, Stage};
-use std::alloc::AllocError;
 use verifier_names::Names;
+use words::Words;
 
 /// Adds what a state says: each register that isn't blank, the locks that are held, what is owed,
 /// and the token; or that it says nothing.
-pub(crate) fn add_state(
-    prose: &mut String,
-    names: Names<'_, '_>,
-    state: &Abs,
-) -> Result<(), AllocError> {
-    let before = prose.len();
+pub(crate) fn add_state(words: &mut Words, names: Names<'_, '_>, state: &Abs) {
+    let before = words.text.len();
     for (number, kind) in state.kinds.iter().enumerate() {
         if *kind != Kind::Blank {
-            write!(prose, "  r{number}: ")?;
-            add_kind(prose, names, *kind)?;
-            prose.push_str("\n")?;
+            add_numbered(words, "  r", number, ": ");
+            add_kind(words, names, *kind);
+            words.add("\n");
         }
     }
-    add_locks(prose, state)?;
-    add_owed(prose, state)?;
-    if prose.len() == before {
-        prose.push_str("  nothing: each register is blank, and no lock is held\n")?;
+    add_locks(words, state);
+    add_owed(words, state);
+    if words.text.len() == before {
+        words.add("  nothing: each register is blank, and no lock is held\n");
     }
-    Ok(())
+}
+
+/// Adds a number between words.
+fn add_numbered(words: &mut Words, before: &str, number: usize, behind: &str) {
+    words.add(before);
+    words.add_number(number as u64);
+    words.add(behind)
 }
 
 /// Adds what a register holds.
-pub(crate) fn add_kind(
-    prose: &mut String,
-    names: Names<'_, '_>,
-    kind: Kind,
-) -> Result<(), AllocError> {
+pub(crate) fn add_kind(words: &mut Words, names: Names<'_, '_>, kind: Kind) {
+    words.add(kind_words(kind));
+    if let Kind::Queued(queue, _) = kind {
+        names.add_queue(words, queue)
+    }
+}
+
+/// What a register holds, up to the name of a list.
+fn kind_words(kind: Kind) -> &'static str {
     match kind {
-        Kind::Blank => prose.push_str("blank"),
-        Kind::Num => prose.push_str("a number"),
-        Kind::Lower => prose.push_str("the status that the lower driver returned"),
-        Kind::New => prose.push_str("the packet as it was handed in"),
-        Kind::Own => prose.push_str("a packet of the routine's own"),
-        Kind::Queued(queue, stage) => {
-            prose.push_str(stage_words(stage))?;
-            names.add_queue(prose, queue)
-        }
-        Kind::View => prose.push_str("a packet on its way up, to be looked at"),
+        Kind::Blank => "blank",
+        Kind::Num => "a number",
+        Kind::Lower => "the status that the lower driver returned",
+        Kind::New => "the packet as it was handed in",
+        Kind::Own => "a packet of the routine's own",
+        Kind::Queued(_, stage) => stage_words(stage),
+        Kind::View => "a packet on its way up, to be looked at",
     }
 }
 
@@ -58,26 +61,28 @@ fn stage_words(stage: Stage) -> &'static str {
 }
 
 /// Adds the locks that are held, if any is.
-fn add_locks(prose: &mut String, state: &Abs) -> Result<(), AllocError> {
-    if state.cancel {
-        prose.push_str("  held: the system cancel spin lock\n")?;
-    }
+fn add_locks(words: &mut Words, state: &Abs) {
+    words.add(where_so(state.cancel, "  held: the system cancel spin lock\n"));
     for (number, held) in state.locks.iter().enumerate() {
         if *held {
-            write!(prose, "  held: l{number}\n")?;
+            add_numbered(words, "  held: l", number, "\n");
         }
     }
-    Ok(())
+}
+
+/// Words where something is so, and else none.
+fn where_so(is_so: bool, words: &'static str) -> &'static str {
+    if is_so { words } else { "" }
 }
 
 /// Adds what is owed, and the token.
-fn add_owed(prose: &mut String, state: &Abs) -> Result<(), AllocError> {
-    prose.push_str(duty_words(state.duty))?;
-    prose.push_str(settled_words(state.settled))?;
-    if state.token {
-        prose.push_str("  the token of the busy device: a packet is to be begun, or the next\n")?;
-    }
-    Ok(())
+fn add_owed(words: &mut Words, state: &Abs) {
+    words.add(duty_words(state.duty));
+    words.add(settled_words(state.settled));
+    words.add(where_so(
+        state.token,
+        "  the token of the busy device: a packet is to be begun, or the next\n",
+    ))
 }
 
 /// What a dispatch routine owes to its caller.
@@ -101,44 +106,35 @@ fn settled_words(settled: Settled) -> &'static str {
 }
 
 /// Adds what differs between two states, register by register and lock by lock.
-pub(crate) fn add_differences(
-    prose: &mut String,
-    names: Names<'_, '_>,
-    one: &Abs,
-    other: &Abs,
-) -> Result<(), AllocError> {
-    prose.push_str("what differs:\n")?;
+pub(crate) fn add_differences(words: &mut Words, names: Names<'_, '_>, one: &Abs, other: &Abs) {
+    words.add("what differs:\n");
     for (number, (first, second)) in one.kinds.iter().zip(other.kinds.iter()).enumerate() {
         if *first != *second {
-            write!(prose, "  r{number}: ")?;
-            add_kind(prose, names, *first)?;
-            prose.push_str(" on the first path, and on the second ")?;
-            add_kind(prose, names, *second)?;
-            prose.push_str("\n")?;
+            add_numbered(words, "  r", number, ": ");
+            add_kind(words, names, *first);
+            words.add(" on the first path, and on the second ");
+            add_kind(words, names, *second);
+            words.add("\n");
         }
     }
-    add_lock_differences(prose, one, other)?;
-    if one.duty != other.duty {
-        prose.push_str("  what is owed\n")?;
-    }
-    if one.settled != other.settled {
-        prose.push_str("  whether the mark was carried up\n")?;
-    }
-    if one.token != other.token {
-        prose.push_str("  the token of the busy device\n")?;
-    }
-    Ok(())
+    add_lock_differences(words, one, other);
+    words.add(where_so(one.duty != other.duty, "  what is owed\n"));
+    words.add(where_so(
+        one.settled != other.settled,
+        "  whether the mark was carried up\n",
+    ));
+    words.add(where_so(one.token != other.token, "  the token of the busy device\n"))
 }
 
 /// Adds the locks that are held in one of two states alone.
-fn add_lock_differences(prose: &mut String, one: &Abs, other: &Abs) -> Result<(), AllocError> {
-    if one.cancel != other.cancel {
-        prose.push_str("  the system cancel spin lock: held on one path alone\n")?;
-    }
+fn add_lock_differences(words: &mut Words, one: &Abs, other: &Abs) {
+    words.add(where_so(
+        one.cancel != other.cancel,
+        "  the system cancel spin lock: held on one path alone\n",
+    ));
     for (number, (first, second)) in one.locks.iter().zip(other.locks.iter()).enumerate() {
         if *first != *second {
-            write!(prose, "  l{number}: held on one path alone\n")?;
+            add_numbered(words, "  l", number, ": held on one path alone\n");
         }
     }
-    Ok(())
 }

@@ -11,18 +11,20 @@ use crate::devices::{add_devices, add_queue_line};
 use crate::history::{add_blanking, add_lock_history, add_loops, add_token};
 use crate::path::add_path;
 use crate::place::Scene;
+use crate::refused::set_refused;
 use crate::state::{add_differences, add_state};
-use asm_places::routine_source;
+use asm_places::{RoutineSource, routine_source};
 use driver_set::DriverSet;
 use model::abs::{Refusal, Rule};
-use model::set::{Driver, Routine};
+use model::set::{Driver, Routine, Sort};
 use std::alloc::{AllocError, Global};
 use verifier_evidence::{Evidence, Path, Subject, evidence_at, evidence_of};
 use verifier_names::{
-    Names, Origin, SetNames, Source, lesson_of_code, listed_devices, listed_routine, not_entered,
-    of_set,
+    ListedPart, Origin, SetNames, Source, lesson_of_code, listed_devices, listed_routine,
+    not_entered,
 };
 use verifier_reasons::{Case, lesson_of};
+use words::Words;
 
 /// A refusal of a set, told in words: where it stands in the text, the path that
 /// leads there with the state that arrives, and why the rule is broken.
@@ -38,16 +40,52 @@ pub fn explanation(
 ) -> Result<String, AllocError>
     requires { (refusal.now ≡ at_start Rule.Memory) ⊎ IsFirstFault set.now refusal.now }
 {
-    let mut prose = String::new(alloc);
-    let Some(evidence) = evidence_of(alloc, set, refusal)? else {
-        of_set(refusal.rule).add(&mut prose, Names::Listed)?;
-        return Ok(prose);
-    };
-    if let Some(routine) = routine_of(set, refusal) {
-        let scene = scene_of(alloc, origin, set, refusal, routine)?;
-        add_evidence(alloc, &mut prose, &scene, set, routine, &evidence)?;
+    match evidence_of(alloc, set, refusal)? {
+        Some(evidence) => explained(alloc, origin, set, refusal, &evidence),
+        None => set_refused(alloc, refusal.rule),
     }
-    Ok(prose)
+}
+
+/// A refusal of the evidence in words, where it has a routine.
+fn explained(
+    alloc: Global,
+    origin: Origin<'_>,
+    set: &DriverSet,
+    refusal: &Refusal,
+    evidence: &Evidence,
+) -> Result<String, AllocError> {
+    match routine_of(set, refusal) {
+        Some(routine) => refusal_words(alloc, origin, set, routine, refusal, evidence),
+        None => Ok(String::new(alloc)),
+    }
+}
+
+/// A refusal of a routine in words.
+fn refusal_words(
+    alloc: Global,
+    origin: Origin<'_>,
+    set: &DriverSet,
+    routine: &Routine,
+    refusal: &Refusal,
+    evidence: &Evidence,
+) -> Result<String, AllocError> {
+    let scene = scene_of(alloc, origin, set, refusal, routine)?;
+    evidence_words(alloc, &scene, set, routine, evidence)
+}
+
+/// Where a refusal stands, what leads there, and why the rule is broken.
+fn evidence_words(
+    alloc: Global,
+    scene: &Scene<'_>,
+    set: &DriverSet,
+    routine: &Routine,
+    evidence: &Evidence,
+) -> Result<String, AllocError> {
+    let mut words = Words::new(alloc);
+    scene.add_place(&mut words);
+    add_arrivals(&mut words, scene, evidence);
+    add_reasons(alloc, &mut words, scene, set, routine, evidence);
+    words.finish()
 }
 
 /// A refusal, and what is told of it.
@@ -83,8 +121,7 @@ fn own_fault(alloc: Global, set: &DriverSet) -> Result<Vec<Told>, AllocError>
 {
     let mut all = Vec::new(alloc);
     if set.devices().is_empty() {
-        let mut words = String::new(alloc);
-        of_set(Rule::Malformed).add(&mut words, Names::Listed)?;
+        let words = set_refused(alloc, Rule::Malformed)?;
         all.push(Told {
             refusal: at_start(Rule::Malformed),
             words,
@@ -178,11 +215,8 @@ fn fault_words(
 ) -> Result<String, AllocError>
     requires { IsFirstFaultOf subject refusal.now.at refusal.now.rule }
 {
-    let mut prose = String::new(alloc);
     let evidence = evidence_at(alloc, subject, refusal.at, refusal.rule)?;
-    let scene = scene_of(alloc, origin, set, refusal, routine)?;
-    add_evidence(alloc, &mut prose, &scene, set, routine, &evidence)?;
-    Ok(prose)
+    refusal_words(alloc, origin, set, routine, refusal, &evidence)
 }
 
 /// The routine of a refusal.
@@ -202,65 +236,69 @@ pub(crate) fn scene_of<'t>(
     match origin {
         Origin::Text(text) => {
             let found = routine_source(alloc, text, refusal.driver, refusal.routine)?;
-            let names = SetNames::of(alloc, text, &found.outline)?;
-            Ok(Scene {
-                refusal: *refusal,
-                sort: routine.sort,
-                source: Source::Text(text),
-                names,
-                lines: found.lines,
-                others: Source::Text(text),
-                outline: found.outline,
-            })
+            text_scene(alloc, text, refusal, routine.sort, found)
         }
         Origin::Image => {
             let listed = listed_routine(alloc, set, refusal.driver, refusal.routine)?;
-            let devices = listed_devices(alloc, set)?;
-            Ok(Scene {
-                refusal: *refusal,
-                sort: routine.sort,
-                source: Source::Listing(listed.text),
-                names: SetNames::Listed,
-                lines: listed.spots,
-                others: Source::Listing(devices.text),
-                outline: devices.spots,
-            })
+            listed_scene(alloc, set, refusal, routine.sort, listed)
         }
     }
 }
 
-/// Adds where a refusal stands, what leads there, and why the rule is broken.
-fn add_evidence(
+/// The routine of a refusal, with its lines in a text.
+fn text_scene<'t>(
     alloc: Global,
-    prose: &mut String,
-    scene: &Scene<'_>,
+    text: &'t [u8],
+    refusal: &Refusal,
+    sort: Sort,
+    found: RoutineSource,
+) -> Result<Scene<'t>, AllocError> {
+    let names = SetNames::of(alloc, text, &found.outline)?;
+    Ok(Scene {
+        refusal: *refusal,
+        sort,
+        source: Source::Text(text),
+        names,
+        lines: found.lines,
+        others: Source::Text(text),
+        outline: found.outline,
+    })
+}
+
+/// The routine of a refusal, with its lines in the listing of its set.
+fn listed_scene<'t>(
+    alloc: Global,
     set: &DriverSet,
-    routine: &Routine,
-    evidence: &Evidence,
-) -> Result<(), AllocError> {
-    scene.add_place(prose)?;
-    add_arrivals(prose, scene, evidence)?;
-    add_reasons(alloc, prose, scene, set, routine, evidence)
+    refusal: &Refusal,
+    sort: Sort,
+    listed: ListedPart,
+) -> Result<Scene<'t>, AllocError> {
+    let devices = listed_devices(alloc, set)?;
+    Ok(Scene {
+        refusal: *refusal,
+        sort,
+        source: Source::Listing(listed.text),
+        names: SetNames::Listed,
+        lines: listed.spots,
+        others: Source::Listing(devices.text),
+        outline: devices.spots,
+    })
 }
 
 /// Adds the paths that lead there, and what is known where they arrive.
-fn add_arrivals(
-    prose: &mut String,
-    scene: &Scene<'_>,
-    evidence: &Evidence,
-) -> Result<(), AllocError> {
+fn add_arrivals(words: &mut Words, scene: &Scene<'_>, evidence: &Evidence) {
     match evidence {
-        Evidence::Misplaced | Evidence::Unreached | Evidence::NotEntered => Ok(()),
+        Evidence::Misplaced | Evidence::Unreached | Evidence::NotEntered => {}
         Evidence::Broken(path) | Evidence::TooLong(path, _) => {
-            add_arrival(prose, scene, "a path there:\n", path)
+            add_arrival(words, scene, "a path there:\n", path)
         }
         Evidence::Differing(one, other) => {
-            add_arrival(prose, scene, "one path there:\n", one)?;
-            add_arrival(prose, scene, "another path there:\n", other)
+            add_arrival(words, scene, "one path there:\n", one);
+            add_arrival(words, scene, "another path there:\n", other)
         }
         Evidence::Unlike(start, end) => {
-            add_arrival(prose, scene, "the path to the loop:\n", start)?;
-            add_arrival(prose, scene, "the path to its end:\n", end)
+            add_arrival(words, scene, "the path to the loop:\n", start);
+            add_arrival(words, scene, "the path to its end:\n", end)
         }
     }
 }
@@ -268,103 +306,99 @@ fn add_arrivals(
 /// Adds why the rule is broken, and what led to it.
 pub(crate) fn add_reasons(
     alloc: Global,
-    prose: &mut String,
+    words: &mut Words,
     scene: &Scene<'_>,
     set: &DriverSet,
     routine: &Routine,
     evidence: &Evidence,
-) -> Result<(), AllocError> {
+) {
     match evidence {
-        Evidence::Misplaced | Evidence::Unreached => add_why(prose, scene, routine),
         Evidence::NotEntered => {
             let driver = set.drivers().get(scene.refusal.driver as usize);
-            not_entered(driver, scene.refusal.routine).add(prose, scene.names())
+            not_entered(driver, scene.refusal.routine).add(words, scene.names())
         }
-        Evidence::Broken(path) => add_breach(prose, scene, set, routine, path),
-        Evidence::TooLong(path, count) => {
-            write!(
-                prose,
-                "up to there: {count} instructions, by these loops:\n"
-            )?;
-            add_loops(alloc, prose, scene, routine.code.as_slice(), path.last.at)?;
-            add_why(prose, scene, routine)
-        }
-        Evidence::Differing(one, other) | Evidence::Unlike(one, other) => {
-            add_difference(prose, scene, routine, one, other)
+        Evidence::Broken(path) => add_breach(words, scene, set, routine, path),
+        _ => {
+            add_cause(alloc, words, scene, routine, evidence);
+            add_why(words, scene, routine)
         }
     }
 }
 
-/// Adds what differs where two paths arrive, and why that breaks a rule.
-fn add_difference(
-    prose: &mut String,
+/// Adds the loops that make a path too long, or what differs between two paths.
+fn add_cause(
+    alloc: Global,
+    words: &mut Words,
     scene: &Scene<'_>,
     routine: &Routine,
-    one: &Path,
-    other: &Path,
-) -> Result<(), AllocError> {
-    add_differences(prose, scene.names(), &one.last.state, &other.last.state)?;
-    add_why(prose, scene, routine)
+    evidence: &Evidence,
+) {
+    match evidence {
+        Evidence::TooLong(path, count) => {
+            words.add("up to there: ");
+            words.add_number(*count as u64);
+            words.add(" instructions, by these loops:\n");
+            add_loops(alloc, words, scene, routine.code.as_slice(), path.last.at)
+        }
+        Evidence::Differing(one, other) | Evidence::Unlike(one, other) => {
+            add_differences(words, scene.names(), &one.last.state, &other.last.state)
+        }
+        _ => {}
+    }
 }
 
 /// Adds what the instruction at the end of a path breaks there, and what led to it.
 fn add_breach(
-    prose: &mut String,
+    words: &mut Words,
     scene: &Scene<'_>,
     set: &DriverSet,
     routine: &Routine,
     path: &Path,
-) -> Result<(), AllocError> {
+) {
     let code = routine.code.as_slice();
-    let Some(instr) = code.get(path.last.at as usize) else {
-        return Ok(());
-    };
-    let case = Case {
-        rule: scene.refusal.rule,
-        driver: scene.refusal.driver,
-        set,
-        sort: routine.sort,
-        code,
-        path,
-        instr,
-    };
-    add_details(prose, scene, &case)?;
-    lesson_of(&case).add(prose, scene.names())
+    if let Some(instr) = code.get(path.last.at as usize) {
+        let case = Case {
+            rule: scene.refusal.rule,
+            driver: scene.refusal.driver,
+            set,
+            sort: routine.sort,
+            code,
+            path,
+            instr,
+        };
+        add_details(words, scene, &case);
+        lesson_of(&case).add(words, scene.names())
+    }
 }
 
 /// Adds what led to it that a rule is broken: where a register went blank, a lock was acquired or
 /// a token spent, and which queue or devices the rule is about.
-fn add_details(prose: &mut String, scene: &Scene<'_>, case: &Case<'_>) -> Result<(), AllocError> {
+fn add_details(words: &mut Words, scene: &Scene<'_>, case: &Case<'_>) {
     match case.rule {
-        Rule::WrongKind | Rule::DoubleCompletion => add_blanking(prose, scene, case),
+        Rule::WrongKind | Rule::DoubleCompletion => add_blanking(words, scene, case),
         Rule::CancelSpinLock | Rule::SpinLock | Rule::LockHeld => {
-            add_lock_history(prose, scene, case)
+            add_lock_history(words, scene, case)
         }
         Rule::Guard => {
-            add_queue_line(prose, scene, case)?;
-            add_lock_history(prose, scene, case)
+            add_queue_line(words, scene, case);
+            add_lock_history(words, scene, case)
         }
-        Rule::Token => add_token(prose, scene, case),
-        Rule::StackTooSmall | Rule::NoLower => add_devices(prose, scene, case),
-        _ => Ok(()),
+        Rule::Token => add_token(words, scene, case),
+        Rule::StackTooSmall | Rule::NoLower => add_devices(words, scene, case),
+        _ => {}
     }
 }
 
 /// Adds a path and the state that arrives along it.
-fn add_arrival(
-    prose: &mut String,
-    scene: &Scene<'_>,
-    title: &str,
-    path: &Path,
-) -> Result<(), AllocError> {
-    prose.push_str(title)?;
-    add_path(prose, scene, path)?;
-    prose.push_str("what is known where it arrives:\n")?;
-    add_state(prose, scene.names(), &path.last.state)
+fn add_arrival(words: &mut Words, scene: &Scene<'_>, title: &str, path: &Path) {
+    words.add(title);
+    add_path(words, scene, path);
+    words.add("what is known where it arrives:\n");
+    add_state(words, scene.names(), &path.last.state)
 }
 
 /// Adds why a rule on the code of a routine is broken at the place.
-fn add_why(prose: &mut String, scene: &Scene<'_>, routine: &Routine) -> Result<(), AllocError> {
+fn add_why(words: &mut Words, scene: &Scene<'_>, routine: &Routine) {
     let instr = routine.code.as_slice().get(scene.refusal.at as usize);
-    lesson_of_code(scene.refusal.rule, instr).add(prose, scene.names())
+    lesson_of_code(scene.refusal.rule, instr).add(words, scene.names())
 }
