@@ -5,7 +5,7 @@ ghost use Rattle.model.specs.Typable.{IsTypable};
 ghost use Rattle.verifier_warnings.specs.Orders.{EndsRightly, EndsWith, TellsCycle, TellsCycles};
 ghost use Rattle.verifier_warnings.specs.Orders.{TellsOrders, advice};
 
-use crate::roll::add_roll;
+use crate::roll::{add_roll, add_sort};
 use asm_places::{outline, routine_source};
 use driver_set::DriverSet;
 use model::instr::Instr;
@@ -17,6 +17,7 @@ use verifier_names::{
     Names, Origin, SetNames, Source, add_lines, add_lock, add_title, listed_routine, spin_number,
 };
 use verifier_orders::{Edge, LockOrder, orders_of};
+use words::Words;
 
 /// What is told last where each driver takes its locks in an order.
 const NO_RING: &str = "No threads ever wait for each other in a ring, and every routine ends.\n";
@@ -64,7 +65,17 @@ fn names_of<'t>(alloc: Global, origin: Origin<'t>) -> Result<SetNames<'t>, Alloc
 #[derive(Drop)]
 pub(crate) struct Quoted<'t> {
     source: Source<'t>,
-    pub(crate) line: Option<Spot>,
+    line: Option<Spot>,
+}
+
+impl Quoted<'_> {
+    /// The number of the line.
+    pub(crate) fn number(&self) -> Option<u64> {
+        match self.line {
+            Some(line) => Some(line.number),
+            None => None,
+        }
+    }
 }
 
 /// What is told of an accepted set: its routines, a line each; the orders in which its drivers take
@@ -84,51 +95,56 @@ pub fn acceptance(
     let set = accepted.set();
     let orders = orders_of(alloc, accepted)?;
     let telling = Telling::of(alloc, origin, set)?;
-    let mut prose = String::new(alloc);
-    add_roll(&mut prose, &telling.names, telling.set)?;
-    add_orders(&mut prose, &telling, orders.as_slice())?;
+    let mut prose = ordered_words(alloc, &telling, orders.as_slice())?;
     add_end(alloc, &mut prose, &telling, orders.as_slice())?;
     Ok(prose)
 }
 
-/// Adds the order of each driver that has one.
-fn add_orders(
-    prose: &mut String,
+/// The routines of a set, and the order of each driver that has one.
+fn ordered_words(
+    alloc: Global,
     telling: &Telling<'_, '_>,
     orders: &[LockOrder],
-) -> Result<(), AllocError> {
+) -> Result<String, AllocError> {
+    let mut words = Words::new(alloc);
+    add_roll(&mut words, &telling.names, telling.set);
+    add_orders(&mut words, telling, orders);
+    words.finish()
+}
+
+/// Adds the order of each driver that has one.
+fn add_orders(words: &mut Words, telling: &Telling<'_, '_>, orders: &[LockOrder]) {
     for (number, driver) in telling.set.drivers().iter().enumerate() {
         if let Some(LockOrder::Ordered(locks)) = orders.get(number) {
             let names = telling.names(number as u8);
-            add_order(prose, names, number as u8, driver, locks.as_slice())?;
+            add_order(words, names, number as u8, driver, locks.as_slice());
         }
     }
-    Ok(())
 }
 
 /// Adds the locks that a driver's routines take, in their order; if they take none, nothing.
 fn add_order(
-    prose: &mut String,
+    words: &mut Words,
     names: Names<'_, '_>,
     number: u8,
     driver: &Driver,
     locks: &[Guard],
-) -> Result<(), AllocError> {
+) {
     let mut told = false;
     for lock in locks {
         let spin = spin_number(lock);
         if takes(driver, spin) {
             if told {
-                prose.push_str(", ")?;
+                words.add(", ");
             } else {
-                names.add_driver(prose, number)?;
-                prose.push_str(" takes its locks in this order: ")?;
+                names.add_driver(words, number);
+                words.add(" takes its locks in this order: ");
             }
-            add_lock(prose, spin)?;
+            add_lock(words, spin);
             told = true;
         }
     }
-    prose.push_str(if told { ".\n" } else { "" })
+    words.add(if told { ".\n" } else { "" })
 }
 
 /// Whether a routine of a driver takes the spin lock of a number, or the system cancel spin lock.
@@ -217,47 +233,76 @@ fn add_cycle(
 ) -> Result<(), AllocError>
     ensures { OnOk result (EndsWith (string_bytes prose.new) advice) }
 {
-    let mut lines = Vec::new(alloc);
-    for edge in cycle {
-        lines.push(add_quoted(alloc, prose, telling, number, edge)?)?;
-    }
-    let names = telling.names(number);
-    begin_cycle(prose, names, number)?;
-    prose.push_str(": ")?;
-    add_edges(prose, names, cycle, lines.as_slice())?;
-    prose.push_str(". Threads that run them for one device may wait for each other for ever. ")?;
+    let told = cycle_words(alloc, telling, number, cycle)?;
+    prose.push_str(told.as_str())?;
     prose.push_str(ADVICE)
 }
 
-/// Adds that the driver of a number takes its locks in a cycle.
-pub(crate) fn begin_cycle(
-    prose: &mut String,
-    names: Names<'_, '_>,
+/// The lines at which the routines of a driver take locks in a cycle, and the cycle.
+fn cycle_words(
+    alloc: Global,
+    telling: &Telling<'_, '_>,
     number: u8,
-) -> Result<(), AllocError> {
-    names.add_driver(prose, number)?;
-    prose.push_str(" takes its locks in a cycle")
+    cycle: &[Edge],
+) -> Result<String, AllocError> {
+    let mut words = Words::new(alloc);
+    let mut lines = Vec::new(alloc);
+    for edge in cycle {
+        let line = add_quoted(alloc, &mut words, telling, number, edge);
+        if lines.push(line).is_err() {
+            words.lacks = true;
+        }
+    }
+    let names = telling.names(number);
+    begin_cycle(&mut words, names, number);
+    words.add(": ");
+    add_edges(&mut words, names, cycle, lines.as_slice());
+    words.add(". Threads that run them for one device may wait for each other for ever. ");
+    words.finish()
+}
+
+/// Adds that the driver of a number takes its locks in a cycle.
+pub(crate) fn begin_cycle(words: &mut Words, names: Names<'_, '_>, number: u8) {
+    names.add_driver(words, number);
+    words.add(" takes its locks in a cycle")
 }
 
 /// Adds where a routine of the driver of a number takes a lock, with the lines round that, and
 /// answers the number of its line.
 fn add_quoted(
     alloc: Global,
-    prose: &mut String,
+    words: &mut Words,
     telling: &Telling<'_, '_>,
     number: u8,
     edge: &Edge,
-) -> Result<Option<u64>, AllocError> {
-    let names = telling.names(number);
-    let quoted = line_of(alloc, telling, number, edge)?;
-    add_title(prose, names, number, edge.routine)?;
-    if let Some(driver) = telling.set.drivers().get(number as usize) {
-        if let Some(routine) = driver.routines.as_slice().get(edge.routine as usize) {
-            write!(prose, " ({})", routine.sort.as_str())?;
+) -> Option<u64> {
+    match line_of(alloc, telling, number, edge) {
+        Ok(quoted) => {
+            add_quote(words, telling, number, edge, &quoted);
+            quoted.number()
+        }
+        Err(AllocError) => {
+            words.lacks = true;
+            None
         }
     }
-    add_lines(prose, quoted.source.bytes(), edge.at, quoted.line)?;
-    Ok(quoted.line.map(|line| line.number))
+}
+
+/// Adds where that is, with the lines that are quoted.
+fn add_quote(
+    words: &mut Words,
+    telling: &Telling<'_, '_>,
+    number: u8,
+    edge: &Edge,
+    quoted: &Quoted<'_>,
+) {
+    add_title(words, telling.names(number), number, edge.routine);
+    if let Some(driver) = telling.set.drivers().get(number as usize) {
+        if let Some(routine) = driver.routines.as_slice().get(edge.routine as usize) {
+            add_sort(words, routine.sort);
+        }
+    }
+    add_lines(words, quoted.source.bytes(), edge.at, quoted.line)
 }
 
 /// The line of the instruction of an edge.
@@ -286,23 +331,17 @@ pub(crate) fn line_of<'t>(
 }
 
 /// Adds the edges of a cycle, as they are walked, with the numbers of their lines.
-fn add_edges(
-    prose: &mut String,
-    names: Names<'_, '_>,
-    cycle: &[Edge],
-    lines: &[Option<u64>],
-) -> Result<(), AllocError> {
+fn add_edges(words: &mut Words, names: Names<'_, '_>, cycle: &[Edge], lines: &[Option<u64>]) {
     let last = cycle.len().saturating_sub(1);
     for (place, edge) in cycle.iter().enumerate() {
-        prose.push_str(between(place, last))?;
+        words.add(between(place, last));
         add_edge(
-            prose,
+            words,
             names,
             edge,
             lines.get(place).copied().unwrap_or(None),
-        )?;
+        );
     }
-    Ok(())
 }
 
 /// What stands before the part of a place in a row up to a last one.
@@ -317,19 +356,26 @@ fn between(place: usize, last: usize) -> &'static str {
 }
 
 /// Adds which lock a routine takes where, and under which.
-fn add_edge(
-    prose: &mut String,
-    names: Names<'_, '_>,
-    edge: &Edge,
-    line: Option<u64>,
-) -> Result<(), AllocError> {
-    names.add_routine_alone(prose, edge.routine)?;
-    prose.push_str(" acquires ")?;
-    add_lock(prose, spin_number(&edge.taken))?;
+fn add_edge(words: &mut Words, names: Names<'_, '_>, edge: &Edge, line: Option<u64>) {
+    names.add_routine_alone(words, edge.routine);
+    words.add(" acquires ");
+    add_lock(words, spin_number(&edge.taken));
+    words.add(" at");
+    add_line(words, line, edge.at);
+    words.add(" while it holds ");
+    add_lock(words, spin_number(&edge.held))
+}
+
+/// Adds the number of a line, or of a position that has none.
+pub(crate) fn add_line(words: &mut Words, line: Option<u64>, at: u16) {
     match line {
-        Some(line) => write!(prose, " at line {line}")?,
-        None => write!(prose, " at position {}", edge.at)?,
+        Some(number) => {
+            words.add(" line ");
+            words.add_number(number)
+        }
+        None => {
+            words.add(" position ");
+            words.add_number(at as u64)
+        }
     }
-    prose.push_str(" while it holds ")?;
-    add_lock(prose, spin_number(&edge.held))
 }

@@ -5,11 +5,12 @@ ghost use Rattle.verifier_warnings.specs.Orders.{EndsWith};
 ghost use Rattle.verifier_warnings.specs.Warnings.{AddsWarning, AreLines, AreWarnings, WarnsAt};
 ghost use Rattle.verifier_warnings.specs.Warnings.{for_ever};
 
-use crate::orders::{Telling, begin_cycle, line_of};
+use crate::orders::{Telling, add_line, begin_cycle, line_of};
 use std::alloc::{AllocError, Global};
 use verifier::Accepted;
 use verifier_names::Origin;
 use verifier_orders::{Edge, LockOrder, orders_of};
+use words::Words;
 
 /// What is told last of a driver that takes its locks in a cycle.
 const FOR_EVER: &str = "): workers may wait for each other for ever\n";
@@ -80,31 +81,33 @@ fn cycle_line(
 ) -> Result<String, AllocError>
     ensures { IfOk result (λ line. EndsWith (string_bytes line) for_ever) }
 {
-    let mut line = String::new(alloc);
-    begin_cycle(&mut line, telling.names(number), number)?;
-    line.push_str(" (")?;
-    for (place, edge) in cycle.iter().enumerate() {
-        line.push_str(if place == 0 { "" } else { ", " })?;
-        add_edge(alloc, &mut line, telling, number, edge)?;
-    }
+    let mut line = cycle_words(alloc, telling, number, cycle)?;
     line.push_str(FOR_EVER)?;
     Ok(line)
 }
 
-/// Adds the routine of an edge of the driver of a number, and the line at which it takes the lock.
-fn add_edge(
+/// That line, up to its last words.
+fn cycle_words(
     alloc: Global,
-    prose: &mut String,
     telling: &Telling<'_, '_>,
     number: u8,
-    edge: &Edge,
-) -> Result<(), AllocError> {
-    let quoted = line_of(alloc, telling, number, edge)?;
-    telling
-        .names(number)
-        .add_routine_alone(prose, edge.routine)?;
-    match quoted.line {
-        Some(line) => write!(prose, " line {}", line.number),
-        None => write!(prose, " position {}", edge.at),
+    cycle: &[Edge],
+) -> Result<String, AllocError> {
+    let mut words = Words::new(alloc);
+    begin_cycle(&mut words, telling.names(number), number);
+    words.add(" (");
+    for (place, edge) in cycle.iter().enumerate() {
+        words.add(if place == 0 { "" } else { ", " });
+        add_edge(alloc, &mut words, telling, number, edge);
+    }
+    words.finish()
+}
+
+/// Adds the routine of an edge of the driver of a number, and the line at which it takes the lock.
+fn add_edge(alloc: Global, words: &mut Words, telling: &Telling<'_, '_>, number: u8, edge: &Edge) {
+    telling.names(number).add_routine_alone(words, edge.routine);
+    match line_of(alloc, telling, number, edge) {
+        Ok(quoted) => add_line(words, quoted.number(), edge.at),
+        Err(AllocError) => words.lacks = true,
     }
 }
