@@ -10,7 +10,7 @@ PAGES = 'crates/verifier_names/src/pages.rt'
 NAMES = 'crates/model/src/words.rt'
 DOCUMENT = 'docs/RULES.md'
 WARNING = 'LockOrder'
-PAGE = re.compile(r'^const (\w+): Page = Page \{\n(.*?)^\};', re.M | re.S)
+PAGE = re.compile(r'^static (\w+): Page = Page \{\n(.*?)^\};', re.M | re.S)
 TEXT = re.compile(r'\b(says|source|text|mend): "((?:[^"\\]|\\.)*)"', re.S)
 SIDES = ('refused', '-', '+'), ('mended', '+', '-')
 SHOWN = re.compile(r'\bshown_by: Some\((?:"(.*?)"|(FIRST_TEXT))\)')
@@ -42,7 +42,7 @@ def pages():
     for name, body in PAGE.findall(source):
         for other, first in SHOWN.findall(body):
             constants[name]['shown by'] = other or FIRST.search(source)[1]
-    rules = {rule: constants[name] for rule, name in re.findall(r'Rule::(\w+) => (\w+),', source)}
+    rules = {rule: constants[name] for rule, name in re.findall(r'Rule::(\w+) => &(\w+),', source)}
     return {**rules, WARNING: constants['LOCK_ORDER']}
 
 def titles():

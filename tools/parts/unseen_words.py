@@ -16,7 +16,7 @@ import stored_runs
 
 TOP = stored_runs.TOP
 CRATES = {
-    'verifier_words verifier_warnings verifier_reasons verifier_lessons verifier_names verifier_pages': ('explain',),
+    'verifier_words verifier_warnings verifier_reasons verifier_names': ('explain',),
     'tell_changes tell_words tell_names': ('tell', 'draw'),
     'asm_faults text_faults': ('check', 'explain', 'trace', 'tell', 'draw', 'host', 'list'),
     'interleave_faults': ('tell', 'draw'),
