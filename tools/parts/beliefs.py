@@ -20,9 +20,8 @@ CRATES = os.path.join(TOP, 'crates')
 TABLE = os.path.join(TOP, 'docs/DEFINITIONS.md')
 HEADINGS = {'### Cited by contracts of outer crates': 'outer', '### Cited by contracts of inner crates alone': 'inner'}
 # crates whose contracts are there for the proofs of other crates: nothing of them is called from outside
-INNER = ('laws_slots laws_words machine_parts machine_frames machine_world checked_frames checked_parts irp devqueue iomgr irql_locks absstate '
-         'asm_line asm_usual asm_names asm_listing text tell_lines').split()
-TESTS = 'tests_answers tests_runs tests_scripts tests_sets tests_host tests_machine tests_exact'.split()
+INNER = 'laws_slots machine_parts checked_parts irp devqueue iomgr irql_locks absstate asm_line text tell_lines'.split()
+TESTS = 'tests_core tests_machine tests_program'.split()
 # what a type keeps for itself, which its callers can't see
 PRIVATE = 'view invariant inverse also_owns'.split()
 NAME = re.compile(r"(?<![\w'])[^\W\d][\w']*")

@@ -13,7 +13,7 @@ DRAWN = os.path.join(TOP, 'docs', 'rooms.svg')
 ROOMS = [
     ('model', 'what is spoken of', ('model',)),
     ('laws', 'laws of runs', ('laws_',)),
-    ('text', 'texts and images', ('text', 'driver_', 'image', 'asm')),
+    ('text', 'texts and images', ('text', 'words', 'driver_', 'image', 'asm')),
     ('verifier', 'verdicts', ('absstate', 'verifier')),
     ('packets', 'packets, queues, locks', ('irp', 'devqueue', 'iomgr', 'irql_locks')),
     ('checked', 'runs any set', ('checked',)),

@@ -1,8 +1,8 @@
 #!/usr/bin/env python3
 """tools/measure house [--all]: how well the tree is kept: what is long, what is crowded, and what stands twice.
 
-It prints how many functions have more than six parameters, how many have a body of over 40 lines, which crates have over 1,500
-lines or 100 functions of source, how many runs of eight lines or more stand somewhere else too (comments, imports and empty
+It prints how many functions have more than six parameters, how many have a body of over 40 lines, which crates have over 2,500
+lines or 170 functions of source, how many runs of eight lines or more stand somewhere else too (comments, imports and empty
 lines apart), in how many files of code, definitions and proofs `load` and `dequeue` are named (imports apart), how many lines are
 over 100 columns, and how many files and lines there are. With --all each place is
 printed too."""
@@ -11,7 +11,7 @@ import collections, glob, os, re, subprocess, sys
 from beliefs import CRATES, ITEM, METHOD, TOP, block, header, listed, name_after, read, without_comments
 from count_contracts import head_of
 
-PARAMETERS, BODY, LINES, FUNCTIONS, RUN, COLUMNS = 6, 40, 1500, 100, 8, 100
+PARAMETERS, BODY, LINES, FUNCTIONS, RUN, COLUMNS = 6, 40, 2500, 170, 8, 100
 INSTRUCTIONS = 'Load', 'Dequeue'
 
 def files_of(crate, folder, ending):

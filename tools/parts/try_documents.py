@@ -6,7 +6,7 @@ of docs/ that have some, and tells where it says anything else than the document
 
 and ends with the next fenced block that is called `output`, which has all that the program writes, standard output first; a
 single line `...` there stands for some text, whatever it is. COMMAND is `check`, `explain --all`, `trace`,
-`trace --unchecked` or `host --workers N`, whose files are the blocks between, in their order: `drv`, `sched` and `interleave_script` are texts, and `image` has
+`trace --unchecked` or `host --workers N`, whose files are the blocks between, in their order: `drv`, `sched` and `script` are texts, and `image` has
 the bytes of an image in hexadecimal, up to `;` in a line. Or COMMAND is `run`, and each line of the block `sh` between is a
 command that starts where a copy of examples/ lies; a block `drv` there has to be the text of the file that ends the first of
 them, a block `drv part` some of its lines. What is written to a file, behind `>`, has to be that file of the tree. A block behind a line

@@ -19,10 +19,10 @@ CRATES = {
     'verifier_words verifier_warnings verifier_reasons verifier_names': ('explain',),
     'tell_changes tell_words tell_names': ('tell', 'draw'),
     'asm_faults text_faults': ('check', 'explain', 'trace', 'tell', 'draw', 'host', 'list'),
-    'interleave_faults': ('tell', 'draw'),
+    'interleave_texts': ('tell', 'draw'),
     'draw_lanes': ('draw',),
 }
-TABLES = {'asm_faults/src/line_form.rt', 'asm_faults/src/operand.rt', 'interleave_faults/src/form.rt'}
+TABLES = {'asm_faults/src/line_form.rt', 'asm_faults/src/operand.rt', 'interleave_texts/src/form.rt'}
 
 # Texts that no stored run gives, and why not.
 LEFT_OUT = {

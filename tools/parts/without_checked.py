@@ -1,12 +1,12 @@
 #!/usr/bin/env python3
 """tools/try without-checked [--prove]: the machine of accepted sets needs nothing of the plain machine. In a copy of the sources
-without `checked`, `checked_parts`, `checked_frames` and every crate that stands on them, `machine` is built and the tests of `tests_machine` are
+without `checked`, `checked_parts` and every crate that stands on them, `machine` is built and the tests of `tests_machine` are
 run: as the compiler makes them, without a proof, or with --prove after a proof of both. What passed without them is one line;
 what didn't is told by what `rt` says. It takes a minute or two, with --prove as long as the crates below have to be proved."""
 import os, shutil, subprocess, sys, tempfile
 
 TOP = os.path.dirname(os.path.dirname(os.path.dirname(os.path.abspath(__file__))))
-PLAIN = ['checked', 'checked_parts', 'checked_frames']
+PLAIN = ['checked', 'checked_parts']
 MACHINE, ROWS = 'machine', 'tests_machine'
 
 def listed():
