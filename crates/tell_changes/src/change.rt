@@ -9,7 +9,6 @@ use model::set::{QueueName, Sort};
 use model::status::Status;
 use model::view::{FrameView, LiveView, PacketView};
 use model::world::{Activation, CancelStep, Canceller};
-use std::alloc::AllocError;
 use tell_audit::ring::{sought_by, waits_for};
 use tell_names::{
     Book, CellKind, add_alone, add_bug, add_got, add_loaded, add_lock, add_number, add_packet,
@@ -17,6 +16,7 @@ use tell_names::{
     value_at,
 };
 use tell_uses::standing::{thread_of, top_frame};
+use words::Words;
 
 /// What an event is told by: the moment before it, and the machine after it.
 #[derive(Clone, Copy)]
@@ -36,27 +36,18 @@ struct Executed {
 }
 
 /// Adds what an event changed.
-///
-/// # Errors
-///
-/// When memory runs out.
 pub fn add_change(
-    words: &mut String,
+    words: &mut Words,
     book: &Book<'_>,
     event: &Event,
     moment: &Moment,
     reply: &Reply,
     machine: &Checked,
-) -> Result<(), AllocError> {
+) {
     match *reply {
         Reply::Started(packet) => add_start(words, book, event, packet),
         Reply::Waited => add_wait(words, book, event, machine),
-        Reply::Idle => words.push_str(match event {
-            Event::Interrupt { .. } => "the DPC is queued already",
-            Event::Dpc { .. } => "no DPC is queued",
-            Event::StartIo { .. } => "the start list is empty",
-            _ => "the thread has no frame",
-        }),
+        Reply::Idle => words.add(idle_words(event)),
         Reply::Refused => add_refusal(words, event, moment),
         Reply::Bug(bug) => add_bug(words, book, bug),
         Reply::Wrong(_) => add_stop(words, book, event, moment, machine),
@@ -77,41 +68,36 @@ pub fn add_change(
     }
 }
 
-/// Adds why an event was refused, and what follows for later ones where that changes their numbers.
-fn add_refusal(words: &mut String, event: &Event, moment: &Moment) -> Result<(), AllocError> {
-    words.push_str(refusal_words(moment))?;
+/// Why an event did nothing.
+fn idle_words(event: &Event) -> &'static str {
     match event {
-        Event::Issue { .. } => words.push_str(
-            "; packets issued later have lower numbers than were counted",
-        ),
-        _ => Ok(()),
+        Event::Interrupt { .. } => "the DPC is queued already",
+        Event::Dpc { .. } => "no DPC is queued",
+        Event::StartIo { .. } => "the start list is empty",
+        _ => "the thread has no frame",
     }
 }
 
+/// Adds why an event was refused, and what follows for later ones where that changes their numbers.
+fn add_refusal(words: &mut Words, event: &Event, moment: &Moment) {
+    words.add(refusal_words(moment));
+    words.add(match event {
+        Event::Issue { .. } => "; packets issued later have lower numbers than were counted",
+        _ => "",
+    })
+}
+
 /// Adds what is wrong with the instruction that stopped a run.
-fn add_stop(
-    words: &mut String,
-    book: &Book<'_>,
-    event: &Event,
-    moment: &Moment,
-    machine: &Checked,
-) -> Result<(), AllocError> {
-    let (Some(thread), Some(acting)) = (thread_of(event), moment.acting) else {
-        return Ok(());
-    };
-    match top_activation(machine, thread) {
-        Some(a) => add_wrong(words, book, machine, a, acting.instruction),
-        None => Ok(()),
+fn add_stop(words: &mut Words, book: &Book<'_>, event: &Event, moment: &Moment, machine: &Checked) {
+    if let (Some(thread), Some(acting)) = (thread_of(event), moment.acting) {
+        if let Some(a) = top_activation(machine, thread) {
+            add_wrong(words, book, machine, a, acting.instruction)
+        }
     }
 }
 
 /// Adds what begins.
-fn add_start(
-    words: &mut String,
-    book: &Book<'_>,
-    event: &Event,
-    packet: u64,
-) -> Result<(), AllocError> {
+fn add_start(words: &mut Words, book: &Book<'_>, event: &Event, packet: u64) {
     match *event {
         Event::Issue {
             device,
@@ -119,11 +105,11 @@ fn add_start(
             argument,
             ..
         } => {
-            add_packet(words, packet, ": a ")?;
-            words.push_str(major_name(major))?;
-            words.push_str(" with ")?;
-            add_number(words, argument)?;
-            words.push_str(" is issued to ")?;
+            add_packet(words, packet, ": a ");
+            words.add(major_name(major));
+            words.add(" with ");
+            add_number(words, argument);
+            words.add(" is issued to ");
             book.add_device(words, device)
         }
         Event::Cancel { .. } => add_packet(words, packet, ": IoCancelIrp begins"),
@@ -132,35 +118,26 @@ fn add_start(
 }
 
 /// Adds whom a thread waits for, and the lock.
-fn add_wait(
-    words: &mut String,
-    book: &Book<'_>,
-    event: &Event,
-    machine: &Checked,
-) -> Result<(), AllocError> {
-    words.push_str("waits")?;
-    let Some(thread) = thread_of(event) else {
-        return Ok(());
-    };
-    add_awaited(words, book, machine, thread)
+fn add_wait(words: &mut Words, book: &Book<'_>, event: &Event, machine: &Checked) {
+    words.add("waits");
+    if let Some(thread) = thread_of(event) {
+        add_awaited(words, book, machine, thread)
+    }
 }
 
 /// Adds the thread that a thread waits for, and the lock.
-pub(crate) fn add_awaited(
-    words: &mut String,
-    book: &Book<'_>,
-    machine: &Checked,
-    thread: u8,
-) -> Result<(), AllocError> {
-    let Some(owner) = waits_for(machine, thread) else {
-        return Ok(());
-    };
-    let Some(lock) = sought_lock(machine, thread) else {
-        return Ok(());
-    };
-    words.push_str(": thread ")?;
-    add_number(words, u64::from(owner))?;
-    words.push_str(" owns ")?;
+pub(crate) fn add_awaited(words: &mut Words, book: &Book<'_>, machine: &Checked, thread: u8) {
+    if let (Some(owner), Some(lock)) = (waits_for(machine, thread), sought_lock(machine, thread)) {
+        words.add(": ");
+        add_ownership(words, book, owner, lock)
+    }
+}
+
+/// Adds that a thread owns a lock.
+fn add_ownership(words: &mut Words, book: &Book<'_>, owner: u8, lock: Lock) {
+    words.add("thread ");
+    add_number(words, u64::from(owner));
+    words.add(" owns ");
     add_lock(words, book, lock)
 }
 
@@ -170,12 +147,10 @@ fn sought_lock(machine: &Checked, thread: u8) -> Option<Lock> {
 }
 
 /// Adds what a step changed.
-fn add_step(words: &mut String, book: &Book<'_>, scene: &Scene<'_>) -> Result<(), AllocError> {
+fn add_step(words: &mut Words, book: &Book<'_>, scene: &Scene<'_>) {
     let Some(acting) = scene.moment.acting else {
         return add_outside(words, book, scene.event);
     };
-    let instruction = acting.instruction;
-    let packet = acting.packet;
     match acting.frame {
         FrameView::Walk(n) => add_walk(words, n, scene.moment, scene.machine),
         FrameView::Cancel(canceller) => add_cancelling(words, canceller, scene),
@@ -185,61 +160,68 @@ fn add_step(words: &mut String, book: &Book<'_>, scene: &Scene<'_>) -> Result<()
             device,
             ..
         } => {
-            let Some(instr) = instruction else {
-                return Ok(());
-            };
-            let executed = Executed {
-                instr,
-                driver,
-                routine,
-                device,
-            };
-            match packet {
-                Some(n) => add_about(words, book, scene, n, executed),
-                None => add_other(words, book, scene, executed),
+            if let Some(instr) = acting.instruction {
+                let executed = Executed {
+                    instr,
+                    driver,
+                    routine,
+                    device,
+                };
+                add_executed(words, book, scene, acting.packet, executed)
             }
         }
     }
 }
 
+/// Adds what an instruction did, about a packet or not.
+fn add_executed(
+    words: &mut Words,
+    book: &Book<'_>,
+    scene: &Scene<'_>,
+    packet: Option<u64>,
+    executed: Executed,
+) {
+    match packet {
+        Some(n) => add_about(words, book, scene, n, executed),
+        None => add_other(words, book, scene, executed),
+    }
+}
+
 /// Adds what an event changed in which no frame acts.
-fn add_outside(words: &mut String, book: &Book<'_>, event: &Event) -> Result<(), AllocError> {
+fn add_outside(words: &mut Words, book: &Book<'_>, event: &Event) {
     match *event {
         Event::Interrupt { device } => {
-            book.add_device(words, device)?;
-            words.push_str(": its DPC is queued")
+            book.add_device(words, device);
+            words.add(": its DPC is queued")
         }
         Event::Dpc { device, .. } => {
-            book.add_device(words, device)?;
-            words.push_str(": its DPC routine begins")
+            book.add_device(words, device);
+            words.add(": its DPC routine begins")
         }
         Event::Cancel { packet, .. } => {
             add_packet(words, packet, ": has topped out, nothing to cancel")
         }
-        _ => Ok(()),
+        _ => {}
     }
 }
 
 /// Adds how completion goes on.
-fn add_walk(
-    words: &mut String,
-    n: u64,
-    moment: &Moment,
-    machine: &Checked,
-) -> Result<(), AllocError> {
-    let Some(before) = live_before(moment) else {
-        return Ok(());
-    };
-    add_packet(words, n, ": completion leaves location ")?;
-    add_number(words, u64::from(before.depth))?;
-    let PacketView::Live(after) = machine.packet(n) else {
-        return Ok(());
-    };
-    if mark_at(&after, after.depth) && !mark_at(&before, after.depth) {
-        words.push_str(", the mark is carried up to ")?;
-        add_number(words, u64::from(after.depth))?;
+fn add_walk(words: &mut Words, n: u64, moment: &Moment, machine: &Checked) {
+    if let Some(before) = live_before(moment) {
+        add_packet(words, n, ": completion leaves location ");
+        add_number(words, u64::from(before.depth));
+        if let PacketView::Live(after) = machine.packet(n) {
+            add_carried(words, &before, &after)
+        }
     }
-    Ok(())
+}
+
+/// Adds where the mark of a packet was carried up to, if it was.
+fn add_carried(words: &mut Words, before: &LiveView, after: &LiveView) {
+    if mark_at(after, after.depth) && !mark_at(before, after.depth) {
+        words.add(", the mark is carried up to ");
+        add_number(words, u64::from(after.depth))
+    }
 }
 
 /// The packet before a step that is about it, where it was looked at and lives.
@@ -259,16 +241,19 @@ fn mark_at(packet: &LiveView, depth: u8) -> bool {
 }
 
 /// Adds what IoCancelIrp has done.
-fn add_cancelling(
-    words: &mut String,
-    canceller: Canceller,
-    scene: &Scene<'_>,
-) -> Result<(), AllocError> {
+fn add_cancelling(words: &mut Words, canceller: Canceller, scene: &Scene<'_>) {
+    match canceller.next {
+        CancelStep::Acquire => words.add("owns the system cancel spin lock"),
+        _ => add_packet(words, canceller.packet, cancelled_of(canceller, scene)),
+    }
+}
+
+/// What it has done with a packet, once it owns the system cancel spin lock.
+fn cancelled_of(canceller: Canceller, scene: &Scene<'_>) -> &'static str {
     let Canceller { packet: n, next } = canceller;
     let machine = scene.machine;
     let released = matches!(machine.shared().owner(Lock::SystemCancel), Some(None));
-    let behind = match next {
-        CancelStep::Acquire => return words.push_str("owns the system cancel spin lock"),
+    match next {
         _ if released && matches!(machine.packet(n), PacketView::Topped) => {
             ": has topped out; the system cancel spin lock is free"
         }
@@ -276,12 +261,9 @@ fn add_cancelling(
             Some(LiveView { cancel: true, .. }) => ": Irp->Cancel is set already",
             _ => ": Irp->Cancel is set",
         },
-        CancelStep::Exchange if released => {
-            ": no cancel routine was set; the system cancel spin lock is free"
-        }
-        CancelStep::Exchange => ": its cancel routine is called",
-    };
-    add_packet(words, n, behind)
+        _ if released => ": no cancel routine was set; the system cancel spin lock is free",
+        _ => ": its cancel routine is called",
+    }
 }
 
 /// The routine on the top of the thread of an event, after it.
@@ -290,71 +272,82 @@ fn activation_after<'a>(scene: &Scene<'a>) -> Option<&'a Activation> {
 }
 
 /// Adds what an instruction did that is about a packet.
-fn add_about(
-    words: &mut String,
-    book: &Book<'_>,
-    scene: &Scene<'_>,
-    n: u64,
-    executed: Executed,
-) -> Result<(), AllocError> {
-    let instr = executed.instr;
-    if let Instr::Get(r, _, field) = instr {
-        return match activation_after(scene) {
-            Some(after) => add_got(words, r, n, field, after),
-            None => Ok(()),
-        };
+fn add_about(words: &mut Words, book: &Book<'_>, scene: &Scene<'_>, n: u64, executed: Executed) {
+    match executed.instr {
+        Instr::Get(r, _, field) => {
+            if let Some(after) = activation_after(scene) {
+                add_got(words, r, n, field, after)
+            }
+        }
+        _ => {
+            add_packet(words, n, ": ");
+            add_done(words, book, scene, n, executed)
+        }
     }
-    add_packet(words, n, ": ")?;
+}
+
+/// Adds what an instruction did with a packet.
+fn add_done(words: &mut Words, book: &Book<'_>, scene: &Scene<'_>, n: u64, executed: Executed) {
+    let instr = executed.instr;
     match instr {
         Instr::Put(_, r) => add_put(words, scene, r),
-        Instr::Mark(_) => words.push_str(match live_before(scene.moment) {
-            Some(before) if mark_at(&before, before.depth) => {
-                "its current location is marked pending already"
-            }
-            _ => "its current location is marked pending",
-        }),
         Instr::Arm(_, queue) => {
-            words.push_str("the cancel routine is set of queue ")?;
-            book.add_queue(words, executed.driver, queue)?;
+            words.add("the cancel routine is set of queue ");
+            book.add_queue(words, executed.driver, queue);
             let name = QueueName::Declared(queue);
-            words.push_str(set_before(scene.moment, executed.device, name))
+            words.add(set_before(scene.moment, executed.device, name))
         }
         Instr::Pass(_) | Instr::Call(_, _) => {
             add_sent(words, book, scene.machine, executed.device, n)
         }
         Instr::Complete(_, status) => {
-            words.push_str("IoCompleteRequest is called with ")?;
-            words.push_str(status_name(status))
+            words.add("IoCompleteRequest is called with ");
+            words.add(status_name(status))
         }
-        Instr::Disarm(_, _) | Instr::IfCancel(_, _) | Instr::IfPending(_, _) => {
-            words.push_str(found_of(scene, n, instr))
+        Instr::Mark(_) | Instr::Disarm(_, _) | Instr::IfCancel(_, _) | Instr::IfPending(_, _) => {
+            words.add(found_of(scene, n, instr))
         }
         _ => add_moved(words, book, scene, n, executed),
     }
 }
 
 /// Adds the information that a packet has got from a register.
-fn add_put(words: &mut String, scene: &Scene<'_>, r: Register) -> Result<(), AllocError> {
-    words.push_str("its information is ")?;
-    match activation_after(scene) {
-        Some(after) => add_value(words, value_at(r, after)),
-        None => Ok(()),
+fn add_put(words: &mut Words, scene: &Scene<'_>, r: Register) {
+    words.add("its information is ");
+    if let Some(after) = activation_after(scene) {
+        add_value(words, value_at(r, after))
     }
 }
 
-/// What an instruction found of a packet that jumps by it.
+/// What an instruction found of a packet that marks it or jumps by it.
 fn found_of(scene: &Scene<'_>, n: u64, instr: Instr) -> &'static str {
     match (instr, live_before(scene.moment)) {
+        (Instr::Mark(_), before) => marked_of(before),
         (Instr::Disarm(_, _), Some(LiveView { armer: Some(_), .. })) => {
             "its cancel routine is set no more"
         }
         (Instr::Disarm(_, _), _) => "no cancel routine was set",
         (Instr::IfCancel(_, _), Some(LiveView { cancel: true, .. })) => "Irp->Cancel is set",
         (Instr::IfCancel(_, _), _) => "Irp->Cancel isn't set",
-        _ => match scene.machine.shared().live_packet(n) {
-            Some(packet) if packet.pending_returned() => "PendingReturned is set",
-            _ => "PendingReturned isn't set",
-        },
+        _ => pending_of(scene, n),
+    }
+}
+
+/// What is said of a packet that is marked, by how it was before.
+fn marked_of(before: Option<LiveView>) -> &'static str {
+    match before {
+        Some(before) if mark_at(&before, before.depth) => {
+            "its current location is marked pending already"
+        }
+        _ => "its current location is marked pending",
+    }
+}
+
+/// Whether PendingReturned of a packet is set.
+fn pending_of(scene: &Scene<'_>, n: u64) -> &'static str {
+    match scene.machine.shared().live_packet(n) {
+        Some(packet) if packet.pending_returned() => "PendingReturned is set",
+        _ => "PendingReturned isn't set",
     }
 }
 
@@ -377,125 +370,105 @@ fn set_before(moment: &Moment, device: u8, queue: QueueName) -> &'static str {
 }
 
 /// Adds what list or slot a packet was put into or taken off.
-fn add_moved(
-    words: &mut String,
-    book: &Book<'_>,
-    scene: &Scene<'_>,
-    n: u64,
-    executed: Executed,
-) -> Result<(), AllocError> {
+fn add_moved(words: &mut Words, book: &Book<'_>, scene: &Scene<'_>, n: u64, executed: Executed) {
     let found = scene.moment.found == Some(true);
-    let instr = executed.instr;
-    match instr {
+    match executed.instr {
         Instr::Insert(_, queue) => {
-            words.push_str("put into queue ")?;
+            words.add("put into queue ");
             book.add_queue(words, executed.driver, queue)
         }
         Instr::Remove(_, _, _) | Instr::Unlink(_, _) | Instr::Dequeue(_) => {
             add_off(words, book, scene.machine, found, executed)
         }
-        Instr::Take(_, _) => words.push_str("taken out of the current slot"),
-        Instr::Begin(_) if found => words.push_str("is in the current slot already"),
-        Instr::Begin(_) => words.push_str("put into the current slot"),
-        Instr::Start(_) if found => {
-            words.push_str("waits in the device queue")?;
-            let name = QueueName::DeviceQueue;
-            if !scene.machine.set().has_cancel(executed.driver, name) {
-                return Ok(());
-            }
-            words.push_str("; its cancel routine is set")?;
-            words.push_str(set_before(scene.moment, executed.device, name))
-        }
-        Instr::Start(_) => words.push_str("put into the start list"),
+        Instr::Start(_) if found => add_waiting(words, scene, executed),
         Instr::Next => {
-            words.push_str("goes from the device queue to the start list")?;
-            match (live_before(scene.moment), scene.machine.packet(n)) {
-                (
-                    Some(LiveView { armer: Some(_), .. }),
-                    PacketView::Live(LiveView { armer: None, .. }),
-                ) => words.push_str("; its cancel routine is set no more"),
-                _ => Ok(()),
-            }
+            words.add("goes from the device queue to the start list");
+            words.add(disarmed_of(scene, n))
         }
-        _ => Ok(()),
+        _ => words.add(slot_words(executed.instr, found)),
+    }
+}
+
+/// What became of the start list or the current slot, by whether the packet was in it already.
+fn slot_words(instr: Instr, found: bool) -> &'static str {
+    match instr {
+        Instr::Take(_, _) => "taken out of the current slot",
+        Instr::Begin(_) if found => "is in the current slot already",
+        Instr::Begin(_) => "put into the current slot",
+        Instr::Start(_) => "put into the start list",
+        _ => "",
+    }
+}
+
+/// Adds that a packet waits in the device queue, and how its cancel routine was set.
+fn add_waiting(words: &mut Words, scene: &Scene<'_>, executed: Executed) {
+    words.add("waits in the device queue");
+    let name = QueueName::DeviceQueue;
+    if scene.machine.set().has_cancel(executed.driver, name) {
+        words.add("; its cancel routine is set");
+        words.add(set_before(scene.moment, executed.device, name))
+    }
+}
+
+/// That the cancel routine of a packet is set no more, if it was.
+fn disarmed_of(scene: &Scene<'_>, n: u64) -> &'static str {
+    match (live_before(scene.moment), scene.machine.packet(n)) {
+        (Some(LiveView { armer: Some(_), .. }), PacketView::Live(LiveView { armer: None, .. })) =>
+            "; its cancel routine is set no more",
+        _ => "",
     }
 }
 
 /// Adds that a packet was taken off the list of an instruction, or that it wasn't found there.
-fn add_off(
-    words: &mut String,
-    book: &Book<'_>,
-    machine: &Checked,
-    found: bool,
-    executed: Executed,
-) -> Result<(), AllocError> {
-    let Executed {
-        driver,
-        routine,
-        instr,
-        ..
-    } = executed;
-    words.push_str(if found { "taken off " } else { "isn't in " })?;
-    match instr {
+fn add_off(words: &mut Words, book: &Book<'_>, machine: &Checked, found: bool, executed: Executed) {
+    words.add(if found { "taken off " } else { "isn't in " });
+    match executed.instr {
         Instr::Remove(_, queue, _) | Instr::Unlink(_, queue) => {
-            words.push_str("queue ")?;
-            book.add_queue(words, driver, queue)?;
+            words.add("queue ");
+            book.add_queue(words, executed.driver, queue)
         }
-        _ => words.push_str("the device queue")?,
+        _ => words.add("the device queue"),
     }
-    if !found && matches!(machine.set().sort(driver, routine), Sort::Cancel) {
-        return words.push_str("; the cancel routine has it");
+    let sort = machine.set().sort(executed.driver, executed.routine);
+    if !found && matches!(sort, Sort::Cancel) {
+        words.add("; the cancel routine has it")
     }
-    Ok(())
 }
 
 /// Adds to where a packet was sent down.
-fn add_sent(
-    words: &mut String,
-    book: &Book<'_>,
-    machine: &Checked,
-    device: u8,
-    n: u64,
-) -> Result<(), AllocError> {
-    words.push_str("sent down")?;
+fn add_sent(words: &mut Words, book: &Book<'_>, machine: &Checked, device: u8, n: u64) {
+    words.add("sent down");
     if let Some(lower) = machine.set().lower(device) {
-        words.push_str(" to ")?;
-        book.add_device(words, lower)?;
+        words.add(" to ");
+        book.add_device(words, lower);
     }
-    match machine.packet(n) {
-        PacketView::Live(after) => {
-            words.push_str(", location ")?;
-            add_number(words, u64::from(after.depth))
-        }
-        _ => Ok(()),
+    if let PacketView::Live(after) = machine.packet(n) {
+        words.add(", location ");
+        add_number(words, u64::from(after.depth))
     }
 }
 
 /// Adds what an instruction did that is about no packet.
-fn add_other(
-    words: &mut String,
-    book: &Book<'_>,
-    scene: &Scene<'_>,
-    executed: Executed,
-) -> Result<(), AllocError> {
-    let event = scene.event;
-    let instr = executed.instr;
-    match instr {
-        Instr::Acquire(lock) => {
-            add_owner(words, book, event, spin(executed.device, lock.index()))
+fn add_other(words: &mut Words, book: &Book<'_>, scene: &Scene<'_>, executed: Executed) {
+    match executed.instr {
+        Instr::Acquire(_) | Instr::AcquireCancel => {
+            if let Some(thread) = thread_of(scene.event) {
+                add_ownership(words, book, thread, lock_of(executed))
+            }
         }
-        Instr::AcquireCancel => add_owner(words, book, event, Lock::SystemCancel),
-        Instr::Release(lock) => add_free(words, book, spin(executed.device, lock.index())),
-        Instr::ReleaseCancel => add_free(words, book, Lock::SystemCancel),
+        Instr::Release(_) | Instr::ReleaseCancel => {
+            add_lock(words, book, lock_of(executed));
+            words.add(" is free")
+        }
         Instr::Remove(_, queue, _) => {
-            words.push_str("queue ")?;
-            book.add_queue(words, executed.driver, queue)?;
-            words.push_str(" is empty")
+            words.add("queue ");
+            book.add_queue(words, executed.driver, queue);
+            words.add(" is empty")
         }
-        Instr::Take(_, _) => words.push_str("the current slot is empty"),
+        Instr::Take(_, _) => words.add("the current slot is empty"),
         Instr::Next => {
-            book.add_device(words, executed.device)?;
-            words.push_str(match scene.moment.found {
+            book.add_device(words, executed.device);
+            words.add(match scene.moment.found {
                 Some(true) => " is idle: no packet waits",
                 _ => " is idle already: no packet waits",
             })
@@ -505,37 +478,41 @@ fn add_other(
     }
 }
 
-/// Adds what a routine returned: what a lower driver returned, where it returns that.
-fn add_return(
-    words: &mut String,
-    form: Return,
-    returned: Option<Status>,
-) -> Result<(), AllocError> {
-    if let Some(status) = returned {
-        words.push_str(status_name(status))?;
-        return words.push_str(", which the lower driver returned");
+/// The lock that an instruction names: a spin lock of its device, else the system cancel spin lock.
+fn lock_of(executed: Executed) -> Lock {
+    match executed.instr {
+        Instr::Acquire(lock) | Instr::Release(lock) => Lock::Spin(OfDevice {
+            device: executed.device,
+            number: lock.index().min(255) as u8,
+        }),
+        _ => Lock::SystemCancel,
     }
-    words.push_str(match form {
-        Return::WithStatus(status) => status_name(status),
-        Return::Continue => "completion goes on",
-        Return::Stop => "STATUS_MORE_PROCESSING_REQUIRED: the packet is held",
-        Return::Lower(_) | Return::Void => "",
-    })
+}
+
+/// Adds what a routine returned: what a lower driver returned, where it returns that.
+fn add_return(words: &mut Words, form: Return, returned: Option<Status>) {
+    match returned {
+        Some(status) => {
+            words.add(status_name(status));
+            words.add(", which the lower driver returned")
+        }
+        None => words.add(match form {
+            Return::WithStatus(status) => status_name(status),
+            Return::Continue => "completion goes on",
+            Return::Stop => "STATUS_MORE_PROCESSING_REQUIRED: the packet is held",
+            Return::Lower(_) | Return::Void => "",
+        }),
+    }
 }
 
 /// Adds what registers and cells have become, and whether a routine jumps.
-fn add_numbers(
-    words: &mut String,
-    book: &Book<'_>,
-    scene: &Scene<'_>,
-    instr: Instr,
-) -> Result<(), AllocError> {
+fn add_numbers(words: &mut Words, book: &Book<'_>, scene: &Scene<'_>, instr: Instr) {
     let (Some(acting), Some(thread), Some(after)) = (
         scene.moment.acting,
         thread_of(scene.event),
         activation_after(scene),
     ) else {
-        return Ok(());
+        return;
     };
     match instr {
         Instr::Load(r, cell) => add_loaded(words, book, r, CellKind::Plain, cell, after),
@@ -544,34 +521,4 @@ fn add_numbers(
         Instr::StorePaged(cell, r) => add_stored(words, book, CellKind::Paged, cell, r, after),
         _ => add_alone(words, book, thread, acting.frame, scene.machine),
     }
-}
-
-/// A spin lock of a device.
-fn spin(device: u8, number: usize) -> Lock {
-    Lock::Spin(OfDevice {
-        device,
-        number: number.min(255) as u8,
-    })
-}
-
-/// Adds who owns a lock now.
-fn add_owner(
-    words: &mut String,
-    book: &Book<'_>,
-    event: &Event,
-    lock: Lock,
-) -> Result<(), AllocError> {
-    if let Some(thread) = thread_of(event) {
-        words.push_str("thread ")?;
-        add_number(words, u64::from(thread))?;
-        words.push_str(" owns ")?;
-        add_lock(words, book, lock)?;
-    }
-    Ok(())
-}
-
-/// Adds that a lock is free.
-fn add_free(words: &mut String, book: &Book<'_>, lock: Lock) -> Result<(), AllocError> {
-    add_lock(words, book, lock)?;
-    words.push_str(" is free")
 }
