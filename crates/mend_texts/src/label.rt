@@ -1,7 +1,6 @@
 //! Labels by their names.
 
-use std::alloc::AllocError;
-use text::add_bytes;
+use words::Words;
 
 /// The name of a label.
 #[derive(Clone, Copy)]
@@ -13,13 +12,18 @@ pub enum Label<'a> {
 }
 
 /// Adds the name of a label.
-///
-/// # Errors
-///
-/// When memory runs out.
-pub fn add_label(prose: &mut String, label: Label<'_>) -> Result<(), AllocError> {
+pub fn add_label(words: &mut Words, label: Label<'_>) {
     match label {
-        Label::Given(name) => add_bytes(prose, name),
-        Label::Made(number) => write!(prose, "new{number}"),
+        Label::Given(name) => add_bytes(words, name),
+        Label::Made(number) => {
+            words.add("new");
+            words.add_number(number as u64)
+        }
     }
+}
+
+/// Adds bytes of a text.
+pub(crate) fn add_bytes(words: &mut Words, bytes: &[u8]) {
+    let done = text::add_bytes(&mut words.text, bytes);
+    words.note(done)
 }

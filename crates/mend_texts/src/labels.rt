@@ -4,6 +4,7 @@ use crate::rows::{How, Row};
 use crate::{Label, add_label};
 use driver_set::Instr;
 use std::alloc::{AllocError, Global};
+use words::Words;
 
 /// The labels of a routine behind edits, by positions.
 #[derive(Drop)]
@@ -24,14 +25,23 @@ impl<'a> Labels<'a> {
         news: &[Instr],
         rows: &[Row],
     ) -> Result<Labels<'a>, AllocError> {
-        let used = vec![in alloc; false; old.len()]?;
-        let new = vec![in alloc; None; news.len()]?;
-        let mut labels = Labels { old, used, new };
+        let mut labels = Labels::none(alloc, old, news.len())?;
         labels.follow_jumps(olds, news, rows);
         labels.stay_at_targets(news, rows);
         labels.make_missing(alloc, news)?;
         labels.stay_unused(rows);
         Ok(labels)
+    }
+
+    /// No label at so many positions.
+    fn none(
+        alloc: Global,
+        old: Vec<Option<&'a [u8]>>,
+        count: usize,
+    ) -> Result<Labels<'a>, AllocError> {
+        let used = vec![in alloc; false; old.len()]?;
+        let new = vec![in alloc; None; count]?;
+        Ok(Labels { old, used, new })
     }
 
     /// The label at a position.
@@ -127,9 +137,7 @@ impl<'a> Labels<'a> {
     /// The next number whose label the text hasn't.
     fn next_free(&self, alloc: Global, number: u16) -> Result<u16, AllocError> {
         for next in number.saturating_add(1)..u16::MAX {
-            let mut name = String::new(alloc);
-            add_label(&mut name, Label::Made(next))?;
-            if !self.has(name.as_bytes()) {
+            if !self.has(made_name(alloc, next)?.as_bytes()) {
                 return Ok(next);
             }
         }
@@ -143,6 +151,13 @@ impl<'a> Labels<'a> {
             None => false,
         })
     }
+}
+
+/// The name of the label of a number that the text hasn't.
+fn made_name(alloc: Global, number: u16) -> Result<String, AllocError> {
+    let mut name = Words::new(alloc);
+    add_label(&mut name, Label::Made(number));
+    name.finish()
 }
 
 /// Where the jump led that an instruction was.

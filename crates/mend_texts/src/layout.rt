@@ -1,9 +1,10 @@
 //! How a line is laid out: what stands before its words, its label, its comment. A line that is
 //! written anew keeps that.
 
-use crate::{Label, add_label};
+use crate::label::{Label, add_bytes, add_label};
 use model::items::Items;
 use std::alloc::{AllocError, Global};
+use words::Words;
 
 /// A line, in parts.
 #[derive(Clone, Copy)]
@@ -78,43 +79,42 @@ pub(crate) fn laid_out(
     label: Option<Label<'_>>,
     words: &[u8],
 ) -> Result<String, AllocError> {
-    let mut line = String::new(alloc);
-    add_before_words(alloc, &mut line, as_line, label)?;
-    text::add_bytes(&mut line, words)?;
+    let mut line = Words::new(alloc);
+    match label {
+        Some(label) => add_labelled(&mut line, as_line, label),
+        None => add_bytes(&mut line, as_line.lead),
+    }
+    add_bytes(&mut line, words);
     if as_line.comment.starts_with(b";") {
-        line.push_str(" ")?;
-        for _ in line.len()..as_line.width {
-            line.push_str(" ")?;
+        line.add(" ");
+        for _ in line.text.len()..as_line.width {
+            line.add(" ");
         }
     }
-    text::add_bytes(&mut line, as_line.comment)?;
-    Ok(line)
+    add_bytes(&mut line, as_line.comment);
+    line.finish()
 }
 
-/// Adds what stands before the words of a line. A label that is new takes the place of blanks.
-fn add_before_words(
-    alloc: Global,
-    line: &mut String,
-    as_line: Parts<'_>,
-    label: Option<Label<'_>>,
-) -> Result<(), AllocError> {
-    let Some(label) = label else {
-        return text::add_bytes(line, as_line.lead);
-    };
-    let mut name = String::new(alloc);
-    add_label(&mut name, label)?;
-    name.push_str(":")?;
+/// Adds what stands before the words of a line with a label. One that is new takes the place of
+/// blanks.
+fn add_labelled(line: &mut Words, as_line: Parts<'_>, label: Label<'_>) {
     if as_line.label.is_some() {
-        text::add_bytes(line, as_line.lead)?;
-        line.push_str(name.as_str())?;
-        return text::add_bytes(line, as_line.gap);
+        add_bytes(line, as_line.lead);
+        add_name(line, label);
+        add_bytes(line, as_line.gap)
+    } else {
+        add_name(line, label);
+        line.add(" ");
+        if let Some(blanks) = as_line.lead.get(line.text.len()..) {
+            add_bytes(line, blanks)
+        }
     }
-    line.push_str(name.as_str())?;
-    line.push_str(" ")?;
-    match as_line.lead.get(line.len()..) {
-        Some(blanks) => text::add_bytes(line, blanks),
-        None => Ok(()),
-    }
+}
+
+/// Adds a label with its colon.
+pub(crate) fn add_name(line: &mut Words, label: Label<'_>) {
+    add_label(line, label);
+    line.add(":")
 }
 
 /// A line whose word of an index is another one, or that has it behind the others if it has fewer.
@@ -125,26 +125,36 @@ pub(crate) fn with_word(
     new: &str,
 ) -> Result<String, AllocError> {
     let parts = parts_of(raw);
-    let mut words = String::new(alloc);
-    let mut rest = parts.body;
-    for place in 0..index {
+    let words = body_with_word(alloc, parts.body, index, new)?;
+    laid_out(alloc, parts, None, words.as_bytes())
+}
+
+/// The same of the words of a line.
+fn body_with_word(
+    alloc: Global,
+    body: &[u8],
+    index: usize,
+    new: &str,
+) -> Result<String, AllocError> {
+    let mut words = Words::new(alloc);
+    let mut rest = body;
+    for _ in 0..index {
         let (found, behind) = split(rest, word(rest));
-        text::add_bytes(&mut words, found)?;
+        add_bytes(&mut words, found);
         let (gap, behind) = split(behind, blanks(behind));
-        if gap.is_empty() {
-            words.push_str(" ")?;
-        } else {
-            text::add_bytes(&mut words, gap)?;
-        }
+        add_bytes(
+            &mut words,
+            if gap.is_empty() { b" ".as_slice() } else { gap },
+        );
         rest = behind;
-        if rest.is_empty() && place < index {
+        if rest.is_empty() {
             break;
         }
     }
-    words.push_str(new)?;
+    words.add(new);
     let (_replaced, behind) = split(rest, word(rest));
-    text::add_bytes(&mut words, behind)?;
-    laid_out(alloc, parts, None, words.as_bytes())
+    add_bytes(&mut words, behind);
+    words.finish()
 }
 
 /// Bytes in two parts.

@@ -1,5 +1,8 @@
 //! Mends of a driver set as changes of its text: whole lines, which keep comments, layout and
-//! names.
+//! names; and the sentences that tell them. The edits of a mend are followed routine by routine
+//! beside the lines where things stand. Each line that they change is written anew as the text lays
+//! it out, with instructions in the names of the text, and for each change a sentence tells what is
+//! done and what is so then.
 #![tactic(auto)]
 
 pub mod label;

@@ -30,16 +30,10 @@ impl<'a> Page<'a> {
     /// A text, read line by line.
     pub fn of(alloc: Global, text: &'a [u8]) -> Result<Page<'a>, AllocError> {
         let outline = outline(alloc, text)?;
-        let names = SetNames::of(alloc, text, &outline)?;
-        let mut lines = Vec::new(alloc);
-        let mut left = Lines::of(text);
-        while let Some(line) = left.next() {
-            lines.push(line)?;
-        }
         Ok(Page {
             text,
-            lines,
-            names,
+            lines: lines_of(alloc, text)?,
+            names: SetNames::of(alloc, text, &outline)?,
             outline,
         })
     }
@@ -63,6 +57,16 @@ impl<'a> Page<'a> {
         }
         None
     }
+}
+
+/// The lines of a text, each without its LF.
+fn lines_of(alloc: Global, text: &[u8]) -> Result<Vec<&[u8]>, AllocError> {
+    let mut lines = Vec::new(alloc);
+    let mut left = Lines::of(text);
+    while let Some(line) = left.next() {
+        lines.push(line)?;
+    }
+    Ok(lines)
 }
 
 /// The index of a line, by its number.

@@ -1,19 +1,17 @@
 //! An edited routine as changes of lines, with a sentence for each.
 
+use crate::label::add_bytes;
 use crate::labels::Labels;
-use crate::layout::{Parts, laid_out, line_of, parts_of};
+use crate::layout::{Parts, add_name, laid_out, parts_of};
 use crate::page::{Page, number_of};
 use crate::rows::{How, Row};
-use crate::texts::Mended;
-use crate::{
-    Label, add_label, guessed, inserted, instruction_text, labels_line, moved, replaced, taken_out,
-};
+use crate::texts::{Making, push_made};
+use crate::{Label, guessed, inserted, instruction_text, labels_line, moved, replaced, taken_out};
 use driver_set::Instr;
 use model::abs::Rule;
-use model::items::Items;
 use std::alloc::{AllocError, Global};
-use text::add_bytes;
 use verifier_names::Names;
+use words::Words;
 
 /// A routine before and behind edits.
 #[derive(Clone, Copy)]
@@ -41,7 +39,7 @@ struct Walk {
 }
 
 /// Adds the changes that edits make of the lines of a routine.
-pub(crate) fn render(edited: Edited<'_, '_>, mended: &mut Mended) -> Result<(), AllocError> {
+pub(crate) fn render(edited: Edited<'_, '_>, making: &mut Making) {
     let mut walk = Walk {
         next: match edited.places.first() {
             Some(first) => *first,
@@ -51,12 +49,12 @@ pub(crate) fn render(edited: Edited<'_, '_>, mended: &mut Mended) -> Result<(), 
     };
     for (position, row) in edited.rows.iter().enumerate() {
         match edited.place_of(row) {
-            Some(line) => go_on(edited, &mut walk, position, line, mended)?,
-            None => put_in(edited, &mut walk, position, mended)?,
+            Some(line) => go_on(edited, &mut walk, position, line, making),
+            None => put_in(edited, &mut walk, position, making),
         }
     }
-    tell_put(edited, &mut walk, edited.end, mended)?;
-    pass_to(edited, &mut walk, edited.end, mended)
+    tell_put(edited, &mut walk, edited.end, making);
+    pass_to(edited, &mut walk, edited.end, making)
 }
 
 impl<'w, 'a> Edited<'w, 'a> {
@@ -86,9 +84,13 @@ impl<'w, 'a> Edited<'w, 'a> {
 
     /// The words on the line of an index, behind a label.
     fn behind(&self, label: Option<Label<'_>>, line: usize) -> Result<String, AllocError> {
-        let mut words = String::new(self.alloc);
-        add_bytes(&mut words, self.body(line))?;
-        labelled(self.alloc, label, words)
+        let mut words = Words::new(self.alloc);
+        if let Some(label) = label {
+            add_name(&mut words, label);
+            words.add(" ");
+        }
+        add_bytes(&mut words, self.body(line));
+        words.finish()
     }
 
     /// The label at a position, if the line of the instruction there has it already.
@@ -101,17 +103,23 @@ impl<'w, 'a> Edited<'w, 'a> {
         }
     }
 
-    /// Whether the instruction at a position is written in other words than it was, since its label
-    /// has another name.
-    fn is_renamed(&self, position: usize) -> Result<bool, AllocError> {
-        let Some(row) = self.rows.get(position) else {
-            return Ok(false);
+    /// Where the instruction at a position stood in the routine, if it stood there.
+    fn origin_of(&self, position: usize) -> Option<u16> {
+        self.rows.get(position)?.origin
+    }
+
+    /// The instruction at a position in words, if they are others than they were, since it is
+    /// another one or its label has another name.
+    fn renamed(&self, position: usize) -> Result<Option<String>, AllocError> {
+        let Some(origin) = self.origin_of(position) else {
+            return Ok(None);
         };
-        let Some(origin) = row.origin else {
-            return Ok(false);
-        };
-        let (old, new) = (self.words_before(origin as usize)?, self.words(position)?);
-        Ok(old.as_bytes() != new.as_bytes())
+        let old = self.words_before(origin as usize)?;
+        let new = self.words(position)?;
+        if old.as_bytes() == new.as_bytes() {
+            return Ok(None);
+        }
+        Ok(Some(new))
     }
 
     /// The instruction at a position behind the edits, in words.
@@ -175,30 +183,14 @@ impl<'w, 'a> Edited<'w, 'a> {
 
     /// The line of an instruction that stood in the routine, if it is written otherwise now.
     fn written_anew(&self, position: usize, line: usize) -> Result<Option<String>, AllocError> {
-        let Some(row) = self.rows.get(position) else {
-            return Ok(None);
-        };
-        let Some(origin) = row.origin else {
-            return Ok(None);
-        };
         let parts = parts_of(self.page.line(line));
         let label = self.labels.at(position);
-        let old = self.words_before(origin as usize)?;
-        let new = self.words(position)?;
-        if old.as_bytes() != new.as_bytes() {
-            let line = laid_out(
-                self.alloc,
-                self.layout(position, parts),
-                label,
-                new.as_bytes(),
-            )?;
-            return Ok(Some(line));
+        let as_line = self.layout(position, parts);
+        match self.renamed(position)? {
+            Some(new) => Ok(Some(laid_out(self.alloc, as_line, label, new.as_bytes())?)),
+            None if is_same(label, parts.label) || self.origin_of(position).is_none() => Ok(None),
+            None => Ok(Some(laid_out(self.alloc, as_line, label, parts.body)?)),
         }
-        if is_same(label, parts.label) {
-            return Ok(None);
-        }
-        let line = laid_out(self.alloc, self.layout(position, parts), label, parts.body)?;
-        Ok(Some(line))
     }
 
     /// How a line is laid out that is written anew: one that loses its label begins where lines
@@ -218,179 +210,166 @@ fn go_on(
     walk: &mut Walk,
     position: usize,
     line: usize,
-    mended: &mut Mended,
-) -> Result<(), AllocError> {
-    tell_put(edited, walk, line, mended)?;
+    making: &mut Making,
+) {
+    tell_put(edited, walk, line, making);
     if line < walk.next || edited.is_moved(position) {
-        return put_elsewhere(edited, walk, position, line, mended);
+        put_elsewhere(edited, walk, position, line, making)
+    } else {
+        pass_to(edited, walk, line, making);
+        walk.next = line.saturating_add(1);
+        let anew = edited.written_anew(position, line);
+        if !matches!(anew, Ok(None)) {
+            making.delete(line);
+            making.insert_made(walk.next, whole(anew));
+            tell_replaced(edited, position, line, making);
+            tell_label(edited, position, line, making)
+        }
     }
-    pass_to(edited, walk, line, mended)?;
-    walk.next = line.saturating_add(1);
-    if let Some(new) = edited.written_anew(position, line)? {
-        mended.delete(edited.alloc, line)?;
-        mended.insert(edited.alloc, walk.next, line_of(new))?;
-        tell_replaced(edited, position, line, mended)?;
-        tell_label(edited, position, line, mended)?;
+}
+
+/// A line that is there, where it could be made.
+fn whole(line: Result<Option<String>, AllocError>) -> Result<String, AllocError> {
+    match line {
+        Ok(Some(line)) => Ok(line),
+        _ => Err(AllocError),
     }
-    Ok(())
 }
 
 /// Puts the line of an instruction elsewhere.
 fn put_elsewhere(
     edited: Edited<'_, '_>,
-    walk: &mut Walk,
+    walk: &Walk,
     position: usize,
     line: usize,
-    mended: &mut Mended,
-) -> Result<(), AllocError> {
+    making: &mut Making,
+) {
     if edited.is_moved(position) {
-        let before = edited.line_from(position.saturating_add(1));
-        let (from, to) = (number_of(line), number_of(before));
-        let words = edited.behind(edited.kept_label(position, line), line)?;
-        let told = moved(edited.alloc, from, words.as_bytes(), to, edited.rule)?;
-        mended.sentences.push(told)?;
+        making.tell(moved_words(edited, position, line));
     }
-    tell_label(edited, position, line, mended)?;
-    let new = match edited.written_anew(position, line)? {
-        Some(new) => line_of(new),
-        None => Items::of(Vec::from_slice(edited.alloc, edited.page.line(line))?),
-    };
-    mended.insert(edited.alloc, walk.next, new)
+    tell_label(edited, position, line, making);
+    match edited.written_anew(position, line) {
+        Ok(None) => making.insert_copy(walk.next, edited.page.line(line)),
+        anew => making.insert_made(walk.next, whole(anew)),
+    }
+}
+
+/// That a line is moved.
+fn moved_words(edited: Edited<'_, '_>, position: usize, line: usize) -> Result<String, AllocError> {
+    let before = edited.line_from(position.saturating_add(1));
+    let words = edited.behind(edited.kept_label(position, line), line)?;
+    moved(
+        edited.alloc,
+        number_of(line),
+        words.as_bytes(),
+        number_of(before),
+        edited.rule,
+    )
 }
 
 /// Puts a line in for an instruction that is new.
-fn put_in(
-    edited: Edited<'_, '_>,
-    walk: &mut Walk,
-    position: usize,
-    mended: &mut Mended,
-) -> Result<(), AllocError> {
-    let words = edited.words(position)?;
-    let label = edited.labels.at(position);
-    let as_line = edited.bare_near(position);
-    let line = laid_out(edited.alloc, as_line, label, words.as_bytes())?;
-    mended.insert(edited.alloc, walk.next, line_of(line))?;
-    walk.put.push(labelled(edited.alloc, label, words)?)?;
-    note_guess(edited, position, mended)
+fn put_in(edited: Edited<'_, '_>, walk: &mut Walk, position: usize, making: &mut Making) {
+    if let Some(words) = making.taken(edited.words(position)) {
+        let label = edited.labels.at(position);
+        let as_line = edited.bare_near(position);
+        let line = laid_out(edited.alloc, as_line, label, words.as_bytes());
+        making.insert_made(walk.next, line);
+        let put = push_made(&mut walk.put, labelled(edited.alloc, label, words));
+        making.note(put);
+        note_guess(edited, position, making)
+    }
 }
 
 /// Words behind the label that their line has, if it has one.
 fn labelled(alloc: Global, label: Option<Label<'_>>, words: String) -> Result<String, AllocError> {
-    let Some(label) = label else {
-        return Ok(words);
-    };
-    let mut line = String::new(alloc);
-    add_label(&mut line, label)?;
-    write!(line, ": {}", words.as_str())?;
-    Ok(line)
+    match label {
+        Some(label) => behind_label(alloc, label, words.as_str()),
+        None => Ok(words),
+    }
+}
+
+/// Words behind a label.
+fn behind_label(alloc: Global, label: Label<'_>, words: &str) -> Result<String, AllocError> {
+    let mut line = Words::new(alloc);
+    add_name(&mut line, label);
+    line.add(" ");
+    line.add(words);
+    line.finish()
 }
 
 /// Tells which lines were put in before a line.
-fn tell_put(
-    edited: Edited<'_, '_>,
-    walk: &mut Walk,
-    line: usize,
-    mended: &mut Mended,
-) -> Result<(), AllocError> {
-    if walk.put.is_empty() {
-        return Ok(());
+fn tell_put(edited: Edited<'_, '_>, walk: &mut Walk, line: usize, making: &mut Making) {
+    if !walk.put.is_empty() {
+        let put = walk.put.as_slice();
+        making.tell(inserted(edited.alloc, put, number_of(line), edited.rule));
+        walk.put.clear()
     }
-    let put = walk.put.as_slice();
-    let told = inserted(edited.alloc, put, number_of(line), edited.rule)?;
-    mended.sentences.push(told)?;
-    walk.put.clear();
-    Ok(())
 }
 
 /// Tells that the words of a line are others, where an edit or a label made them so.
-fn tell_replaced(
-    edited: Edited<'_, '_>,
-    position: usize,
-    line: usize,
-    mended: &mut Mended,
-) -> Result<(), AllocError> {
-    let is_replaced = edited.is_replaced(position);
-    if !is_replaced && !edited.is_renamed(position)? {
-        return Ok(());
+fn tell_replaced(edited: Edited<'_, '_>, position: usize, line: usize, making: &mut Making) {
+    if edited.is_replaced(position) {
+        making.tell(replaced_words(edited, line, edited.words(position)));
+        note_guess(edited, position, making)
+    } else {
+        match edited.renamed(position) {
+            Ok(None) => {}
+            new => making.tell(replaced_words(edited, line, whole(new))),
+        }
     }
-    let new = edited.words(position)?;
+}
+
+/// That the words of a line are others.
+fn replaced_words(
+    edited: Edited<'_, '_>,
+    line: usize,
+    new: Result<String, AllocError>,
+) -> Result<String, AllocError> {
+    let new = new?;
     let old = edited.body(line);
-    let told = replaced(
+    replaced(
         edited.alloc,
         number_of(line),
         old,
         new.as_bytes(),
         edited.rule,
-    )?;
-    mended.sentences.push(told)?;
-    if is_replaced {
-        note_guess(edited, position, mended)?;
-    }
-    Ok(())
+    )
 }
 
 /// Tells that a line has a label that it hadn't: one that is new, or that of a line which is taken
 /// out or moved.
-fn tell_label(
-    edited: Edited<'_, '_>,
-    position: usize,
-    line: usize,
-    mended: &mut Mended,
-) -> Result<(), AllocError> {
-    if edited.kept_label(position, line).is_some() {
-        return Ok(());
+fn tell_label(edited: Edited<'_, '_>, position: usize, line: usize, making: &mut Making) {
+    if edited.kept_label(position, line).is_none() {
+        if let Some(label) = edited.labels.at(position) {
+            making.tell(labels_line(edited.alloc, number_of(line), label, edited.rule))
+        }
     }
-    if let Some(label) = edited.labels.at(position) {
-        let told = labels_line(edited.alloc, number_of(line), label, edited.rule)?;
-        mended.sentences.push(told)?;
-    }
-    Ok(())
 }
 
 /// Notes what was guessed of an instruction that is new.
-fn note_guess(
-    edited: Edited<'_, '_>,
-    position: usize,
-    mended: &mut Mended,
-) -> Result<(), AllocError> {
+fn note_guess(edited: Edited<'_, '_>, position: usize, making: &mut Making) {
     if let Some(instr) = edited.news.get(position) {
-        if let Some(guess) = guessed(edited.alloc, *instr)? {
-            mended.guesses.push(guess)?;
-        }
+        making.guess(guessed(edited.alloc, *instr))
     }
-    Ok(())
 }
 
 /// Passes lines up to one: those of instructions are taken out, which were or stand elsewhere.
-fn pass_to(
-    edited: Edited<'_, '_>,
-    walk: &mut Walk,
-    line: usize,
-    mended: &mut Mended,
-) -> Result<(), AllocError> {
+fn pass_to(edited: Edited<'_, '_>, walk: &mut Walk, line: usize, making: &mut Making) {
     for passed in walk.next..line {
         if let Some(origin) = edited.places.iter().position(|place| *place == passed) {
-            mended.delete(edited.alloc, passed)?;
+            making.delete(passed);
             if !edited.rows.iter().any(|row| is_from(row, origin)) {
-                tell_taken(edited, origin, passed, mended)?;
+                making.tell(taken_words(edited, origin, passed));
             }
         }
     }
-    walk.next = walk.next.max(line);
-    Ok(())
+    walk.next = walk.next.max(line)
 }
 
-/// Tells that the line of an instruction is taken out, with its label where no line has that now.
-fn tell_taken(
-    edited: Edited<'_, '_>,
-    origin: usize,
-    line: usize,
-    mended: &mut Mended,
-) -> Result<(), AllocError> {
+/// That the line of an instruction is taken out, with its label where no line has that now.
+fn taken_words(edited: Edited<'_, '_>, origin: usize, line: usize) -> Result<String, AllocError> {
     let words = edited.behind(edited.labels.gone(origin), line)?;
-    let told = taken_out(edited.alloc, number_of(line), words.as_bytes(), edited.rule)?;
-    mended.sentences.push(told)?;
-    Ok(())
+    taken_out(edited.alloc, number_of(line), words.as_bytes(), edited.rule)
 }
 
 /// Whether an instruction stood at a position.

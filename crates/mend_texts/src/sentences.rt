@@ -1,12 +1,12 @@
 //! Changes of a text in plain words.
 
-use crate::label::{Label, add_label};
+use crate::label::{Label, add_bytes, add_label};
 use crate::reasons::reason;
 use asm_line::status_text;
 use driver_set::{Instr, Return};
 use model::abs::Rule;
 use std::alloc::{AllocError, Global};
-use text::add_bytes;
+use words::Words;
 
 /// That lines are put in before the line of a number.
 ///
@@ -15,21 +15,19 @@ use text::add_bytes;
 /// When memory runs out.
 pub fn inserted(
     alloc: Global,
-    words: &[String],
+    lines: &[String],
     before: u64,
     rule: Rule,
 ) -> Result<String, AllocError> {
-    let mut prose = String::new(alloc);
-    prose.push_str("insert ")?;
-    for (index, line) in words.iter().enumerate() {
-        if index > 0 {
-            prose.push_str(", ")?;
-        }
-        add_quoted(&mut prose, line.as_bytes())?;
+    let mut words = Words::new(alloc);
+    words.add("insert ");
+    for (index, line) in lines.iter().enumerate() {
+        words.add(if index > 0 { ", " } else { "" });
+        add_quoted(&mut words, line.as_bytes());
     }
-    write!(prose, " before line {before}")?;
-    add_reason(&mut prose, rule)?;
-    Ok(prose)
+    add_before(&mut words, before);
+    add_reason(&mut words, rule);
+    words.finish()
 }
 
 /// That the words of a line are others.
@@ -44,11 +42,11 @@ pub fn replaced(
     new: &[u8],
     rule: Rule,
 ) -> Result<String, AllocError> {
-    let mut prose = about_line(alloc, "replace", number, old)?;
-    prose.push_str(" by ")?;
-    add_quoted(&mut prose, new)?;
-    add_reason(&mut prose, rule)?;
-    Ok(prose)
+    let mut words = about_line(alloc, "replace line ", number, old);
+    words.add(" by ");
+    add_quoted(&mut words, new);
+    add_reason(&mut words, rule);
+    words.finish()
 }
 
 /// That a line is taken out.
@@ -57,9 +55,9 @@ pub fn replaced(
 ///
 /// When memory runs out.
 pub fn taken_out(alloc: Global, number: u64, old: &[u8], rule: Rule) -> Result<String, AllocError> {
-    let mut prose = about_line(alloc, "take out", number, old)?;
-    add_reason(&mut prose, rule)?;
-    Ok(prose)
+    let mut words = about_line(alloc, "take out line ", number, old);
+    add_reason(&mut words, rule);
+    words.finish()
 }
 
 /// That a line stands before the one of another number.
@@ -74,10 +72,10 @@ pub fn moved(
     before: u64,
     rule: Rule,
 ) -> Result<String, AllocError> {
-    let mut prose = about_line(alloc, "move", number, old)?;
-    write!(prose, " before line {before}")?;
-    add_reason(&mut prose, rule)?;
-    Ok(prose)
+    let mut words = about_line(alloc, "move line ", number, old);
+    add_before(&mut words, before);
+    add_reason(&mut words, rule);
+    words.finish()
 }
 
 /// That a line has a label that is new.
@@ -91,32 +89,42 @@ pub fn labels_line(
     label: Label<'_>,
     rule: Rule,
 ) -> Result<String, AllocError> {
-    let mut prose = String::new(alloc);
-    prose.push_str("put the label \"")?;
-    add_label(&mut prose, label)?;
-    write!(prose, "\" on line {number}")?;
-    add_reason(&mut prose, rule)?;
-    Ok(prose)
+    let mut words = Words::new(alloc);
+    words.add("put the label \"");
+    add_label(&mut words, label);
+    words.add("\" on line ");
+    words.add_number(number);
+    add_reason(&mut words, rule);
+    words.finish()
 }
 
-/// What is done with a line.
-fn about_line(alloc: Global, done: &str, number: u64, words: &[u8]) -> Result<String, AllocError> {
-    let mut prose = String::new(alloc);
-    write!(prose, "{done} line {number} ")?;
-    add_quoted(&mut prose, words)?;
-    Ok(prose)
+/// What is done with a line of these words.
+fn about_line(alloc: Global, done: &str, number: u64, line: &[u8]) -> Words {
+    let mut words = Words::new(alloc);
+    words.add(done);
+    words.add_number(number);
+    words.add(" ");
+    add_quoted(&mut words, line);
+    words
 }
 
-/// Adds words of a text.
-fn add_quoted(prose: &mut String, words: &[u8]) -> Result<(), AllocError> {
-    prose.push_str("\"")?;
-    add_bytes(prose, words)?;
-    prose.push_str("\"")
+/// Adds the words of a line.
+fn add_quoted(words: &mut Words, line: &[u8]) {
+    words.add("\"");
+    add_bytes(words, line);
+    words.add("\"")
+}
+
+/// Adds before which line.
+fn add_before(words: &mut Words, number: u64) {
+    words.add(" before line ");
+    words.add_number(number)
 }
 
 /// Adds what is so then.
-fn add_reason(prose: &mut String, rule: Rule) -> Result<(), AllocError> {
-    write!(prose, ": {}", reason(rule))
+fn add_reason(words: &mut Words, rule: Rule) {
+    words.add(": ");
+    words.add(reason(rule))
 }
 
 /// What was guessed where an instruction was made up.
@@ -125,15 +133,33 @@ fn add_reason(prose: &mut String, rule: Rule) -> Result<(), AllocError> {
 ///
 /// When memory runs out.
 pub fn guessed(alloc: Global, instr: Instr) -> Result<Option<String>, AllocError> {
-    let mut prose = String::new(alloc);
+    match guess_in(&instr) {
+        Some(guess) => Ok(Some(guess_words(alloc, guess, instr)?)),
+        None => Ok(None),
+    }
+}
+
+/// What may be a guess in an instruction.
+fn guess_in(instr: &Instr) -> Option<&'static str> {
+    match *instr {
+        Instr::Complete(..) | Instr::Ret(Return::WithStatus(_)) => Some("the status "),
+        Instr::Const(..) => Some("the number "),
+        Instr::Loop(_) => Some("the number of turns"),
+        Instr::JumpIfZero(..) | Instr::JumpIfLess(..) => Some("the condition"),
+        _ => None,
+    }
+}
+
+/// A guess, with the status or the number that it is.
+fn guess_words(alloc: Global, guess: &str, instr: Instr) -> Result<String, AllocError> {
+    let mut words = Words::new(alloc);
+    words.add(guess);
     match instr {
         Instr::Complete(_, status) | Instr::Ret(Return::WithStatus(status)) => {
-            write!(prose, "the status {}", status_text(status))?;
+            words.add(status_text(status))
         }
-        Instr::Const(_, number) => write!(prose, "the number {number}")?,
-        Instr::Loop(_) => prose.push_str("the number of turns")?,
-        Instr::JumpIfZero(..) | Instr::JumpIfLess(..) => prose.push_str("the condition")?,
-        _ => return Ok(None),
+        Instr::Const(_, number) => words.add_number(number as u64),
+        _ => {}
     }
-    Ok(Some(prose))
+    words.finish()
 }

@@ -1,14 +1,17 @@
 //! Lines of queues, of StartIo routines and of devices, with a word of theirs changed.
 
-use crate::layout::{line_of, parts_of, with_word};
+use crate::label::add_bytes;
+use crate::layout::{parts_of, with_word};
 use crate::page::{Page, Thing, number_of};
-use crate::texts::Mended;
+use crate::texts::Making;
 use crate::tracing::LineEdit;
 use crate::{inserted, replaced};
 use asm_line::{Body, read_line};
 use driver_set::QueueName;
 use mend_changes::edit::{Change, Edit};
+use model::abs::Rule;
 use std::alloc::{AllocError, Global};
+use words::Words;
 
 /// A line that is changed, or put in before another one.
 #[derive(Drop)]
@@ -20,6 +23,14 @@ struct Changed {
     words: String,
 }
 
+impl Changed {
+    /// Changes one more word.
+    fn change(&mut self, alloc: Global, index: usize, word: &str) -> Result<(), AllocError> {
+        self.words = with_word(alloc, self.words.as_bytes(), index, word)?;
+        Ok(())
+    }
+}
+
 /// A word of a line.
 #[derive(Clone, Copy)]
 struct Spot {
@@ -29,26 +40,38 @@ struct Spot {
 }
 
 /// Adds the changes that edits make of such lines, with a sentence for each line.
-pub(crate) fn render_lines(
-    alloc: Global,
-    page: &Page<'_>,
-    edits: &[LineEdit],
-    mended: &mut Mended,
-) -> Result<(), AllocError> {
-    let mut all: Vec<Changed> = Vec::new(alloc);
-    for line in edits {
-        if let Some(spot) = spot_of(page, &line.edit) {
-            let word = word_of(alloc, page, &line.edit)?;
-            change(alloc, page, &mut all, &spot, word.as_str())?;
+pub(crate) fn render_lines(page: &Page<'_>, edits: &[LineEdit], making: &mut Making) {
+    if let Some(first) = edits.first() {
+        for changed in changed_by(page, edits, making).iter() {
+            tell(page, changed, first, making);
         }
     }
-    let Some(first) = edits.first() else {
-        return Ok(());
-    };
-    for changed in all.iter() {
-        tell(alloc, page, changed, first, mended)?;
+}
+
+/// The lines that edits change, each as all of them make it.
+fn changed_by(page: &Page<'_>, edits: &[LineEdit], making: &mut Making) -> Vec<Changed> {
+    let mut all: Vec<Changed> = Vec::new(making.alloc);
+    for line in edits {
+        let done = change_by(making.alloc, page, &mut all, &line.edit);
+        making.note(done);
     }
-    Ok(())
+    all
+}
+
+/// Changes the word of a line that an edit is about.
+fn change_by(
+    alloc: Global,
+    page: &Page<'_>,
+    all: &mut Vec<Changed>,
+    edit: &Edit,
+) -> Result<(), AllocError> {
+    match spot_of(page, edit) {
+        Some(spot) => {
+            let word = word_of(alloc, page, edit)?;
+            change(alloc, page, all, &spot, word.as_str())
+        }
+        None => Ok(()),
+    }
 }
 
 /// Changes a word of a line, which may have been changed already.
@@ -61,54 +84,53 @@ fn change(
 ) -> Result<(), AllocError> {
     for changed in all.iter_mut() {
         if changed.index == spot.index && changed.is_new == spot.is_new {
-            changed.words = with_word(alloc, changed.words.as_bytes(), spot.word, word)?;
-            return Ok(());
+            return changed.change(alloc, spot.word, word);
         }
     }
+    all.push(changed_at(alloc, page, spot, word)?)?;
+    Ok(())
+}
+
+/// A line with its first change.
+fn changed_at(
+    alloc: Global,
+    page: &Page<'_>,
+    spot: &Spot,
+    word: &str,
+) -> Result<Changed, AllocError> {
     let raw = if spot.is_new {
         b"startio".as_slice()
     } else {
         page.line(spot.index)
     };
-    let words = with_word(alloc, raw, spot.word, word)?;
-    all.push(Changed {
+    Ok(Changed {
         index: spot.index,
         is_new: spot.is_new,
-        words,
-    })?;
-    Ok(())
+        words: with_word(alloc, raw, spot.word, word)?,
+    })
 }
 
 /// Adds a changed line, and a sentence on it.
-fn tell(
-    alloc: Global,
-    page: &Page<'_>,
-    changed: &Changed,
-    why: &LineEdit,
-    mended: &mut Mended,
-) -> Result<(), AllocError> {
-    let mut line = String::new(alloc);
-    line.push_str(changed.words.as_str())?;
-    let number = number_of(changed.index);
-    let told = if changed.is_new {
-        let mut words = Vec::new(alloc);
-        let mut copy = String::new(alloc);
-        copy.push_str(changed.words.as_str())?;
-        words.push(copy)?;
-        inserted(alloc, words.as_slice(), number, why.rule)?
+fn tell(page: &Page<'_>, changed: &Changed, why: &LineEdit, making: &mut Making) {
+    let alloc = making.alloc;
+    if changed.is_new {
+        making.tell(inserted_words(alloc, changed, why.rule));
+        making.insert_copy(changed.index, changed.words.as_bytes())
     } else {
         let old = parts_of(page.line(changed.index)).body;
         let new = parts_of(changed.words.as_bytes()).body;
-        mended.delete(alloc, changed.index)?;
-        replaced(alloc, number, old, new, why.rule)?
-    };
-    mended.sentences.push(told)?;
-    let place = if changed.is_new {
-        changed.index
-    } else {
-        changed.index.saturating_add(1)
-    };
-    mended.insert(alloc, place, line_of(line))
+        let number = number_of(changed.index);
+        making.delete(changed.index);
+        making.tell(replaced(alloc, number, old, new, why.rule));
+        making.insert_copy(changed.index.saturating_add(1), changed.words.as_bytes())
+    }
+}
+
+/// That a line is put in.
+fn inserted_words(alloc: Global, changed: &Changed, rule: Rule) -> Result<String, AllocError> {
+    let mut words = Vec::new(alloc);
+    words.push(String::from_str(alloc, changed.words.as_str())?)?;
+    inserted(alloc, words.as_slice(), number_of(changed.index), rule)
 }
 
 /// Which word of which line an edit changes.
@@ -159,30 +181,30 @@ fn is_startio(raw: &[u8]) -> bool {
 
 /// The word that an edit puts there.
 fn word_of(alloc: Global, page: &Page<'_>, edit: &Edit) -> Result<String, AllocError> {
-    let mut word = String::new(alloc);
-    let names = page.names.in_driver(edit.driver);
+    let mut word = Words::new(alloc);
     match edit.change {
-        Change::Guard(_, lock) => write!(word, "l{}", lock.index())?,
-        Change::Cancel(_, routine) | Change::StartIo(routine) => {
-            names.add_routine_alone(&mut word, routine)?;
+        Change::Guard(_, lock) => {
+            word.add("l");
+            word.add_number(lock.index() as u64)
         }
-        Change::Stack(_, stack) => write!(word, "{stack}")?,
-        Change::Lower(_, lower) => add_device(&mut word, page, lower)?,
+        Change::Cancel(_, routine) | Change::StartIo(routine) => {
+            let names = page.names.in_driver(edit.driver);
+            names.add_routine_alone(&mut word, routine)
+        }
+        Change::Stack(_, stack) => word.add_number(stack as u64),
+        Change::Lower(_, lower) => add_device(&mut word, page, lower),
         _ => {}
     }
-    Ok(word)
+    word.finish()
 }
 
 /// Adds the name of the device of a number.
-fn add_device(word: &mut String, page: &Page<'_>, device: u8) -> Result<(), AllocError> {
-    let Some(index) = page.line_of(Thing::Device(device)) else {
-        return Ok(());
-    };
-    match read_line(page.line(index)) {
-        Ok(line) => match line.body {
-            Body::AddDevice(name, _, _, _) => text::add_bytes(word, name.bytes()),
-            _ => Ok(()),
-        },
-        Err(_) => Ok(()),
+fn add_device(word: &mut Words, page: &Page<'_>, device: u8) {
+    if let Some(index) = page.line_of(Thing::Device(device)) {
+        if let Ok(line) = read_line(page.line(index)) {
+            if let Body::AddDevice(name, _, _, _) = line.body {
+                add_bytes(word, name.bytes())
+            }
+        }
     }
 }

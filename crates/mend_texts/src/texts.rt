@@ -1,13 +1,14 @@
 //! A mended text.
 
 use crate::labels::Labels;
+use crate::layout::line_of;
 use crate::page::{Page, Thing};
 use crate::rendering::{Edited, render};
 use crate::rows::Rows;
 use crate::tables::render_lines;
 use crate::tracing::{Trace, code_of};
 use asm_line::{Body, read_line};
-use driver_set::DriverSet;
+use driver_set::{DriverSet, Instr};
 use mend_changes::edit::Edit;
 use mend_edits::Change;
 use model::abs::Rule;
@@ -32,18 +33,114 @@ pub struct Mended {
     pub guesses: Vec<String>,
 }
 
-impl Mended {
+/// Mends in the making: what is made of a text, and whether something of it is missing.
+#[derive(Drop)]
+pub(crate) struct Making {
+    pub alloc: Global,
+    mended: Mended,
+    lacks: bool,
+}
+
+impl Making {
     /// No changes.
-    fn none(alloc: Global) -> Mended {
-        Mended {
-            changes: Vec::new(alloc),
-            sentences: Vec::new(alloc),
-            guesses: Vec::new(alloc),
+    fn none(alloc: Global) -> Making {
+        Making {
+            alloc,
+            mended: Mended {
+                changes: Vec::new(alloc),
+                sentences: Vec::new(alloc),
+                guesses: Vec::new(alloc),
+            },
+            lacks: false,
         }
     }
 
+    /// What was made, if nothing of it is missing.
+    fn finish(self) -> Result<Mended, AllocError> {
+        if self.lacks {
+            return Err(AllocError);
+        }
+        Ok(self.mended)
+    }
+
+    /// Notes whether something could be done.
+    pub(crate) fn note(&mut self, done: Result<(), AllocError>) {
+        if done.is_err() {
+            self.lacks = true;
+        }
+    }
+
+    /// Takes a text that was made, or notes that it is missing.
+    pub(crate) fn taken(&mut self, made: Result<String, AllocError>) -> Option<String> {
+        if made.is_err() {
+            self.lacks = true;
+        }
+        made.ok()
+    }
+
+    /// Adds a sentence.
+    pub(crate) fn tell(&mut self, told: Result<String, AllocError>) {
+        let done = push_made(&mut self.mended.sentences, told);
+        self.note(done)
+    }
+
+    /// Adds a guess, if there is one.
+    pub(crate) fn guess(&mut self, guess: Result<Option<String>, AllocError>) {
+        let done = push_guess(&mut self.mended.guesses, guess);
+        self.note(done)
+    }
+
     /// Takes out the line of an index.
-    pub(crate) fn delete(&mut self, alloc: Global, index: usize) -> Result<(), AllocError> {
+    pub(crate) fn delete(&mut self, index: usize) {
+        let done = self.mended.delete(self.alloc, index);
+        self.note(done)
+    }
+
+    /// Puts a line in before the one of an index.
+    pub(crate) fn insert(&mut self, index: usize, line: Items<u8>) {
+        let done = self.mended.insert(self.alloc, index, line);
+        self.note(done)
+    }
+
+    /// Puts a line in that was made.
+    pub(crate) fn insert_made(&mut self, index: usize, line: Result<String, AllocError>) {
+        if let Some(line) = self.taken(line) {
+            self.insert(index, line_of(line))
+        }
+    }
+
+    /// Puts a copy of a line in.
+    pub(crate) fn insert_copy(&mut self, index: usize, line: &[u8]) {
+        match Vec::from_slice(self.alloc, line) {
+            Ok(copy) => self.insert(index, Items::of(copy)),
+            Err(_) => self.lacks = true,
+        }
+    }
+}
+
+/// Adds a text that was made to others.
+pub(crate) fn push_made(
+    all: &mut Vec<String>,
+    made: Result<String, AllocError>,
+) -> Result<(), AllocError> {
+    all.push(made?)?;
+    Ok(())
+}
+
+/// Adds a guess to others, if there is one.
+fn push_guess(
+    all: &mut Vec<String>,
+    guess: Result<Option<String>, AllocError>,
+) -> Result<(), AllocError> {
+    match guess? {
+        Some(guess) => push_made(all, Ok(guess)),
+        None => Ok(()),
+    }
+}
+
+impl Mended {
+    /// Takes out the line of an index.
+    fn delete(&mut self, alloc: Global, index: usize) -> Result<(), AllocError> {
         let place = self.place_at(index);
         if let Some(change) = self.changes.get_mut(place) {
             change.taken = change.taken.saturating_add(1);
@@ -57,12 +154,7 @@ impl Mended {
     }
 
     /// Puts a line in before the one of an index.
-    pub(crate) fn insert(
-        &mut self,
-        alloc: Global,
-        index: usize,
-        line: Items<u8>,
-    ) -> Result<(), AllocError> {
+    fn insert(&mut self, alloc: Global, index: usize, line: Items<u8>) -> Result<(), AllocError> {
         let place = self.place_at(index);
         if let Some(change) = self.changes.get_mut(place) {
             change.lines.push(line)?;
@@ -114,51 +206,74 @@ pub fn mend_text(
     mends: &[Mend<'_>],
 ) -> Result<Option<Mended>, AllocError> {
     let mut trace = Trace::of(alloc, set)?;
+    if !follow_all(alloc, &mut trace, mends)? {
+        return Ok(None);
+    }
+    Ok(Some(rendered(alloc, text, set, &trace)?))
+}
+
+/// Follows mends, one after another; whether each edit of theirs could be made.
+fn follow_all(alloc: Global, trace: &mut Trace, mends: &[Mend<'_>]) -> Result<bool, AllocError> {
     for mend in mends {
         if !trace.follow(alloc, mend.rule, mend.edits)? {
-            return Ok(None);
+            return Ok(false);
         }
     }
+    Ok(true)
+}
+
+/// What edits that were followed make of a text.
+fn rendered(
+    alloc: Global,
+    text: &[u8],
+    set: &DriverSet,
+    trace: &Trace,
+) -> Result<Mended, AllocError> {
     let page = Page::of(alloc, text)?;
-    let mut mended = Mended::none(alloc);
+    let mut making = Making::none(alloc);
     for rows in trace.routines.iter() {
-        render_routine(alloc, &page, set, &trace.set, rows, &mut mended)?;
+        render_routine(&page, set, &trace.set, rows, &mut making);
     }
-    render_lines(alloc, &page, trace.lines.as_slice(), &mut mended)?;
-    Ok(Some(mended))
+    render_lines(&page, trace.lines.as_slice(), &mut making);
+    making.finish()
 }
 
 /// Adds what edits make of a routine.
 fn render_routine(
-    alloc: Global,
     page: &Page<'_>,
     before: &DriverSet,
     behind: &DriverSet,
     rows: &Rows,
-    mended: &mut Mended,
-) -> Result<(), AllocError> {
+    making: &mut Making,
+) {
     let (driver, routine) = (rows.driver, rows.routine);
-    let olds = code_of(before, driver, routine);
-    let news = code_of(behind, driver, routine);
-    let Some(start) = page.line_of(Thing::Routine(driver, routine)) else {
-        return Ok(());
-    };
-    let Some(end) = page.line_of(Thing::RoutineEnd(driver, routine)) else {
-        return Ok(());
-    };
-    let mut places = Vec::new(alloc);
-    let mut labels = Vec::new(alloc);
-    for index in start..end {
-        if let Some(label) = step_on(page.line(index)) {
-            places.push(index)?;
-            labels.push(label)?;
-        }
+    let start = page.line_of(Thing::Routine(driver, routine));
+    let end = page.line_of(Thing::RoutineEnd(driver, routine));
+    if let (Some(start), Some(end)) = (start, end) {
+        let olds = code_of(before, driver, routine);
+        let news = code_of(behind, driver, routine);
+        let done = render_between(page, olds, news, rows, (start, end), making);
+        making.note(done)
     }
-    let labels = Labels::of(alloc, labels, olds, news, rows.rows.as_slice())?;
+}
+
+/// Adds what edits make of a routine between two lines.
+fn render_between(
+    page: &Page<'_>,
+    olds: &[Instr],
+    news: &[Instr],
+    rows: &Rows,
+    lines: (usize, usize),
+    making: &mut Making,
+) -> Result<(), AllocError> {
+    let (start, end) = lines;
+    let places = places_in(making.alloc, page, start, end)?;
+    let had = labels_on(making.alloc, page, places.as_slice())?;
+    let labels = Labels::of(making.alloc, had, olds, news, rows.rows.as_slice())?;
     let edited = Edited {
-        alloc,
+        alloc: making.alloc,
         page,
-        names: page.names.in_driver(driver),
+        names: page.names.in_driver(rows.driver),
         rule: rows.rule,
         places: places.as_slice(),
         end,
@@ -167,7 +282,37 @@ fn render_routine(
         rows: rows.rows.as_slice(),
         labels: &labels,
     };
-    render(edited, mended)
+    render(edited, making);
+    Ok(())
+}
+
+/// The indices of the lines between two that have instructions.
+fn places_in(
+    alloc: Global,
+    page: &Page<'_>,
+    start: usize,
+    end: usize,
+) -> Result<Vec<usize>, AllocError> {
+    let mut places = Vec::new(alloc);
+    for index in start..end {
+        if step_on(page.line(index)).is_some() {
+            places.push(index)?;
+        }
+    }
+    Ok(places)
+}
+
+/// The labels on lines with instructions.
+fn labels_on<'a>(
+    alloc: Global,
+    page: &Page<'a>,
+    places: &[usize],
+) -> Result<Vec<Option<&'a [u8]>>, AllocError> {
+    let mut labels = Vec::new(alloc);
+    for place in places {
+        labels.push(step_on(page.line(*place)).unwrap_or(None))?;
+    }
+    Ok(labels)
 }
 
 /// The label on a line, if there is one, where the line has an instruction.

@@ -1,13 +1,13 @@
 //! Instructions written with the names of a text.
 
-use crate::label::{Label, add_label};
+use crate::label::{Label, add_bytes, add_label};
 use asm_line::Entry;
 use driver_set::{Instr, QueueName};
 use std::alloc::{AllocError, Global};
-use text::add_bytes;
 use text::cut::Lines;
 use text::token::Tokens;
 use verifier_names::Names;
+use words::Words;
 
 /// A word of an instruction that is a name.
 #[derive(Clone, Copy)]
@@ -31,7 +31,7 @@ pub fn instruction_text(
 ) -> Result<String, AllocError> {
     let mut listed = String::new(alloc);
     Entry::Step(None, instr).write(&mut listed)?;
-    let mut prose = String::new(alloc);
+    let mut prose = Words::new(alloc);
     let mut lines = Lines::of(listed.as_bytes());
     let mut words = match lines.next() {
         Some(line) => Tokens::of(line),
@@ -39,23 +39,21 @@ pub fn instruction_text(
     };
     let mut index: usize = 0;
     while let Some(word) = words.next() {
-        if index > 0 {
-            prose.push_str(" ")?;
-        }
-        add_word(&mut prose, names, name_at(&instr, index), label, word)?;
+        prose.add(if index > 0 { " " } else { "" });
+        add_word(&mut prose, names, name_at(&instr, index), label, word);
         index = index.saturating_add(1);
     }
-    Ok(prose)
+    prose.finish()
 }
 
 /// Adds a word, or the name that stands for it.
 fn add_word(
-    prose: &mut String,
+    prose: &mut Words,
     names: Names<'_, '_>,
     named: Named,
     label: Option<Label<'_>>,
     word: &[u8],
-) -> Result<(), AllocError> {
+) {
     match named {
         Named::Label => match label {
             Some(label) => add_label(prose, label),
