@@ -2,10 +2,10 @@
 //! the plain schedule of what it makes happen.
 #![tactic(auto)]
 
+mod failure;
 pub mod finding;
 mod listing;
 mod outcome;
 pub mod schedule;
 pub mod telling;
-mod words;
 mod writing;

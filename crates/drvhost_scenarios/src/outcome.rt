@@ -4,8 +4,8 @@ ghost use Rattle.std.specs.Prelude.{◌≡◌, IfOk};
 ghost use Rattle.drvhost_devices.specs.Answer.{ended};
 ghost use Rattle.drvhost_scenarios.specs.Scenarios.{IsOutcome, failure, ok_line};
 
+use crate::failure::failure_words;
 use crate::telling::Told;
-use crate::words::failure_words;
 use drvhost_devices::fault::End;
 use interleave_texts::appending::{add, add_numbered};
 use scenario_run::playing::Playing;

@@ -24,6 +24,7 @@ use tell_uses::standing::frames_on;
 use text::add_bytes;
 use text::cut::Lines;
 use text::token::Tokens;
+use words::Words;
 
 /// What is said of a step of a scenario that fails, behind the number of its line: with the names
 /// of a text that names its set.
@@ -39,46 +40,46 @@ pub(crate) fn failure_words(
     step: &Step,
 ) -> Result<String, AllocError> {
     let book = Book::of(alloc, source)?;
-    let mut words = String::new(alloc);
+    let mut words = Words::new(alloc);
     let mut tokens = Tokens::of(line_of(text, step.line));
-    words.push_str(":")?;
+    words.add(":");
     match step.action {
         Action::Expect(expectation) => {
             let _expect = tokens.next();
-            add_subject(&mut words, &expectation, &mut tokens)?;
-            words.push_str(" expected")?;
-            add_tokens(&mut words, tokens)?;
-            words.push_str(", ")?;
-            add_found(alloc, &mut words, &book, playing, &expectation)?;
+            add_subject(&mut words, &expectation, &mut tokens);
+            words.add(" expected");
+            add_tokens(&mut words, tokens);
+            words.add(", ");
+            add_found(alloc, &mut words, &book, playing, &expectation);
         }
         Action::Together { threads, worlds } => {
-            add_tokens(&mut words, tokens)?;
-            words.push_str(": ")?;
-            add_joined(&mut words, &book, playing, &threads, worlds)?;
+            add_tokens(&mut words, tokens);
+            words.add(": ");
+            add_joined(&mut words, &book, playing, &threads, worlds);
         }
         _ => {
-            add_tokens(&mut words, tokens)?;
-            words.push_str(": ")?;
-            add_reply(&mut words, &book, playing)?;
+            add_tokens(&mut words, tokens);
+            words.add(": ");
+            add_reply(&mut words, &book, playing);
         }
     }
-    words.push_str("\n")?;
-    Ok(words)
+    words.add("\n");
+    words.finish()
 }
 
 /// Adds why threads that ran together failed: one isn't there, a step of an interleaving stopped
 /// the run or had no room in it, or more worlds were met than may be.
 fn add_joined(
-    words: &mut String,
+    words: &mut Words,
     book: &Book<'_>,
     playing: &Playing,
     threads: &[bool; 64],
     worlds: u64,
-) -> Result<(), AllocError> {
+) {
     let there = playing.threads() as usize;
     for thread in there..threads.len() {
         if threads[thread] {
-            words.push_str("no thread ")?;
+            words.add("no thread ");
             return add_number(words, thread as u64);
         }
     }
@@ -86,11 +87,11 @@ fn add_joined(
         return add_reply(words, book, playing);
     }
     if playing.count() >= MAX_EVENTS {
-        return words.push_str("more events than a schedule has");
+        return words.add("more events than a schedule has");
     }
-    words.push_str("there are more than ")?;
-    add_number(words, worlds)?;
-    words.push_str(" worlds")
+    words.add("there are more than ");
+    add_number(words, worlds);
+    words.add(" worlds")
 }
 
 /// The line of a number.
@@ -103,30 +104,31 @@ fn line_of(text: &[u8], number: u64) -> &[u8] {
 }
 
 /// Adds the tokens that are left of a line.
-fn add_tokens(words: &mut String, mut tokens: Tokens<'_>) -> Result<(), AllocError> {
+fn add_tokens(words: &mut Words, mut tokens: Tokens<'_>) {
     while let Some(token) = tokens.next() {
-        words.push_str(" ")?;
-        add_bytes(words, token)?;
+        words.add(" ");
+        add_token(words, token);
     }
-    Ok(())
+}
+
+/// Adds a token.
+fn add_token(words: &mut Words, token: &[u8]) {
+    let done = add_bytes(&mut words.text, token);
+    words.note(done);
 }
 
 /// Adds of what something is expected.
-fn add_subject(
-    words: &mut String,
-    expectation: &Expectation,
-    tokens: &mut Tokens<'_>,
-) -> Result<(), AllocError> {
+fn add_subject(words: &mut Words, expectation: &Expectation, tokens: &mut Tokens<'_>) {
     let (sort, count) = subject_of(expectation);
     if count == 0 {
-        return Ok(());
+        return;
     }
-    words.push_str(sort)?;
+    words.add(sort);
     for _ in 0..count {
-        words.push_str(" ")?;
-        add_bytes(words, tokens.next().unwrap_or(&[]))?;
+        words.add(" ");
+        add_token(words, tokens.next().unwrap_or(&[]));
     }
-    words.push_str(":")
+    words.add(":")
 }
 
 /// What its sort is called, and how many tokens of the line name it.
@@ -156,17 +158,17 @@ fn subject_of(expectation: &Expectation) -> (&'static str, usize) {
 /// Adds what is there.
 fn add_found(
     alloc: Global,
-    words: &mut String,
+    words: &mut Words,
     book: &Book<'_>,
     playing: &Playing,
     expectation: &Expectation,
-) -> Result<(), AllocError> {
+) {
     let machine = playing.machine();
     match *expectation {
         Expectation::Clean => add_amiss(alloc, words, book, playing),
         Expectation::Bug(_) => add_reply(words, book, playing),
         Expectation::Packet { packet, state } => {
-            add_packet(alloc, words, book, playing, packet)?;
+            add_packet(alloc, words, book, playing, packet);
             add_more(alloc, words, book, playing, packet, &state)
         }
         Expectation::Thread { thread, .. } => add_thread(words, book, machine, thread),
@@ -176,66 +178,56 @@ fn add_found(
         },
         Expectation::Lock { lock, .. } => add_owner(words, machine, lock),
         Expectation::Listed { device, list, .. } => add_list(words, machine, device, list),
-        Expectation::Verdict(_) => words.push_str("the verdict isn't known"),
+        Expectation::Verdict(_) => words.add("the verdict isn't known"),
         Expectation::Judged { found, .. } => add_verdict(words, book, &found),
     }
 }
 
 /// Adds what the verdict on the set found, as a line expects it.
-fn add_verdict(
-    words: &mut String,
-    book: &Book<'_>,
-    found: &Option<Refusal>,
-) -> Result<(), AllocError> {
+fn add_verdict(words: &mut Words, book: &Book<'_>, found: &Option<Refusal>) {
     let Some(refusal) = found else {
-        return words.push_str("the set is accepted");
+        return words.add("the set is accepted");
     };
     let rule = u64::from(refusal.rule.number());
-    add_numbered(words, "the set is refused V", rule, " at ")?;
-    book.add_routine(words, refusal.driver, refusal.routine)?;
+    add_numbered(words, "the set is refused V", rule, " at ");
+    book.add_routine(words, refusal.driver, refusal.routine);
     add_numbered(words, " ", u64::from(refusal.at), "")
 }
 
 /// Adds what else is asked of a packet, where it is live.
 fn add_more(
     alloc: Global,
-    words: &mut String,
+    words: &mut Words,
     book: &Book<'_>,
     playing: &Playing,
     packet: u16,
     state: &PacketState,
-) -> Result<(), AllocError> {
+) {
     let Some(number) = playing.number_of(packet) else {
-        return Ok(());
+        return;
     };
     let machine = playing.machine();
     let view = machine.packet(number);
     match state {
         PacketState::Marked if is_unmarked(&view) => {
-            words.push_str(", its current location isn't marked")
+            words.add(", its current location isn't marked")
         }
         PacketState::Unmarked if is_marked(&view) => {
-            words.push_str(", its current location is marked")
+            words.add(", its current location is marked")
         }
         PacketState::Held { .. } => add_sites(alloc, words, book, machine, number, Sort::Routine),
-        _ => Ok(()),
+        _ => {}
     }
 }
 
 /// Adds the routine that has a packet in a register.
-fn add_holder(
-    words: &mut String,
-    book: &Book<'_>,
-    machine: &Checked,
-    site: &Site,
-) -> Result<(), AllocError> {
+fn add_holder(words: &mut Words, book: &Book<'_>, machine: &Checked, site: &Site) {
     if let Site::Register { thread, frame, .. } = *site {
         if let Some(a) = activation_at(machine, thread, frame) {
-            words.push_str(", held by ")?;
-            book.add_routine(words, a.driver, a.routine)?;
+            words.add(", held by ");
+            book.add_routine(words, a.driver, a.routine);
         }
     }
-    Ok(())
 }
 
 /// The routine in a frame of a thread.
@@ -244,77 +236,63 @@ fn activation_at(machine: &Checked, thread: usize, frame: usize) -> Option<&Acti
 }
 
 /// Adds the number in a cell of a device.
-fn add_cell(
-    words: &mut String,
-    machine: &Checked,
-    device: u8,
-    cell: CellName,
-) -> Result<(), AllocError> {
-    match number_of(machine, device, cell)? {
-        Some(number) => add_numbered(words, "it is ", number, ""),
-        None => words.push_str("there is no such device"),
+fn add_cell(words: &mut Words, machine: &Checked, device: u8, cell: CellName) {
+    match number_of(machine, device, cell) {
+        Ok(Some(number)) => add_numbered(words, "it is ", number, ""),
+        Ok(None) => words.add("there is no such device"),
+        Err(error) => words.note(Err(error)),
     }
 }
 
 /// Adds who owns a lock.
-fn add_owner(words: &mut String, machine: &Checked, lock: Lock) -> Result<(), AllocError> {
+fn add_owner(words: &mut Words, machine: &Checked, lock: Lock) {
     match machine.shared().owner(lock) {
         Some(Some(owner)) => add_numbered(words, "thread ", u64::from(owner), " owns it"),
-        Some(None) => words.push_str("it is free"),
-        None => words.push_str("there is no such device"),
+        Some(None) => words.add("it is free"),
+        None => words.add("there is no such device"),
     }
 }
 
 /// Adds what stands in a list of a device.
-fn add_list(
-    words: &mut String,
-    machine: &Checked,
-    device: u8,
-    list: List,
-) -> Result<(), AllocError> {
+fn add_list(words: &mut Words, machine: &Checked, device: u8, list: List) {
     let Some(entries) = entries_of(machine, device, list) else {
-        return words.push_str("there is no such list");
+        return words.add("there is no such list");
     };
     if entries.len() == 0 {
-        return words.push_str("it is empty");
+        return words.add("it is empty");
     }
-    words.push_str("it has ")?;
-    let mut mark = "";
+    words.add("it has ");
+    let mut is_first = true;
     for place in 0..entries.len() {
         if let Some(number) = entries.entry(place) {
-            words.push_str(mark)?;
-            add_numbered(words, "packet ", number, "")?;
-            mark = ", ";
+            let mark = if is_first { "packet " } else { ", packet " };
+            add_numbered(words, mark, number, "");
+            is_first = false;
         }
     }
-    Ok(())
 }
 
 /// Adds what is amiss in a run.
-fn add_amiss(
-    alloc: Global,
-    words: &mut String,
-    book: &Book<'_>,
-    playing: &Playing,
-) -> Result<(), AllocError> {
+fn add_amiss(alloc: Global, words: &mut Words, book: &Book<'_>, playing: &Playing) {
     if playing.machine().stopped() {
-        return words.push_str("the run has stopped");
+        return words.add("the run has stopped");
     }
-    match amiss(alloc, playing)? {
-        Some(found) => add_found_amiss(words, book, &found),
-        None => words.push_str("nothing is amiss"),
+    match amiss(alloc, playing) {
+        Ok(Some(found)) => add_found_amiss(words, book, &found),
+        Ok(None) => words.add("nothing is amiss"),
+        Err(error) => words.note(Err(error)),
     }
 }
 
 /// Adds what was found amiss.
-fn add_found_amiss(words: &mut String, book: &Book<'_>, found: &Amiss) -> Result<(), AllocError> {
+fn add_found_amiss(words: &mut Words, book: &Book<'_>, found: &Amiss) {
     match *found {
-        Amiss::Stopped(_) => words.push_str("the run has stopped"),
+        Amiss::Stopped(_) => words.add("the run has stopped"),
         Amiss::Lost(packet) => {
             add_numbered(words, "packet ", packet, " is lost: no place names it")
         }
         Amiss::Left(left) => {
-            add_lock(words, book, left.lock)?;
+            add_lock(words, book, left.lock);
             let thread = u64::from(left.thread);
             add_numbered(words, " is left behind by thread ", thread, "")
         }
@@ -331,43 +309,32 @@ fn add_found_amiss(words: &mut String, book: &Book<'_>, found: &Amiss) -> Result
 }
 
 /// Adds a number between words.
-fn add_numbered(
-    words: &mut String,
-    before: &str,
-    number: u64,
-    behind: &str,
-) -> Result<(), AllocError> {
-    words.push_str(before)?;
-    add_number(words, number)?;
-    words.push_str(behind)
+fn add_numbered(words: &mut Words, before: &str, number: u64, behind: &str) {
+    words.add(before);
+    add_number(words, number);
+    words.add(behind)
 }
 
 /// Adds how a packet stands.
-fn add_packet(
-    alloc: Global,
-    words: &mut String,
-    book: &Book<'_>,
-    playing: &Playing,
-    packet: u16,
-) -> Result<(), AllocError> {
+fn add_packet(alloc: Global, words: &mut Words, book: &Book<'_>, playing: &Playing, packet: u16) {
     let Some(number) = playing.number_of(packet) else {
-        return words.push_str("it wasn't issued");
+        return words.add("it wasn't issued");
     };
     if let PacketView::Live(live) = playing.machine().packet(number) {
-        words.push_str(if live.cancel {
+        words.add(if live.cancel {
             "it is live and cancelled"
         } else {
             "it is live"
-        })?;
+        });
         return add_sites(alloc, words, book, playing.machine(), number, Sort::List);
     }
     match playing.top_out(number) {
         Some(top) => {
-            words.push_str("it is topped ")?;
-            words.push_str(status_text(top.status))?;
+            words.add("it is topped ");
+            words.add(status_text(top.status));
             add_numbered(words, " information ", top.info, "")
         }
-        None => words.push_str("it wasn't issued"),
+        None => words.add("it wasn't issued"),
     }
 }
 
@@ -383,90 +350,82 @@ enum Sort {
 /// Adds where a packet is named, of a sort.
 fn add_sites(
     alloc: Global,
-    words: &mut String,
+    words: &mut Words,
     book: &Book<'_>,
     machine: &Checked,
     number: u64,
     sort: Sort,
-) -> Result<(), AllocError> {
-    let sites = sites_of(alloc, machine, number)?;
+) {
+    let sites = match sites_of(alloc, machine, number) {
+        Ok(sites) => sites,
+        Err(error) => return words.note(Err(error)),
+    };
     for site in sites.iter() {
         match sort {
-            Sort::List => add_site(words, book, machine, site)?,
-            Sort::Routine => add_holder(words, book, machine, site)?,
+            Sort::List => add_site(words, book, machine, site),
+            Sort::Routine => add_holder(words, book, machine, site),
         }
     }
-    Ok(())
 }
 
-fn add_site(
-    words: &mut String,
-    book: &Book<'_>,
-    machine: &Checked,
-    site: &Site,
-) -> Result<(), AllocError> {
+fn add_site(words: &mut Words, book: &Book<'_>, machine: &Checked, site: &Site) {
     match *site {
         Site::Queue { device, queue } => {
-            words.push_str(", in queue ")?;
+            words.add(", in queue ");
             let driver = match machine.set().devices().get(device as usize) {
                 Some(device) => device.driver,
-                None => return Ok(()),
+                None => return,
             };
-            book.add_queue(words, driver, queue)?;
-            words.push_str(" of ")?;
+            book.add_queue(words, driver, queue);
+            words.add(" of ");
             book.add_device(words, device)
         }
         Site::StartList { device } => {
-            words.push_str(", in the start list of ")?;
+            words.add(", in the start list of ");
             book.add_device(words, device)
         }
         Site::DeviceQueue { device } => {
-            words.push_str(", in the device queue of ")?;
+            words.add(", in the device queue of ");
             book.add_device(words, device)
         }
         Site::Slot { device } => {
-            words.push_str(", current on ")?;
+            words.add(", current on ");
             book.add_device(words, device)
         }
         Site::Completing { thread, .. } => {
             add_numbered(words, ", completed on thread ", thread as u64, "")
         }
-        Site::Register { .. } | Site::CancelWord(_) => Ok(()),
+        Site::Register { .. } | Site::CancelWord(_) => {}
     }
 }
 
 /// Adds how a thread stands.
-fn add_thread(
-    words: &mut String,
-    book: &Book<'_>,
-    machine: &Checked,
-    thread: u8,
-) -> Result<(), AllocError> {
+fn add_thread(words: &mut Words, book: &Book<'_>, machine: &Checked, thread: u8) {
     let Some(view) = machine.thread(thread) else {
-        return words.push_str("there is no such thread");
+        return words.add("there is no such thread");
     };
     let Some(top) = view.top else {
-        return words.push_str("it is idle");
+        return words.add("it is idle");
     };
-    words.push_str("it is busy in ")?;
-    book.add_spot(words, top)?;
+    words.add("it is busy in ");
+    book.add_spot(words, top);
     match waits_for(machine, thread) {
         Some(owner) => add_numbered(words, ", waiting for thread ", u64::from(owner), ""),
-        None => Ok(()),
+        None => {}
     }
 }
 
 /// Adds how a device stands.
-fn add_device(words: &mut String, machine: &Checked, device: u8) -> Result<(), AllocError> {
+fn add_device(words: &mut Words, machine: &Checked, device: u8) {
     let Some(start) = machine.shared().start_of(device) else {
-        return words.push_str("there is no such device");
+        return words.add("there is no such device");
     };
-    words.push_str(if start.is_busy() {
+    words.add(if start.is_busy() {
         "it is busy"
     } else {
         "it is idle"
-    })?;
-    words.push_str(if machine.shared().is_queued(device) {
+    });
+    words.add(if machine.shared().is_queued(device) {
         ", its DPC is queued"
     } else {
         ", its DPC isn't queued"
@@ -474,24 +433,24 @@ fn add_device(words: &mut String, machine: &Checked, device: u8) -> Result<(), A
 }
 
 /// Adds the last reply.
-fn add_reply(words: &mut String, book: &Book<'_>, playing: &Playing) -> Result<(), AllocError> {
+fn add_reply(words: &mut Words, book: &Book<'_>, playing: &Playing) {
     let Some(last) = playing.last() else {
-        return words.push_str("nothing can happen");
+        return words.add("nothing can happen");
     };
     match last {
-        Reply::Idle => words.push_str("nothing to do"),
-        Reply::Finished => words.push_str("the packet has topped out"),
+        Reply::Idle => words.add("nothing to do"),
+        Reply::Finished => words.add("the packet has topped out"),
         Reply::Bug(bug) => {
-            words.push_str("bug ")?;
-            words.push_str(bug.check.as_str())
+            words.add("bug ");
+            words.add(bug.check.as_str())
         }
         Reply::Wrong(place) => {
-            words.push_str("a wrong operand in ")?;
+            words.add("a wrong operand in ");
             book.add_routine(words, place.driver, place.routine)
         }
-        Reply::Refused => words.push_str("refused"),
+        Reply::Refused => words.add("refused"),
         Reply::Started(_) | Reply::Stepped | Reply::Topped { .. } | Reply::Waited => {
-            words.push_str("it comes to no end")
+            words.add("it comes to no end")
         }
     }
 }
