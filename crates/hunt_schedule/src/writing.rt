@@ -16,6 +16,7 @@ use model::event::Event;
 use std::alloc::{AllocError, Global};
 use tell_audit::ending::Ending;
 use tell_names::Book;
+use words::Words;
 
 /// Where the comments of lines stand.
 const COMMENTS: usize = 24;
@@ -101,15 +102,31 @@ fn add_comment(
     telling: &mut Telling<'_>,
     events: &[Event],
 ) -> Result<(), AllocError> {
-    let mut words = String::new(alloc);
-    telling.add_line(&mut words, events)?;
-    if !words.is_empty() {
-        let length = text.len().saturating_sub(from);
-        for _blank in length..COMMENTS {
-            add(text, b" ")?;
-        }
-        add(text, b" ; ")?;
-        add(text, words.as_str().as_bytes())?;
-    }
+    let words = line_words(alloc, telling, events)?;
+    add_behind(text, from, words.as_str())?;
     add(text, b"\n")
+}
+
+/// What the line of these events does.
+fn line_words(
+    alloc: Global,
+    telling: &mut Telling<'_>,
+    events: &[Event],
+) -> Result<String, AllocError> {
+    let mut words = Words::new(alloc);
+    telling.add_line(&mut words, events);
+    words.finish()
+}
+
+/// Adds words, if there are some, as the comment of the line that starts at a place of a text.
+fn add_behind(text: &mut Vec<u8>, from: usize, words: &str) -> Result<(), AllocError> {
+    if words.is_empty() {
+        return Ok(());
+    }
+    let length = text.len().saturating_sub(from);
+    for _blank in length..COMMENTS {
+        add(text, b" ")?;
+    }
+    add(text, b" ; ")?;
+    add(text, words.as_bytes())
 }
