@@ -4,7 +4,8 @@ use crate::scope::{Opened, Scope};
 use crate::token::Parts;
 use std::alloc::{AllocError, Global};
 use text::{Spot, add_bytes, line_at};
-use text_faults::add_lines_round;
+use text_faults::add_line;
+use words::Words;
 
 /// A faulty line in its text.
 #[derive(Drop)]
@@ -35,27 +36,20 @@ impl<'a> FaultyLine<'a> {
     }
 
     /// Adds where it stands, and the lines round it.
-    pub(crate) fn add_place(&self, prose: &mut String) -> Result<(), AllocError> {
-        prose.push_str("\nin ")?;
-        add_opened(prose, "driver", &self.scope.driver)?;
-        add_opened(prose, "routine", &self.scope.routine)?;
-        write!(prose, "line {}:\n", self.spot.number)?;
-        add_lines_round(prose, self.text, self.spot)
+    pub(crate) fn add_place(&self, words: &mut Words) {
+        words.add("\nin ");
+        add_opened(words, "driver ", &self.scope.driver);
+        add_opened(words, "routine ", &self.scope.routine);
+        add_line(words, self.text, self.spot)
     }
 }
 
 /// Adds the name of what is open.
-fn add_opened(
-    prose: &mut String,
-    thing: &str,
-    opened: &Option<Opened<'_>>,
-) -> Result<(), AllocError> {
-    match opened {
-        Some(opened) => {
-            write!(prose, "{thing} ")?;
-            add_bytes(prose, opened.name.bytes())?;
-            prose.push_str(", ")
-        }
-        None => Ok(()),
+fn add_opened(words: &mut Words, thing: &str, opened: &Option<Opened<'_>>) {
+    if let Some(opened) = opened {
+        words.add(thing);
+        let done = add_bytes(&mut words.text, opened.name.bytes());
+        words.note(done);
+        words.add(", ")
     }
 }

@@ -5,89 +5,108 @@ use crate::line_form::form_of;
 use crate::names::{Given, Thing, names_of};
 use std::alloc::{AllocError, Global};
 use text::class::is;
-use text::piece::Piece;
 use text::token::Tokens;
-use text_faults::advice::{add_at_fault, add_expected, add_meant, add_token};
-use text_faults::nearest::{distance, is_near};
+use text_faults::advice::{add_at_fault, add_expected, add_near, add_token};
+use text_faults::nearest::nearer;
+use words::Words;
 
 /// Names that are listed, at most.
 const LISTED: usize = 12;
 
 /// Adds which name was given before, and where.
-pub(crate) fn add_duplicate(
-    alloc: Global,
-    prose: &mut String,
-    line: &FaultyLine<'_>,
-) -> Result<(), AllocError> {
+pub(crate) fn add_duplicate(alloc: Global, words: &mut Words, line: &FaultyLine<'_>) {
+    let word = line.parts.word_bytes();
     if let Some(label) = &line.parts.label {
-        return add_given_before(alloc, prose, line, Thing::Label, label.bytes());
+        return add_given_before(alloc, words, line, Thing::Label, label.bytes());
     }
-    match (
-        Thing::begun_by(line.parts.word_bytes()),
-        line.parts.operand(0),
-    ) {
-        (Some(thing), Some(name)) => add_given_before(alloc, prose, line, thing, name),
-        (None, Some(entry)) if is(line.parts.word_bytes(), b"dispatch") => {
-            add_at_fault(prose, entry, ", which has a routine already")?;
-            add_expected(prose, "a major function that has none")
+    match (Thing::begun_by(word), line.parts.operand(0)) {
+        (Some(thing), Some(name)) => add_given_before(alloc, words, line, thing, name),
+        (None, Some(entry)) if is(word, b"dispatch") => {
+            add_at_fault(words, entry, ", which has a routine already");
+            add_expected(words, "a major function that has none")
         }
-        _ => add_at_fault(
-            prose,
-            line.parts.word_bytes(),
-            ", of which the driver has a line already",
-        ),
+        _ => add_at_fault(words, word, ", of which the driver has a line already"),
     }
 }
 
 /// Adds a name that an earlier line gave.
 fn add_given_before(
     alloc: Global,
-    prose: &mut String,
+    words: &mut Words,
     line: &FaultyLine<'_>,
     thing: Thing,
     name: &[u8],
-) -> Result<(), AllocError> {
-    prose.push_str("at fault: ")?;
-    add_token(prose, name)?;
-    let names = names_of(alloc, thing, line)?;
-    let word = thing.word();
-    match found(&names, name) {
-        Some(given) if given.number < line.spot.number => {
-            write!(
-                prose,
-                ", which line {} gave to a {word} before\n",
-                given.number
-            )?;
+) {
+    words.add("at fault: ");
+    add_token(words, name);
+    match given_on(alloc, line, thing, name) {
+        Ok(Some(number)) if number < line.spot.number => {
+            words.add(", which line ");
+            words.add_number(number);
+            words.add(" gave")
         }
-        _ => write!(prose, ", which was given to a {word} before\n")?,
+        Ok(_) => words.add(", which was given"),
+        Err(lack) => words.note(Err(lack)),
     }
-    write!(
-        prose,
-        "what may stand there: a name that no other {word} has\n"
-    )
+    words.add(" to a ");
+    words.add(thing.word());
+    words.add(" before\nwhat may stand there: a name that no other ");
+    words.add(thing.word());
+    words.add(" has\n")
+}
+
+/// The number of the line that gives a name to a thing, if one does.
+fn given_on(
+    alloc: Global,
+    line: &FaultyLine<'_>,
+    thing: Thing,
+    name: &[u8],
+) -> Result<Option<u64>, AllocError> {
+    let names = names_of(alloc, thing, line)?;
+    match found(&names, name) {
+        Some(given) => Ok(Some(given.number)),
+        None => Ok(None),
+    }
 }
 
 /// Adds which name nothing has, and which names there are.
-pub(crate) fn add_unknown_name(
-    alloc: Global,
-    prose: &mut String,
-    line: &FaultyLine<'_>,
-) -> Result<(), AllocError> {
-    let word = line.parts.word_bytes();
-    let Some(form) = form_of(word) else {
-        return Ok(());
+pub(crate) fn add_unknown_name(alloc: Global, words: &mut Words, line: &FaultyLine<'_>) {
+    let Some(form) = form_of(line.parts.word_bytes()) else {
+        return;
     };
     let mut place: usize = 0;
     for operand in form.operands {
         if let (Some(thing), Some(name)) = (Thing::of(*operand), line.parts.operand(place)) {
-            let names = names_of(alloc, thing, line)?;
-            if found(&names, name).is_none() {
-                return add_unknown(prose, thing, name, &names);
+            if add_if_unknown(alloc, words, line, thing, name) {
+                return;
             }
         }
         place = place.saturating_add(1);
     }
-    add_wrong_sort(alloc, prose, word, line)
+    add_wrong_sort(alloc, words, line)
+}
+
+/// Adds a name if nothing has it, and answers whether no more can be told.
+fn add_if_unknown(
+    alloc: Global,
+    words: &mut Words,
+    line: &FaultyLine<'_>,
+    thing: Thing,
+    name: &[u8],
+) -> bool {
+    match names_of(alloc, thing, line) {
+        Ok(names) => {
+            let is_unknown = found(&names, name).is_none();
+            if is_unknown {
+                add_unknown(words, thing, name, &names)
+            }
+            is_unknown
+        }
+        Err(lack) => {
+            words.note(Err(lack));
+            true
+        }
+    }
 }
 
 /// The thing of a name, if it has been given.
@@ -101,79 +120,73 @@ fn found<'n, 'a>(names: &'n Vec<Given<'a>>, name: &[u8]) -> Option<&'n Given<'a>
 }
 
 /// Adds a name that nothing has.
-fn add_unknown(
-    prose: &mut String,
-    thing: Thing,
-    name: &[u8],
-    names: &Vec<Given<'_>>,
-) -> Result<(), AllocError> {
-    let word = thing.word();
-    let reach = thing.reach();
-    prose.push_str("at fault: ")?;
-    add_token(prose, name)?;
-    write!(prose, ", the name of no {word} {reach}\n")?;
+fn add_unknown(words: &mut Words, thing: Thing, name: &[u8], names: &Vec<Given<'_>>) {
+    words.add("at fault: ");
+    add_token(words, name);
+    words.add(", the name of no ");
+    add_within_reach(words, thing);
+    words.add("\nwhat may stand there: ");
     if names.is_empty() {
-        return write!(
-            prose,
-            "what may stand there: nothing yet, since there is no {word} {reach}\n"
-        );
+        words.add("nothing yet, since there is no ");
+        add_within_reach(words, thing);
+        words.add("\n")
+    } else {
+        words.add("a ");
+        add_within_reach(words, thing);
+        words.add(": ");
+        add_list(words, names);
+        words.add("\n");
+        add_near(words, nearest_name(name, names))
     }
-    write!(prose, "what may stand there: a {word} {reach}: ")?;
-    add_list(prose, names)?;
-    prose.push_str("\n")?;
-    match nearest_name(name, names) {
-        Some(near) => add_meant(prose, near.bytes(), ""),
-        None => Ok(()),
-    }
+}
+
+/// Adds what has a name, and where such names are known.
+fn add_within_reach(words: &mut Words, thing: Thing) {
+    words.add(thing.word());
+    words.add(" ");
+    words.add(thing.reach())
 }
 
 /// Adds names, one after another.
-fn add_list(prose: &mut String, names: &Vec<Given<'_>>) -> Result<(), AllocError> {
+fn add_list(words: &mut Words, names: &Vec<Given<'_>>) {
     let mut count: usize = 0;
     for given in names {
         if count == LISTED {
-            return prose.push_str(", ..");
+            return words.add(", ..");
         }
-        if count > 0 {
-            prose.push_str(", ")?;
-        }
-        add_token(prose, given.name.bytes())?;
+        words.add(if count > 0 { ", " } else { "" });
+        add_token(words, given.name.bytes());
         count = count.saturating_add(1);
     }
-    Ok(())
 }
 
 /// The nearest name, where one is near.
-fn nearest_name<'n, 'a>(token: &[u8], names: &'n Vec<Given<'a>>) -> Option<&'n Piece<'a>> {
+fn nearest_name<'a>(token: &[u8], names: &Vec<Given<'a>>) -> Option<&'a [u8]> {
     let mut best = None;
-    let mut least = usize::MAX;
     for given in names {
-        let apart = distance(token, given.name.bytes());
-        if apart < least && is_near(apart, given.name.bytes()) {
-            least = apart;
-            best = Some(&given.name);
-        }
+        best = nearer(token, best, given.name.bytes());
     }
     best
 }
 
 /// Adds that a routine is of another sort than the line takes.
-fn add_wrong_sort(
-    alloc: Global,
-    prose: &mut String,
-    word: &[u8],
-    line: &FaultyLine<'_>,
-) -> Result<(), AllocError> {
-    let place = wrong_place(alloc, word, line)?;
-    let Some(routine) = line.parts.operand(place) else {
-        return Ok(());
-    };
-    add_at_fault(
-        prose,
-        routine,
-        ", a routine of another sort than this line takes",
-    )?;
-    add_expected(prose, sort_behind(word, place))
+fn add_wrong_sort(alloc: Global, words: &mut Words, line: &FaultyLine<'_>) {
+    match wrong_place(alloc, line.parts.word_bytes(), line) {
+        Ok(place) => add_sort_wanted(words, line, place),
+        Err(lack) => words.note(Err(lack)),
+    }
+}
+
+/// Adds the routine at a place, and of which sort it has to be.
+fn add_sort_wanted(words: &mut Words, line: &FaultyLine<'_>, place: usize) {
+    if let Some(routine) = line.parts.operand(place) {
+        add_at_fault(
+            words,
+            routine,
+            ", a routine of another sort than this line takes",
+        );
+        add_expected(words, sort_behind(line.parts.word_bytes(), place))
+    }
 }
 
 /// The place of the routine that is of another sort than the line takes. A `startio` line may name

@@ -1,9 +1,11 @@
 //! What stands behind a line's word.
 
 use model::limits::{CELLS, MAX_STACK, MAX_TURNS, REGISTERS, SPIN_LOCKS};
-use text::class::{is, is_name};
+use text::class::is_name;
 use text::number::{number, numbered};
 use text_faults::fit::Fit;
+use text_faults::forms::is_one_of;
+use text_faults::misfits::MAJORS;
 
 /// What stands at one place behind a line's word.
 #[derive(Clone, Copy)]
@@ -64,23 +66,13 @@ impl Operand {
     /// The words that may stand there, where these are few.
     pub(crate) fn choices(self) -> &'static [&'static str] {
         match self {
-            Operand::Major => &["READ", "WRITE", "CONTROL"],
+            Operand::Major => &MAJORS,
             Operand::Sort => &["dispatch", "startio", "dpc", "cancel", "propagate", "hold"],
             Operand::Status => &STATUSES,
             Operand::Field => &["MAJOR", "ARG", "INFO"],
             Operand::Returned => &RETURNS,
             _ => &[],
         }
-    }
-
-    /// Whether a token is one of the words that may stand there.
-    pub(crate) fn is_choice(self, token: &[u8]) -> bool {
-        for word in self.choices() {
-            if is(token, word.as_bytes()) {
-                return true;
-            }
-        }
-        false
     }
 
     /// Whether a token is what stands there.
@@ -93,14 +85,32 @@ impl Operand {
             | Operand::Queue
             | Operand::Label => Fit::if_so(is_name(token)),
             Operand::Major | Operand::Sort | Operand::Status | Operand::Field | Operand::Returned =>
-                Fit::if_so(self.is_choice(token)),
-            Operand::Register => Fit::within(numbered(b'r', token), 0, REGISTERS as u64 - 1),
-            Operand::SpinLock => Fit::within(numbered(b'l', token), 0, SPIN_LOCKS as u64 - 1),
-            Operand::Cell => Fit::within(numbered(b'c', token), 0, CELLS as u64 - 1),
-            Operand::PagedCell => Fit::within(numbered(b'p', token), 0, CELLS as u64 - 1),
-            Operand::Constant => Fit::within(number(token), 0, u32::MAX as u64),
-            Operand::Turns => Fit::within(number(token), 1, MAX_TURNS as u64),
-            Operand::Stack => Fit::within(number(token), 1, MAX_STACK as u64),
+                Fit::if_so(is_one_of(token, self.choices())),
+            Operand::Constant => Fit::within(number(token), 0, self.most()),
+            Operand::Turns | Operand::Stack => Fit::within(number(token), 1, self.most()),
+            _ => Fit::within(numbered(self.letter(), token), 0, self.most()),
+        }
+    }
+
+    /// The letter before the number that stands there.
+    fn letter(self) -> u8 {
+        match self {
+            Operand::Register => b'r',
+            Operand::SpinLock => b'l',
+            Operand::PagedCell => b'p',
+            _ => b'c',
+        }
+    }
+
+    /// The largest number that may stand there.
+    fn most(self) -> u64 {
+        match self {
+            Operand::Register => REGISTERS as u64 - 1,
+            Operand::SpinLock => SPIN_LOCKS as u64 - 1,
+            Operand::Constant => u32::MAX as u64,
+            Operand::Turns => MAX_TURNS as u64,
+            Operand::Stack => MAX_STACK as u64,
+            _ => CELLS as u64 - 1,
         }
     }
 }

@@ -8,6 +8,7 @@ use std::alloc::{AllocError, Global};
 use text::class::is;
 use text_faults::advice::{add_expected, add_wrong};
 use text_faults::lexing::add_lex;
+use words::Words;
 
 /// A fault of a driver text in words: where it stands, which token is at fault, what may stand in
 /// its place, and what comes nearest. The fault is one that `asm::assemble` told of the text; of
@@ -17,47 +18,46 @@ use text_faults::lexing::add_lex;
 ///
 /// When memory runs out.
 pub fn fault_words(alloc: Global, text: &[u8], fault: AsmFault) -> Result<String, AllocError> {
-    let mut prose = String::new(alloc);
     let line = FaultyLine::of(alloc, text, fault.line)?;
-    line.add_place(&mut prose)?;
-    add_fault(alloc, &mut prose, &line, fault.kind)?;
-    Ok(prose)
+    line_words(alloc, &line, fault.kind)
+}
+
+/// A line, and what is wrong with it.
+fn line_words(alloc: Global, line: &FaultyLine<'_>, kind: AsmKind) -> Result<String, AllocError> {
+    let mut words = Words::new(alloc);
+    line.add_place(&mut words);
+    add_fault(alloc, &mut words, line, kind);
+    words.finish()
 }
 
 /// Adds what is wrong with a line.
-fn add_fault(
-    alloc: Global,
-    prose: &mut String,
-    line: &FaultyLine<'_>,
-    kind: AsmKind,
-) -> Result<(), AllocError> {
+fn add_fault(alloc: Global, words: &mut Words, line: &FaultyLine<'_>, kind: AsmKind) {
     match kind {
-        AsmKind::Lex => add_lex(alloc, prose, line.text, line.spot),
-        AsmKind::UnknownWord => add_unknown_word(prose, line),
-        AsmKind::DuplicateName => add_duplicate(alloc, prose, line),
-        AsmKind::UnknownName => add_unknown_name(alloc, prose, line),
-        AsmKind::OutOfRange => add_out_of_range(prose, line),
-        AsmKind::Unclosed => add_unclosed(prose, line),
-        AsmKind::OverLimit => add_over_limit(prose, line),
-        AsmKind::Memory => Ok(()),
+        AsmKind::Lex => add_lex(alloc, words, line.text, line.spot),
+        AsmKind::UnknownWord => add_unknown_word(words, line),
+        AsmKind::DuplicateName => add_duplicate(alloc, words, line),
+        AsmKind::UnknownName => add_unknown_name(alloc, words, line),
+        AsmKind::OutOfRange => add_out_of_range(words, line),
+        AsmKind::Unclosed => add_unclosed(words, line.scope.routine.is_some()),
+        AsmKind::OverLimit => add_wrong(words, over_limit(line.parts.word_bytes())),
+        AsmKind::Memory => {}
     }
 }
 
 /// Adds what isn't closed where the text ends.
-fn add_unclosed(prose: &mut String, line: &FaultyLine<'_>) -> Result<(), AllocError> {
-    if line.scope.routine.is_some() {
-        add_wrong(prose, "the text ends inside the routine")?;
-        add_expected(prose, "`endr`, and `endd` behind it")
+fn add_unclosed(words: &mut Words, in_routine: bool) {
+    if in_routine {
+        add_wrong(words, "the text ends inside the routine");
+        add_expected(words, "`endr`, and `endd` behind it")
     } else {
-        add_wrong(prose, "the text ends inside the driver")?;
-        add_expected(prose, "`endd`")
+        add_wrong(words, "the text ends inside the driver");
+        add_expected(words, "`endd`")
     }
 }
 
-/// Adds which limit a line exceeds.
-fn add_over_limit(prose: &mut String, line: &FaultyLine<'_>) -> Result<(), AllocError> {
-    let word = line.parts.word_bytes();
-    let most = if is(word, b"driver") {
+/// Which limit a line with a word exceeds.
+fn over_limit(word: &[u8]) -> &'static str {
+    if is(word, b"driver") {
         "one driver too many: a set has at most 8"
     } else if is(word, b"device") {
         "one device too many: a set has at most 16"
@@ -67,6 +67,5 @@ fn add_over_limit(prose: &mut String, line: &FaultyLine<'_>) -> Result<(), Alloc
         "one queue too many: a driver has at most 4"
     } else {
         "one instruction too many: a routine has at most 1024"
-    };
-    add_wrong(prose, most)
+    }
 }

@@ -1,90 +1,94 @@
 //! Lines of no form, and numbers out of their range.
 
 use crate::faulty::FaultyLine;
-use crate::form::{Form, Place};
-use crate::line_form::form_of;
+use crate::form::Place;
+use crate::line_form::{form_of, place_of};
 use crate::operand::Operand;
 use crate::token::Parts;
-use std::alloc::AllocError;
 use text::class::{is, label_name};
 use text_faults::advice::{
-    add_at_fault, add_expected, add_meant, add_nearest, add_token, add_wrong,
+    add_at_fault, add_expected, add_meant, add_near, add_nearest, add_token, add_wrong,
 };
 use text_faults::fit::Fit;
+use text_faults::forms::{Form, is_one_of, nearest_form};
+use text_faults::misfits::{add_beyond, add_major, add_short, add_too_many, add_unwanted};
+use words::Words;
 
 /// Adds why a line has no form, or stands out of its place.
-pub(crate) fn add_unknown_word(
-    prose: &mut String,
-    line: &FaultyLine<'_>,
-) -> Result<(), AllocError> {
+pub(crate) fn add_unknown_word(words: &mut Words, line: &FaultyLine<'_>) {
     let word = line.parts.word_bytes();
     let place = line.scope.place();
     if word.is_empty() {
-        add_wrong(prose, "a label with nothing behind it")?;
-        return add_expected(prose, "an instruction, on the same line");
+        add_wrong(words, "a label with nothing behind it");
+        return add_expected(words, "an instruction, on the same line");
     }
-    match form_of(word) {
-        None => add_unknown_beginning(prose, word, place),
-        Some(form) if !form.place.is(place) => add_misplaced(prose, word, form.place, place),
-        Some(form) => add_misfit(prose, &line.parts, &form),
+    match place.form_of(word) {
+        Some(form) => add_misfit(words, &line.parts, form),
+        None => add_out_of_place(words, word, place),
     }
 }
 
-/// Adds a first word that no line has.
-fn add_unknown_beginning(prose: &mut String, word: &[u8], place: Place) -> Result<(), AllocError> {
-    add_at_fault(prose, word, ", with which no line begins")?;
-    add_beginnings(prose, place)?;
-    add_nearest(prose, word, place.first_words())
+/// Adds a first word that no line at a place has.
+fn add_out_of_place(words: &mut Words, word: &[u8], place: Place) {
+    match place_of(word) {
+        Some(wanted) => add_misplaced(words, word, wanted, place),
+        None => {
+            add_at_fault(words, word, ", with which no line begins");
+            add_beginnings(words, place);
+            add_near(words, nearest_form(word, place.forms()))
+        }
+    }
 }
 
 /// Adds a line out of its place.
-fn add_misplaced(
-    prose: &mut String,
-    word: &[u8],
-    wanted: Place,
-    place: Place,
-) -> Result<(), AllocError> {
-    prose.push_str("at fault: ")?;
-    add_token(prose, word)?;
-    let wanted = wanted.words();
-    let here = place.words();
-    write!(prose, ", which stands {wanted}, and this line is {here}\n")?;
-    add_beginnings(prose, place)
+fn add_misplaced(words: &mut Words, word: &[u8], wanted: Place, place: Place) {
+    words.add("at fault: ");
+    add_token(words, word);
+    words.add(", which stands ");
+    words.add(wanted.words());
+    words.add(", and this line is ");
+    words.add(place.words());
+    words.add("\n");
+    add_beginnings(words, place)
 }
 
 /// Adds what lines at a place begin with.
-fn add_beginnings(prose: &mut String, place: Place) -> Result<(), AllocError> {
-    let here = place.words();
-    let beginnings = place.beginnings();
-    write!(prose, "what may stand there: {here}, {beginnings}\n")
+fn add_beginnings(words: &mut Words, place: Place) {
+    words.add("what may stand there: ");
+    words.add(place.words());
+    words.add(", ");
+    words.add(place.beginnings());
+    words.add("\n")
 }
 
 /// Adds which operand of a line has another form, is missing, or is one too many.
-fn add_misfit(prose: &mut String, parts: &Parts<'_>, form: &Form) -> Result<(), AllocError> {
+fn add_misfit(words: &mut Words, parts: &Parts<'_>, form: &Form<Operand>) {
     let operands = operands_behind(form, parts);
     let mut place: usize = 0;
     for operand in operands {
         match parts.operand(place) {
             Some(token) => {
                 if let Fit::Other = operand.fit(token) {
-                    return add_other(prose, token, *operand);
+                    return add_other(words, token, *operand);
                 }
             }
-            None if place < form.least() || operands.len() > form.operands.len() => {
-                return add_missing(prose, *operand);
+            None => {
+                if place < form.least() || operands.len() > form.operands.len() {
+                    add_short(words, operand.words())
+                }
+                return;
             }
-            None => return Ok(()),
         }
         place = place.saturating_add(1);
     }
     match parts.operand(place) {
-        Some(token) => add_at_fault(prose, token, ", which is one token too many"),
-        None => add_wrong(prose, "a label before a line that is no instruction"),
+        Some(token) => add_too_many(words, token),
+        None => add_wrong(words, "a label before a line that is no instruction"),
     }
 }
 
 /// What has to stand behind the word of a line; `ret lower` wants a register.
-fn operands_behind(form: &Form, parts: &Parts<'_>) -> &'static [Operand] {
+fn operands_behind(form: &Form<Operand>, parts: &Parts<'_>) -> &'static [Operand] {
     match parts.operand(0) {
         Some(first) if form.word == "ret" && is(first, b"lower") => {
             &[Operand::Returned, Operand::Register]
@@ -94,72 +98,47 @@ fn operands_behind(form: &Form, parts: &Parts<'_>) -> &'static [Operand] {
 }
 
 /// Adds an operand of another form than is wanted.
-fn add_other(prose: &mut String, token: &[u8], wanted: Operand) -> Result<(), AllocError> {
-    add_at_fault(prose, token, ", which may not stand there")?;
-    add_expected(prose, wanted.words())?;
+fn add_other(words: &mut Words, token: &[u8], wanted: Operand) {
+    add_unwanted(words, token, wanted.words());
     match wanted {
-        Operand::Status | Operand::Returned => add_status(prose, token, wanted),
-        Operand::Major => add_major(prose, token),
-        Operand::Label => add_label(prose, token),
-        _ => add_nearest(prose, token, wanted.choices()),
+        Operand::Status | Operand::Returned => add_status(words, token, wanted),
+        Operand::Major => add_major(words, token),
+        Operand::Label => add_label(words, token),
+        _ => add_nearest(words, token, wanted.choices()),
     }
-}
-
-/// Adds an operand that is missing.
-fn add_missing(prose: &mut String, wanted: Operand) -> Result<(), AllocError> {
-    add_wrong(prose, "the line ends too early")?;
-    add_expected(prose, wanted.words())
 }
 
 /// Adds the status that may be meant.
-fn add_status(prose: &mut String, token: &[u8], wanted: Operand) -> Result<(), AllocError> {
+fn add_status(words: &mut Words, token: &[u8], wanted: Operand) {
     match token.strip_prefix(b"STATUS_".as_slice()) {
-        Some(status) if Operand::Status.is_choice(status) => add_meant(
-            prose,
+        Some(status) if is_one_of(status, Operand::Status.choices()) => add_meant(
+            words,
             status,
             ": a status is written without `STATUS_`",
         ),
-        _ => add_nearest(prose, token, wanted.choices()),
-    }
-}
-
-/// Adds the major function that may be meant.
-fn add_major(prose: &mut String, token: &[u8]) -> Result<(), AllocError> {
-    match token.strip_prefix(b"IRP_MJ_".as_slice()) {
-        Some(major) if Operand::Major.is_choice(major) => add_meant(
-            prose,
-            major,
-            ": a major function is written without `IRP_MJ_`",
-        ),
-        _ => add_nearest(prose, token, Operand::Major.choices()),
+        _ => add_nearest(words, token, wanted.choices()),
     }
 }
 
 /// Adds the label that may be meant.
-fn add_label(prose: &mut String, token: &[u8]) -> Result<(), AllocError> {
-    match label_name(token) {
-        Some(name) => add_meant(prose, name, ": where it is jumped to it has no colon"),
-        None => Ok(()),
+fn add_label(words: &mut Words, token: &[u8]) {
+    if let Some(name) = label_name(token) {
+        add_meant(words, name, ": where it is jumped to it has no colon")
     }
 }
 
 /// Adds the number that is out of its range.
-pub(crate) fn add_out_of_range(
-    prose: &mut String,
-    line: &FaultyLine<'_>,
-) -> Result<(), AllocError> {
+pub(crate) fn add_out_of_range(words: &mut Words, line: &FaultyLine<'_>) {
     let Some(form) = form_of(line.parts.word_bytes()) else {
-        return Ok(());
+        return;
     };
     let mut place: usize = 0;
-    for operand in operands_behind(&form, &line.parts) {
+    for operand in operands_behind(form, &line.parts) {
         if let Some(token) = line.parts.operand(place) {
             if let Fit::OutOfRange = operand.fit(token) {
-                add_at_fault(prose, token, ", whose number is out of range")?;
-                return add_expected(prose, operand.words());
+                return add_beyond(words, token, operand.words());
             }
         }
         place = place.saturating_add(1);
     }
-    Ok(())
 }
