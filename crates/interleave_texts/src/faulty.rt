@@ -4,7 +4,8 @@ use std::alloc::{AllocError, Global};
 use text::piece::Piece;
 use text::token::Tokens;
 use text::{PlacedLines, Spot, line_at};
-use text_faults::add_lines_round;
+use text_faults::add_line;
+use words::Words;
 
 /// A faulty line in its schedule.
 #[derive(Drop)]
@@ -50,9 +51,9 @@ impl<'a> FaultyLine<'a> {
     }
 
     /// Adds where it stands, and the lines round it.
-    pub fn add_place(&self, prose: &mut String) -> Result<(), AllocError> {
-        write!(prose, "\nin line {}:\n", self.spot.number)?;
-        add_lines_round(prose, self.text, self.spot)
+    pub fn add_place(&self, words: &mut Words) {
+        words.add("\nin ");
+        add_line(words, self.text, self.spot)
     }
 }
 

@@ -5,6 +5,8 @@ use model::limits::MAX_THREADS;
 use text::class::is;
 use text::number::number;
 use text_faults::fit::Fit;
+use text_faults::forms::{Form, form_among, is_one_of};
+use text_faults::misfits::MAJORS;
 
 /// What stands at one place behind a line's word.
 #[derive(Clone, Copy)]
@@ -18,9 +20,6 @@ pub(crate) enum Operand {
     Level,
     Steps,
 }
-
-/// The words of major functions.
-pub(crate) const MAJORS: [&str; 3] = ["READ", "WRITE", "CONTROL"];
 
 impl Operand {
     /// What stands there, in words.
@@ -46,43 +45,64 @@ impl Operand {
             }
             Operand::Argument | Operand::Packet => Fit::within(number(token), 0, u64::MAX),
             Operand::Steps => Fit::within(number(token), 1, MAX_EVENTS as u64),
-            Operand::Major => Fit::if_so(is_major(token)),
+            Operand::Major => Fit::if_so(is_one_of(token, &MAJORS)),
         }
     }
 }
 
-/// Whether a token is the word of a major function.
-pub(crate) fn is_major(token: &[u8]) -> bool {
-    for word in &MAJORS {
-        if is(token, word.as_bytes()) {
-            return true;
-        }
-    }
-    false
-}
+/// The first line.
+pub(crate) static THREADS: Form<Operand> = Form {
+    word: "threads",
+    operands: &[Operand::Threads],
+    open: false,
+};
 
-/// The words that lines of events begin with.
-pub(crate) const EVENTS: [&str; 6] = ["issue", "cancel", "interrupt", "dpc", "startio", "step"];
-
-/// What stands behind the word of a line, if there are such lines.
-pub(crate) fn operands_of(word: &[u8]) -> Option<&'static [Operand]> {
-    match word {
-        b"threads" => Some(&[Operand::Threads]),
-        b"issue" => Some(&[
+/// The lines of events.
+pub(crate) static EVENTS: [Form<Operand>; 6] = [
+    Form {
+        word: "issue",
+        operands: &[
             Operand::Thread,
             Operand::Device,
             Operand::Major,
             Operand::Argument,
-        ]),
-        b"cancel" => Some(&[Operand::Thread, Operand::Packet, Operand::Level]),
-        b"interrupt" => Some(&[Operand::Device]),
-        b"dpc" | b"startio" => Some(&[Operand::Thread, Operand::Device]),
-        b"step" => Some(&[Operand::Thread, Operand::Steps]),
-        _ => None,
-    }
-}
+        ],
+        open: false,
+    },
+    Form {
+        word: "cancel",
+        operands: &[Operand::Thread, Operand::Packet, Operand::Level],
+        open: false,
+    },
+    Form {
+        word: "interrupt",
+        operands: &[Operand::Device],
+        open: false,
+    },
+    Form {
+        word: "dpc",
+        operands: &[Operand::Thread, Operand::Device],
+        open: false,
+    },
+    Form {
+        word: "startio",
+        operands: &[Operand::Thread, Operand::Device],
+        open: false,
+    },
+    Form {
+        word: "step",
+        operands: &[Operand::Thread, Operand::Steps],
+        open: true,
+    },
+];
 
-/// How many of them have to stand there.
-pub(crate) fn least_behind(word: &[u8], operands: &[Operand]) -> usize {
-    if is(word, b"step") { 1 } else { operands.len() }
+/// What stands behind the word of a line.
+pub(crate) fn operands_of(word: &[u8]) -> &'static [Operand] {
+    if is(word, b"threads") {
+        return THREADS.operands;
+    }
+    match form_among(EVENTS.as_slice(), word) {
+        Some(form) => form.operands,
+        None => &[],
+    }
 }

@@ -6,6 +6,7 @@ use interleave::schedule::{ScheduleFault, ScheduleKind};
 use std::alloc::{AllocError, Global};
 use text_faults::advice::{add_expected, add_wrong};
 use text_faults::lexing::add_lex;
+use words::Words;
 
 /// A fault of a schedule in words: where it stands, which token is at fault, what may stand in its
 /// place, and what comes nearest. The fault is one that `parse_schedule` told of the text; of any
@@ -15,24 +16,33 @@ use text_faults::lexing::add_lex;
 ///
 /// When memory runs out.
 pub fn fault_words(alloc: Global, text: &[u8], fault: ScheduleFault) -> Result<String, AllocError> {
-    let mut prose = String::new(alloc);
     let line = FaultyLine::of(alloc, text, fault.line)?;
-    line.add_place(&mut prose)?;
-    match fault.kind {
-        ScheduleKind::Lex => add_lex(alloc, &mut prose, text, line.spot)?,
-        ScheduleKind::UnknownWord => add_unknown_word(&mut prose, &line)?,
-        ScheduleKind::OutOfRange => add_out_of_range(&mut prose, &line)?,
-        ScheduleKind::TooLong => add_too_long(&mut prose)?,
+    line_words(alloc, &line, fault.kind)
+}
+
+/// A line, and what is wrong with it.
+fn line_words(
+    alloc: Global,
+    line: &FaultyLine<'_>,
+    kind: ScheduleKind,
+) -> Result<String, AllocError> {
+    let mut words = Words::new(alloc);
+    line.add_place(&mut words);
+    match kind {
+        ScheduleKind::Lex => add_lex(alloc, &mut words, line.text, line.spot),
+        ScheduleKind::UnknownWord => add_unknown_word(&mut words, line),
+        ScheduleKind::OutOfRange => add_out_of_range(&mut words, line),
+        ScheduleKind::TooLong => add_too_long(&mut words),
         ScheduleKind::Memory => {}
     }
-    Ok(prose)
+    words.finish()
 }
 
 /// Adds that there are too many events.
-fn add_too_long(prose: &mut String) -> Result<(), AllocError> {
-    add_wrong(prose, "more events than a schedule has, up to this line")?;
+fn add_too_long(words: &mut Words) {
+    add_wrong(words, "more events than a schedule has, up to this line");
     add_expected(
-        prose,
+        words,
         "at most 1000000 events in all, each step one of them",
     )
 }
