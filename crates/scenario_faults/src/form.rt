@@ -1,10 +1,11 @@
 //! The form of a scenario's lines: the words that one begins with, and what has to stand behind
 //! them.
 
-use crate::operand::{DEVICE_STATES, Operand, PACKET_STATES, is_one_of};
+use crate::operand::{DEVICE_STATES, Operand, PACKET_STATES};
 use interleave_texts::faulty::FaultyLine;
 use scenario_expected::expectation::MAX_LISTED;
 use text::class::is;
+use text_faults::forms::{self, form_among, is_one_of};
 
 /// What has to stand behind the first words of a line.
 #[derive(Clone, Copy)]
@@ -64,21 +65,64 @@ pub(crate) fn form_of(line: &FaultyLine<'_>, place: usize) -> Option<Form> {
             return Some(of(place, &ISSUE, 7));
         }
     }
-    match word {
-        b"run" => Some(run_form(line, behind)),
-        b"repeat" if place == 0 => Some(of(behind, &[Operand::Times], 1)),
-        b"end" if place == 0 => Some(of(behind, &[], 0)),
-        b"step" => Some(of(behind, &[Operand::Thread, Operand::Steps], 1)),
-        b"interrupt" => Some(of(behind, &[Operand::Device], 1)),
-        b"dpc" | b"startio" => Some(of(behind, &[Operand::Thread, Operand::Device], 2)),
-        b"cancel" => Some(of(
-            behind,
-            &[Operand::Thread, Operand::Packet, Operand::Level],
-            2,
-        )),
-        _ => None,
+    if is(word, b"run") {
+        return Some(run_form(line, behind));
     }
+    let form = worded(word, place)?;
+    Some(of(behind, form.operands, form.least()))
 }
+
+/// What stands behind a word at a place, if lines begin with it there.
+fn worded(word: &[u8], place: usize) -> Option<&'static forms::Form<Operand>> {
+    let step = form_among(WORDED.as_slice(), word);
+    if step.is_none() && place == 0 {
+        return form_among(BLOCKS.as_slice(), word);
+    }
+    step
+}
+
+/// What opens and ends a block.
+static BLOCKS: [forms::Form<Operand>; 2] = [
+    forms::Form {
+        word: "repeat",
+        operands: &[Operand::Times],
+        open: false,
+    },
+    forms::Form {
+        word: "end",
+        operands: &[],
+        open: false,
+    },
+];
+
+/// The steps that have one form.
+static WORDED: [forms::Form<Operand>; 5] = [
+    forms::Form {
+        word: "step",
+        operands: &[Operand::Thread, Operand::Steps],
+        open: true,
+    },
+    forms::Form {
+        word: "interrupt",
+        operands: &[Operand::Device],
+        open: false,
+    },
+    forms::Form {
+        word: "dpc",
+        operands: &[Operand::Thread, Operand::Device],
+        open: false,
+    },
+    forms::Form {
+        word: "startio",
+        operands: &[Operand::Thread, Operand::Device],
+        open: false,
+    },
+    forms::Form {
+        word: "cancel",
+        operands: &[Operand::Thread, Operand::Packet, Operand::Level],
+        open: true,
+    },
+];
 
 const ISSUE: [Operand; 7] = [
     Operand::Name,

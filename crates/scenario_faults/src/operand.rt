@@ -9,6 +9,7 @@ use text::class::{is, is_name};
 use text::major::major_of;
 use text::number::{Numeral, number, numbered};
 use text_faults::fit::Fit;
+use text_faults::forms::is_one_of;
 
 /// What stands at one place of a line.
 #[derive(Clone, Copy)]
@@ -183,38 +184,58 @@ impl Operand {
     /// Whether a token is what stands there.
     pub(crate) fn fit(self, known: &Known<'_>, token: &[u8]) -> Fit {
         match self {
-            Operand::Thread | Operand::Level | Operand::BugCheck => {
-                Fit::within(number(token), 0, u8::MAX as u64)
-            }
-            Operand::Argument | Operand::Number => Fit::within(number(token), 0, u64::MAX),
-            Operand::Steps => Fit::within(number(token), 1, MAX_EVENTS as u64),
-            Operand::Times => Fit::within(number(token), 1, MAX_STEPS as u64),
-            Operand::Runner if is(token, b"all") => Fit::Fits,
-            Operand::Runner => Fit::within(number(token), 0, u8::MAX as u64),
             Operand::Device => known.fit_device(token),
             Operand::LineNumber => known.fit_line(token),
             Operand::Packet => Fit::if_so(known.has_packet(token)),
             Operand::Spot => Fit::if_so(known.has_spot(token)),
+            Operand::Queue => known.fit_queue(token),
+            Operand::Routine => Fit::if_so(known.names.entry_of(token).is_some()),
+            _ => self.fit_alone(token),
+        }
+    }
+
+    /// The same of what stands there whatever is known.
+    fn fit_alone(self, token: &[u8]) -> Fit {
+        match self {
+            Operand::Runner if is(token, b"all") => Fit::Fits,
             Operand::Major => Fit::if_so(major_of(token).is_some()),
             Operand::Name => Fit::if_so(is_name(token)),
             Operand::Equals => Fit::if_so(is(token, b"=")),
-            Operand::Issue => Fit::if_so(is(token, b"issue")),
-            Operand::Until => Fit::if_so(is(token, b"until")),
-            Operand::Line => Fit::if_so(is(token, b"line")),
-            Operand::Queued => Fit::if_so(is(token, b"queued")),
-            Operand::Information => Fit::if_so(is(token, b"information")),
-            Operand::Named => Fit::within(number(token), 0, 63),
-            Operand::WorldCount => Fit::within(number(token), 1, MAX_WORLDS),
-            Operand::Up => Fit::if_so(is(token, b"up")),
-            Operand::To => Fit::if_so(is(token, b"to")),
-            Operand::Worlds => Fit::if_so(is(token, b"worlds")),
-            Operand::Cell | Operand::SpinLock | Operand::Had => fit_had(self, token),
-            Operand::CellNumber => Fit::within(number(token), 0, u64::MAX),
-            Operand::Queue => known.fit_queue(token),
-            Operand::Routine => Fit::if_so(known.names.entry_of(token).is_some()),
             Operand::Rule => Fit::if_so(rule_named(token).is_some()),
-            Operand::Position => Fit::within(number(token), 0, MAX_INSTRUCTIONS as u64 - 1),
-            _ => Fit::if_so(is_one_of(token, self.choices())),
+            Operand::Cell | Operand::SpinLock | Operand::Had => fit_had(self, token),
+            _ => self.fit_number_or_word(token),
+        }
+    }
+
+    /// The same of a number, or of one of a few words.
+    fn fit_number_or_word(self, token: &[u8]) -> Fit {
+        match self.most() {
+            Some(most) => Fit::within(number(token), self.least(), most),
+            None => Fit::if_so(is_one_of(token, self.choices())),
+        }
+    }
+
+    /// The largest number that may stand there, where one stands there.
+    fn most(self) -> Option<u64> {
+        match self {
+            Operand::Thread | Operand::Level | Operand::BugCheck | Operand::Runner => {
+                Some(u8::MAX as u64)
+            }
+            Operand::Argument | Operand::Number | Operand::CellNumber => Some(u64::MAX),
+            Operand::Steps => Some(MAX_EVENTS as u64),
+            Operand::Times => Some(MAX_STEPS as u64),
+            Operand::Named => Some(63),
+            Operand::WorldCount => Some(MAX_WORLDS),
+            Operand::Position => Some(MAX_INSTRUCTIONS as u64 - 1),
+            _ => None,
+        }
+    }
+
+    /// The least number that may stand there.
+    fn least(self) -> u64 {
+        match self {
+            Operand::Steps | Operand::Times | Operand::WorldCount => 1,
+            _ => 0,
         }
     }
 
@@ -260,14 +281,4 @@ fn fit_had(operand: Operand, token: &[u8]) -> Fit {
         Operand::SpinLock => Fit::within(numbered(b'l', token), 0, SPIN_LOCKS as u64 - 1),
         _ => Fit::Fits,
     }
-}
-
-/// Whether a token is one of some words.
-pub(crate) fn is_one_of(token: &[u8], words: &[&str]) -> bool {
-    for word in words {
-        if is(token, word.as_bytes()) {
-            return true;
-        }
-    }
-    false
 }

@@ -4,14 +4,14 @@ use crate::form::{Form, LINES, STEPS, bound_form, expect_form, form_of};
 use crate::known::Known;
 use crate::operand::Operand;
 use interleave_texts::faulty::FaultyLine;
-use interleave_texts::wording::add_major;
-use std::alloc::AllocError;
 use text::class::is;
 use text::piece::Piece;
 use text_faults::advice::{
     add_at_fault, add_expected, add_nearest, add_remedy, add_token, add_wrong,
 };
 use text_faults::fit::Fit;
+use text_faults::misfits::{add_beyond, add_major, add_short, add_too_many, add_unwanted};
+use words::Words;
 
 /// The first line of a scenario.
 const OPENING: &str = "`threads` and how many there are, 1 to 64: the first line of a scenario";
@@ -33,46 +33,53 @@ const EXPECTED: &str =
      device, `start list`, `device queue`, or `cancel lock`";
 
 /// Adds why a line has no form, stands out of its place, or has a number out of its range.
-pub(crate) fn add_misfit(
-    prose: &mut String,
-    line: &FaultyLine<'_>,
-    known: &Known<'_>,
-) -> Result<(), AllocError> {
+pub(crate) fn add_misfit(words: &mut Words, line: &FaultyLine<'_>, known: &Known<'_>) {
     if line.tokens.is_empty() {
-        if line.opened {
-            add_wrong(prose, "the scenario ends between `repeat` and `end`")?;
-            return add_expected(prose, END);
-        }
-        add_wrong(prose, "the scenario ends, and says of no thread")?;
-        return add_expected(prose, OPENING);
+        add_ended(words, line.opened)
+    } else if line.opened {
+        add_misplaced(words, line, known)
+    } else {
+        add_misopened(words, line)
     }
-    if !line.opened {
-        return add_misopened(prose, line);
+}
+
+/// Adds that a scenario ends too early.
+fn add_ended(words: &mut Words, opened: bool) {
+    if opened {
+        add_wrong(words, "the scenario ends between `repeat` and `end`");
+        add_expected(words, END)
+    } else {
+        add_wrong(words, "the scenario ends, and says of no thread");
+        add_expected(words, OPENING)
     }
+}
+
+/// Adds the same of a line behind the first.
+fn add_misplaced(words: &mut Words, line: &FaultyLine<'_>, known: &Known<'_>) {
     match line.word() {
         b"threads" => {
-            add_at_fault(prose, b"threads", ", which stands on the first line alone")?;
-            add_expected(prose, BEGINNINGS)
+            add_at_fault(words, b"threads", ", which stands on the first line alone");
+            add_expected(words, BEGINNINGS)
         }
         b"expect" => match expect_form(line) {
-            Some(form) => add_unfit(prose, line, known, form),
-            None => add_short(prose, EXPECTED),
+            Some(form) => add_unfit(words, line, known, form),
+            None => add_short(words, EXPECTED),
         },
-        b"together" => add_misjoined(prose, line, known),
-        b"may" => add_misstep(prose, line, known, 1),
+        b"together" => add_misjoined(words, line, known),
+        b"may" => add_misstep(words, line, known, 1),
         b"repeat" if is_block(line, known) => {
             add_at_fault(
-                prose,
+                words,
                 b"repeat",
                 ", which may not stand before the `end` of another",
-            )?;
-            add_expected(prose, END)
+            );
+            add_expected(words, END)
         }
         b"end" if line.token(1).is_none() => {
-            add_at_fault(prose, b"end", ", before which no `repeat` is open")?;
-            add_expected(prose, BEGINNINGS)
+            add_at_fault(words, b"end", ", before which no `repeat` is open");
+            add_expected(words, BEGINNINGS)
         }
-        _ => add_misstep(prose, line, known, 0),
+        _ => add_misstep(words, line, known, 0),
     }
 }
 
@@ -88,144 +95,124 @@ fn is_block(line: &FaultyLine<'_>, known: &Known<'_>) -> bool {
 }
 
 /// Adds the same of the first line.
-fn add_misopened(prose: &mut String, line: &FaultyLine<'_>) -> Result<(), AllocError> {
+fn add_misopened(words: &mut Words, line: &FaultyLine<'_>) {
     let word = line.word();
     if is(word, b"threads") {
-        return match line.token(1) {
-            Some(token) => {
-                add_at_fault(prose, token, ", which may not stand there")?;
-                add_expected(prose, OPENING)
-            }
-            None => add_short(prose, OPENING),
-        };
+        match line.token(1) {
+            Some(token) => add_unwanted(words, token, OPENING),
+            None => add_short(words, OPENING),
+        }
+    } else {
+        add_at_fault(words, word, ", with which no scenario begins");
+        add_expected(words, OPENING);
+        add_nearest(words, word, &["threads"])
     }
-    add_at_fault(prose, word, ", with which no scenario begins")?;
-    add_expected(prose, OPENING)?;
-    add_nearest(prose, word, &["threads"])
 }
 
 /// Adds the same of a step, from a place on.
-fn add_misstep(
-    prose: &mut String,
-    line: &FaultyLine<'_>,
-    known: &Known<'_>,
-    place: usize,
-) -> Result<(), AllocError> {
-    if let Some(form) = form_of(line, place) {
-        return add_unfit(prose, line, known, form);
+fn add_misstep(words: &mut Words, line: &FaultyLine<'_>, known: &Known<'_>, place: usize) {
+    match form_of(line, place) {
+        Some(form) => add_unfit(words, line, known, form),
+        None => add_no_step(words, line.token(place), place),
     }
-    match line.token(place) {
+}
+
+/// Adds a word at a place with which no step begins, or that there is none.
+fn add_no_step(words: &mut Words, word: Option<&[u8]>, place: usize) {
+    match word {
         Some(b"issue") => {
-            add_at_fault(prose, b"issue", ", whose packet has no name")?;
+            add_at_fault(words, b"issue", ", whose packet has no name");
             add_remedy(
-                prose,
+                words,
                 "write a name and `=` before it, as `a = issue 0 d0 READ 7`",
             )
         }
         Some(word) if place > 0 => {
-            add_at_fault(prose, word, ", which may not stand there")?;
-            add_expected(prose, GRANTED)?;
-            add_nearest(prose, word, &STEPS)
+            add_unwanted(words, word, GRANTED);
+            add_nearest(words, word, &STEPS)
         }
         Some(word) => {
-            add_at_fault(prose, word, ", with which no line begins")?;
-            add_expected(prose, BEGINNINGS)?;
-            add_nearest(prose, word, &LINES)
+            add_at_fault(words, word, ", with which no line begins");
+            add_expected(words, BEGINNINGS);
+            add_nearest(words, word, &LINES)
         }
-        None => add_short(prose, GRANTED),
+        None => add_short(words, GRANTED),
     }
 }
 
 /// Adds the same of `together`.
-fn add_misjoined(
-    prose: &mut String,
-    line: &FaultyLine<'_>,
-    known: &Known<'_>,
-) -> Result<(), AllocError> {
+fn add_misjoined(words: &mut Words, line: &FaultyLine<'_>, known: &Known<'_>) {
     for place in 1..line.tokens.len() {
         let token = line.token(place).unwrap_or(&[]);
         if is(token, b"up") && place > 1 {
-            return add_unfit(prose, line, known, bound_form(place));
+            return add_unfit(words, line, known, bound_form(place));
         }
-        match Operand::Named.fit(known, token) {
-            Fit::Fits => {}
-            Fit::OutOfRange => {
-                add_at_fault(prose, token, ", whose number is out of range")?;
-                return add_expected(prose, Operand::Named.words());
-            }
-            Fit::Other => return add_other(prose, known, token, Operand::Named),
+        if !is_fit(words, known, token, Operand::Named) {
+            return;
         }
     }
-    add_short(prose, Operand::Named.words())
+    add_short(words, Operand::Named.words())
 }
 
-/// Adds that a line ends too early.
-fn add_short(prose: &mut String, expected: &str) -> Result<(), AllocError> {
-    add_wrong(prose, "the line ends too early")?;
-    add_expected(prose, expected)
+/// Whether a token is what stands there; adds what is wrong with it where it isn't.
+fn is_fit(words: &mut Words, known: &Known<'_>, token: &[u8], wanted: Operand) -> bool {
+    match wanted.fit(known, token) {
+        Fit::Fits => true,
+        Fit::OutOfRange => {
+            add_beyond(words, token, wanted.words());
+            false
+        }
+        Fit::Other => {
+            add_other(words, known, token, wanted);
+            false
+        }
+    }
 }
 
 /// Adds which operand of a line has another form, is out of its range, missing, or one too many.
-fn add_unfit(
-    prose: &mut String,
-    line: &FaultyLine<'_>,
-    known: &Known<'_>,
-    form: Form,
-) -> Result<(), AllocError> {
+fn add_unfit(words: &mut Words, line: &FaultyLine<'_>, known: &Known<'_>, form: Form) {
     let mut count: usize = 0;
     for _ in 0..form.most() {
         let Some(operand) = form.operand(count) else {
             break;
         };
-        match line.token(form.first.saturating_add(count)) {
-            Some(token) => match operand.fit(known, token) {
-                Fit::Fits => {}
-                Fit::OutOfRange => {
-                    add_at_fault(prose, token, ", whose number is out of range")?;
-                    return add_expected(prose, operand.words());
-                }
-                Fit::Other => return add_other(prose, known, token, operand),
-            },
-            None if count < form.least => return add_short(prose, operand.words()),
-            None => return Ok(()),
+        let Some(token) = line.token(form.first.saturating_add(count)) else {
+            if count < form.least {
+                add_short(words, operand.words())
+            }
+            return;
+        };
+        if !is_fit(words, known, token, operand) {
+            return;
         }
         count = count.saturating_add(1);
     }
-    match line.token(form.first.saturating_add(count)) {
-        Some(token) => add_at_fault(prose, token, ", which is one token too many"),
-        None => Ok(()),
+    if let Some(token) = line.token(form.first.saturating_add(count)) {
+        add_too_many(words, token)
     }
 }
 
 /// Adds an operand of another form than is wanted.
-fn add_other(
-    prose: &mut String,
-    known: &Known<'_>,
-    token: &[u8],
-    wanted: Operand,
-) -> Result<(), AllocError> {
-    add_at_fault(prose, token, ", which may not stand there")?;
-    add_expected(prose, wanted.words())?;
-    let names = known.names;
+fn add_other(words: &mut Words, known: &Known<'_>, token: &[u8], wanted: Operand) {
+    add_unwanted(words, token, wanted.words());
     match wanted {
-        Operand::Major => add_major(prose, token),
-        Operand::Device => add_names(prose, "the devices are", names.devices.as_slice()),
-        Operand::Packet => add_names(prose, "the packets are", known.packets.as_slice()),
-        _ => add_nearest(prose, token, wanted.choices()),
+        Operand::Major => add_major(words, token),
+        Operand::Device => add_names(words, "the devices are", known.names.devices.as_slice()),
+        Operand::Packet => add_names(words, "the packets are", known.packets.as_slice()),
+        _ => add_nearest(words, token, wanted.choices()),
     }
 }
 
 /// Adds the names that there are.
-fn add_names(prose: &mut String, before: &str, names: &[Piece<'_>]) -> Result<(), AllocError> {
-    if names.is_empty() {
-        return Ok(());
+fn add_names(words: &mut Words, before: &str, names: &[Piece<'_>]) {
+    if !names.is_empty() {
+        words.add(before);
+        let mut count: usize = 0;
+        for name in names {
+            words.add(if count > 0 { ", " } else { ": " });
+            add_token(words, name.bytes());
+            count = count.saturating_add(1);
+        }
+        words.add("\n")
     }
-    prose.push_str(before)?;
-    let mut mark = ": ";
-    for name in names {
-        prose.push_str(mark)?;
-        add_token(prose, name.bytes())?;
-        mark = ", ";
-    }
-    prose.push_str("\n")
 }
