@@ -8,8 +8,15 @@ pub struct Form<O: 'static> {
     pub word: &'static str,
     /// What stands behind the word.
     pub operands: &'static [O],
-    /// How many of these have to stand there.
-    pub least: usize,
+    /// Whether the last of these may be left out.
+    pub open: bool,
+}
+
+impl<O: 'static> Form<O> {
+    /// How many operands have to stand there.
+    pub fn least(&self) -> usize {
+        self.operands.len().saturating_sub(self.open as usize)
+    }
 }
 
 /// That of the lines that begin with a word, if there are such.

@@ -42,8 +42,12 @@ impl Encoding {
     }
 }
 
-/// Adds a line and two lines round it, unless the text is UTF-16, whose lines can't be shown.
-pub fn add_lines_round(words: &mut Words, text: &[u8], spot: Spot) {
+/// Adds the number of a line, and it with two lines round it, unless the text is UTF-16, whose
+/// lines can't be shown.
+pub fn add_line(words: &mut Words, text: &[u8], spot: Spot) {
+    words.add("line ");
+    words.add_number(spot.number);
+    words.add(":\n");
     match Encoding::of(text) {
         Some(Encoding::Wide) => {}
         _ => add_excerpt(words, text, spot),

@@ -13,4 +13,4 @@ pub mod misfits;
 pub mod nearest;
 mod quoting;
 
-pub use letters::add_lines_round;
+pub use letters::add_line;
