@@ -1,12 +1,17 @@
 """Verdicts, words and traces."""
 
+import pathlib
+import sys
 import unittest
 
 import pafteis
 from pafteis import Detail, Faulty, FaultyImage, FaultyText, ImageFault, Place, Rule, TextFault
 from tests import EXAMPLES, IS_STAND_IN, TOP, text
 
-GALLERY = TOP / "crates/tests_stored/data/gallery"
+sys.path.append(str(TOP / "tools/parts"))
+import gallery  # noqa: E402
+
+GALLERY = pathlib.Path(gallery.GALLERY)
 
 
 def sets():

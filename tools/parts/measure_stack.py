@@ -14,6 +14,8 @@ import subprocess
 import sys
 import tempfile
 
+from gallery import GALLERY
+
 TOP = pathlib.Path(__file__).resolve().parents[2]
 
 
@@ -28,7 +30,7 @@ def built(folder):
 def pairs():
     """Sets with a schedule."""
     for name in sorted([*TOP.glob("examples/*.drv"), *TOP.glob("examples/guide/*.drv"),
-                        *TOP.glob("crates/tests_stored/data/gallery/*/*.drv")]):
+                        *pathlib.Path(GALLERY).glob("*/*.drv")]):
         own = name.with_suffix(".sched")
         events = own if own.exists() else name.parent / "events.sched"
         if events.exists():

@@ -1,67 +1,145 @@
 #!/usr/bin/env python3
-"""tools/keep runs [--check | --cases | --show GROUP | run [PROGRAM]]: what the program of crates/tests_stored runs, and what it has to write.
+"""tools/keep runs [--check | --cases | --show GROUP | --unpack FOLDER | run [PROGRAM [--write | --show] [GROUP ..]]]: what the program of
+crates/tests_stored runs, and what it has to find.
 
-A file of crates/tests_stored/runs is a group of cases. A case is a line `# NAME`, and behind it texts and runs. A text is a
-line `-- NAME` and its lines, each behind `|`, the last one behind `!` where no line feed ends it. A run is a line `$ WORDS`,
-what drvhost answers to these words, what the error writer is told behind a line `told:`, and a line with the exit status,
-the number of files that are opened, and of reads of them that fail. What is no such text (a faulty image, say, or a text with
-control bytes) is a file below crates/tests_stored/data, but for an image that a run before writes. The group of the wrong
-drivers is made of the answers that stand beside them (answers.txt, by gallery.py); texts of the folder examples that are
-named are taken from there. The group of the rules' pages is made of crates/verifier_names/src/pages.rt and, with what `check`
-says of a page's example, of docs/RULES.md.
+A file of crates/tests_stored/data/runs is a group of cases. A case is a line `# NAME`, and behind it texts and runs. A run is a line
+`$ WORDS`, what drvhost answers to these words, what the error writer is told behind a line `told:`, and a line with the exit
+status, the number of files that are opened, and of reads of them that fail. An answer that nobody reads is stored short, as a line
+`digest LINES MD5` before the last one: of `trace` and `host` those of more than 60 lines. A text is a line `-- NAME`, or `-- NAME of BASE`, and its lines:
 
-Without a flag it writes from these the list of the runs (data/runs.txt), all texts (data/texts.txt), and what the program has
-to write (stdout). With --check it writes nothing, and tells what it would write otherwise; it also tells of a text that no
+    |LINE        a line
+    !LINE        the last line, which no line feed ends
+    *COUNT LINE  a line so many times, with `#` in it for its number from 0
+    =COUNT       so many lines of the base: of a text before it in the group, or, where that is `$`, of the answer before it
+    ~COUNT       so many lines of the base that are left out
+
+What is no such text (a faulty image, say, or a text with control bytes) is a file below crates/tests_stored/data, but for an
+image that a run before writes. The texts of the group of examples are those of the folder examples that runs name. The group of the
+rules' pages is made of crates/verifier_names/src/pages.rt and, with what `check` says of a page's example, of docs/RULES.md.
+
+Without a flag it writes these two groups, the list of the groups (data/groups.txt), each behind those whose texts it names, and how many
+answers each has (stdout). With --check it writes nothing, and tells what it would write otherwise; it also tells of a text that no
 run names, and of a run that names a text which isn't there, where its answer doesn't say so. With --cases it prints the
-names of all cases, with --show the cases of a group, each with its texts. The last line counts.
+names of all cases, with --show the cases of a group, each with its texts, and with --unpack it writes all texts into files below a
+folder. The last line counts.
 
-With `run` it tries the crate before any proof (`rt try`), and prints each run that is answered otherwise; with `run PROGRAM`
-it gives each command line to that program, as to `drvhost`, and compares what goes out, what goes to standard error and the
-exit status."""
-import difflib, os, re, shutil, subprocess, sys, tempfile
+With `run` it tries the crate before any proof (`rt try`), and prints what it finds otherwise; with `run PROGRAM`
+it gives each command line, or those of the groups named, to that program, as to `drvhost`, and compares what goes out, what goes to
+standard error and the exit status. With --show it prints the lines of an answer that is stored short and differs, and with --write the
+answers are stored anew, but for the number of files that are opened."""
+import difflib, hashlib, os, re, shutil, subprocess, sys, tempfile
 
-import gallery
 from compare_pages import WARNING, pages, sections, titles
 
 TOP = os.path.dirname(os.path.dirname(os.path.dirname(os.path.abspath(__file__))))
 EXAMPLES = os.path.join(TOP, 'examples')
 CRATE = os.path.join(TOP, 'crates/tests_stored')
-RUNS, DATA = os.path.join(CRATE, 'runs'), os.path.join(CRATE, 'data')
-LIST, TEXTS, STDOUT = 'data/runs.txt', 'data/texts.txt', 'stdout'
+DATA = os.path.join(CRATE, 'data')
+RUNS = os.path.join(DATA, 'runs')
+GROUPS, STDOUT = 'data/groups.txt', 'stdout'
 # What stands before the name of a file in the last line of an explanation.
 HUNT = 'show it: drvhost hunt '
-# What a folder of the gallery has beside answers.
-ASKED = 'driver.drv', 'events.sched', 'mended.drv'
 END = re.compile(r'^status [0-9]+, opened [0-9]+(, failed reads [1-9][0-9]*)?$')
 ENDLESS = 'did not end within the time limit'
 TEXT = re.compile(r'\.(drv|image|sched|scenario|script)$')
+# What stands before the digest of an answer, the commands whose long answers are stored so, and how many lines a short one has.
+DIGEST, DIGESTED, LONGEST = 'digest ', ('trace', 'host'), 60
+# How many like lines in a row are worth a count.
+REPEATED = 4
+
+def digest_of(lines):
+    """The line that stands for these lines."""
+    return '%s%d %s' % (DIGEST, len(lines), hashlib.md5(''.join(line + '\n' for line in lines).encode('utf-8', 'surrogateescape')).hexdigest())
 
 class Run:
     """The words of a command line, and the lines of the answer."""
 
-    def __init__(self, words):
-        self.words, self.answer = words, []
+    def __init__(self, words, answer=()):
+        self.words, self.answer = words, list(answer)
 
     def files(self):
         """The texts that the words name."""
         return [word for word in self.words if TEXT.search(word)]
 
+    def is_short(self):
+        return self.answer[0].startswith(DIGEST)
+
     def lines(self):
         return ['$ ' + ' '.join(self.words), *self.answer]
 
-class Text:
-    """A text that runs name."""
+    def beside(self, lines):
+        """An answer's lines, as they are stored where this one is."""
+        is_long = self.words[0] in DIGESTED and len(lines) > LONGEST + 1
+        return [digest_of(lines[:-1]), lines[-1]] if self.is_short() or is_long else lines
 
-    def __init__(self, name, content=''):
-        self.name, self.content = name, content
+    def store(self, lines):
+        """Stores another answer, but for the number of files that are opened."""
+        _, comma, opened = self.answer[-1].partition(',')
+        self.answer = self.beside([*lines[:-1], lines[-1] + comma + opened])
+
+class Text:
+    """A text that runs name: its lines as they are stored, and its content."""
+
+    def __init__(self, name, base=None, of_base=''):
+        self.name, self.base, self.content, self.stored = name, base, '', []
+        self.left = of_base.splitlines(keepends=True)
 
     def add(self, line):
         """Adds a line of it, as it is stored."""
-        self.content += line[1:] + ('\n' if line[0] == '|' else '')
+        self.stored.append(line)
+        mark, rest = line[0], line[1:]
+        if mark in '|!':
+            self.content += rest + ('\n' if mark == '|' else '')
+        elif mark == '*':
+            count, _, rest = rest.partition(' ')
+            self.content += ''.join(rest.replace('#', str(number), 1) + '\n' for number in range(int(count)))
+        else:
+            taken, self.left = self.left[:int(rest)], self.left[int(rest):]
+            self.content += ''.join(taken) if mark == '=' else ''
 
     def lines(self):
-        *whole, open_line = self.content.split('\n')
-        return ['-- ' + self.name, *['|' + line for line in whole], *(['!' + open_line] if open_line else [])]
+        return ['-- ' + self.name + (' of ' + self.base if self.base else ''), *self.stored]
+
+def plain_lines(content):
+    """The lines of a text without a base."""
+    *whole, last = content.split('\n')
+    at, lines = 0, []
+    while at < len(whole):
+        count = times(whole[at:])
+        lines.append('*%d %s' % (count, numbered(whole[at], count)) if count >= REPEATED else '|' + whole[at])
+        at += count if count >= REPEATED else 1
+    return lines + (['!' + last] if last else [])
+
+def numbered(line, count):
+    """The form of a line that stands so many times."""
+    return re.sub(r'(?<![0-9])0(?![0-9])', '#', line, count=1)
+
+def times(lines):
+    """How many lines in a row are the first, or the first with its number that grows."""
+    form = numbered(lines[0], 2)
+    wanted = (form.replace('#', str(number), 1) for number in range(len(lines)))
+    return next((at for at, (line, other) in enumerate(zip(lines, wanted)) if line != other or '#' in line), len(lines))
+
+def changed_lines(base, content):
+    """The lines of a text that has lines of a base."""
+    old, new = base.splitlines(), content.splitlines()
+    found = []
+    for kind, start, end, first, last in difflib.SequenceMatcher(None, old, new, autojunk=False).get_opcodes():
+        found += ['=%d' % (end - start)] if kind == 'equal' else ['~%d' % (end - start)] if end > start else []
+        found += ['|' + line for line in new[first:last]] if kind != 'equal' else []
+    return found[:-1] if found and found[-1][0] == '~' else found
+
+def text_of(name, content, bases=()):
+    """A text with this content, as a change of that base of which it needs the fewest lines, or of none: bases are texts."""
+    ways = [(plain_lines(content), None)]
+    if content.endswith('\n'):
+        ways += [(changed_lines(base.content, content), base) for base in bases if base.content.endswith('\n')]
+    lines, base = min(ways, key=lambda way: len(way[0]) * (2 if way[1] else 1))
+    text = Text(name, base and base.name, base.content if base else '')
+    for line in lines:
+        text.add(line)
+    assert text.content == content, name
+    return text
 
 def is_storable(content):
     """Whether the bytes of a file can stand in a group of runs: printable text, a line feed the only control byte."""
@@ -74,69 +152,49 @@ class Group:
     """Lines of its title, of the cases' names and of blanks, texts, and runs."""
 
     def __init__(self, name, parts):
-        self.name, self.parts = name, ['; %s: %s' % (name, parts[0][2:]), *parts[1:]]
+        self.name, self.parts = name, parts
         self.runs = [part for part in parts if isinstance(part, Run)]
         self.texts = [part for part in parts if isinstance(part, Text)]
         self.cases = [part[2:] for part in parts if isinstance(part, str) and part.startswith('# ')]
 
-    def asked(self):
-        """The lines without the answers."""
-        return [part if isinstance(part, str) else part.lines()[0] for part in self.shown()]
-
     def lines(self):
-        """The lines with the answers."""
-        return [line for part in self.shown() for line in ([part] if isinstance(part, str) else part.lines())]
+        return [line for part in self.parts for line in ([part] if isinstance(part, str) else part.lines())]
 
-    def shown(self):
-        """All but the texts."""
-        return [part for part in self.parts if not isinstance(part, Text)]
+    def file(self):
+        """Its file in the crate, and the bytes of it."""
+        return 'data/runs/%s.txt' % self.name, ('\n'.join(self.lines()) + '\n').encode()
 
 def read(path):
     return open(path, 'rb').read()
 
+def begun_text(line, texts, last):
+    """The text of which a line is the first, behind these texts and the last run."""
+    name, _, base = line[3:].partition(' of ')
+    if base == '$':
+        assert not last.is_short(), line
+        return Text(name, base, ''.join(it + '\n' for it in last.answer[:-1]))
+    return Text(name, base or None, texts[base].content if base else '')
+
 def stored_group(file):
     """The group of a file of runs."""
-    parts, run = [], None
+    parts, run, texts, last = [], None, {}, None
     for line in open(os.path.join(RUNS, file), newline='\n').read().split('\n')[:-1]:
         if run:
             run.answer.append(line)
             run = None if END.match(line) else run
         elif line.startswith('$ '):
-            run = Run(line[2:].split(' '))
+            run = last = Run(line[2:].split(' '))
             parts.append(run)
         elif line.startswith('-- '):
-            parts.append(Text(line[3:]))
-        elif line[:1] in ('|', '!'):
+            parts.append(begun_text(line, texts, last))
+            texts[parts[-1].name] = parts[-1]
+        elif line[:1] in ('|', '!', '*', '=', '~'):
             parts[-1].add(line)
         else:
             assert not line or line[:2] in ('# ', '; '), (file, line)
             parts.append(line)
     assert not run, (file, 'the last answer has no end')
     return Group(file[:-len('.txt')], parts)
-
-def gallery_run(folder, line, answer, *flags):
-    """A run of a folder of the gallery, by its command line and the stored answer, which ends with the exit status."""
-    words = ['gallery/%s/%s' % (folder, word) if TEXT.search(word) else word for word in line.split()]
-    answer = answer.replace(HUNT + 'driver.drv', HUNT + 'gallery/%s/driver.drv' % folder)
-    run = Run(words + list(flags))
-    lines = answer.splitlines()
-    assert re.match(r'^status [01]$', lines[-1]), (folder, line)
-    run.answer = lines[:-1] + ['%s, opened %d' % (lines[-1], len(run.files()))]
-    return run
-
-def gallery_runs(folder):
-    """What is answered of a wrong driver. The machine that tests everything runs a mended driver too."""
-    for line, answer in gallery.stored(folder).items():
-        yield gallery_run(folder, line, answer)
-        if line == gallery.MENDED:
-            assert answer.endswith('status 0\n'), folder
-            yield gallery_run(folder, line, answer, '--unchecked')
-
-def gallery_group():
-    parts = ['; The wrong drivers of the gallery: their verdicts, what they do without one, and the mended ones.']
-    for folder in gallery.folders():
-        parts += ['', '# ' + folder, *gallery_runs(folder)]
-    return Group('gallery', parts)
 
 EXAMPLE = re.compile(r'^```drv\n(.*?)^```\n\n```output\n(.*?)^```$', re.M | re.S)
 
@@ -158,16 +216,15 @@ def answer_of_document(told, part):
     lines = dict(EXAMPLE.findall(told))[part].splitlines()
     return lines + ['status %d, opened 1' % (lines[0] != 'accepted')]
 
-def page_runs(number, title, page, told):
-    """What is told of a rule, and what `check` says of its page's example."""
-    run = Run(['explain', '--rule', number])
-    run.answer = page_of(title, page) + ['status 0, opened 0']
-    yield run
+def page_parts(number, title, page, told):
+    """What is told of a rule, and, with the texts, what `check` says of its page's example."""
+    yield Run(['explain', '--rule', number], page_of(title, page) + ['status 0, opened 0'])
     for kind in [it for it in ('refused', 'mended') if it in page]:
-        run = Run(['check', 'pages/%s-%s.drv' % (number.lower(), kind)])
-        run.answer = answer_of_document(told, page[kind])
+        name = 'pages/%s-%s.drv' % (number.lower(), kind)
+        run = Run(['check', name], answer_of_document(told, page[kind]))
         refused = kind == 'refused' and title != WARNING
         assert run.answer[0].startswith('refused %s ' % title if refused else 'accepted'), title
+        yield text_of(name, page[kind])
         yield run
 
 def pages_group():
@@ -175,47 +232,59 @@ def pages_group():
     told, named = sections(), titles()
     for rule, page in pages().items():
         title = named[rule]
-        parts += ['', '# ' + title, *page_runs(title.split()[0], title, page, told[title])]
+        parts += ['', '# ' + title, *page_parts(title.split()[0], title, page, told[title])]
     return Group('pages', parts)
-
-def page_texts():
-    """The texts of the pages' examples."""
-    named = titles()
-    return [Text('pages/%s-%s.drv' % (named[rule].split()[0].lower(), kind), page[kind])
-            for rule, page in pages().items() for kind in ('refused', 'mended') if kind in page]
 
 def examples(all_groups):
     """The bytes of the examples that runs name, by their names."""
     return {name: read(os.path.join(TOP, name)) for name in sorted(named(all_groups)) if name.startswith('examples/')}
 
-def texts(all_groups):
-    """All texts but those that are files below data."""
-    stored = [text for group in all_groups for text in group.texts]
-    copied = [Text(name, content.decode()) for name, content in examples(all_groups).items() if is_storable(content)]
-    return [*stored, *page_texts(), *copied]
-
-def unpacked(folder):
-    """A folder below this one with all texts, each in a file of its own."""
-    data = shutil.copytree(DATA, os.path.join(folder, 'data'), dirs_exist_ok=True)
-    for text in texts(groups()):
-        path = os.path.join(data, text.name)
-        os.makedirs(os.path.dirname(path), exist_ok=True)
-        open(path, 'w', newline='').write(text.content)
-    return data
+def examples_group(stored, all_groups):
+    """The stored group of the examples, with their texts."""
+    title, *rest = [part for part in stored.parts if not isinstance(part, Text)]
+    copied = [text_of(name, content.decode()) for name, content in examples(all_groups).items() if is_storable(content)]
+    return Group(stored.name, [title, *copied, *rest])
 
 def groups():
-    stored = [stored_group(file) for file in sorted(os.listdir(RUNS))]
-    return sorted(stored + [gallery_group(), pages_group()], key=lambda group: group.name)
+    """The groups as they have to be."""
+    stored = {file[:-len('.txt')]: stored_group(file) for file in sorted(os.listdir(RUNS))}
+    stored['pages'] = pages_group()
+    stored['examples'] = examples_group(stored['examples'], stored.values())
+    return [stored[name] for name in sorted(stored)]
+
+def ordered(all_groups):
+    """The names of the groups, each behind those whose texts it names."""
+    owners = {text.name: group.name for group in all_groups for text in group.texts}
+    needs = {group.name: {owners[name] for name in named([group]) if name in owners} - {group.name} for group in all_groups}
+    names = []
+    while len(names) < len(needs):
+        names.append(next(name for name in needs if name not in names and needs[name] <= set(names)))
+    return names
+
+def texts(all_groups):
+    """All texts but those that are files below data."""
+    return [text for group in all_groups for text in group.texts]
+
+def unpacked(folder, all_groups=None):
+    """A folder below this one with all texts, each in a file of its own."""
+    data = shutil.copytree(DATA, os.path.join(folder, 'data'), dirs_exist_ok=True, ignore=shutil.ignore_patterns('runs', 'groups.txt'))
+    for group in all_groups or groups():
+        os.makedirs(os.path.join(data, group.name), exist_ok=True)
+        for text in group.texts:
+            path = os.path.join(data, text.name)
+            os.makedirs(os.path.dirname(path), exist_ok=True)
+            open(path, 'w', newline='').write(text.content)
+    return data
 
 def made(all_groups):
     """The files that are made, by their paths in the crate."""
-    text = lambda lines: ('\n'.join(lines) + '\n').encode()
-    images = {'data/' + name: content for name, content in examples(all_groups).items() if not is_storable(content)}
+    by_name = {group.name: group for group in all_groups}
+    text = lambda lines: ''.join(line + '\n' for line in lines).encode()
     return {
-        **images,
-        LIST: text([line for group in all_groups for line in group.asked() + ['']]),
-        TEXTS: text([line for it in texts(all_groups) for line in it.lines()]),
-        STDOUT: text([line for group in all_groups for line in group.lines() + ['']]),
+        **{'data/' + name: content for name, content in examples(all_groups).items() if not is_storable(content)},
+        **dict(by_name[name].file() for name in ('examples', 'pages')),
+        GROUPS: text(ordered(all_groups)),
+        STDOUT: text('%s: %d answers' % (name, len(by_name[name].runs)) for name in ordered(all_groups)),
     }
 
 def named(all_groups):
@@ -231,11 +300,9 @@ def stray(all_groups):
     """What is wrong with the texts: those that no run names, those that are named and missing, and files that could be
     texts."""
     files = {os.path.relpath(os.path.join(at, name), DATA) for at, _, names in os.walk(DATA) for name in names}
-    files -= {os.path.basename(LIST), os.path.basename(TEXTS)}
-    beside = {name for name in files if name.startswith('gallery/')}
-    loose = [name for name in sorted(files - beside) if is_storable(read(os.path.join(DATA, name)))]
-    there = files - {name for name in beside if os.path.basename(name) not in ASKED}
-    there |= {text.name for text in texts(all_groups)} | written(all_groups)
+    files = {name for name in files if not name.startswith('runs/')} - {os.path.basename(GROUPS)}
+    loose = [name for name in sorted(files) if is_storable(read(os.path.join(DATA, name)))]
+    there = files | {text.name for text in texts(all_groups)} | written(all_groups)
     told = ['%s: it can stand in its group of runs' % name for name in loose]
     folders = {word + '/' for group in all_groups for run in group.runs for word in run.words}
     unnamed = [name for name in sorted(there - named(all_groups)) if os.path.dirname(name) + '/' not in folders]
@@ -247,19 +314,17 @@ def stray(all_groups):
                 told.append('%s: it is named and missing' % missing[0])
     return told
 
-def show(group):
+def show(group, all_groups):
     """Prints a group, with the texts before the answers that first need them."""
-    seen, elsewhere = set(), {text.name: text for text in texts(groups())}
-    for part in group.shown():
-        if isinstance(part, str):
-            print(part)
+    seen, elsewhere = set(), {text.name: text for text in texts(all_groups)}
+    for part in group.parts:
+        if isinstance(part, Text):
             continue
-        for name in part.files():
-            if name in seen or name not in elsewhere:
-                continue
-            seen.add(name)
-            print('\n'.join(elsewhere[name].lines()))
-        print('\n'.join(part.lines()))
+        for name in part.files() if isinstance(part, Run) else ():
+            if name not in seen and name in elsewhere:
+                seen.add(name)
+                print('\n'.join(['-- ' + name, *('|' + line for line in elsewhere[name].content.splitlines())]))
+        print(part if isinstance(part, str) else '\n'.join(part.lines()))
 
 def tried(crate, seconds='600', endless=False):
     """What the program of the crate tests_stored writes before any proof, or None. Where it may be endless, that is what it
@@ -274,41 +339,50 @@ def tried(crate, seconds='600', endless=False):
         return None
     return done.stdout
 
-def by_group(written):
-    """What a run of the stored runs writes, by the names of their groups."""
-    return dict(re.findall(r'^; (\w+): (.*?)(?=^; |\Z)', written, re.M | re.S))
+def differing(wanted, written):
+    """The groups of which the program found an answer otherwise, or to whose end it didn't come."""
+    lines = set(written.splitlines())
+    return {line.split(':')[0] for line in wanted.splitlines() if line not in lines} | set(re.findall(r'^differs: (\w+): ', written, re.M))
 
 def answered(program, run, data):
-    """What a program answers to a run's words over these texts, as it is stored, but for the files that are opened."""
-    done = subprocess.run([os.path.abspath(program), *run.words], cwd=data, stdin=subprocess.DEVNULL, capture_output=True,
-                          text=True, errors='replace')
-    told = ['told:', *done.stderr.splitlines()] if done.stderr else []
-    return [*done.stdout.splitlines(), *told, 'status %d' % done.returncode]
+    """What a program answers to a run's words over these texts, but for the files that are opened."""
+    done = subprocess.run([os.path.abspath(program), *run.words], cwd=data, stdin=subprocess.DEVNULL, capture_output=True)
+    lines = lambda written: written.decode(errors='surrogateescape').removesuffix('\n').split('\n') if written else []
+    told = ['told:', *lines(done.stderr)] if done.stderr else []
+    return [*lines(done.stdout), *told, 'status %d' % done.returncode]
 
-def differences(all_groups, program):
-    """Where the crate, or a program, answers otherwise than it is stored: the lines of each difference."""
-    diff = lambda wanted, found: list(difflib.unified_diff(wanted, found, 'stored', 'answered', lineterm='', n=3))
-    if not program:
-        written = tried(CRATE)
-        wanted = read(os.path.join(CRATE, STDOUT)).decode()
-        return [['nothing is written']] if written is None else [d for d in [diff(wanted.splitlines(), written.splitlines())] if d]
-    found = []
+def difference(run, found, shows):
+    """The lines of the difference between a run's answer and another, but for the files that are opened."""
+    stored = [*run.answer[:-1], run.answer[-1].partition(',')[0]]
+    told = list(difflib.unified_diff(stored, run.beside(found), 'stored', 'answered', lineterm='', n=3))
+    return told + (found if told and shows and run.is_short() else [])
+
+def compare(all_groups, program, flags):
+    """Prints where a program answers otherwise than it is stored, and how many answers these are; or stores its answers."""
+    count, differ = 0, 0
     with tempfile.TemporaryDirectory() as folder:  # a copy, since a rewrite writes
         data = unpacked(folder)
         for run in [run for group in all_groups for run in group.runs]:
-            stored = [*run.answer[:-1], run.answer[-1].partition(',')[0]]
-            told = diff(stored, answered(program, run, data))
+            found = answered(program, run, data)
+            told = difference(run, found, '--show' in flags)
+            count, differ = count + 1, differ + bool(told)
             if told:
-                found.append([run.lines()[0], *told])
-    return found
+                print('\n'.join([run.lines()[0], *told]))
+            if '--write' in flags:
+                run.store(found)
+    if '--write' in flags:
+        settle(dict(group.file() for group in all_groups), False)
+    print('%d runs, %d answered otherwise' % (count, differ))
+    return 1 if differ else 0
 
-def compare(all_groups, program):
-    """Prints each difference, and how many there are."""
-    found = differences(all_groups, program)
-    for lines in found:
-        print('\n'.join(lines))
-    print('%d runs, %s' % (sum(len(group.runs) for group in all_groups), '%d answered otherwise' % len(found) if program
-          else 'all answered so' if not found else 'answered otherwise'))
+def compare_crate(all_groups):
+    """Prints what the crate finds otherwise before any proof."""
+    wrote, wanted = tried(CRATE), made(all_groups)[STDOUT].decode()
+    if wrote is None:
+        return 1
+    print('\n'.join(line for line in wrote.splitlines() if line not in wanted.splitlines()))
+    found = differing(wanted, wrote)
+    print('%d groups, %d differ: %s' % (len(all_groups), len(found), ' '.join(sorted(found))))
     return 1 if found else 0
 
 def settle(files, is_check):
@@ -324,22 +398,32 @@ def settle(files, is_check):
             open(path, 'wb').write(content)
     return told
 
+def run_words(all_groups, words):
+    """Compares the crate, or the program that is named first, in all groups or those that are named."""
+    flags, names = [it for it in words if it.startswith('--')], [it for it in words if not it.startswith('--')]
+    if not names:
+        return compare_crate(all_groups)
+    program, *wanted = names
+    return compare([group for group in all_groups if not wanted or group.name in wanted], program, flags)
+
 def main():
     all_groups = groups()
     if sys.argv[1:2] == ['run']:
-        return compare(all_groups, sys.argv[2] if len(sys.argv) > 2 else None)
+        return run_words(all_groups, sys.argv[2:])
+    if sys.argv[1:2] == ['--unpack']:
+        print(unpacked(sys.argv[2], all_groups))
+        return 0
     if '--show' in sys.argv:
         for group in all_groups:
             if group.name == sys.argv[-1]:
-                show(group)
+                show(group, all_groups)
         return 0
     if '--cases' in sys.argv:
         for group in all_groups:
             for case in group.cases:
                 print('%s: %s' % (group.name, case))
-    files = made(all_groups)
     is_check = '--check' in sys.argv
-    told = settle(files, is_check)
+    told = settle(made(all_groups), is_check)
     wrong = stray(all_groups)
     for line in told + wrong:
         print(line)

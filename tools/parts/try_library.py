@@ -16,6 +16,7 @@ import subprocess
 import sys
 import tempfile
 
+from gallery import GALLERY
 from versions import VERSION
 
 TOP = pathlib.Path(__file__).resolve().parents[2]
@@ -71,7 +72,7 @@ def built(folder):
 def cases():
     """Words of the program, and the example's words for them."""
     sets = sorted([*TOP.glob("examples/*.drv"), *TOP.glob("examples/*.image"),
-                   *TOP.glob("crates/tests_stored/data/gallery/*/*.drv")])
+                   *pathlib.Path(GALLERY).glob("*/*.drv")])
     for name in map(str, sets):
         for word in ("check", "explain", "list", "rewrite"):
             yield [word, name], [word, name]

@@ -8,7 +8,7 @@ further on, or of a later rule at the same place: of two faults of an instructio
 A mend after which it is refused there by the same rule, or earlier, is printed with its break, and the exit status is 1 then.
 Otherwise each mend is printed with how often it was told, whether it is known, and one of its breaks;
 with --each every break is. The last line counts. With --store a break of each reason and of each mend is stored, with what
-is told of it, and, where the mend is followed, the mended text with its verdict: crates/tests_stored/runs/mends.txt is
+is told of it, and, where the mend is followed, the mended text with its verdict: the group mends of the stored runs is
 written anew.
 
 A mend that was searched names lines, and is followed by these. Where another one speaks of a label L, the place that it names is made: the guard of the queue is released there, and the routine
@@ -16,11 +16,11 @@ returns. Where it leaves open which status, SUCCESS is taken. Mends that ask for
 another register) aren't followed."""
 import concurrent.futures, itertools, os, re, subprocess, sys
 
-from stored_runs import Text
+from gallery import GALLERY
+from stored_runs import Group, Run, Text, settle, text_of as stored_text
 
 TOP = os.path.dirname(os.path.dirname(os.path.dirname(os.path.abspath(__file__))))
-EXAMPLES, GALLERY = os.path.join(TOP, 'examples'), os.path.join(TOP, 'crates/tests_stored/data/gallery')
-RUNS = os.path.join(TOP, 'crates/tests_stored/runs/mends.txt')
+EXAMPLES = os.path.join(TOP, 'examples')
 # Texts in which instructions are added, at the start of a routine and before each return.
 SMALL = 'cancel', 'filter', 'queue', 'startio'
 # How many mends are stored at least with the text that they mend.
@@ -310,21 +310,23 @@ def tried(program, what, lines):
     words = explain(program, lines)
     return Tried(program, what, lines, words) if words.startswith('refused') else None
 
-def run_of(program, command, name, lines):
-    """A stored run, behind its text."""
+def run_of(program, command, name, lines, parts):
+    """A stored run, behind its text, which is a change of one before it."""
     told, status = answer(program, command, lines)
-    return [*Text('mends/' + name, text_of(lines)).lines(), '$ %s mends/%s' % (command, name), *told.splitlines(), 'status %d, opened 1' % status]
+    name = 'mends/' + name
+    text = stored_text(name, text_of(lines), [part for part in parts if isinstance(part, Text)])
+    return [text, Run([command, name], [*told.splitlines(), 'status %d, opened 1' % status])]
 
 def store(program, firsts):
     """Stores the first break of each mend that is followed."""
-    lines = ['; Drivers broken in one place: how the fault came about and how to mend it, and the verdict on the text that is '
+    parts = ['; Drivers broken in one place: how the fault came about and how to mend it, and the verdict on the text that is '
              'mended so.']
     for number, it in enumerate(firsts, 1):
-        lines += ['', '# ' + it.what, *run_of(program, 'explain', 'broken-%02d.drv' % number, it.lines)]
+        parts += ['', '# ' + it.what]
+        parts += run_of(program, 'explain', 'broken-%02d.drv' % number, it.lines, parts)
         if it.mends:
-            lines += run_of(program, 'check', 'mended-%02d.drv' % number, it.mended)
-    with open(RUNS, 'w') as file:
-        file.write('\n'.join(lines) + '\n')
+            parts += run_of(program, 'check', 'mended-%02d.drv' % number, it.mended, parts)
+    settle(dict([Group('mends', parts).file()]), False)
 
 def plain(words):
     """Words without the names of registers, queues, locks and labels; of a mend that was searched what it is for alone."""

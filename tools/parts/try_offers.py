@@ -13,8 +13,10 @@ percent 96, 63 and 75 of the gallery, where nearly right ones count, 99, 80 and 
 whole of those broken in two. The last line counts."""
 import collections, concurrent.futures, os, random, re, subprocess, sys, tempfile
 
+from gallery import GALLERY
+
 TOP = os.path.dirname(os.path.dirname(os.path.dirname(os.path.abspath(__file__))))
-EXAMPLES, GALLERY = os.path.join(TOP, 'examples'), os.path.join(TOP, 'crates/tests_stored/data/gallery')
+EXAMPLES = os.path.join(TOP, 'examples')
 OUTSIDE = 'driver', 'endd', 'dispatch', 'startio', 'dpc', 'queue', 'routine', 'endr', 'device'
 JUMPS = 'jmp', 'jz', 'jlt', 'remove', 'disarm', 'ifcancel', 'take', 'ifpending'
 FLOW = 'jmp', 'loop', 'end', 'ret'

@@ -8,6 +8,8 @@ threads wait for each other, that is told of each and the exit status is 1. Thes
 end in two minutes are wrong. It prints what is otherwise; the last line counts."""
 import argparse, concurrent.futures, glob, os, random, re, subprocess, tempfile, sys
 
+from gallery import GALLERY
+
 TOP = os.path.dirname(os.path.dirname(os.path.dirname(os.path.abspath(__file__))))
 
 def run(words, seconds=120):
@@ -96,7 +98,7 @@ def main():
     parser.add_argument('--scripts', type=int, default=600)
     parser.add_argument('--seed', type=int, default=1)
     given = parser.parse_args()
-    names = sorted(glob.glob(os.path.join(TOP, 'examples', '*.drv')) + glob.glob(os.path.join(TOP, 'crates/tests_stored/data/gallery/*/mended.drv'))
+    names = sorted(glob.glob(os.path.join(TOP, 'examples', '*.drv')) + glob.glob(os.path.join(GALLERY, '*/mended.drv'))
                    + [name for folder in given.sets for name in glob.glob(os.path.join(folder, '*.set'))])
     with tempfile.TemporaryDirectory() as folder, concurrent.futures.ThreadPoolExecutor(os.cpu_count()) as pool:
         kept = [name for name, good in zip(names, pool.map(lambda name: is_accepted(given.program, name), names)) if good]

@@ -6,6 +6,8 @@ their limits and past them, registers and locks past theirs, other bytes, lines 
 text on which they differ; the last line counts the texts, by what was said of them."""
 import concurrent.futures, glob, os, random, subprocess, sys, tempfile
 
+from gallery import GALLERY
+
 TOP = os.path.dirname(os.path.dirname(os.path.dirname(os.path.abspath(__file__))))
 NUMBERS = '0 1 00 01 7 8 9 15 16 17 31 32 33 63 64 65 255 256 999 1000 1001 1024 4294967295 4294967296 18446744073709551615 18446744073709551616 -1 0x1 1a'.split()
 WORDS = ('r0 r15 r16 r016 r00 R0 r l0 l7 l8 c0 c15 c16 p0 p16 READ WRITE CONTROL SUCCESS PENDING CANCELLED STATUS_SUCCESS lower void '
@@ -74,7 +76,7 @@ def main():
     program, other = sys.argv[1:3]
     count = int(sys.argv[3]) if len(sys.argv) > 3 else 30_000
     dice = random.Random(int(sys.argv[4]) if len(sys.argv) > 4 else 1)
-    names = sorted(glob.glob(os.path.join(TOP, 'examples', '*.drv')) + glob.glob(os.path.join(TOP, 'crates/tests_stored/data/gallery/*/*.drv')))
+    names = sorted(glob.glob(os.path.join(TOP, 'examples', '*.drv')) + glob.glob(os.path.join(GALLERY, '*/*.drv')))
     sources = [open(name).read() for name in names]
     texts = [spoil(dice.choice(sources), dice) for _ in range(count)]
     with tempfile.TemporaryDirectory() as folder:

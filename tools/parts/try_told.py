@@ -2,8 +2,8 @@
 """tools/try told [--write | --table] [PROGRAM]: whether the program (crates/drvhost/out/drvhost, if none is named) tells and draws
 the runs of the wrong drivers and of the examples as it is stored, byte for byte.
 
-Of each folder of the gallery, answers.txt has what `tell --unchecked --every` writes of driver.drv with events.sched (gallery.py), and
-picture.svg what `draw --unchecked` does; of a mended driver nothing may be amiss. Of each example with a schedule, examples/told has both texts
+Of each wrong driver of the gallery (gallery.py) the stored runs have what `tell --unchecked --every` writes of it with its events,
+and the digest of the picture that `draw --unchecked` does; of a mended driver nothing may be amiss. Of each example with a schedule, examples/told has both texts
 under its name, but for a picture that stands in docs/pictures; one that is refused is run with --unchecked, and of one that is
 accepted nothing may be amiss but a ring of threads where its driver takes its locks in a cycle. A told run ends with the exit status.
 
@@ -14,6 +14,7 @@ import os, re, subprocess, sys
 
 import gallery
 from gallery import TOP
+from stored_runs import difference
 
 EXAMPLES, PICTURES = (os.path.join(TOP, folder) for folder in ('examples', 'docs/pictures'))
 LISTED = os.path.join(TOP, 'docs/GALLERY.md')
@@ -28,27 +29,29 @@ def answer(program, *words):
     done = subprocess.run([program, *words], capture_output=True, text=True, timeout=60)
     return done.stdout + done.stderr, done.returncode
 
-class ToldText:
-    """A told run that stands in a file of its own."""
+class File:
+    """A file that has what is written, and, where it is asked for, the exit status."""
 
-    def __init__(self, path):
-        self.path = path
+    def __init__(self, path, has_status):
+        self.path, self.has_status = path, has_status
 
-    def settle(self, text, is_written):
-        return settle(self.path, text, is_written)
+    def settle(self, text, status, is_written):
+        return settle(self.path, text + ('status %d\n' % status if self.has_status else ''), is_written)
 
-class ToldAnswer:
-    """A told run that stands among the answers of a folder of the gallery."""
+class Answer:
+    """A stored run of a wrong driver."""
 
-    def __init__(self, folder):
-        self.folder, self.path = folder, gallery.path(folder, gallery.ANSWERS)
+    def __init__(self, folder, command):
+        self.run = gallery.run_of(folder, command)
+        self.path = os.path.join(TOP, ' '.join(self.run.words))
 
-    def settle(self, text, is_written):
-        answers = gallery.stored(self.folder)
-        if answers[gallery.TELL] == text:
+    def settle(self, text, status, is_written):
+        lines = [*text.splitlines(), 'status %d' % status]
+        if not difference(self.run, lines, False):
             return True
         if is_written:
-            gallery.store(self.folder, {**answers, gallery.TELL: text})
+            self.run.store(lines)
+            gallery.store()
         return is_written
 
 class Run:
@@ -58,23 +61,20 @@ class Run:
         self.name, self.words, self.told, self.picture = name, words, told, picture
 
     def answers(self, program):
-        """The told run with its exit status, the picture, and that exit status."""
-        text, status = answer(program, 'tell', *self.words, '--every')
-        drawn, _ = answer(program, 'draw', *self.words)
-        return '%sstatus %d\n' % (text, status), drawn, status
+        """The told run and the picture, each with the exit status."""
+        return answer(program, 'tell', *self.words, '--every'), answer(program, 'draw', *self.words)
 
     def differs(self, told, drawn, is_written):
         """The paths of the texts that are stored otherwise."""
-        if not self.told.settle(told, is_written):
-            yield self.told.path
-        if not settle(self.picture, drawn, is_written):
-            yield self.picture
+        for stored, found in (self.told, told), (self.picture, drawn):
+            if not stored.settle(*found, is_written):
+                yield stored.path
 
 def wrong_drivers():
     """The runs of the wrong drivers."""
     for folder in gallery.folders():
         words = [gallery.path(folder, 'driver.drv'), gallery.path(folder, 'events.sched'), '--unchecked']
-        yield Run(folder, words, ToldAnswer(folder), gallery.path(folder, 'picture.svg'))
+        yield Run(folder, words, Answer(folder, 'tell'), Answer(folder, 'draw'))
 
 def mended_drivers():
     """The runs of the mended ones."""
@@ -96,7 +96,7 @@ def examples(program):
         if not os.path.exists(picture):
             picture = os.path.join(EXAMPLES, 'told', name + '.svg')
         words = [driver, schedule] + ([] if accepted else ['--unchecked'])
-        yield Run(name, words, ToldText(os.path.join(EXAMPLES, 'told', name + '.txt')), picture), accepted
+        yield Run(name, words, File(os.path.join(EXAMPLES, 'told', name + '.txt'), True), File(picture, False)), accepted
 
 def settle(path, text, is_written):
     """Whether a text is stored so, or is now."""
@@ -128,9 +128,9 @@ def main():
     tried, wrong, silent, shown = 0, [], set(), 0
 
     def compare(run):
-        told, drawn, status = run.answers(program)
+        told, drawn = run.answers(program)
         wrong.extend('%s differs' % os.path.relpath(path, TOP) for path in run.differs(told, drawn, is_written))
-        return told, status
+        return told
 
     for run in wrong_drivers():
         told, status = compare(run)

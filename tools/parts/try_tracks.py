@@ -10,6 +10,8 @@ below zero; there is an instant for each packet that tops out, for a refused eve
 and the last moment is the number of events."""
 import glob, json, os, subprocess, sys
 
+import gallery
+
 TOP = os.path.dirname(os.path.dirname(os.path.dirname(os.path.abspath(__file__))))
 
 
@@ -87,10 +89,8 @@ def main():
     pairs = [tuple(sys.argv[2:])] if len(sys.argv) == 4 else [
         (set_, schedule) for set_ in sorted(glob.glob(f'{TOP}/examples/*.drv'))
         if os.path.exists(schedule := set_[:-4] + '.sched')]
-    gallery = f'{TOP}/crates/tests_stored/data/gallery'
     if len(sys.argv) == 2:
-        pairs += [(f'{at}/driver.drv', f'{at}/events.sched')
-                  for at in sorted(glob.glob(f'{gallery}/*')) if os.path.exists(f'{at}/events.sched')]
+        pairs += [(gallery.path(name, 'driver.drv'), gallery.path(name, 'events.sched')) for name in gallery.folders()]
     wrong = 0
     for files in pairs:
         for fault in faults_of(program, files):

@@ -1,71 +1,107 @@
-//! The texts that command lines name: they stand in one file, and are written into files of their
-//! own before the first command line is answered.
+//! A text of a group, which is written into a file of its own.
 
 use std::alloc::{AllocError, Global};
 use std::fs::{self, Files};
-use std::io;
+use std::io::{self, Write};
 
-/// What stands before the name of a text.
-const NAME: &str = "-- ";
-
-/// What stands before a line of a text.
-const LINE: &str = "|";
-
-/// What stands before the last line of a text that ends without a line feed.
-const OPEN_LINE: &str = "!";
-
-/// A text, and the name of its file: none before the first.
+/// A text, as far as its lines were read: the name of its file, which is empty where there is none;
+/// its bytes; its base, of which it may have lines; and how many lines of that were passed.
 #[derive(Drop)]
-struct Text {
+pub(crate) struct Text {
     name: String,
-    bytes: String,
+    bytes: Vec<u8>,
+    base: Vec<u8>,
+    passed: usize,
 }
 
 impl Text {
+    /// No text.
+    pub(crate) fn none(alloc: Global) -> Text {
+        Text {
+            name: String::new(alloc),
+            bytes: Vec::new(alloc),
+            base: Vec::new(alloc),
+            passed: 0,
+        }
+    }
+
     /// A text without a line.
-    fn of(alloc: Global, name: &str) -> Result<Text, AllocError> {
+    pub(crate) fn of(alloc: Global, name: &str, base: Vec<u8>) -> Result<Text, AllocError> {
         Ok(Text {
             name: String::from_str(alloc, name)?,
-            bytes: String::new(alloc),
+            bytes: Vec::new(alloc),
+            base,
+            passed: 0,
         })
     }
 
-    /// Adds what a line of the file says.
-    fn add(&mut self, line: &str) -> Result<(), AllocError> {
-        if let Some(whole) = line.strip_prefix(LINE) {
-            self.bytes.push_str(whole)?;
-            return self.bytes.push_str("\n");
-        }
-        match line.strip_prefix(OPEN_LINE) {
-            Some(open) => self.bytes.push_str(open),
-            None => Ok(()),
+    /// Adds what a line of the group says: a line, the last line that no line feed ends, lines of
+    /// the base, that such are left out, or a line so many times.
+    pub(crate) fn add(&mut self, line: &str) -> io::Result<()> {
+        let Some((mark, rest)) = line.split_at_checked(1) else {
+            return Ok(());
+        };
+        match mark {
+            "|" => write!(self.bytes, "{rest}\n"),
+            "!" => write!(self.bytes, "{rest}"),
+            "=" => self.copy(number_of(rest)),
+            "~" => self.leave_out(number_of(rest)),
+            "*" => self.repeat(rest),
+            _ => Ok(()),
         }
     }
 
-    /// Writes its file, in the folder that its name begins with.
-    fn write<R: Files>(&self, rt: &R) -> io::Result<()> {
-        let name = self.name.as_str();
-        if name.is_empty() {
+    /// Adds the next lines of the base, so many.
+    fn copy(&mut self, count: usize) -> io::Result<()> {
+        let lines = self.base.as_slice().split(|byte: &u8| *byte == b'\n');
+        for line in lines.skip(self.passed).take(count) {
+            self.bytes.extend_from_slice(line)?;
+            self.bytes.push(b'\n')?;
+        }
+        self.leave_out(count)
+    }
+
+    /// Passes the next lines of the base, so many.
+    fn leave_out(&mut self, count: usize) -> io::Result<()> {
+        self.passed = self.passed.saturating_add(count);
+        Ok(())
+    }
+
+    /// Adds a line so many times: that number stands before it.
+    fn repeat(&mut self, counted: &str) -> io::Result<()> {
+        let Some((count, line)) = counted.split_once(' ') else {
+            return Ok(());
+        };
+        for number in 0..number_of(count) {
+            self.add_numbered(line, number)?;
+        }
+        Ok(())
+    }
+
+    /// Adds a line, with a number where `#` stands in it.
+    fn add_numbered(&mut self, line: &str, number: usize) -> io::Result<()> {
+        match line.split_once('#') {
+            Some((before, behind)) => write!(self.bytes, "{before}{number}{behind}\n"),
+            None => write!(self.bytes, "{line}\n"),
+        }
+    }
+
+    /// Writes its file, in the folder that its name begins with; then it is none.
+    pub(crate) fn write<R: Files>(&mut self, rt: &R) -> io::Result<()> {
+        if self.name.is_empty() {
             return Ok(());
         }
-        if let Some(folder) = name.split('/').next() {
+        let name = self.name.as_str();
+        if let Some((folder, _)) = name.rsplit_once('/') {
             fs::create_dir_all(rt, folder)?;
         }
-        fs::write(rt, name, self.bytes.as_bytes())
+        fs::write(rt, name, self.bytes.as_slice())?;
+        self.name.clear();
+        Ok(())
     }
 }
 
-/// Writes each of these texts into its file.
-pub(crate) fn unpack<R: Files>(rt: &R, alloc: Global, texts: &str) -> io::Result<()> {
-    let mut text = Text::of(alloc, "")?;
-    for line in texts.lines() {
-        match line.strip_prefix(NAME) {
-            Some(name) => {
-                text.write(rt)?;
-                text = Text::of(alloc, name)?;
-            }
-            None => text.add(line)?,
-        }
-    }
-    text.write(rt)
+/// The number that a word spells, or 0.
+fn number_of(word: &str) -> usize {
+    word.parse().unwrap_or(0)
 }
