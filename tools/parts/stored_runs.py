@@ -9,13 +9,19 @@ status, the number of files that are opened, and of reads of them that fail. An 
 
     |LINE        a line
     !LINE        the last line, which no line feed ends
+    xDIGITS      bytes, by two digits each: of an image, or of a line that has a control byte
     *COUNT LINE  a line so many times, with `#` in it for its number from 0
     =COUNT       so many lines of the base: of a text before it in the group, or, where that is `$`, of the answer before it
     ~COUNT       so many lines of the base that are left out
 
+<<<<<<< HEAD
 What is no such text (a faulty image, say, or a text with control bytes) is a file below crates/tests_stored/data, but for an
 image that a run before writes. The texts of the group of examples are those of the folder examples that runs name. The group of the
 rules' pages is made of crates/verifier_names/src/pages.rt and, with what `check` says of a page's example, of docs/RULES.md.
+=======
+An image may also be one that a run before writes. The texts of the group of examples are those of the folder examples that runs name. The group of the
+rules' pages is made of crates/verifier_pages/src/pages.rt and, with what `check` says of a page's example, of docs/RULES.md.
+>>>>>>> 6462d9c6 (Stored runs: images and texts with control bytes stand in their groups)
 
 Without a flag it writes these two groups, the list of the groups (data/groups.txt), each behind those whose texts it names, and how many
 answers each has (stdout). With --check it writes nothing, and tells what it would write otherwise; it also tells of a text that no
@@ -27,7 +33,7 @@ With `run` it tries the crate before any proof (`rt try`), and prints what it fi
 it gives each command line, or those of the groups named, to that program, as to `drvhost`, and compares what goes out, what goes to
 standard error and the exit status. With --show it prints the lines of an answer that is stored short and differs, and with --write the
 answers are stored anew, but for the number of files that are opened."""
-import difflib, hashlib, os, re, shutil, subprocess, sys, tempfile
+import difflib, hashlib, os, re, subprocess, sys, tempfile
 
 from compare_pages import WARNING, pages, sections, titles
 
@@ -90,6 +96,8 @@ class Text:
         mark, rest = line[0], line[1:]
         if mark in '|!':
             self.content += rest + ('\n' if mark == '|' else '')
+        elif mark == 'x':
+            self.content += bytes.fromhex(rest).decode(errors='surrogateescape')
         elif mark == '*':
             count, _, rest = rest.partition(' ')
             self.content += ''.join(rest.replace('#', str(number), 1) + '\n' for number in range(int(count)))
@@ -106,9 +114,15 @@ def plain_lines(content):
     at, lines = 0, []
     while at < len(whole):
         count = times(whole[at:])
-        lines.append('*%d %s' % (count, numbered(whole[at], count)) if count >= REPEATED else '|' + whole[at])
+        lines.append('*%d %s' % (count, numbered(whole[at], count)) if count >= REPEATED else spelled(whole[at], '\n'))
         at += count if count >= REPEATED else 1
-    return lines + (['!' + last] if last else [])
+    return lines + ([spelled(last, '')] if last else [])
+
+def spelled(line, end):
+    """A line as it is stored."""
+    if all(it.isprintable() for it in line):
+        return ('|' if end else '!') + line
+    return 'x' + (line + end).encode(errors='surrogateescape').hex()
 
 def numbered(line, count):
     """The form of a line that stands so many times."""
@@ -140,13 +154,6 @@ def text_of(name, content, bases=()):
         text.add(line)
     assert text.content == content, name
     return text
-
-def is_storable(content):
-    """Whether the bytes of a file can stand in a group of runs: printable text, a line feed the only control byte."""
-    try:
-        return all(it == '\n' or it.isprintable() or it == ' ' for it in content.decode())
-    except UnicodeDecodeError:
-        return False
 
 class Group:
     """Lines of its title, of the cases' names and of blanks, texts, and runs."""
@@ -188,7 +195,7 @@ def stored_group(file):
         elif line.startswith('-- '):
             parts.append(begun_text(line, texts, last))
             texts[parts[-1].name] = parts[-1]
-        elif line[:1] in ('|', '!', '*', '=', '~'):
+        elif line[:1] in ('|', '!', 'x', '*', '=', '~'):
             parts[-1].add(line)
         else:
             assert not line or line[:2] in ('# ', '; '), (file, line)
@@ -235,14 +242,11 @@ def pages_group():
         parts += ['', '# ' + title, *page_parts(title.split()[0], title, page, told[title])]
     return Group('pages', parts)
 
-def examples(all_groups):
-    """The bytes of the examples that runs name, by their names."""
-    return {name: read(os.path.join(TOP, name)) for name in sorted(named(all_groups)) if name.startswith('examples/')}
-
 def examples_group(stored, all_groups):
     """The stored group of the examples, with their texts."""
     title, *rest = [part for part in stored.parts if not isinstance(part, Text)]
-    copied = [text_of(name, content.decode()) for name, content in examples(all_groups).items() if is_storable(content)]
+    names = [name for name in sorted(named(all_groups)) if name.startswith('examples/')]
+    copied = [text_of(name, read(os.path.join(TOP, name)).decode(errors='surrogateescape')) for name in names]
     return Group(stored.name, [title, *copied, *rest])
 
 def groups():
@@ -267,13 +271,13 @@ def texts(all_groups):
 
 def unpacked(folder, all_groups=None):
     """A folder below this one with all texts, each in a file of its own."""
-    data = shutil.copytree(DATA, os.path.join(folder, 'data'), dirs_exist_ok=True, ignore=shutil.ignore_patterns('runs', 'groups.txt'))
+    data = os.path.join(folder, 'data')
     for group in all_groups or groups():
         os.makedirs(os.path.join(data, group.name), exist_ok=True)
         for text in group.texts:
             path = os.path.join(data, text.name)
             os.makedirs(os.path.dirname(path), exist_ok=True)
-            open(path, 'w', newline='').write(text.content)
+            open(path, 'wb').write(text.content.encode(errors='surrogateescape'))
     return data
 
 def made(all_groups):
@@ -281,7 +285,6 @@ def made(all_groups):
     by_name = {group.name: group for group in all_groups}
     text = lambda lines: ''.join(line + '\n' for line in lines).encode()
     return {
-        **{'data/' + name: content for name, content in examples(all_groups).items() if not is_storable(content)},
         **dict(by_name[name].file() for name in ('examples', 'pages')),
         GROUPS: text(ordered(all_groups)),
         STDOUT: text('%s: %d answers' % (name, len(by_name[name].runs)) for name in ordered(all_groups)),
@@ -297,16 +300,11 @@ def written(all_groups):
             if run.words[0] == 'rewrite' and run.answer[-1].startswith('status 0')}
 
 def stray(all_groups):
-    """What is wrong with the texts: those that no run names, those that are named and missing, and files that could be
-    texts."""
-    files = {os.path.relpath(os.path.join(at, name), DATA) for at, _, names in os.walk(DATA) for name in names}
-    files = {name for name in files if not name.startswith('runs/')} - {os.path.basename(GROUPS)}
-    loose = [name for name in sorted(files) if is_storable(read(os.path.join(DATA, name)))]
-    there = files | {text.name for text in texts(all_groups)} | written(all_groups)
-    told = ['%s: it can stand in its group of runs' % name for name in loose]
+    """What is wrong with the texts: those that no run names, and those that are named and missing."""
+    there = {text.name for text in texts(all_groups)} | written(all_groups)
     folders = {word + '/' for group in all_groups for run in group.runs for word in run.words}
     unnamed = [name for name in sorted(there - named(all_groups)) if os.path.dirname(name) + '/' not in folders]
-    told += ['%s: no run names it' % name for name in unnamed]
+    told = ['%s: no run names it' % name for name in unnamed]
     for group in all_groups:
         for run in group.runs:
             missing = [name for name in run.files() if name not in there]
@@ -323,7 +321,7 @@ def show(group, all_groups):
         for name in part.files() if isinstance(part, Run) else ():
             if name not in seen and name in elsewhere:
                 seen.add(name)
-                print('\n'.join(['-- ' + name, *('|' + line for line in elsewhere[name].content.splitlines())]))
+                print('\n'.join(['-- ' + name, *plain_lines(elsewhere[name].content)]))
         print(part if isinstance(part, str) else '\n'.join(part.lines()))
 
 def tried(crate, seconds='600', endless=False):

@@ -1,8 +1,8 @@
 //! What the program answers to a command line, and where that differs from what is stored.
 
 use drvhost_devices::device::Writer;
+use drvhost_devices::surroundings::PLAIN;
 use drvhost_files::files::Disk;
-use drvhost_options::surroundings::PLAIN;
 use drvhost_words::answer::{Setting, answer};
 use md5::{Digest, Md5};
 use report_progress::progress::Silent;

@@ -2,7 +2,7 @@
 
 use crate::answers::{answer_of, tell_difference};
 use crate::texts::Text;
-use std::alloc::{AllocError, Global};
+use std::alloc::Global;
 use std::fs::{self, Files};
 use std::io::{self, Write};
 use std::sync::Wait;
@@ -51,7 +51,8 @@ pub(crate) fn go_through<R: Threads + Wait + Sync, W: Write>(
     out: &mut W,
 ) -> io::Result<()> {
     let alloc = system.alloc();
-    let lines = fs::read_to_string(system, path_of(alloc, name)?.as_str())?;
+    let path = format!(in alloc; "runs/{name}.txt")?;
+    let lines = fs::read_to_string(system, path.as_str())?;
     fs::create_dir_all(system, name)?;
     let mut group = Group::of(alloc, name);
     for line in lines.as_str().lines() {
@@ -59,14 +60,6 @@ pub(crate) fn go_through<R: Threads + Wait + Sync, W: Write>(
     }
     group.text.write(system)?;
     write!(out, "{name}: {} answers\n", group.answers)
-}
-
-/// The path of a group's file.
-fn path_of(alloc: Global, name: &str) -> Result<String, AllocError> {
-    let mut path = String::from_str(alloc, "runs/")?;
-    path.push_str(name)?;
-    path.push_str(".txt")?;
-    Ok(path)
 }
 
 /// Whether a line is the last of an answer.
@@ -119,7 +112,7 @@ impl<'t> Group<'t> {
             self.text.write(system)?;
             self.begin_text(system, name)?;
         } else {
-            self.text.add(line)?;
+            self.text.add(system.alloc(), line)?;
         }
         Ok(())
     }

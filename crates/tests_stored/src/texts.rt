@@ -35,20 +35,29 @@ impl Text {
         })
     }
 
-    /// Adds what a line of the group says: a line, the last line that no line feed ends, lines of
-    /// the base, that such are left out, or a line so many times.
-    pub(crate) fn add(&mut self, line: &str) -> io::Result<()> {
+    /// Adds what a line of the group says: a line, the last line that no line feed ends, bytes,
+    /// lines of the base, that such are left out, or a line so many times.
+    pub(crate) fn add(&mut self, alloc: Global, line: &str) -> io::Result<()> {
         let Some((mark, rest)) = line.split_at_checked(1) else {
             return Ok(());
         };
         match mark {
             "|" => write!(self.bytes, "{rest}\n"),
             "!" => write!(self.bytes, "{rest}"),
+            "x" => self.add_bytes(alloc, rest),
             "=" => self.copy(number_of(rest)),
             "~" => self.leave_out(number_of(rest)),
             "*" => self.repeat(rest),
             _ => Ok(()),
         }
+    }
+
+    /// Adds bytes, of which each is spelled by two digits.
+    fn add_bytes(&mut self, alloc: Global, digits: &str) -> io::Result<()> {
+        if let Ok(bytes) = hex::decode(alloc, digits.as_bytes()) {
+            self.bytes.extend_from_slice(bytes.as_slice())?;
+        }
+        Ok(())
     }
 
     /// Adds the next lines of the base, so many.
