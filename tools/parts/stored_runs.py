@@ -20,7 +20,7 @@ image that a run before writes. The texts of the group of examples are those of 
 rules' pages is made of crates/verifier_names/src/pages.rt and, with what `check` says of a page's example, of docs/RULES.md.
 =======
 An image may also be one that a run before writes. The texts of the group of examples are those of the folder examples that runs name. The group of the
-rules' pages is made of crates/verifier_pages/src/pages.rt and, with what `check` says of a page's example, of docs/RULES.md.
+rules' pages is made of crates/verifier_names/src/pages.rt and, with what `check` says of a page's example, of docs/RULES.md.
 >>>>>>> 6462d9c6 (Stored runs: images and texts with control bytes stand in their groups)
 
 Without a flag it writes these two groups, the list of the groups (data/groups.txt), each behind those whose texts it names, and how many
