@@ -27,11 +27,3 @@ def is_mended(folder):
 def words(folder, line):
     """The words of a command line, with the paths of its files."""
     return [path(folder, word) if re.search(r'\.(drv|sched)$', word) else word for word in line.split()]
-
-def run_of(folder, command):
-    """The stored run of a wrong driver by this command, unchecked."""
-    return next(run for run in GROUP.runs if run.words[:2] == [command, '--unchecked'] and run.files()[0].split('/')[1:] == [folder, 'driver.drv'])
-
-def store():
-    """Writes the group anew."""
-    stored_runs.settle(dict([GROUP.file()]), False)

@@ -2,10 +2,10 @@
 """tools/try told [--write | --table] [PROGRAM]: whether the program (crates/drvhost/out/drvhost, if none is named) tells and draws
 the runs of the wrong drivers and of the examples as it is stored, byte for byte.
 
-Of each wrong driver of the gallery (gallery.py) the stored runs have what `tell --unchecked --every` writes of it with its events,
-and the digest of the picture that `draw --unchecked` does; of a mended driver nothing may be amiss. Of each example with a schedule, examples/told has both texts
-under its name, but for a picture that stands in docs/pictures; one that is refused is run with --unchecked, and of one that is
-accepted nothing may be amiss but a ring of threads where its driver takes its locks in a cycle. A told run ends with the exit status.
+The stored runs have what `tell --every` writes of each wrong driver of the gallery (gallery.py) with its events, unchecked, and of each
+example with a schedule, and the digests of the pictures that `draw` does; some pictures of examples stand in docs/pictures. An
+example that is refused is run with --unchecked. Of a mended driver nothing may be amiss, and of an example that is accepted nothing
+but a ring of threads where its driver takes its locks in a cycle.
 
 docs/GALLERY.md lists the wrong drivers of whose runs nothing shows that they are wrong (exit status 0), each with the reason
 why: it has to list these and no others. With --table it prints what the end of each wrong driver's told run says, with --write
@@ -14,7 +14,7 @@ import os, re, subprocess, sys
 
 import gallery
 from gallery import TOP
-from stored_runs import difference
+from stored_runs import difference, groups, settle as settle_files
 
 EXAMPLES, PICTURES = (os.path.join(TOP, folder) for folder in ('examples', 'docs/pictures'))
 LISTED = os.path.join(TOP, 'docs/GALLERY.md')
@@ -22,6 +22,8 @@ LISTED = os.path.join(TOP, 'docs/GALLERY.md')
 BY_ONE_READ = 'echo', 'forgets', 'locked', 'pending', 'stuck', 'twice'
 # Those that are accepted, and whose threads wait for each other in a ring.
 RINGED = 'abba', 'cancelring'
+# The stored runs with their groups, by their words.
+RUNS = {tuple(run.words): (group, run) for group in groups() for run in group.runs}
 AMISS = re.compile(r'lost|left behind|in a ring|returned STATUS_PENDING|stopped by')
 
 def answer(program, *words):
@@ -29,30 +31,30 @@ def answer(program, *words):
     done = subprocess.run([program, *words], capture_output=True, text=True, timeout=60)
     return done.stdout + done.stderr, done.returncode
 
-class File:
-    """A file that has what is written, and, where it is asked for, the exit status."""
+class Picture:
+    """A picture that stands in a file."""
 
-    def __init__(self, path, has_status):
-        self.path, self.has_status = path, has_status
+    def __init__(self, path):
+        self.path = path
 
-    def settle(self, text, status, is_written):
-        return settle(self.path, text + ('status %d\n' % status if self.has_status else ''), is_written)
+    def settle(self, text, _, is_written):
+        return settle(self.path, text, is_written)
 
 class Answer:
-    """A stored run of a wrong driver."""
+    """A stored run, by its words."""
 
-    def __init__(self, folder, command):
-        self.run = gallery.run_of(folder, command)
-        self.path = os.path.join(TOP, ' '.join(self.run.words))
+    def __init__(self, *words):
+        self.path = os.path.join(TOP, ' '.join(words))
+        self.group, self.run = RUNS.get(words, (None, None))
 
     def settle(self, text, status, is_written):
         lines = [*text.splitlines(), 'status %d' % status]
-        if not difference(self.run, lines, False):
+        if self.run and not difference(self.run, lines, False):
             return True
-        if is_written:
+        if self.run and is_written:
             self.run.store(lines)
-            gallery.store()
-        return is_written
+            settle_files(dict([self.group.file()]), False)
+        return bool(self.run) and is_written
 
 class Run:
     """A set and a schedule, and where its told run and its picture are stored."""
@@ -74,7 +76,8 @@ def wrong_drivers():
     """The runs of the wrong drivers."""
     for folder in gallery.folders():
         words = [gallery.path(folder, 'driver.drv'), gallery.path(folder, 'events.sched'), '--unchecked']
-        yield Run(folder, words, Answer(folder, 'tell'), Answer(folder, 'draw'))
+        named = ['gallery/%s/%s' % (folder, name) for name in ('driver.drv', 'events.sched')]
+        yield Run(folder, words, Answer('tell', '--unchecked', '--every', *named), Answer('draw', '--unchecked', *named))
 
 def mended_drivers():
     """The runs of the mended ones."""
@@ -87,16 +90,15 @@ def examples(program):
     """The runs of the examples, and whether each is of an accepted set."""
     for file in sorted(os.listdir(EXAMPLES)):
         name, kind = os.path.splitext(file)
-        schedule = os.path.join(EXAMPLES, 'one-read.sched' if name in BY_ONE_READ else name + '.sched')
-        if kind != '.drv' or not os.path.exists(schedule):
+        schedule = 'one-read.sched' if name in BY_ONE_READ else name + '.sched'
+        if kind != '.drv' or not os.path.exists(os.path.join(EXAMPLES, schedule)):
             continue
         driver = os.path.join(EXAMPLES, file)
         accepted = answer(program, 'check', driver)[1] == 0
-        picture = os.path.join(PICTURES, name + '.svg')
-        if not os.path.exists(picture):
-            picture = os.path.join(EXAMPLES, 'told', name + '.svg')
-        words = [driver, schedule] + ([] if accepted else ['--unchecked'])
-        yield Run(name, words, File(os.path.join(EXAMPLES, 'told', name + '.txt'), True), File(picture, False)), accepted
+        picture, level = os.path.join(PICTURES, name + '.svg'), [] if accepted else ['--unchecked']
+        named = ['examples/' + file, 'examples/' + schedule, *level]
+        drawn = Picture(picture) if os.path.exists(picture) else Answer('draw', *named)
+        yield Run(name, [driver, os.path.join(EXAMPLES, schedule), *level], Answer('tell', *named, '--every'), drawn), accepted
 
 def settle(path, text, is_written):
     """Whether a text is stored so, or is now."""
