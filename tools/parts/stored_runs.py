@@ -1,38 +1,38 @@
 #!/usr/bin/env python3
-"""tools/keep runs [--check | --cases | --show GROUP | --unpack FOLDER | run [PROGRAM [--write | --show] [GROUP ..]]]: what the program of
-crates/tests_stored runs, and what it has to find.
+"""tools/keep runs [--check | --cases | --show GROUP | --unpack FOLDER | run [PROGRAM [FLAG] [GROUP ..]]]:
+the groups of cases that the program of crates/tests_stored goes through.
 
-A file of crates/tests_stored/data/runs is a group of cases. A case is a line `# NAME`, and behind it texts and runs. A run is a line
-`$ WORDS`, what drvhost answers to these words, what the error writer is told behind a line `told:`, and a line with the exit
-status, the number of files that are opened, and of reads of them that fail. An answer that nobody reads is stored short, as a line
-`digest LINES MD5` before the last one: of `trace` and `host` those of more than 60 lines. A text is a line `-- NAME`, or `-- NAME of BASE`, and its lines:
+A file of crates/tests_stored/data/runs is a group of cases. A case is a line `# NAME`, and behind it
+texts and runs. A run is a line `$ WORDS`, what drvhost answers to these words, what the error writer
+is told behind a line `told:`, and a line with the exit status, the number of files that are opened,
+and of reads of them that fail. An answer that nobody reads is stored short, as a line `digest LINES
+MD5` before the last one: of `trace` and `host` those of more than 60 lines. A text is a line `-- NAME`,
+or `-- NAME of BASE`, and its lines:
 
     |LINE        a line
     !LINE        the last line, which no line feed ends
     xDIGITS      bytes, by two digits each: of an image, or of a line that has a control byte
     *COUNT LINE  a line so many times, with `#` in it for its number from 0
-    =COUNT       so many lines of the base: of a text before it in the group, or, where that is `$`, of the answer before it
+    =COUNT       so many lines of the base: of a text before it in the group, or, where that is `$`,
+                 of the answer before it
     ~COUNT       so many lines of the base that are left out
 
-<<<<<<< HEAD
-What is no such text (a faulty image, say, or a text with control bytes) is a file below crates/tests_stored/data, but for an
-image that a run before writes. The texts of the group of examples are those of the folder examples that runs name. The group of the
-rules' pages is made of crates/verifier_names/src/pages.rt and, with what `check` says of a page's example, of docs/RULES.md.
-=======
-An image may also be one that a run before writes. The texts of the group of examples are those of the folder examples that runs name. The group of the
-rules' pages is made of crates/verifier_names/src/pages.rt and, with what `check` says of a page's example, of docs/RULES.md.
->>>>>>> 6462d9c6 (Stored runs: images and texts with control bytes stand in their groups)
+An image may also be one that a run before writes. The texts of the group of examples are those of the
+folder examples that runs name. The group of the rules' pages is made of
+crates/verifier_names/src/pages.rt and, with what `check` says of a page's example, of docs/RULES.md.
 
-Without a flag it writes these two groups, the list of the groups (data/groups.txt), each behind those whose texts it names, and how many
-answers each has (stdout). With --check it writes nothing, and tells what it would write otherwise; it also tells of a text that no
-run names, and of a run that names a text which isn't there, where its answer doesn't say so. With --cases it prints the
-names of all cases, with --show the cases of a group, each with its texts, and with --unpack it writes all texts into files below a
-folder. The last line counts.
+Without a flag it writes these two groups, the list of the groups (data/groups.txt), each behind those
+whose texts it names, and how many answers each has (stdout). With --check it writes nothing, and tells
+what it would write otherwise; it also tells of a text that no run names, and of a run that names a text
+which isn't there, where its answer doesn't say so. With --cases it prints the names of all cases, with
+--show the cases of a group, each with its texts, and with --unpack it writes all texts into files below
+a folder. The last line counts.
 
-With `run` it tries the crate before any proof (`rt try`), and prints what it finds otherwise; with `run PROGRAM`
-it gives each command line, or those of the groups named, to that program, as to `drvhost`, and compares what goes out, what goes to
-standard error and the exit status. With --show it prints the lines of an answer that is stored short and differs, and with --write the
-answers are stored anew, but for the number of files that are opened."""
+With `run` it tries the crate before any proof (`rt try`), and prints what it finds otherwise; with `run
+PROGRAM` it gives each command line, or those of the groups named, to that program, as to `drvhost`, and
+compares what goes out, what goes to standard error and the exit status. With --show it prints the lines
+of an answer that is stored short and differs, and with --write the answers are stored anew, but for the
+number of files that are opened."""
 import difflib, hashlib, os, re, subprocess, sys, tempfile
 
 from compare_pages import WARNING, pages, sections, titles
@@ -48,14 +48,16 @@ HUNT = 'show it: drvhost hunt '
 END = re.compile(r'^status [0-9]+, opened [0-9]+(, failed reads [1-9][0-9]*)?$')
 ENDLESS = 'did not end within the time limit'
 TEXT = re.compile(r'\.(drv|image|sched|scenario|script)$')
-# What stands before the digest of an answer, the commands whose long answers are stored so, and how many lines a short one has.
+# What stands before the digest of an answer, the commands whose long answers are stored so, and how
+# many lines a short one has.
 DIGEST, DIGESTED, LONGEST = 'digest ', ('trace', 'host'), 60
 # How many like lines in a row are worth a count.
 REPEATED = 4
 
 def digest_of(lines):
     """The line that stands for these lines."""
-    return '%s%d %s' % (DIGEST, len(lines), hashlib.md5(''.join(line + '\n' for line in lines).encode('utf-8', 'surrogateescape')).hexdigest())
+    content = ''.join(line + '\n' for line in lines).encode(errors='surrogateescape')
+    return '%s%d %s' % (DIGEST, len(lines), hashlib.md5(content).hexdigest())
 
 class Run:
     """The words of a command line, and the lines of the answer."""
@@ -100,7 +102,8 @@ class Text:
             self.content += bytes.fromhex(rest).decode(errors='surrogateescape')
         elif mark == '*':
             count, _, rest = rest.partition(' ')
-            self.content += ''.join(rest.replace('#', str(number), 1) + '\n' for number in range(int(count)))
+            numbers = range(int(count))
+            self.content += ''.join(rest.replace('#', str(number), 1) + '\n' for number in numbers)
         else:
             taken, self.left = self.left[:int(rest)], self.left[int(rest):]
             self.content += ''.join(taken) if mark == '=' else ''
