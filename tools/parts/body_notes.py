@@ -2,43 +2,55 @@
 
 A check writes the flow graph of a function (`Lts`), its proof (`Proof`) and what ties both together (`Tie`) into modules
 `Rattle-CRATE-proofs.MODULE.FUNCTION.KIND.oantt`. Those of `rt ci` stand in a folder of the temporary folder that is named by the
-process of rattle which writes them, and go with it. So they are looked at every two seconds: a module that stands alone that
-long, as one of a crate proved in a moment, can be missed."""
-import json, os, re, signal, sys, tempfile, time
+process of rattle which writes them, and go with it. So they are looked at every two seconds: what stands for less, at the end
+of a crate, can be missed."""
+import glob, json, os, re, signal, sys, tempfile, time
 
-from gate_costs import phase, processes
+from processes import phase, processes, running_gates
 
 KINDS = 'Lts', 'Proof', 'Tie'
 MODULE = re.compile(r'Rattle-(\w+)-proofs\.(.+)\.(%s)\.oantt' % '|'.join(KINDS))
+ANY_MODULE = re.compile(r'Rattle-(\w+)-proofs\.(.+)\.oantt')
 BUILT = re.compile(r'rattle-logic-built-locked-(\d+)-\d+')
 PAUSE, ROUNDS_TO_SAVE, ROUNDS_TO_END = 2, 15, 30
 
-def modules(folder):
-    """The modules right below a folder, with their sizes and times; one that goes meanwhile is left out."""
-    found = []
+def modules(folder, pattern):
+    """The files right below a folder whose names are as the pattern says, each with what the disk says of it; one that goes
+    meanwhile is left out."""
     try:
         with os.scandir(folder) as entries:
-            for entry in entries:
-                said = MODULE.fullmatch(entry.name)
-                if said:
-                    found.append((said.groups(), entry.stat()))
+            found = [(pattern.fullmatch(entry.name), entry) for entry in entries]
     except OSError:
-        pass
-    return [(crate, name, kind, stat.st_size, stat.st_mtime) for (crate, name, kind), stat in found]
+        return
+    for said, entry in found:
+        try:
+            if said:
+                yield said, entry.stat()
+        except OSError:
+            pass
 
-def is_gate(pid):
-    """Whether a process is `rt ci`."""
-    try:
-        words = open('/proc/%d/cmdline' % pid).read().split('\0')
-    except OSError:
-        return False
-    return any(os.path.basename(word) == 'rt' and words[at + 1:at + 2] == ['ci'] for at, word in enumerate(words[:3]))
+def kept(crate, top):
+    """What a check in a crate's folder has kept: {function: {kind: [bytes, time]}}. Of two of rattle's builds the newer file counts."""
+    functions = {}
+    for folder in glob.glob(os.path.join(top, 'crates', crate, 'out/incremental/antt-checked-*')):
+        for said, stat in modules(folder, MODULE):
+            one = functions.setdefault(said[2], {})
+            if said[1] == crate and stat.st_mtime > one.get(said[3], (0, 0))[1]:
+                one[said[3]] = stat.st_size, stat.st_mtime
+    return {name: one for name, one in functions.items() if one}
 
-def below(pid, root, parents):
-    """Whether a process is one that another started, or that itself."""
-    while pid in parents and pid != root:
-        pid = parents[pid]
-    return pid == root
+def seconds(crate, top, functions):
+    """How long after the module before it each module of a function appeared, summed by functions."""
+    folders = glob.glob(os.path.join(top, 'crates', crate, 'out/incremental/antt-checked-*'))
+    found = sorted((stat.st_mtime, said[2]) for folder in folders for said, stat in modules(folder, ANY_MODULE) if said[1] == crate)
+    sums, last = {}, None
+    for when, name in found:
+        while name and name not in functions:
+            name = name.rpartition('.')[0]
+        if last is not None:
+            sums[name] = sums.get(name, 0) + when - last
+        last = when
+    return sums
 
 class Notes:
     """The largest size that was seen of each module: {crate: {function: {kind: [bytes, time]}}}, of tests under `CRATE tests`."""
@@ -68,20 +80,23 @@ class Notes:
             self.crates[self.folders[name]] = {}
 
     def note(self, name, key):
-        functions = self.crates[key]
-        for crate, function, kind, size, when in modules(os.path.join(tempfile.gettempdir(), name)):
-            if crate == key.split()[0]:
-                one = functions.setdefault(function, {})
-                if size > one.get(kind, (0, 0))[0]:
-                    one[kind] = size, when
+        for said, stat in modules(os.path.join(tempfile.gettempdir(), name), MODULE):
+            if said[1] == key.split()[0]:
+                one = self.crates[key].setdefault(said[2], {})
+                if stat.st_size > one.get(said[3], (0, 0))[0]:
+                    one[said[3]] = stat.st_size, stat.st_mtime
 
     def save(self, path):
+        os.makedirs(os.path.dirname(os.path.abspath(path)), exist_ok=True)
         with open(path + '.new', 'w') as out:
             json.dump(self.crates, out)
         os.replace(path + '.new', path)
 
-def running_gates():
-    return [pid for pid in processes() if is_gate(pid)]
+def below(pid, root, parents):
+    """Whether a process is one that another started, or that itself."""
+    while pid in parents and pid != root:
+        pid = parents[pid]
+    return pid == root
 
 def note_until_over(path):
     """Notes until no `rt ci` has run for a minute, or until it is ended, and saves every half minute."""
@@ -89,7 +104,7 @@ def note_until_over(path):
     notes, gates, idle, turn = Notes(), [], 0, 0
     try:
         while idle < ROUNDS_TO_END:
-            if turn % ROUNDS_TO_SAVE == 0 or not any(is_gate(pid) for pid in gates):
+            if turn % ROUNDS_TO_SAVE == 0 or not gates:
                 gates = running_gates()
                 notes.save(path)
             idle, turn = 0 if gates else idle + 1, turn + 1

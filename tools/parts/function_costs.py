@@ -8,7 +8,8 @@ of the crate is taken away; libraries that aren't built yet are built before. Wh
 machine kept, that is said, and the figures lack it."""
 import collections, os, re, shutil, subprocess, sys
 
-from gate_costs import TOP, processes
+from gate_costs import TOP
+from processes import processes
 
 MOST = 20
 

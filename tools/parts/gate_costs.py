@@ -2,38 +2,17 @@
 """tools/measure gate [--family] [WORDS OF rt]: runs `rt ci` at the top of the tree (or `rt` with these words, as `must-fail asm`),
 passes its output on, and prints by crate the processor seconds of the proof, of the tests and of the must-fail edits; with
 --family by the first word of the crates' names, as the table of docs/GATE.md has them. It looks twice a second at the processes
-that rt starts, so a figure may lack half a second."""
+that rt starts, so a figure may lack half a second. Behind that it tells how large the proofs were (`tools/measure bodies` says
+of what), by crates and families, and the largest functions; what it noted stays in out/bodies.json, or in the file behind
+--noted, for `tools/measure bodies --noted FILE`."""
 import collections, os, re, resource, subprocess, sys, threading
 
+from body_notes import Notes
+from body_sizes import Sizes, taken, tell, without_tests
+from processes import phase, processes
+
 TOP = os.path.dirname(os.path.dirname(os.path.dirname(os.path.abspath(__file__))))
-TICKS = os.sysconf('SC_CLK_TCK')
 PHASES = 'proof', 'tests', 'edits'
-
-def processes():
-    """Of each process: its parent, its start, and the processor seconds of itself and of the children that it waited for."""
-    found = {}
-    for pid in filter(str.isdigit, os.listdir('/proc')):
-        try:
-            stat = open('/proc/%s/stat' % pid).read()
-        except OSError:
-            continue
-        fields = stat[stat.rindex(')') + 2:].split()
-        found[int(pid)] = int(fields[1]), fields[19], sum(map(int, fields[11:15])) / TICKS
-    return found
-
-def phase(pid):
-    """What a rattle process does, and of which crate; None of another process."""
-    try:
-        words = open('/proc/%d/cmdline' % pid).read().split('\0')
-        folder = os.readlink('/proc/%d/cwd' % pid)
-    except OSError:
-        return None
-    if os.path.basename(words[0]) != 'rattle' or '--crate-name' not in words:
-        return None
-    crate = words[words.index('--crate-name') + 1]
-    if os.path.basename(folder).startswith('rt-edit-'):
-        return crate, 'edits'
-    return crate, 'tests' if '--test' in words else 'proof'
 
 class Watch:
     """The greatest cost that was seen of each process which rt started."""
@@ -70,13 +49,17 @@ class Watch:
         return table
 
 def run(words):
-    """Runs rt, and answers what it wrote and what was seen of it."""
+    """Runs rt, and answers its exit status, what it wrote, what was seen of it, and how large its proofs were."""
     rt = subprocess.Popen(['rt', *words], cwd=TOP, stdout=subprocess.PIPE, stderr=subprocess.STDOUT, text=True, errors='replace')
-    watch, over = Watch(rt.pid), threading.Event()
+    watch, notes, over = Watch(rt.pid), Notes(), threading.Event()
 
     def look_on():
+        turn = 0
         while not over.wait(0.5):
             watch.look()
+            turn += 1
+            if turn % 4 == 0:
+                notes.look([rt.pid])
 
     looker = threading.Thread(target=look_on)
     looker.start()
@@ -88,7 +71,7 @@ def run(words):
     rt.wait()
     over.set()
     looker.join()
-    return rt.returncode, lines, watch
+    return rt.returncode, lines, watch, notes
 
 def functions(lines):
     """How many functions rt says that it proved of each crate, without its tests."""
@@ -125,8 +108,9 @@ def print_table(first, table, proved, edits):
         print('| `%s` | %s | %s | %s | %s | %s |' % (row, proved.get(row, ''), costs[0], costs[1], edits.get(row, ''), costs[2]))
 
 def main():
-    words = [word for word in sys.argv[1:] if word != '--family'] or ['ci']
-    status, lines, watch = run(words)
+    words = [word for word in sys.argv[1:] if word != '--family']
+    noted = taken(words, '--noted') or os.path.join(TOP, 'out/bodies.json')
+    status, lines, watch, notes = run(words or ['ci'])
     table, proved = watch.by_crate(), functions(lines)
     edits = edits_of(table)
     sums = [round(sum(costs[what] for costs in table.values())) for what in PHASES]
@@ -138,6 +122,9 @@ def main():
     print('| all | %d | %d | %d | %d | %d |' % (sum(proved.values()), sums[0], sums[1], sum(edits.values()), sums[2]))
     print('%.1f processor minutes in all, of which %.1f are of no crate' % (
         (used.ru_utime + used.ru_stime) / 60, (used.ru_utime + used.ru_stime - sum(sums)) / 60))
+    notes.save(noted)
+    print()
+    tell(Sizes(without_tests(notes.crates)))
     sys.exit(status)
 
 if __name__ == '__main__':
