@@ -12,7 +12,7 @@ KINDS = 'Lts', 'Proof', 'Tie'
 MODULE = re.compile(r'Rattle-(\w+)-proofs\.(.+)\.(%s)\.oantt' % '|'.join(KINDS))
 ANY_MODULE = re.compile(r'Rattle-(\w+)-proofs\.(.+)\.oantt')
 BUILT = re.compile(r'rattle-logic-built-locked-(\d+)-\d+')
-PAUSE, ROUNDS_TO_SAVE, ROUNDS_TO_END = 2, 15, 30
+PAUSE, ROUNDS_TO_SAVE, ROUNDS_TO_END = 2, 15, 300
 
 def modules(folder, pattern):
     """The files right below a folder whose names are as the pattern says, each with what the disk says of it; one that goes
@@ -55,8 +55,12 @@ def seconds(crate, top, functions):
 class Notes:
     """The largest size that was seen of each module: {crate: {function: {kind: [bytes, time]}}}, of tests under `CRATE tests`."""
 
-    def __init__(self):
+    def __init__(self, path=None):
+        """Begins with what a file has, where there is one."""
         self.crates, self.folders = {}, {}
+        if path and os.path.isfile(path):
+            with open(path) as file:
+                self.crates = json.load(file)
 
     def look(self, gates):
         """Looks at each folder that a proof of one of these runs of `rt ci` writes."""
@@ -99,9 +103,10 @@ def below(pid, root, parents):
     return pid == root
 
 def note_until_over(path):
-    """Notes until no `rt ci` has run for a minute, or until it is ended, and saves every half minute."""
+    """Notes until no `rt ci` has run for ten minutes, or until it is ended, and saves every half minute. What the file has of
+    crates that aren't proved meanwhile stays."""
     signal.signal(signal.SIGTERM, lambda *_: sys.exit(0))
-    notes, gates, idle, turn = Notes(), [], 0, 0
+    notes, gates, idle, turn = Notes(path), [], 0, 0
     try:
         while idle < ROUNDS_TO_END:
             if turn % ROUNDS_TO_SAVE == 0 or not gates:

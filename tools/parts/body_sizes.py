@@ -12,9 +12,9 @@ With --times it tells too how long after the module before it each module of a f
 little beside it. With --beside it sets the `Lts` of another clone, as before a change, beside these, of the crates that both
 have.
 
-`rt ci` leaves no such modules. With --note it notes them into a file while `rt ci` runs, until none has run for a minute or it
-is ended itself; with --noted it reads that file, or out/bodies.json, which `tools/measure gate` writes. What stood for less
-than two seconds isn't in it, and of tests something only with --tests."""
+`rt ci` leaves no such modules. With --note it notes them into a file, beside what that file has, while `rt ci` runs, until
+none has run for ten minutes or it is ended itself; with --noted it reads that file, or out/bodies.json, which `tools/measure
+gate` writes. What stood for less than two seconds isn't in it; what is of tests is read with --tests alone."""
 import json, os, sys
 
 from beliefs import TOP, listed
