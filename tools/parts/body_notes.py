@@ -55,28 +55,28 @@ def seconds(crate, top, functions):
 class Notes:
     """The largest size that was seen of each module: {crate: {function: {kind: [bytes, time]}}}, of tests under `CRATE tests`."""
 
-    def __init__(self, path=None):
-        """Begins with what a file has, where there is one."""
-        self.crates, self.folders = {}, {}
+    def __init__(self, path=None, gate=None):
+        """Begins with what a file has, where there is one, and looks at what one `rt` started, or each run of `rt ci`."""
+        self.crates, self.folders, self.gate = {}, {}, gate
         if path and os.path.isfile(path):
             with open(path) as file:
                 self.crates = json.load(file)
 
-    def look(self, gates):
-        """Looks at each folder that a proof of one of these runs of `rt ci` writes."""
-        parents = None
+    def look(self):
+        """Looks at each folder that a proof writes."""
         for name in os.listdir(tempfile.gettempdir()):
             said = BUILT.fullmatch(name)
             if not said:
                 continue
             if name not in self.folders:
-                parents = parents or {pid: it[0] for pid, it in processes().items()}
-                self.begin(name, int(said[1]), gates, parents)
+                self.begin(name, int(said[1]))
             if self.folders[name]:
                 self.note(name, self.folders[name])
 
-    def begin(self, name, pid, gates, parents):
+    def begin(self, name, pid):
         """Notes what a folder is of; a crate that is proved once more begins anew, and edits and other work count for nothing."""
+        parents = {one: it[0] for one, it in processes().items()}
+        gates = [self.gate] if self.gate else running_gates()
         done = phase(pid) if any(below(pid, gate, parents) for gate in gates) else None
         key = {'proof': '%s', 'tests': '%s tests'}.get(done and done[1])
         self.folders[name] = key and key % done[0]
@@ -113,7 +113,7 @@ def note_until_over(path):
                 gates = running_gates()
                 notes.save(path)
             idle, turn = 0 if gates else idle + 1, turn + 1
-            notes.look(gates)
+            notes.look()
             time.sleep(PAUSE)
     finally:
         notes.save(path)

@@ -51,7 +51,7 @@ class Watch:
 def run(words):
     """Runs rt, and answers its exit status, what it wrote, what was seen of it, and how large its proofs were."""
     rt = subprocess.Popen(['rt', *words], cwd=TOP, stdout=subprocess.PIPE, stderr=subprocess.STDOUT, text=True, errors='replace')
-    watch, notes, over = Watch(rt.pid), Notes(), threading.Event()
+    watch, notes, over = Watch(rt.pid), Notes(gate=rt.pid), threading.Event()
 
     def look_on():
         turn = 0
@@ -59,7 +59,7 @@ def run(words):
             watch.look()
             turn += 1
             if turn % 4 == 0:
-                notes.look([rt.pid])
+                notes.look()
 
     looker = threading.Thread(target=look_on)
     looker.start()
