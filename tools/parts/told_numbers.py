@@ -1,0 +1,73 @@
+#!/usr/bin/env python3
+"""tools/keep numbers [--write]: whether the counts that the documents tell are those that the tools count.
+
+Of contracts, crates, edits, stored runs and wrong bodies each place is listed in PLACES, by the words round it. It tells each
+that is otherwise, or isn't there once, and ends with status 1 then; with --write it puts the numbers there. What was measured
+on a day, as seconds, is no such count. The last line counts."""
+import glob, os, re, sys
+
+import count_contracts
+import stored_runs
+from beliefs import CRATES, TESTS, TOP, listed
+
+GATE, PROVED = 'docs/GATE.md', 'docs/PROVED.md'
+# A document, the words round a number, where `#` stands for it, and what it counts.
+PLACES = (
+    (PROVED, 'Of # functions', 'functions'),
+    (PROVED, 'functions # say by', 'functions that say what they answer'),
+    (GATE, 'of this tree N is #', 'crates and edits'),
+    (GATE, 'all is well: # crates', 'crates'),
+    (GATE, 'programs, and # edits', 'edits'),
+    (GATE, '# edits stand in `must-fail`', 'edits'),
+    (GATE, 'There are # cases', 'cases'),
+    (GATE, 'cases in # groups', 'groups'),
+    (GATE, 'groups, of # runs', 'runs'),
+    (GATE, 'whether they still apply. There are #.', 'wrong bodies'),
+)
+
+def counts():
+    """All that is counted, by what it is called."""
+    groups = stored_runs.groups()
+    crates, edits = len(listed()), len(glob.glob(os.path.join(CRATES, '*/must-fail/*.edit')))
+    own = [it for crate in listed() if crate not in TESTS for it in count_contracts.functions(crate) if not it.is_asked]
+    wrong = [path for crate in listed() for path in glob.glob(os.path.join(CRATES, crate, 'wrong_bodies.txt'))]
+    return {
+        'functions': len(own),
+        'functions that say what they answer': sum(it.says for it in own),
+        'crates': crates,
+        'edits': edits,
+        'crates and edits': crates + edits,
+        'groups': len(groups),
+        'cases': sum(len(group.cases) for group in groups),
+        'runs': sum(len(group.runs) for group in groups),
+        'wrong bodies': sum(line.startswith('== ') for path in wrong for line in open(path)),
+    }
+
+def replaced(text, words, number):
+    """The text with the number between the words, which stand there once; None where they don't."""
+    before, behind = (r'\s+'.join(map(re.escape, part.split(' '))) for part in words.split('#'))
+    pattern = re.compile('(%s)[0-9][0-9,]*(?=%s)' % (before, behind))
+    if len(pattern.findall(text)) != 1:
+        return None
+    return pattern.sub(lambda found: found[1] + number, text)
+
+def main():
+    found, wrong = counts(), 0
+    for document, words, what in PLACES:
+        path = os.path.join(TOP, document)
+        with open(path, encoding='utf-8') as file:
+            text = file.read()
+        number = '{:,}'.format(found[what])
+        other = replaced(text, words, number)
+        if other == text:
+            continue
+        wrong += 1
+        print('%s: %r: %s' % (document, words, 'is not there once' if other is None else '%s are %s' % (what, number)))
+        if other and '--write' in sys.argv[1:]:
+            with open(path, 'w', encoding='utf-8') as file:
+                file.write(other)
+    print('%d numbers, %d told otherwise' % (len(PLACES), wrong))
+    return 1 if wrong else 0
+
+if __name__ == '__main__':
+    sys.exit(main())
