@@ -28,13 +28,24 @@ pub fn steps_of(alloc: Global, text: &[u8], changes: &[Change]) -> Result<Items<
     let mut passed: usize = 0;
     for change in changes {
         let kept = change.before.saturating_sub(passed);
-        keep(&mut steps, &mut left, kept)?;
-        delete(&mut steps, &mut left, change.taken)?;
-        add_lines(alloc, &mut steps, change.lines.as_slice())?;
+        make(alloc, &mut steps, &mut left, kept, change)?;
         passed = passed.saturating_add(kept).saturating_add(change.taken);
     }
     keep(&mut steps, &mut left, usize::MAX)?;
     Ok(Items::of(steps))
+}
+
+/// Adds the steps that make a change behind so many lines.
+fn make(
+    alloc: Global,
+    steps: &mut Vec<Step>,
+    left: &mut Lines<'_>,
+    kept: usize,
+    change: &Change,
+) -> Result<(), AllocError> {
+    keep(steps, left, kept)?;
+    delete(steps, left, change.taken)?;
+    add_lines(alloc, steps, change.lines.as_slice())
 }
 
 /// Adds steps that keep so many lines, or all that are left.

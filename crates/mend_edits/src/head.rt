@@ -42,17 +42,17 @@ pub fn head_in(line: &[u8]) -> Option<Head>
     ensures { IfSome result (λ head. head_in line.now ≡ Some head) }
 {
     let mut parts = Tokens::of(line);
-    let opening = parts.next()?;
-    let old = parts.next()?;
-    let new = parts.next()?;
-    let closing = parts.next()?;
-    if parts.next().is_some() || !is(opening, b"@@") || !is(closing, b"@@") {
-        return None;
+    let first = (parts.next(), parts.next(), parts.next(), parts.next());
+    match (first, parts.next()) {
+        ((Some(opening), Some(old), Some(new), Some(closing)), None)
+            if is(opening, b"@@") && is(closing, b"@@") => {
+            match (range_in(b'-', old), range_in(b'+', new)) {
+                (Some(old), Some(new)) => Some(Head { old, new }),
+                _ => None,
+            }
+        }
+        _ => None,
     }
-    Some(Head {
-        old: range_in(b'-', old)?,
-        new: range_in(b'+', new)?,
-    })
 }
 
 /// The range that a part of a head tells behind this sign.

@@ -1,9 +1,9 @@
 //! The difference of two texts, as `diff -u` writes it.
 
 use crate::step::Step;
-use std::alloc::AllocError;
 use text::add_bytes;
 use text::cut::Lines;
+use words::Words;
 
 /// How many lines that stay are shown round those that don't.
 const CONTEXT: usize = 3;
@@ -36,24 +36,19 @@ impl Counts {
 }
 
 /// Adds the difference of a text and what the steps make of it, as hunks of a unified diff.
-///
-/// # Errors
-///
-/// When memory runs out.
-pub fn diff(out: &mut String, text: &[u8], steps: &[Step]) -> Result<(), AllocError> {
+pub fn diff(words: &mut Words, text: &[u8], steps: &[Step]) {
     let mut left = Lines::of(text);
     let mut passed = Counts { old: 0, new: 0 };
     let mut shown = false;
     for (place, step) in steps.iter().enumerate() {
         let here = is_shown(steps, place);
         if here && !shown {
-            write_head(out, steps, place, passed)?;
+            add_head(words, passed, shown_from(steps, place));
         }
-        write_step(out, step, &mut left, here)?;
+        add_step(words, step, &mut left, here);
         passed = passed.and(step);
         shown = here;
     }
-    Ok(())
 }
 
 /// Whether a step is shown: it changes something, or one near it does.
@@ -64,14 +59,8 @@ fn is_shown(steps: &[Step], place: usize) -> bool {
     window.iter().any(|step| !matches!(step, Step::Keep))
 }
 
-/// Adds the head of a hunk, which begins at a step: how many lines of each text it has, and the
-/// number of the first of them.
-fn write_head(
-    out: &mut String,
-    steps: &[Step],
-    place: usize,
-    passed: Counts,
-) -> Result<(), AllocError> {
+/// The lines of the hunk that begins at a step.
+fn shown_from(steps: &[Step], place: usize) -> Counts {
     let mut counts = Counts { old: 0, new: 0 };
     for (later, step) in steps.iter().enumerate().skip(place) {
         if !is_shown(steps, later) {
@@ -79,55 +68,56 @@ fn write_head(
         }
         counts = counts.and(step);
     }
-    out.push_str("@@ -")?;
-    write_range(out, passed.old, counts.old)?;
-    out.push_str(" +")?;
-    write_range(out, passed.new, counts.new)?;
-    out.push_str(" @@\n")
+    counts
+}
+
+/// Adds the head of a hunk of so many lines, behind so many others: how many of each text it has,
+/// and the number of the first of them.
+fn add_head(words: &mut Words, passed: Counts, counts: Counts) {
+    words.add("@@ -");
+    add_range(words, passed.old, counts.old);
+    words.add(" +");
+    add_range(words, passed.new, counts.new);
+    words.add(" @@\n")
 }
 
 /// Adds a range of so many lines, behind so many others. An empty one has the number of the line
 /// before it.
-fn write_range(out: &mut String, passed: usize, count: usize) -> Result<(), AllocError> {
+fn add_range(words: &mut Words, passed: usize, count: usize) {
     let first = if count == 0 {
         passed
     } else {
         passed.saturating_add(1)
     };
-    write!(out, "{first},{count}")
+    words.add_number(first as u64);
+    words.add(",");
+    words.add_number(count as u64)
 }
 
 /// Takes the line of a step, and adds it, where it is shown, behind the sign of the step.
-fn write_step(
-    out: &mut String,
-    step: &Step,
-    left: &mut Lines<'_>,
-    shown: bool,
-) -> Result<(), AllocError> {
-    match step {
-        Step::Keep => write_next(out, " ", left, shown),
-        Step::Delete => write_next(out, "-", left, shown),
-        Step::Insert(line) if shown => write_line(out, "+", line.as_slice()),
-        Step::Insert(_) => Ok(()),
+fn add_step(words: &mut Words, step: &Step, left: &mut Lines<'_>, shown: bool) {
+    let line = match step {
+        Step::Insert(line) => Some(line.as_slice()),
+        _ => left.next(),
+    };
+    if let (Some(line), true) = (line, shown) {
+        add_line(words, sign_of(step), line)
     }
 }
 
-/// Takes the next line, and adds it, where it is shown, behind a sign.
-fn write_next(
-    out: &mut String,
-    sign: &str,
-    left: &mut Lines<'_>,
-    shown: bool,
-) -> Result<(), AllocError> {
-    match left.next() {
-        Some(line) if shown => write_line(out, sign, line),
-        _ => Ok(()),
+/// The sign of a step in a diff.
+fn sign_of(step: &Step) -> &'static str {
+    match step {
+        Step::Keep => " ",
+        Step::Delete => "-",
+        Step::Insert(_) => "+",
     }
 }
 
 /// Adds a line behind a sign.
-fn write_line(out: &mut String, sign: &str, line: &[u8]) -> Result<(), AllocError> {
-    out.push_str(sign)?;
-    add_bytes(out, line)?;
-    out.push_str("\n")
+fn add_line(words: &mut Words, sign: &str, line: &[u8]) {
+    words.add(sign);
+    let done = add_bytes(&mut words.text, line);
+    words.note(done);
+    words.add("\n")
 }

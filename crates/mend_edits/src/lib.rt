@@ -1,4 +1,6 @@
-//! Edits of a text, line by line: what they make of it, and the difference that shows them.
+//! A text edited line by line: the steps of an edit, what they make of the text, and the unified
+//! diff that shows them; what a unified diff makes of a text; and edits of whole lines by their
+//! numbers, as reports have them.
 #![tactic(auto)]
 
 mod change;

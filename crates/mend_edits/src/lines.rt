@@ -46,8 +46,7 @@ pub fn edits_of(alloc: Global, changes: &[Change]) -> Result<Option<Items<LineEd
 fn text_of(alloc: Global, lines: &[Items<u8>]) -> Result<Option<String>, AllocError> {
     let mut bytes = Vec::new(alloc);
     for line in lines {
-        bytes.extend_from_slice(line.as_slice())?;
-        bytes.push(b'\n')?;
+        add_line(&mut bytes, line.as_slice())?;
     }
     match str::from_utf8(bytes.as_slice()) {
         Ok(text) => Ok(Some(String::from_str(alloc, text)?)),
