@@ -6,6 +6,7 @@ use mend_edits::{diff, steps_of};
 use mend_offers::offers::{Mending, Offer, Offers, Standing};
 use mend_texts::{Mend, Mended, mend_text};
 use std::alloc::{AllocError, Global};
+use words::Words;
 
 /// A diff of a text, and words on it.
 #[derive(Drop)]
@@ -36,8 +37,22 @@ pub(crate) fn propose(
             })?;
         }
     }
-    match mend_text(alloc, text, set, mends.as_slice())? {
-        Some(mended) => Ok(Some(written(alloc, text, &mended, summed)?)),
+    proposed(alloc, text, set, mends.as_slice(), summed)
+}
+
+/// What is proposed by mends, if they can be made of the text.
+fn proposed(
+    alloc: Global,
+    text: &[u8],
+    set: &DriverSet,
+    mends: &[Mend<'_>],
+    summed: Summed,
+) -> Result<Option<Proposal>, AllocError> {
+    match mend_text(alloc, text, set, mends)? {
+        Some(mended) => Ok(Some(Proposal {
+            words: words_on(alloc, &mended, summed)?,
+            diff: diff_of(alloc, text, &mended)?,
+        })),
         None => Ok(None),
     }
 }
@@ -76,38 +91,46 @@ impl Summed {
     }
 }
 
-/// A proposal for changes of a text.
-fn written(
-    alloc: Global,
-    text: &[u8],
-    mended: &Mended,
-    summed: Summed,
-) -> Result<Proposal, AllocError> {
-    let mut words = String::new(alloc);
-    words.push_str(match summed.standing {
+/// Words on changes of a text.
+fn words_on(alloc: Global, mended: &Mended, summed: Summed) -> Result<String, AllocError> {
+    let mut words = Words::new(alloc);
+    words.add(match summed.standing {
         Standing::Sure => "sure",
         Standing::Guess => "a guess",
-    })?;
-    let (units, hundredths) = (summed.cost / 100, summed.cost % 100);
-    let (tenths, last) = (hundredths / 10, hundredths % 10);
-    write!(words, ", cost {units}.{tenths}{last}")?;
+    });
+    add_cost(&mut words, summed.cost);
     for sentence in mended.sentences.iter() {
-        write!(words, "\n{}", sentence.as_str())?;
+        words.add("\n");
+        words.add(sentence.as_str());
     }
     if summed.standing == Standing::Guess {
-        add_guesses(&mut words, mended.guesses.as_slice())?;
+        add_guesses(&mut words, mended.guesses.as_slice())
     }
-    let steps = steps_of(alloc, text, mended.changes.as_slice())?;
-    let mut shown = String::new(alloc);
-    diff(&mut shown, text, steps.as_slice())?;
-    Ok(Proposal { words, diff: shown })
+    words.finish()
+}
+
+/// Adds a cost in hundredths.
+fn add_cost(words: &mut Words, cost: u32) {
+    let (units, hundredths) = (cost / 100, cost % 100);
+    words.add(", cost ");
+    words.add_number(units as u64);
+    words.add(".");
+    words.add_number((hundredths / 10) as u64);
+    words.add_number((hundredths % 10) as u64)
 }
 
 /// Adds what was guessed.
-fn add_guesses(words: &mut String, guesses: &[String]) -> Result<(), AllocError> {
+fn add_guesses(words: &mut Words, guesses: &[String]) {
     for (index, guess) in guesses.iter().enumerate() {
-        words.push_str(if index == 0 { "\nguessed: " } else { ", " })?;
-        words.push_str(guess.as_str())?;
+        words.add(if index == 0 { "\nguessed: " } else { ", " });
+        words.add(guess.as_str());
     }
-    Ok(())
+}
+
+/// The diff of changes of a text.
+fn diff_of(alloc: Global, text: &[u8], mended: &Mended) -> Result<String, AllocError> {
+    let steps = steps_of(alloc, text, mended.changes.as_slice())?;
+    let mut words = Words::new(alloc);
+    diff(&mut words, text, steps.as_slice());
+    words.finish()
 }
