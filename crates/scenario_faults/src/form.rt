@@ -203,7 +203,7 @@ pub(crate) fn expect_form(line: &FaultyLine<'_>) -> Option<Form> {
         (_, Some(state)) if is_one_of(state, &DEVICE_STATES) => Some(device_form(state)),
         (_, Some(b"of")) => Some(of_form(line)),
         (b"cancel", Some(b"lock")) => Some(owner_form(line)),
-        (b"start", Some(b"list")) | (b"device", Some(b"queue")) => Some(list_form(line)),
+        _ if is_list(line, 1) => Some(list_form(line)),
         (b"refused", None) => Some(of(2, &REFUSED, 4)),
         (b"refused", Some(word)) if !is_one_of(word, &PACKET_STATES) => Some(of(2, &REFUSED, 4)),
         _ => Some(packet_form(line)),
@@ -342,24 +342,37 @@ fn device_form(state: &[u8]) -> Form {
 
 /// The form of what is said of a packet.
 fn packet_form(line: &FaultyLine<'_>) -> Form {
-    match (line.token(2), line.token(3), line.token(4)) {
-        (Some(b"topped"), Some(b"information"), _) => of(1, &TOPPED_WITH, 4),
-        (Some(b"topped"), Some(_status), Some(_word)) => of(1, &TOPPED_AS, 5),
-        (Some(b"topped"), Some(_status), None) => {
-            of(
-                1,
-                &[Operand::Packet, Operand::PacketState, Operand::TopOut],
-                3,
-            )
-        }
-        (Some(b"in"), Some(b"start"), Some(b"list")) => of(1, &IN_LIST, 6),
-        (Some(b"in"), Some(b"device"), Some(b"queue")) => of(1, &IN_LIST, 6),
-        (Some(b"in"), _, _) => of(1, &IN_QUEUE, 5),
-        (Some(b"current"), _, _) => of(1, &CURRENT_ON, 4),
-        (Some(b"held"), _, _) => of(1, &HELD_BY, 4),
-        _ => of(1, &[Operand::Packet, Operand::PacketState], 2),
+    match line.token(2) {
+        Some(b"topped") => topped_form(line),
+        Some(b"in") if is_list(line, 3) => of(1, &IN_LIST, 6),
+        Some(b"in") => of(1, &IN_QUEUE, 5),
+        Some(b"current") => of(1, &CURRENT_ON, 4),
+        Some(b"held") => of(1, &HELD_BY, 4),
+        _ => of(1, &IN_STATE, 2),
     }
 }
+
+/// The form of what is said of a packet that has topped out.
+fn topped_form(line: &FaultyLine<'_>) -> Form {
+    match (line.token(3), line.token(4)) {
+        (Some(b"information"), _) => of(1, &TOPPED_WITH, 4),
+        (Some(_status), Some(_word)) => of(1, &TOPPED_AS, 5),
+        (Some(_status), None) => of(1, &TOPPED_OUT, 3),
+        (None, _) => of(1, &IN_STATE, 2),
+    }
+}
+
+/// Whether a start list or a device queue is named at a place.
+fn is_list(line: &FaultyLine<'_>, place: usize) -> bool {
+    match (line.token(place), line.token(place.saturating_add(1))) {
+        (Some(b"start"), Some(b"list")) | (Some(b"device"), Some(b"queue")) => true,
+        _ => false,
+    }
+}
+
+const IN_STATE: [Operand; 2] = [Operand::Packet, Operand::PacketState];
+
+const TOPPED_OUT: [Operand; 3] = [Operand::Packet, Operand::PacketState, Operand::TopOut];
 
 const IN_LIST: [Operand; 6] = [
     Operand::Packet,
