@@ -2,7 +2,7 @@
 
 use crate::finding::Find;
 use interleave_texts::appending::{add, add_number, add_numbered};
-use interleave_texts::words::goes_on;
+use interleave_texts::event_words::goes_on;
 use model::event::Event;
 use model::status::Major;
 use scenario_names::names::Names;

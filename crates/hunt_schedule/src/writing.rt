@@ -11,7 +11,7 @@ use crate::reading::tells_its_end;
 use crate::tidying::tidied;
 use checked::Checked;
 use interleave_texts::appending::{add, add_number};
-use interleave_texts::words::{add_event, goes_on};
+use interleave_texts::event_words::{add_event, goes_on};
 use model::event::Event;
 use std::alloc::{AllocError, Global};
 use tell_audit::ending::Ending;

@@ -4,8 +4,8 @@ ghost use Rattle.std.specs.Prelude.{◌≡◌, IfOk, IfSome, IsTrue};
 ghost use Rattle.interleave.specs.Listing.{Lists};
 
 use crate::appending::{add, add_numbered};
+use crate::event_words::{add_event, goes_on};
 use crate::reading::events_of;
-use crate::words::{add_event, goes_on};
 use interleave::parse::parse_schedule;
 use interleave::schedule::ScheduleKind;
 use model::event::Event;
