@@ -1,4 +1,6 @@
-//! Mends that are offered for a refused driver set, each of which the verifier judged.
+//! Mends that are offered for a refused driver set, each of which the verifier judged: all that so
+//! many tries find, or those that are soon found; and as advice the first, where it is sure, in
+//! words and as changes of the text that names the set.
 #![tactic(auto)]
 
 pub mod advice;

@@ -367,7 +367,7 @@ fn left_of(
 }
 
 /// Whether a refusal speaks of a later routine than another one.
-fn is_later(later: &Refusal, refusal: &Refusal) -> bool
+pub(crate) fn is_later(later: &Refusal, refusal: &Refusal) -> bool
     ensures { IsTrue result ↔ IsLater later.now refusal.now }
 {
     refusal.driver < later.driver

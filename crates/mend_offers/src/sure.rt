@@ -10,6 +10,7 @@ use mend_edits::Change;
 use mend_texts::{Mend, mend_text, reason};
 use model::abs::{Refusal, Rule};
 use std::alloc::{AllocError, Global};
+use words::Words;
 
 /// An offer that is most likely what was meant, in words and as changes of the text.
 #[derive(Drop)]
@@ -85,15 +86,14 @@ fn is_same(one: &Refusal, other: &Refusal) -> bool
 /// Sentences one behind another, with what a mend of a rule is for at the end alone.
 fn told_once(alloc: Global, sentences: &[String], rule: Rule) -> Result<String, AllocError> {
     let reason = reason(rule);
-    let mut words = String::new(alloc);
+    let mut words = Words::new(alloc);
     for (index, sentence) in sentences.iter().enumerate() {
-        if index > 0 {
-            words.push_str("; ")?;
-        }
-        words.push_str(bare(sentence.as_str(), reason))?;
+        words.add(if index > 0 { "; " } else { "" });
+        words.add(bare(sentence.as_str(), reason));
     }
-    write!(words, ": {reason}")?;
-    Ok(words)
+    words.add(": ");
+    words.add(reason);
+    words.finish()
 }
 
 /// A sentence without what it is for.
