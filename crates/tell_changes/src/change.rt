@@ -151,6 +151,8 @@ fn add_step(words: &mut Words, book: &Book<'_>, scene: &Scene<'_>) {
     let Some(acting) = scene.moment.acting else {
         return add_outside(words, book, scene.event);
     };
+    let instruction = acting.instruction;
+    let packet = acting.packet;
     match acting.frame {
         FrameView::Walk(n) => add_walk(words, n, scene.moment, scene.machine),
         FrameView::Cancel(canceller) => add_cancelling(words, canceller, scene),
@@ -160,14 +162,14 @@ fn add_step(words: &mut Words, book: &Book<'_>, scene: &Scene<'_>) {
             device,
             ..
         } => {
-            if let Some(instr) = acting.instruction {
+            if let Some(instr) = instruction {
                 let executed = Executed {
                     instr,
                     driver,
                     routine,
                     device,
                 };
-                add_executed(words, book, scene, acting.packet, executed)
+                add_executed(words, book, scene, packet, executed)
             }
         }
     }
@@ -273,7 +275,8 @@ fn activation_after<'a>(scene: &Scene<'a>) -> Option<&'a Activation> {
 
 /// Adds what an instruction did that is about a packet.
 fn add_about(words: &mut Words, book: &Book<'_>, scene: &Scene<'_>, n: u64, executed: Executed) {
-    match executed.instr {
+    let instr = executed.instr;
+    match instr {
         Instr::Get(r, _, field) => {
             if let Some(after) = activation_after(scene) {
                 add_got(words, r, n, field, after)
@@ -372,7 +375,8 @@ fn set_before(moment: &Moment, device: u8, queue: QueueName) -> &'static str {
 /// Adds what list or slot a packet was put into or taken off.
 fn add_moved(words: &mut Words, book: &Book<'_>, scene: &Scene<'_>, n: u64, executed: Executed) {
     let found = scene.moment.found == Some(true);
-    match executed.instr {
+    let instr = executed.instr;
+    match instr {
         Instr::Insert(_, queue) => {
             words.add("put into queue ");
             book.add_queue(words, executed.driver, queue)
@@ -385,7 +389,7 @@ fn add_moved(words: &mut Words, book: &Book<'_>, scene: &Scene<'_>, n: u64, exec
             words.add("goes from the device queue to the start list");
             words.add(disarmed_of(scene, n))
         }
-        _ => words.add(slot_words(executed.instr, found)),
+        _ => words.add(slot_words(instr, found)),
     }
 }
 
@@ -422,7 +426,8 @@ fn disarmed_of(scene: &Scene<'_>, n: u64) -> &'static str {
 /// Adds that a packet was taken off the list of an instruction, or that it wasn't found there.
 fn add_off(words: &mut Words, book: &Book<'_>, machine: &Checked, found: bool, executed: Executed) {
     words.add(if found { "taken off " } else { "isn't in " });
-    match executed.instr {
+    let instr = executed.instr;
+    match instr {
         Instr::Remove(_, queue, _) | Instr::Unlink(_, queue) => {
             words.add("queue ");
             book.add_queue(words, executed.driver, queue)
@@ -450,7 +455,8 @@ fn add_sent(words: &mut Words, book: &Book<'_>, machine: &Checked, device: u8, n
 
 /// Adds what an instruction did that is about no packet.
 fn add_other(words: &mut Words, book: &Book<'_>, scene: &Scene<'_>, executed: Executed) {
-    match executed.instr {
+    let instr = executed.instr;
+    match instr {
         Instr::Acquire(_) | Instr::AcquireCancel => {
             if let Some(thread) = thread_of(scene.event) {
                 add_ownership(words, book, thread, lock_of(executed))
@@ -474,13 +480,14 @@ fn add_other(words: &mut Words, book: &Book<'_>, scene: &Scene<'_>, executed: Ex
             })
         }
         Instr::Ret(form) => add_return(words, form, scene.moment.returned),
-        _ => add_numbers(words, book, scene, executed.instr),
+        _ => add_numbers(words, book, scene, instr),
     }
 }
 
 /// The lock that an instruction names: a spin lock of its device, else the system cancel spin lock.
 fn lock_of(executed: Executed) -> Lock {
-    match executed.instr {
+    let instr = executed.instr;
+    match instr {
         Instr::Acquire(lock) | Instr::Release(lock) => Lock::Spin(OfDevice {
             device: executed.device,
             number: lock.index().min(255) as u8,
