@@ -15,9 +15,10 @@ use std::marker::Model;
 use tell_audit::findings::Findings;
 use tell_changes::{add_ringed, refusal_words};
 use tell_holders::Rights;
-use tell_names::{Book, add_lock, add_top_out};
+use tell_names::{Book, add_lock, add_number, add_packet, add_top_out};
 use tell_uses::acts::UseStep;
 use tell_uses::ledger::Ledger;
+use words::Words;
 
 /// An event that was refused.
 #[derive(Clone, Copy)]
@@ -113,143 +114,140 @@ pub(crate) struct Left<'a> {
 /// rights are known), what was found amiss, and the events that were refused.
 pub(crate) fn add_audit(
     alloc: Global,
-    words: &mut String,
+    words: &mut Words,
     book: &Book<'_>,
     audited: &Audited,
     left: &Left<'_>,
-) -> Result<(), AllocError> {
+) {
     let machine = left.machine;
     let found = left.found;
-    add_topped(words, audited)?;
+    add_topped(words, audited);
     for number in 0..machine.shared().issued() {
         if let Some(packet) = machine.shared().live_packet(number) {
-            add_live(alloc, words, book, machine, packet, left.rights)?;
+            add_live(alloc, words, book, machine, packet, left.rights);
         }
     }
-    add_missed(words, book, machine, found)?;
-    add_findings(words, book, machine, found)?;
-    add_disagreeing(words, book, audited, found, left.ledger)?;
-    add_refused(words, audited)?;
-    if machine.stopped() {
-        return words.push_str("the run was stopped by a bug check or a wrong operand\n");
-    }
-    if !found.any() {
-        words.push_str("nothing is amiss\n")?;
-    }
-    Ok(())
+    add_missed(words, book, machine, found);
+    add_findings(words, book, machine, found);
+    add_disagreeing(words, book, audited, found, left.ledger);
+    add_refused(words, audited);
+    words.add(if machine.stopped() {
+        "the run was stopped by a bug check or a wrong operand\n"
+    } else if found.any() {
+        ""
+    } else {
+        "nothing is amiss\n"
+    })
 }
 
 /// Adds the packets that topped out, in order.
-fn add_topped(words: &mut String, audited: &Audited) -> Result<(), AllocError> {
+fn add_topped(words: &mut Words, audited: &Audited) {
     for top in audited.topped.iter() {
-        add_top_out(words, top.packet, " topped out with ", top.status, top.info)?;
-        words.push_str("\n")?;
+        add_top_out(words, top.packet, " topped out with ", top.status, top.info);
+        words.add("\n");
     }
-    Ok(())
 }
 
 /// Adds the packets that are still to be cancelled.
-fn add_missed(
-    words: &mut String,
-    book: &Book<'_>,
-    machine: &Checked,
-    found: &Findings,
-) -> Result<(), AllocError> {
+fn add_missed(words: &mut Words, book: &Book<'_>, machine: &Checked, found: &Findings) {
     for number in found.missed.iter() {
-        write!(
+        add_packet(
             words,
-            "packet {number} is still to be cancelled: Irp->Cancel and its cancel routine"
-        )?;
+            *number,
+            " is still to be cancelled: Irp->Cancel and its cancel routine",
+        );
         let packet = machine.shared().live_packet(*number);
         if let Some(armer) = packet.and_then(|packet| packet.armer()) {
-            words.push_str(" of ")?;
-            add_armer(words, book, machine, armer)?;
+            words.add(" of ");
+            add_armer(words, book, machine, armer);
         }
-        words.push_str(" are set, and no thread is in IoCancelIrp for it\n")?;
+        words.add(" are set, and no thread is in IoCancelIrp for it\n");
     }
-    Ok(())
 }
 
 /// Adds what was found amiss.
-fn add_findings(
-    words: &mut String,
-    book: &Book<'_>,
-    machine: &Checked,
-    found: &Findings,
-) -> Result<(), AllocError> {
+fn add_findings(words: &mut Words, book: &Book<'_>, machine: &Checked, found: &Findings) {
     for packet in found.lost.iter() {
-        write!(words, "packet {packet} is lost: no place names it\n")?;
+        add_packet(words, *packet, " is lost: no place names it\n");
     }
-    for lock in found.left.iter() {
-        add_lock(words, book, lock.lock)?;
-        write!(
-            words,
-            " is left behind: thread {} owns it and is idle\n",
-            lock.thread
-        )?;
-    }
+    add_left(words, book, found);
     add_ringed(words, book, machine, found.ringed.as_slice())
+}
+
+/// Adds the locks that are left behind.
+fn add_left(words: &mut Words, book: &Book<'_>, found: &Findings) {
+    for lock in found.left.iter() {
+        add_lock(words, book, lock.lock);
+        words.add(" is left behind: thread ");
+        add_number(words, u64::from(lock.thread));
+        words.add(" owns it and is idle\n");
+    }
 }
 
 /// Adds the uses of stack locations that were returned from otherwise than they were marked.
 fn add_disagreeing(
-    words: &mut String,
+    words: &mut Words,
     book: &Book<'_>,
     audited: &Audited,
     found: &Findings,
     ledger: &Ledger,
-) -> Result<(), AllocError> {
+) {
     for location_use in found.disagreeing.iter() {
-        write!(words, "packet {}", location_use.packet())?;
+        add_packet(words, location_use.packet(), "");
         if let Some(Some(place)) = audited.opened.get(location_use.number() as usize) {
-            add_place(words, book, *place)?;
+            add_place(words, book, *place);
         }
         if let Some(note) = ledger.note_of(*location_use) {
-            add_note(words, &note)?;
+            add_note(words, &note);
         }
-        words.push_str("\n")?;
+        words.add("\n");
     }
-    Ok(())
 }
 
 /// Adds the events that were refused, and why.
-fn add_refused(words: &mut String, audited: &Audited) -> Result<(), AllocError> {
+fn add_refused(words: &mut Words, audited: &Audited) {
     for refused in audited.refused.iter() {
-        write!(
-            words,
-            "event {} was refused: {}\n",
-            refused.number, refused.why
-        )?;
+        words.add("event ");
+        add_number(words, refused.number);
+        words.add(" was refused: ");
+        words.add(refused.why);
+        words.add("\n");
     }
-    Ok(())
 }
 
 /// Adds a live packet: its locations with their marks, and the places that name it; which of them
 /// holds it by right, where that is known.
 fn add_live(
     alloc: Global,
-    words: &mut String,
+    words: &mut Words,
     book: &Book<'_>,
     machine: &Checked,
     packet: &Packet,
     rights: Option<&Rights>,
-) -> Result<(), AllocError> {
-    let n = packet.number();
-    write!(words, "packet {n} is live at location {}", packet.depth())?;
+) {
+    add_locations(words, book, packet);
+    match rights {
+        Some(rights) => add_holders(alloc, words, book, machine, rights, packet.number()),
+        None => add_sites(alloc, words, book, machine, packet.number()),
+    }
+    words.add("\n")
+}
+
+/// Adds the locations of a live packet, with their marks.
+fn add_locations(words: &mut Words, book: &Book<'_>, packet: &Packet) {
+    add_packet(words, packet.number(), " is live at location ");
+    add_number(words, u64::from(packet.depth()));
     for place in 0..packet.depth() {
         if let Some(location) = packet.location(place as usize) {
-            write!(words, "; location {} of ", (place as u16).saturating_add(1))?;
-            book.add_device(words, location.device())?;
-            words.push_str(if location.is_marked() {
+            words.add("; location ");
+            add_number(words, u64::from((place as u16).saturating_add(1)));
+            words.add(" of ");
+            book.add_device(words, location.device());
+            words.add(if location.is_marked() {
                 " is marked"
             } else {
                 " is unmarked"
-            })?;
+            });
         }
     }
-    match rights {
-        Some(rights) => add_holders(alloc, words, book, machine, rights, n)?,
-        None => add_sites(alloc, words, book, machine, n)?,
-    }
-    words.push_str("\n")
 }

@@ -4,11 +4,11 @@ use crate::line::Happened;
 use checked::Checked;
 use model::event::Event;
 use model::view::{FrameView, PacketView};
-use std::alloc::AllocError;
 use tell_changes::Moment;
-use tell_names::{Book, status_name};
+use tell_names::{Book, add_number, status_name};
 use tell_uses::acts::UseStep;
 use tell_uses::uses::Note;
+use words::Words;
 
 /// A stack location: the device that is asked there, and its number; the first is the top driver's.
 #[derive(Clone, Copy)]
@@ -51,28 +51,23 @@ pub(crate) fn opened_place(happened: &Happened, machine: &Checked) -> Option<Pla
 }
 
 /// Adds a location.
-pub(crate) fn add_place(
-    words: &mut String,
-    book: &Book<'_>,
-    place: Place,
-) -> Result<(), AllocError> {
-    write!(words, ", location {} of ", place.number)?;
+pub(crate) fn add_place(words: &mut Words, book: &Book<'_>, place: Place) {
+    words.add(", location ");
+    add_number(words, u64::from(place.number));
+    words.add(" of ");
     book.add_device(words, place.device)
 }
 
 /// Adds what a use's note says that disagrees.
-pub(crate) fn add_note(words: &mut String, note: &Note) -> Result<(), AllocError> {
+pub(crate) fn add_note(words: &mut Words, note: &Note) {
     if note.returned_pending && note.left_unmarked {
-        words.push_str(": STATUS_PENDING was returned, and completion left it unmarked")?;
+        words.add(": STATUS_PENDING was returned, and completion left it unmarked");
     }
-    match note.returned_other {
-        Some(status) if note.left_marked => {
-            let name = status_name(status);
-            write!(
-                words,
-                ": {name} was returned, and completion left it marked"
-            )
+    if let Some(status) = note.returned_other {
+        if note.left_marked {
+            words.add(": ");
+            words.add(status_name(status));
+            words.add(" was returned, and completion left it marked")
         }
-        _ => Ok(()),
     }
 }

@@ -9,6 +9,7 @@ use std::alloc::AllocError;
 use tell_changes::Moment;
 use tell_names::{Book, blank, blanks_before_change};
 use tell_uses::acts::UseStep;
+use words::Words;
 
 /// An event that has happened: what it was before, what it did to uses of stack locations, and the
 /// reply to it.
@@ -34,31 +35,21 @@ pub(crate) fn add_front(
 }
 
 /// Adds the place of an event, and behind it what the event changed, if these words say anything.
-pub(crate) fn add_rest(
-    words: &mut String,
-    book: &Book<'_>,
-    happened: &Happened,
-    change: &str,
-) -> Result<(), AllocError> {
+pub(crate) fn add_rest(words: &mut Words, book: &Book<'_>, happened: &Happened, change: &str) {
     match happened.moment.acting {
-        Some(acting) => add_place(words, book, acting.frame)?,
-        None => words.push_str("-")?,
+        Some(acting) => add_place(words, book, acting.frame),
+        None => words.add("-"),
     }
-    if change.is_empty() {
-        return Ok(());
+    if !change.is_empty() {
+        let place = words.text.len();
+        words.add(blanks_before_change(place));
+        words.add(change)
     }
-    let place = words.len();
-    words.push_str(blanks_before_change(place))?;
-    words.push_str(change)
 }
 
 /// Adds where a frame that acts stands: the routine and the line of its instruction, or what the
 /// I/O manager does.
-pub(crate) fn add_place(
-    words: &mut String,
-    book: &Book<'_>,
-    frame: FrameView,
-) -> Result<(), AllocError> {
+pub(crate) fn add_place(words: &mut Words, book: &Book<'_>, frame: FrameView) {
     match frame {
         FrameView::Routine {
             driver,
@@ -66,11 +57,16 @@ pub(crate) fn add_place(
             position,
             device: _,
         } => book.add_place(words, driver, routine, position),
-        FrameView::Walk(_) => words.push_str("IoCompleteRequest"),
-        FrameView::Cancel(canceller) => words.push_str(match canceller.next {
-            CancelStep::Acquire => "IoCancelIrp: acquires",
-            CancelStep::SetFlag => "IoCancelIrp: sets the flag",
-            CancelStep::Exchange => "IoCancelIrp: takes the routine",
-        }),
+        FrameView::Walk(_) => words.add("IoCompleteRequest"),
+        FrameView::Cancel(canceller) => words.add(step_words(canceller.next)),
+    }
+}
+
+/// What IoCancelIrp does in a step.
+fn step_words(step: CancelStep) -> &'static str {
+    match step {
+        CancelStep::Acquire => "IoCancelIrp: acquires",
+        CancelStep::SetFlag => "IoCancelIrp: sets the flag",
+        CancelStep::Exchange => "IoCancelIrp: takes the routine",
     }
 }

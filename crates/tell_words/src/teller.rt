@@ -17,6 +17,7 @@ use tell_changes::add_change;
 use tell_holders::Rights;
 use tell_names::{Book, Place, add_alone};
 use tell_uses::ledger::Ledger;
+use words::Words;
 
 /// Whose columns stand ready: those of a thread's step, behind so many bytes.
 #[derive(Clone, Copy)]
@@ -40,11 +41,11 @@ pub struct Teller<'a> {
     /// other event came since.
     ahead: Option<Ahead>,
     /// The second part, unless that is the line of an instruction and nothing else.
-    words: String,
+    words: Words,
     /// That line.
     line: Option<Place>,
     /// What the last event changed.
-    change: String,
+    change: Words,
     /// Words that may come again, and what those of the last event hang on, if they are kept.
     kept: KeptWords,
     standing: Option<Standing>,
@@ -73,9 +74,9 @@ impl<'a> Teller<'a> {
             head: 0,
             fronts: Fronts::new(alloc)?,
             ahead: None,
-            words: String::new(alloc),
+            words: Words::new(alloc),
             line: None,
-            change: String::new(alloc),
+            change: Words::new(alloc),
             kept: KeptWords::new(alloc)?,
             standing: None,
         })
@@ -129,14 +130,14 @@ impl<'a> Teller<'a> {
             return Ok(());
         }
         self.make_words(happened, machine)?;
-        self.kept.keep(standing, self.words.as_str())
+        self.kept.keep(standing, self.words.text.as_str())
     }
 
     /// Makes the second part of the words of an event, by the machine after it.
     fn make_words(&mut self, happened: &Happened, machine: &Checked) -> Result<(), AllocError>
         ensures { OnOk result (self.new ≡ self.old) }
     {
-        self.change.clear();
+        clear(&mut self.change);
         add_change(
             &mut self.change,
             &self.book,
@@ -144,10 +145,12 @@ impl<'a> Teller<'a> {
             &happened.moment,
             &happened.reply,
             machine,
-        )?;
-        self.words.clear();
-        let change = self.change.as_str();
-        add_rest(&mut self.words, &self.book, happened, change)
+        );
+        whole(&self.change)?;
+        clear(&mut self.words);
+        let change = self.change.text.as_str();
+        add_rest(&mut self.words, &self.book, happened, change);
+        whole(&self.words)
     }
 
     /// Makes the words of a step that a thread's routine made by itself, behind a head of so many
@@ -173,18 +176,25 @@ impl<'a> Teller<'a> {
             self.ahead = Some(Ahead { head, thread });
         }
         self.standing = None;
-        self.words.clear();
+        clear(&mut self.words);
+        self.make_alone(thread, place, machine);
+        whole(&self.words)
+    }
+
+    /// Makes the second part of the words of such a step.
+    fn make_alone(&mut self, thread: u8, place: FrameView, machine: &Checked)
+        ensures { self.new ≡ self.old }
+    {
         self.line = self.book.line_at(place);
         let Some(line) = self.line else {
             return add_place(&mut self.words, &self.book, place);
         };
-        self.words.push_str(self.book.words_before_change(line))?;
-        let bare = self.words.len();
-        add_alone(&mut self.words, &self.book, thread, place, machine)?;
-        if self.words.len() > bare {
+        self.words.add(self.book.words_before_change(line));
+        let bare = self.words.text.len();
+        add_alone(&mut self.words, &self.book, thread, place, machine);
+        if self.words.text.len() > bare {
             self.line = None;
         }
-        Ok(())
     }
 
     /// Whether the columns that were made last are those of a thread behind so many bytes.
@@ -211,7 +221,7 @@ impl<'a> Teller<'a> {
     ) -> Result<(), AllocError> {
         self.line = None;
         self.standing = None;
-        self.words.clear();
+        clear(&mut self.words);
         add_audit(
             alloc,
             &mut self.words,
@@ -223,7 +233,8 @@ impl<'a> Teller<'a> {
                 ledger,
                 rights,
             },
-        )
+        );
+        whole(&self.words)
     }
 
     /// The first part of the words that were made last: the columns.
@@ -238,7 +249,21 @@ impl<'a> Teller<'a> {
         }
         match self.standing.and_then(|standing| self.kept.get(standing)) {
             Some(words) => words.as_bytes(),
-            None => self.words.as_bytes(),
+            None => self.words.text.as_bytes(),
         }
     }
+}
+
+/// Makes words none.
+fn clear(words: &mut Words) {
+    words.text.clear();
+    words.lacks = false;
+}
+
+/// That nothing of words is missing.
+fn whole(words: &Words) -> Result<(), AllocError> {
+    if words.lacks {
+        return Err(AllocError);
+    }
+    Ok(())
 }
