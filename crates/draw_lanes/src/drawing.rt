@@ -6,17 +6,18 @@ use crate::interest::is_of_interest;
 use crate::lane::{Lane, Post, Span, State, lanes_of};
 use crate::lock::{NamedLock, lock_of, owns};
 use crate::row::{Row, Spot};
+use crate::row_words::{add_words, place_words};
 use crate::seen::{Seen, is_return, packet_of};
 use crate::sign::{Sign, sign_of};
-use crate::words::{add_place, add_words};
 use checked::Checked;
 use model::event::{Event, Lock, Reply};
 use model::view::FrameView;
 use std::alloc::{AllocError, Global};
 use tell_holders::Rights;
-use tell_names::Book;
+use tell_names::{Book, add_packet};
 use tell_uses::acting::Acting;
 use tell_uses::standing::thread_of;
+use words::Words;
 
 /// Rows that are drawn, at most. The last of them is kept for what stops the run.
 pub const MOST_ROWS: usize = 500;
@@ -182,26 +183,42 @@ impl Drawing {
         seen: Seen<'_>,
         stand: Option<Stand>,
     ) -> Result<(), AllocError> {
-        let mut place = String::new(self.alloc);
-        add_place(&mut place, book, seen)?;
-        let mut words = String::new(self.alloc);
-        add_words(&mut words, book, seen)?;
-        self.add_lost(&mut words)?;
+        let row = self.row_of(book, number, seen, stand)?;
+        self.rows.push(row)?;
+        self.made = self.made.saturating_add(1);
+        self.folded = 0;
+        Ok(())
+    }
+
+    /// The row of an event.
+    fn row_of(
+        &self,
+        book: &Book<'_>,
+        number: u64,
+        seen: Seen<'_>,
+        stand: Option<Stand>,
+    ) -> Result<Row, AllocError> {
         let acts = self.lane_of(post_of(seen.event));
         let sign = sign_of(seen.event, seen.moment, seen.reply);
-        self.rows.push(Row {
+        let words = self.words_of(book, seen)?;
+        Ok(Row {
             number,
             folded: self.folded,
             acts,
             sign,
             spot: spot_of(sign, acts, stand),
-            place,
+            place: place_words(self.alloc, book, seen)?,
             words,
             repeat: None,
-        })?;
-        self.made = self.made.saturating_add(1);
-        self.folded = 0;
-        Ok(())
+        })
+    }
+
+    /// What an event changed, in words.
+    fn words_of(&self, book: &Book<'_>, seen: Seen<'_>) -> Result<String, AllocError> {
+        let mut words = Words::new(self.alloc);
+        add_words(&mut words, book, seen);
+        self.add_lost(&mut words);
+        words.finish()
     }
 
     /// Folds the last rows, if they repeat the rows before them with nothing changed in between.
@@ -281,13 +298,13 @@ impl Drawing {
     }
 
     /// Adds the packets that nobody has any more from the next row on.
-    fn add_lost(&self, words: &mut String) -> Result<(), AllocError> {
+    fn add_lost(&self, words: &mut Words) {
         for step in self.moves.iter() {
             if step.row == self.rows.len() && is_lost(step.to) {
-                write!(words, "; nobody has packet {}", step.packet)?;
+                words.add("; nobody has ");
+                add_packet(words, step.packet as u64, "");
             }
         }
-        Ok(())
     }
 
     /// The lane for something.

@@ -2,7 +2,8 @@
 
 use checked::Checked;
 use std::alloc::{AllocError, Global};
-use tell_names::Book;
+use tell_names::{Book, add_number};
+use words::Words;
 
 /// Packets that a lane shows side by side, at most. Further ones share its last track.
 pub const TRACKS: usize = 8;
@@ -155,17 +156,44 @@ pub fn lanes_of(
     book: &Book<'_>,
 ) -> Result<Vec<Lane>, AllocError> {
     let mut lanes = Vec::new(alloc);
-    for thread in 0..machine.threads().len().min(255) as u8 {
-        let mut name = String::new(alloc);
-        write!(name, "thread {thread}")?;
-        add_lane(&mut lanes, alloc, Post::Thread(thread), name, true)?;
-    }
-    for device in 0..machine.set().devices().len().min(255) as u8 {
-        add_device(&mut lanes, alloc, machine, book, device)?;
-    }
-    let nobody = String::from_str(alloc, "nobody")?;
-    add_lane(&mut lanes, alloc, Post::Nobody, nobody, false)?;
+    add_lanes(&mut lanes, alloc, machine, book)?;
     Ok(lanes)
+}
+
+/// Adds the lanes of a machine.
+fn add_lanes(
+    lanes: &mut Vec<Lane>,
+    alloc: Global,
+    machine: &Checked,
+    book: &Book<'_>,
+) -> Result<(), AllocError> {
+    for thread in 0..machine.threads().len().min(255) as u8 {
+        add_thread(lanes, alloc, thread)?;
+    }
+    add_devices(lanes, alloc, machine, book)?;
+    let nobody = String::from_str(alloc, "nobody")?;
+    add_lane(lanes, alloc, Post::Nobody, nobody, false)
+}
+
+/// Adds the lane of a thread.
+fn add_thread(lanes: &mut Vec<Lane>, alloc: Global, thread: u8) -> Result<(), AllocError> {
+    let mut name = Words::new(alloc);
+    name.add("thread ");
+    add_number(&mut name, u64::from(thread));
+    add_lane(lanes, alloc, Post::Thread(thread), name.finish()?, true)
+}
+
+/// Adds the lanes of all devices.
+fn add_devices(
+    lanes: &mut Vec<Lane>,
+    alloc: Global,
+    machine: &Checked,
+    book: &Book<'_>,
+) -> Result<(), AllocError> {
+    for device in 0..machine.set().devices().len().min(255) as u8 {
+        add_device(lanes, alloc, machine, book, device)?;
+    }
+    Ok(())
 }
 
 /// Adds the lanes of a device: its own, those of its queues, and those of what it has for StartIo,
@@ -177,8 +205,7 @@ fn add_device(
     book: &Book<'_>,
     device: u8,
 ) -> Result<(), AllocError> {
-    let name = name_of(alloc, book, device, "")?;
-    add_lane(lanes, alloc, Post::Device(device), name, true)?;
+    add_called(lanes, alloc, book, device, Post::Device(device), true)?;
     let Some(its) = machine.set().devices().get(device as usize) else {
         return Ok(());
     };
@@ -186,23 +213,59 @@ fn add_device(
         return Ok(());
     };
     for queue in 0..driver.queues.as_slice().len().min(255) as u8 {
-        let mut name = name_of(alloc, book, device, ".")?;
-        book.add_queue(&mut name, its.driver, queue)?;
-        add_lane(lanes, alloc, Post::Queue(device, queue), name, true)?;
+        add_queue(lanes, alloc, book, device, its.driver, queue)?;
     }
     let starts = driver.startio.is_some();
-    let name = name_of(alloc, book, device, " start list")?;
-    add_lane(lanes, alloc, Post::StartList(device), name, starts)?;
-    let name = name_of(alloc, book, device, " device queue")?;
-    add_lane(lanes, alloc, Post::DeviceQueue(device), name, starts)?;
-    let name = name_of(alloc, book, device, " slot")?;
-    add_lane(lanes, alloc, Post::Slot(device), name, starts)
+    add_called(lanes, alloc, book, device, Post::StartList(device), starts)?;
+    add_called(
+        lanes,
+        alloc,
+        book,
+        device,
+        Post::DeviceQueue(device),
+        starts,
+    )?;
+    add_called(lanes, alloc, book, device, Post::Slot(device), starts)
 }
 
-/// The name of a device, and words behind it.
-fn name_of(alloc: Global, book: &Book<'_>, device: u8, behind: &str) -> Result<String, AllocError> {
-    let mut name = String::new(alloc);
-    book.add_device(&mut name, device)?;
-    name.push_str(behind)?;
-    Ok(name)
+/// Adds the lane of a queue of a device.
+fn add_queue(
+    lanes: &mut Vec<Lane>,
+    alloc: Global,
+    book: &Book<'_>,
+    device: u8,
+    driver: u8,
+    queue: u8,
+) -> Result<(), AllocError> {
+    let mut name = Words::new(alloc);
+    book.add_device(&mut name, device);
+    name.add(".");
+    book.add_queue(&mut name, driver, queue);
+    add_lane(
+        lanes,
+        alloc,
+        Post::Queue(device, queue),
+        name.finish()?,
+        true,
+    )
+}
+
+/// Adds another lane of a device, which is called by the device's name and what it is for.
+fn add_called(
+    lanes: &mut Vec<Lane>,
+    alloc: Global,
+    book: &Book<'_>,
+    device: u8,
+    post: Post,
+    stays: bool,
+) -> Result<(), AllocError> {
+    let mut name = Words::new(alloc);
+    book.add_device(&mut name, device);
+    name.add(match post {
+        Post::StartList(_) => " start list",
+        Post::DeviceQueue(_) => " device queue",
+        Post::Slot(_) => " slot",
+        _ => "",
+    });
+    add_lane(lanes, alloc, post, name.finish()?, stays)
 }

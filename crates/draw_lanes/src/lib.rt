@@ -11,6 +11,6 @@ mod interest;
 pub mod lane;
 pub mod lock;
 pub mod row;
+pub mod row_words;
 pub mod seen;
 pub mod sign;
-pub mod words;

@@ -5,8 +5,9 @@ use model::event::{Lock, OfDevice};
 use model::instr::{Instr, SpinLock};
 use model::view::FrameView;
 use std::alloc::{AllocError, Global};
-use tell_names::Book;
+use tell_names::{Book, add_number};
 use tell_uses::acting::Acting;
+use words::Words;
 
 /// Letters of a device's name in that of a lock, at most, and so many of a longer one.
 const LONG: usize = 12;
@@ -27,30 +28,45 @@ impl NamedLock {
     ///
     /// When memory runs out.
     pub fn of(alloc: Global, book: &Book<'_>, lock: Lock) -> Result<NamedLock, AllocError> {
-        let mut name = String::new(alloc);
-        match lock {
-            Lock::SystemCancel => name.push_str("cancel lock")?,
-            Lock::Spin(OfDevice { device, number }) => {
-                add_device(alloc, &mut name, book, device)?;
-                write!(name, ".l{number}")?;
-            }
+        let mut name = Words::new(alloc);
+        add_lock(alloc, &mut name, book, lock);
+        Ok(NamedLock {
+            lock,
+            name: name.finish()?,
+        })
+    }
+}
+
+/// Adds what a lock is called.
+fn add_lock(alloc: Global, words: &mut Words, book: &Book<'_>, lock: Lock) {
+    match lock {
+        Lock::SystemCancel => words.add("cancel lock"),
+        Lock::Spin(OfDevice { device, number }) => {
+            add_device(alloc, words, book, device);
+            words.add(".l");
+            add_number(words, u64::from(number))
         }
-        Ok(NamedLock { lock, name })
     }
 }
 
 /// Adds the name of a device, a long one cut.
-fn add_device(
-    alloc: Global,
-    words: &mut String,
-    book: &Book<'_>,
-    device: u8,
-) -> Result<(), AllocError> {
-    let mut name = String::new(alloc);
-    book.add_device(&mut name, device)?;
-    match name.as_str().get(..CUT) {
-        Some(start) if name.len() > LONG => write!(words, "{start}.."),
-        _ => words.push_str(name.as_str()),
+fn add_device(alloc: Global, words: &mut Words, book: &Book<'_>, device: u8) {
+    let mut name = Words::new(alloc);
+    book.add_device(&mut name, device);
+    match name.finish() {
+        Ok(name) => add_cut(words, name.as_str()),
+        Err(_) => words.lacks = true,
+    }
+}
+
+/// Adds a name, a long one cut.
+fn add_cut(words: &mut Words, name: &str) {
+    match name.get(..CUT) {
+        Some(start) if name.len() > LONG => {
+            words.add(start);
+            words.add("..")
+        }
+        _ => words.add(name),
     }
 }
 

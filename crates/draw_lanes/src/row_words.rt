@@ -4,18 +4,15 @@ use crate::seen::Seen;
 use model::event::{Event, Reply};
 use model::instr::{Instr, Return};
 use model::view::FrameView;
-use std::alloc::AllocError;
+use std::alloc::{AllocError, Global};
 use tell_changes::add_change;
 use tell_names::Book;
 use tell_uses::acting::Acting;
+use words::Words;
 
 /// Adds where the frame stands that acts: its routine and the line of its instruction, or what the
 /// I/O manager does. Where a routine begins in the event, its name.
-///
-/// # Errors
-///
-/// When memory runs out.
-pub fn add_place(words: &mut String, book: &Book<'_>, seen: Seen<'_>) -> Result<(), AllocError> {
+pub fn add_place(words: &mut Words, book: &Book<'_>, seen: Seen<'_>) {
     match seen.moment.acting {
         Some(acting) => book.add_spot(words, acting.frame),
         None => match (seen.event, seen.top) {
@@ -29,32 +26,53 @@ pub fn add_place(words: &mut String, book: &Book<'_>, seen: Seen<'_>) -> Result<
                     },
                 ),
             ) => book.add_routine(words, driver, routine),
-            (Event::Cancel { .. }, _) => words.push_str("IoCancelIrp"),
-            (Event::Interrupt { .. }, _) => words.push_str("interrupt"),
-            _ => Ok(()),
+            (Event::Cancel { .. }, _) => words.add("IoCancelIrp"),
+            (Event::Interrupt { .. }, _) => words.add("interrupt"),
+            _ => {}
         },
     }
 }
 
 /// Adds what an event changed.
+pub fn add_words(words: &mut Words, book: &Book<'_>, seen: Seen<'_>) {
+    let moment = seen.moment;
+    match *seen.reply {
+        Reply::Bug(bug) => {
+            words.add("bug check ");
+            words.add(bug.check.as_str());
+            words.add(": ")
+        }
+        Reply::Wrong(_) => words.add("stopped: "),
+        Reply::Refused => words.add("refused: "),
+        Reply::Stepped | Reply::Finished => words.add(before_returned(moment.acting)),
+        _ => {}
+    }
+    add_change(words, book, seen.event, moment, seen.reply, seen.machine);
+    if let (Reply::Stepped, Some(acting)) = (*seen.reply, moment.acting) {
+        add_called(words, book, acting, seen.top);
+    }
+}
+
+/// Where the frame stands that acts, or which routine begins, in words.
 ///
 /// # Errors
 ///
 /// When memory runs out.
-pub fn add_words(words: &mut String, book: &Book<'_>, seen: Seen<'_>) -> Result<(), AllocError> {
-    let moment = seen.moment;
-    match *seen.reply {
-        Reply::Bug(bug) => write!(words, "bug check {}: ", bug.check.as_str())?,
-        Reply::Wrong(_) => words.push_str("stopped: ")?,
-        Reply::Refused => words.push_str("refused: ")?,
-        Reply::Stepped | Reply::Finished => words.push_str(before_returned(moment.acting))?,
-        _ => {}
-    }
-    add_change(words, book, seen.event, moment, seen.reply, seen.machine)?;
-    if let (Reply::Stepped, Some(acting)) = (*seen.reply, moment.acting) {
-        add_called(words, book, acting, seen.top)?;
-    }
-    Ok(())
+pub fn place_words(alloc: Global, book: &Book<'_>, seen: Seen<'_>) -> Result<String, AllocError> {
+    let mut words = Words::new(alloc);
+    add_place(&mut words, book, seen);
+    words.finish()
+}
+
+/// What an event changed, in words.
+///
+/// # Errors
+///
+/// When memory runs out.
+pub fn changed_words(alloc: Global, book: &Book<'_>, seen: Seen<'_>) -> Result<String, AllocError> {
+    let mut words = Words::new(alloc);
+    add_words(&mut words, book, seen);
+    words.finish()
 }
 
 /// What stands before the words for what a routine returns, where a step is that of its `ret`.
@@ -74,12 +92,7 @@ fn before_returned(acting: Option<Acting>) -> &'static str {
 }
 
 /// Adds the routine that a step has called: by `pass`, `call` or the I/O manager.
-fn add_called(
-    words: &mut String,
-    book: &Book<'_>,
-    acting: Acting,
-    top: Option<FrameView>,
-) -> Result<(), AllocError> {
+fn add_called(words: &mut Words, book: &Book<'_>, acting: Acting, top: Option<FrameView>) {
     let (
         Some(how),
         Some(
@@ -91,9 +104,9 @@ fn add_called(
         ),
     ) = (how_called(acting), top)
     else {
-        return Ok(());
+        return;
     };
-    words.push_str(how)?;
+    words.add(how);
     book.add_routine(words, driver, routine)
 }
 
