@@ -7,7 +7,8 @@ use draw_lanes::lock::{NamedLock, lock_of, owns};
 use draw_lanes::seen::Seen;
 use model::event::Lock;
 use std::alloc::{AllocError, Global};
-use tell_names::Book;
+use tell_names::{Book, add_number};
+use words::Words;
 
 /// The first track of a lock.
 const FIRST: u64 = 2_000;
@@ -121,9 +122,18 @@ fn track_at(place: usize) -> u64 {
 
 /// Names the track of a thread's lock, and puts it below the thread's.
 fn call(marks: &mut Marks, thread: u8, name: &str, track: u64) -> Result<(), AllocError> {
-    let mut words = String::new(marks.alloc());
-    write!(words, "thread {thread} owns {name}")?;
+    let words = owner_words(marks.alloc(), thread, name)?;
     marks.add(Mark::called(track, words.as_str()))?;
     let below = track % BELOW + 1;
     marks.add(Mark::stands(track, place_of(thread).saturating_add(below)))
+}
+
+/// That a thread owns a lock, in words.
+fn owner_words(alloc: Global, thread: u8, name: &str) -> Result<String, AllocError> {
+    let mut words = Words::new(alloc);
+    words.add("thread ");
+    add_number(&mut words, u64::from(thread));
+    words.add(" owns ");
+    words.add(name);
+    words.finish()
 }

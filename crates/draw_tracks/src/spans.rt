@@ -4,8 +4,9 @@ use crate::mark::{Kind, Mark, Marks};
 use checked::Checked;
 use model::view::FrameView;
 use std::alloc::{AllocError, Global};
-use tell_names::Book;
+use tell_names::{Book, add_packet};
 use tell_uses::standing::frames_on;
+use words::Words;
 
 /// A span that goes on.
 #[derive(Clone, Copy)]
@@ -96,8 +97,7 @@ impl Spans {
         at: u64,
         number: u64,
     ) -> Result<(), AllocError> {
-        let mut name = String::new(marks.alloc());
-        add_name(&mut name, book, frame)?;
+        let name = name_of(marks.alloc(), book, frame)?;
         marks.add(Mark {
             kind: Kind::Begins,
             name: name.as_str(),
@@ -122,8 +122,15 @@ pub(crate) fn place_of(thread: u8) -> u64 {
     u64::from(thread).saturating_mul(BELOW)
 }
 
+/// What a frame is called.
+fn name_of(alloc: Global, book: &Book<'_>, frame: FrameView) -> Result<String, AllocError> {
+    let mut name = Words::new(alloc);
+    add_name(&mut name, book, frame);
+    name.finish()
+}
+
 /// Adds what a frame is called: its routine and its device, or what the I/O manager does.
-fn add_name(name: &mut String, book: &Book<'_>, frame: FrameView) -> Result<(), AllocError> {
+fn add_name(name: &mut Words, book: &Book<'_>, frame: FrameView) {
     match frame {
         FrameView::Routine {
             driver,
@@ -131,12 +138,18 @@ fn add_name(name: &mut String, book: &Book<'_>, frame: FrameView) -> Result<(), 
             device,
             position: _,
         } => {
-            book.add_routine(name, driver, routine)?;
-            name.push_str(" of ")?;
+            book.add_routine(name, driver, routine);
+            name.add(" of ");
             book.add_device(name, device)
         }
-        FrameView::Walk(packet) => write!(name, "IoCompleteRequest of packet {packet}"),
-        FrameView::Cancel(cancel) => write!(name, "IoCancelIrp of packet {}", cancel.packet),
+        FrameView::Walk(packet) => {
+            name.add("IoCompleteRequest of ");
+            add_packet(name, packet, "")
+        }
+        FrameView::Cancel(cancel) => {
+            name.add("IoCancelIrp of ");
+            add_packet(name, cancel.packet, "")
+        }
     }
 }
 

@@ -6,9 +6,9 @@ use crate::mark::{Kind, Mark, Marks};
 use crate::spans::{Spans, place_of, track_of};
 use checked::Checked;
 use draw_lanes::lane::{Lane, Post, lanes_of};
+use draw_lanes::row_words::{changed_words, place_words};
 use draw_lanes::seen::{Seen, packet_of};
 use draw_lanes::sign::{Sign, sign_of};
-use draw_lanes::words::{add_place, add_words};
 use model::event::{Event, Reply};
 use model::view::FrameView;
 use std::alloc::{AllocError, Global};
@@ -48,18 +48,18 @@ impl Tracks {
     ///
     /// When memory runs out.
     pub fn begin(alloc: Global, machine: &Checked, book: &Book<'_>) -> Result<Tracks, AllocError> {
-        let mut marks = Marks::begin(alloc)?;
         let lanes = lanes_of(alloc, machine, book)?;
-        name_tracks(&mut marks, lanes.as_slice())?;
-        let mut spans = Vec::new(alloc);
-        for thread in 0..machine.threads().len().min(255) as u8 {
-            spans.push(Spans::of(alloc, thread))?;
-        }
+        Tracks::of(alloc, machine.threads().len(), lanes)
+    }
+
+    /// Those over so many threads, with these lanes.
+    fn of(alloc: Global, threads: usize, lanes: Vec<Lane>) -> Result<Tracks, AllocError> {
         let counts = vec![in alloc; 0; lanes.len()]?;
+        let marks = named_tracks(alloc, lanes.as_slice())?;
         Ok(Tracks {
             alloc,
             marks,
-            spans,
+            spans: spans_of(alloc, threads)?,
             bars: Bars::new(alloc),
             lanes,
             counts,
@@ -106,14 +106,18 @@ impl Tracks {
     ///
     /// When memory runs out.
     pub fn end(self) -> Result<Vec<u8>, AllocError> {
-        let mut marks = self.marks;
-        let mut bars = self.bars;
-        let mut spans = self.spans;
-        bars.end_all(&mut marks, self.events)?;
-        for thread in spans.iter_mut() {
-            thread.end_all(&mut marks, self.events)?;
+        let mut tracks = self;
+        tracks.end_all()?;
+        tracks.marks.end()
+    }
+
+    /// Ends what goes on.
+    fn end_all(&mut self) -> Result<(), AllocError> {
+        self.bars.end_all(&mut self.marks, self.events)?;
+        for thread in self.spans.iter_mut() {
+            thread.end_all(&mut self.marks, self.events)?;
         }
-        marks.end()
+        Ok(())
     }
 
     /// The top span of the thread of an event.
@@ -127,10 +131,8 @@ impl Tracks {
         let Some(name) = name_of(sign_of(seen.event, seen.moment, seen.reply)) else {
             return Ok(());
         };
-        let mut place = String::new(self.alloc);
-        add_place(&mut place, book, seen)?;
-        let mut change = String::new(self.alloc);
-        add_words(&mut change, book, seen)?;
+        let place = place_words(self.alloc, book, seen)?;
+        let change = changed_words(self.alloc, book, seen)?;
         self.marks.add(Mark {
             kind: Kind::Happens {
                 place: place.as_str(),
@@ -204,6 +206,22 @@ impl Tracks {
             track: 0,
         })
     }
+}
+
+/// The spans of so many threads.
+fn spans_of(alloc: Global, threads: usize) -> Result<Vec<Spans>, AllocError> {
+    let mut spans = Vec::new(alloc);
+    for thread in 0..threads.min(255) as u8 {
+        spans.push(Spans::of(alloc, thread))?;
+    }
+    Ok(spans)
+}
+
+/// The text of trace events, with the names of the tracks.
+fn named_tracks(alloc: Global, lanes: &[Lane]) -> Result<Marks, AllocError> {
+    let mut marks = Marks::begin(alloc)?;
+    name_tracks(&mut marks, lanes)?;
+    Ok(marks)
 }
 
 /// Names the tracks of threads and of devices, and puts them in order.
