@@ -21,6 +21,7 @@ use tell_names::Book;
 use tell_uses::acts::use_step_of;
 use tell_uses::ledger::Ledger;
 use tell_uses::standing::thread_of;
+use words::Words;
 
 /// A run as it is told, by its events so far.
 #[derive(Drop)]
@@ -82,8 +83,7 @@ impl<'a> Telling<'a> {
         let step = use_step_of(machine, event, &moment.acting);
         let reply = machine.apply(event);
         self.ledger.note(self.alloc, step, event, &reply, machine)?;
-        let mut changed = String::new(self.alloc);
-        add_change(&mut changed, &self.book, event, &moment, &reply, machine)?;
+        let changed = changed_words(self.alloc, &self.book, event, &moment, &reply, machine)?;
         let around = circumstances(self.alloc, &self.book, event, &moment, changed)?;
         self.lines.add(&ToldEvent {
             number: self.number,
@@ -94,6 +94,20 @@ impl<'a> Telling<'a> {
         self.refused |= is_refused(&reply);
         Ok(reply)
     }
+}
+
+/// What an event changed, by the moment before it.
+fn changed_words(
+    alloc: Global,
+    book: &Book<'_>,
+    event: &Event,
+    moment: &Moment,
+    reply: &Reply,
+    machine: &Checked,
+) -> Result<String, AllocError> {
+    let mut words = Words::new(alloc);
+    add_change(&mut words, book, event, moment, reply, machine);
+    words.finish()
 }
 
 /// The circumstances of an event, by the moment before it.
@@ -130,17 +144,17 @@ fn circumstances(
 
 /// The name of the routine that acts, or what the I/O manager does.
 fn routine_of(alloc: Global, book: &Book<'_>, frame: FrameView) -> Result<String, AllocError> {
-    let mut name = String::new(alloc);
+    let mut name = Words::new(alloc);
     match frame {
         FrameView::Routine {
             driver,
             routine,
             position: _,
             device: _,
-        } => book.add_routine(&mut name, driver, routine)?,
-        FrameView::Walk(_) | FrameView::Cancel(_) => book.add_spot(&mut name, frame)?,
+        } => book.add_routine(&mut name, driver, routine),
+        FrameView::Walk(_) | FrameView::Cancel(_) => book.add_spot(&mut name, frame),
     }
-    Ok(name)
+    name.finish()
 }
 
 /// Whether an event with this reply was refused.
