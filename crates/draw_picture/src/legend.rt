@@ -7,7 +7,7 @@ use crate::svg::{Point, add_line, add_rectangle, add_shape, add_text, at};
 use draw_lanes::hold::Hold;
 use draw_lanes::lane::State;
 use draw_lanes::sign::Sign;
-use std::alloc::AllocError;
+use words::Words;
 
 /// The height of an item, and how many stand in a column.
 const ITEM: u32 = 17;
@@ -37,6 +37,15 @@ pub(crate) fn height_of_legend() -> u32 {
 /// packet, the second one what lasts and what happens to locks, the third one what happens to
 /// packets.
 fn item_of(number: u32) -> (Sample, &'static str) {
+    match number / ITEMS {
+        0 => holding_item(number),
+        1 => lasting_item(number),
+        _ => packet_item(number),
+    }
+}
+
+/// One of the first column.
+fn holding_item(number: u32) -> (Sample, &'static str) {
     match number {
         0 => (Sample::Line(Hold::Routine), "packet, held by a routine"),
         1 => (Sample::Line(Hold::Manager), "completed by I/O manager"),
@@ -45,7 +54,13 @@ fn item_of(number: u32) -> (Sample, &'static str) {
         4 => (Sample::Line(Hold::Slot), "in a current slot"),
         5 => (Sample::Line(Hold::Nobody), "held by nobody"),
         6 => (Sample::Open, "lives on at the end"),
-        7 => (Sample::Sign(Sign::TopsOut), "tops out"),
+        _ => (Sample::Sign(Sign::TopsOut), "tops out"),
+    }
+}
+
+/// One of the second column.
+fn lasting_item(number: u32) -> (Sample, &'static str) {
+    match number {
         8 => (Sample::Lasts(State::Busy), "thread with frames"),
         9 => (Sample::Lasts(State::Waits), "waits for a lock"),
         10 => (Sample::Lasts(State::Owns(0)), "owns the lock named there"),
@@ -53,7 +68,13 @@ fn item_of(number: u32) -> (Sample, &'static str) {
         12 => (Sample::Sign(Sign::Acquire), "lock acquired"),
         13 => (Sample::Sign(Sign::Release), "lock released"),
         14 => (Sample::Sign(Sign::Interrupt), "interrupt"),
-        15 => (Sample::Sign(Sign::Acts), "other step of a thread"),
+        _ => (Sample::Sign(Sign::Acts), "other step of a thread"),
+    }
+}
+
+/// One of the third column.
+fn packet_item(number: u32) -> (Sample, &'static str) {
+    match number {
         16 => (Sample::Sign(Sign::Mark), "IoMarkIrpPending"),
         17 => (Sample::Sign(Sign::Complete), "IoCompleteRequest"),
         18 => (Sample::Sign(Sign::Arm), "cancel routine set"),
@@ -66,25 +87,24 @@ fn item_of(number: u32) -> (Sample, &'static str) {
 }
 
 /// Adds the legend, from a height on.
-pub(crate) fn add_legend(words: &mut String, top: u32) -> Result<(), AllocError> {
+pub(crate) fn add_legend(words: &mut Words, top: u32) {
     for number in 0..ITEMS * 3 {
-        add_item(words, top, number)?;
+        add_item(words, top, number);
     }
-    Ok(())
 }
 
 /// Adds an item, by its number.
-fn add_item(words: &mut String, top: u32, number: u32) -> Result<(), AllocError> {
+fn add_item(words: &mut Words, top: u32, number: u32) {
     let (sample, text) = item_of(number);
     let x = MARGIN.saturating_add((number / ITEMS).saturating_mul(COLUMN));
     let y = top.saturating_add((number % ITEMS) * ITEM);
-    add_sample(words, sample, at(x, y))?;
+    add_sample(words, sample, at(x, y));
     let start = at(x.saturating_add(SAMPLE), y.saturating_add(11));
     add_text(words, "", start, text.as_bytes())
 }
 
 /// Adds what is shown of an item.
-fn add_sample(words: &mut String, sample: Sample, corner: Point) -> Result<(), AllocError> {
+fn add_sample(words: &mut Words, sample: Sample, corner: Point) {
     let (x, y) = (corner.x, corner.y.saturating_add(7));
     match sample {
         Sample::Line(hold) => {
@@ -103,7 +123,7 @@ fn add_sample(words: &mut String, sample: Sample, corner: Point) -> Result<(), A
         Sample::Sign(sign) => add_sign(words, sign, at(x.saturating_add(17), y)),
         Sample::Open => {
             let middle = at(x.saturating_add(17), y);
-            add_line(words, "goes", at(middle.x, corner.y), middle)?;
+            add_line(words, "goes", at(middle.x, corner.y), middle);
             add_shape(words, "black", middle, "m-3-3h6l-3 7z")
         }
     }
