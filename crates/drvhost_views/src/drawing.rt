@@ -22,6 +22,7 @@ use std::alloc::{AllocError, Global};
 use tell_changes::Moment;
 use tell_lines::kept::ToldLines;
 use tell_names::Book;
+use words::Words;
 
 /// Draws the run of a machine by a schedule, up to an event that stops it: with the names and the
 /// lines of a text that names its set.
@@ -90,9 +91,9 @@ impl Canvas {
     fn into_text(self, alloc: Global) -> Result<Vec<u8>, AllocError> {
         match self {
             Canvas::Picture(drawing) => {
-                let mut picture = String::new(alloc);
-                add_picture(&mut picture, &drawing)?;
-                Ok(picture.into_bytes())
+                let mut picture = Words::new(alloc);
+                add_picture(&mut picture, &drawing);
+                Ok(picture.finish()?.into_bytes())
             }
             Canvas::Tracks(tracks) => tracks.end(),
         }
