@@ -269,6 +269,12 @@ def reached(files, crates):
             add(other, '%s, %s' % (it.file, it.name))
     return found
 
+def believed(files, named=()):
+    """The definitions that contracts of these crates cite, or else of outer crates, and those of all crates but of tests."""
+    crates = named or [crate for crate in listed() if crate not in TESTS]
+    outer = reached(files, [crate for crate in crates if named or crate not in INNER])
+    return outer, {**reached(files, crates), **outer}
+
 def by_file(found):
     """The reached definitions of each file, in the order of crates and lines."""
     order = {crate: number for number, crate in enumerate(listed())}
@@ -376,9 +382,7 @@ def main():
     if unknown:
         sys.exit('unknown: ' + ' '.join(unknown))
     files = files_of_specs()
-    crates = named or [crate for crate in listed() if crate not in TESTS]
-    outer = reached(files, [crate for crate in crates if named or crate not in INNER])
-    whole = {**reached(files, crates), **outer}
+    outer, whole = believed(files, named)
     if '--check' in flags:
         return check(table_rows(files, outer, whole))
     if '--write' in flags:

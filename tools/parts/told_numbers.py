@@ -1,20 +1,25 @@
 #!/usr/bin/env python3
 """tools/keep numbers [--write]: whether the counts that the documents tell are those that the tools count.
 
-Of contracts, crates, edits, stored runs and wrong bodies each place is listed in PLACES, by the words round it. It tells each
-that is otherwise, or isn't there once, and ends with status 1 then; with --write it puts the numbers there. What was measured
-on a day, as seconds, is no such count. The last line counts."""
+Of contracts, definitions, crates, edits, stored runs and wrong bodies each place is listed in PLACES, by the words round it. It
+tells each that is otherwise, or isn't there once, and ends with status 1 then; with --write it puts the numbers there. What was
+measured on a day, as seconds, is no such count. It tells too which call that may wait docs/PROVED.md doesn't name. The last line
+counts."""
 import glob, os, re, sys
 
 import count_contracts
 import stored_runs
-from beliefs import CRATES, TESTS, TOP, listed
+from beliefs import CRATES, TESTS, TOP, believed, files_of_specs, listed
 
 GATE, PROVED = 'docs/GATE.md', 'docs/PROVED.md'
 # A document, the words round a number, where `#` stands for it, and what it counts.
 PLACES = (
     (PROVED, 'Of # functions', 'functions'),
     (PROVED, 'functions # say by', 'functions that say what they answer'),
+    (PROVED, 'outer crates cite # definitions in', 'definitions of outer crates'),
+    (PROVED, 'definitions in # files;', 'files of outer crates'),
+    (PROVED, 'inner crates alone cite # more,', 'definitions of inner crates'),
+    (PROVED, 'more, in # files', 'files of inner crates'),
     (GATE, 'of this tree N is #', 'crates and edits'),
     (GATE, 'all is well: # crates', 'crates'),
     (GATE, 'programs, and # edits', 'edits'),
@@ -30,10 +35,16 @@ def counts():
     groups = stored_runs.groups()
     crates, edits = len(listed()), len(glob.glob(os.path.join(CRATES, '*/must-fail/*.edit')))
     own = [it for crate in listed() if crate not in TESTS for it in count_contracts.functions(crate) if not it.is_asked]
+    outer, whole = believed(files_of_specs())
+    outer_files, whole_files = {it.file for it in outer}, {it.file for it in whole}
     wrong = [path for crate in listed() for path in glob.glob(os.path.join(CRATES, crate, 'wrong_bodies.txt'))]
     return {
         'functions': len(own),
         'functions that say what they answer': sum(it.says for it in own),
+        'definitions of outer crates': len(outer),
+        'files of outer crates': len(outer_files),
+        'definitions of inner crates': len(whole) - len(outer),
+        'files of inner crates': len(whole_files - outer_files),
         'crates': crates,
         'edits': edits,
         'crates and edits': crates + edits,
@@ -42,6 +53,14 @@ def counts():
         'runs': sum(len(group.runs) for group in groups),
         'wrong bodies': sum(line.startswith('== ') for path in wrong for line in open(path)),
     }
+
+def unnamed():
+    """The calls with leave to wait that the document doesn't list."""
+    with open(os.path.join(TOP, PROVED), encoding='utf-8') as file:
+        part = file.read().partition('- **Functions with leave to wait**')[2].partition('\n- **')[0]
+    waiting = [(crate, it.name) for crate in listed() if crate not in TESTS
+               for it in count_contracts.functions(crate) if it.waits and it.is_shown]
+    return ['%s::%s' % one for one in waiting if not re.search(r'`(\w+::)*%s`' % re.escape(one[1]), part)]
 
 def replaced(text, words, number):
     """The text with the number between the words, which stand there once; None where they don't."""
@@ -66,8 +85,10 @@ def main():
         if other and '--write' in sys.argv[1:]:
             with open(path, 'w', encoding='utf-8') as file:
                 file.write(other)
+    missing = unnamed()
+    print(end=''.join('%s: %s may wait, and is not named\n' % (PROVED, name) for name in missing))
     print('%d numbers, %d told otherwise' % (len(PLACES), wrong))
-    return 1 if wrong else 0
+    return 1 if wrong or missing else 0
 
 if __name__ == '__main__':
     sys.exit(main())
