@@ -195,9 +195,10 @@ fn add_unfit(words: &mut Words, line: &FaultyLine<'_>, known: &Known<'_>, form: 
 /// Adds an operand of another form than is wanted.
 fn add_other(words: &mut Words, known: &Known<'_>, token: &[u8], wanted: Operand) {
     add_unwanted(words, token, wanted.words());
+    let names = known.names;
     match wanted {
         Operand::Major => add_major(words, token),
-        Operand::Device => add_names(words, "the devices are", known.names.devices.as_slice()),
+        Operand::Device => add_names(words, "the devices are", names.devices.as_slice()),
         Operand::Packet => add_names(words, "the packets are", known.packets.as_slice()),
         _ => add_nearest(words, token, wanted.choices()),
     }
