@@ -63,7 +63,8 @@ impl<'a> Templates<'a> {
         out: &mut Candidates,
     ) -> Result<(), AllocError> {
         let (register, lines) = held;
-        match state.kinds[register.index()] {
+        let kind = state.kinds[register.index()];
+        match kind {
             Kind::View => self.add_carried(at, landing, state, register, out),
             Kind::Queued(QueueName::Declared(q), Stage::Cancelling) => {
                 self.add_unlinked(at, landing, state, (register, q), out)
