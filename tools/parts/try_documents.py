@@ -69,13 +69,21 @@ def answer(program, words, folder):
     done = subprocess.run([program, *words], cwd=folder, stdin=subprocess.DEVNULL, capture_output=True, timeout=60)
     return (done.stdout + done.stderr).decode('utf-8', 'replace'), done.returncode
 
-def unlike(example, lines):
-    """What is said of a driver that isn't the text of the file that ends the first line, or of a part that it hasn't."""
+def unlike(example):
+    """What is said of a driver that isn't the text of the file that ends the first line, or of a part that it hasn't. It is never
+    what the program answers, so --write doesn't put it there."""
+    lines = lines_of(example)
+    if not lines or not example.of_kinds(('drv', 'drv part')):
+        return ''
     with open(os.path.join(TOP, lines[0].split()[-1]), newline='') as file:
         text = file.read()
     whole = ['the file has another text\n' for _, shown in example.of_kinds(('drv',)) if shown != text]
     parts = [shown for _, shown in example.of_kinds(('drv part',)) if '\n' + shown not in '\n' + text]
     return ''.join(whole + ['the file has no such lines:\n' + part for part in parts])
+
+def lines_of(example):
+    """The command lines of an example that is run as it stands."""
+    return ''.join(text for _, text in example.of_kinds(('sh',))).splitlines() if example.command == 'run' else []
 
 def written(path, told, write):
     """What is said of a file of the tree that has something else than a command wrote to it."""
@@ -89,12 +97,9 @@ def written(path, told, write):
 def run_lines(program, example, write):
     """The answers to the lines of a block, one after another, with the last exit status."""
     told, status = '', None
-    lines = ''.join(text for _, text in example.of_kinds(('sh',))).splitlines()
-    if example.of_kinds(('drv', 'drv part')):
-        told = unlike(example, lines)
     with tempfile.TemporaryDirectory() as folder:
         shutil.copytree(os.path.join(TOP, 'examples'), os.path.join(folder, 'examples'))
-        for line in lines:
+        for line in lines_of(example):
             line, _, path = line.partition(' > ')
             more, status = answer(program, shlex.split(line)[1:], folder)
             told += written(path, more, write) if path else more
@@ -136,6 +141,9 @@ def compared(program, document, write):
     found, lines = list(examples(text)), text.split('\n')
     copies, differ = copies_differ(document, text)
     for example in reversed(found):
+        odd = unlike(example)
+        differ += bool(odd)
+        print(end=odd and '%s line %d: %s' % (document, example.line, odd))
         told, status = run(program, example, write) if example.is_whole() else ('no block output\n', None)
         if is_as(example.blocks[-1][1] if example.blocks else None, told) and status == example.status:
             continue
