@@ -1,7 +1,7 @@
 #!/usr/bin/env python3
 """tools/keep numbers [--write]: whether the counts that the documents tell are those that the tools count.
 
-Of contracts, definitions, crates, edits, stored runs and wrong bodies each place is listed in PLACES, by the words round it. It
+Of contracts, definitions, crates, edits, stored runs, wrong drivers and bodies each place is listed in PLACES, by the words round it. It
 tells each that is otherwise, or isn't there once, and ends with status 1 then; with --write it puts the numbers there. What was
 measured on a day, as seconds, is no such count. It tells too which call that may wait docs/PROVED.md doesn't name. The last line
 counts."""
@@ -28,6 +28,11 @@ PLACES = (
     (GATE, 'cases in # groups', 'groups'),
     (GATE, 'groups, of # runs', 'runs'),
     (GATE, 'whether they still apply. There are #.', 'wrong bodies'),
+    ('README.md', 'docs/GALLERY.md, # wrong drivers', 'wrong drivers'),
+    ('docs/COMMANDS.md', 'has # wrong drivers', 'wrong drivers'),
+    ('docs/GUIDE.md', 'lists # wrong drivers', 'wrong drivers'),
+    ('docs/GALLERY.md', 'has # wrong drivers', 'wrong drivers'),
+    ('docs/GALLERY.md', 'of the # wrong drivers', 'wrong drivers'),
 )
 
 def counts():
@@ -51,6 +56,7 @@ def counts():
         'groups': len(groups),
         'cases': sum(len(group.cases) for group in groups),
         'runs': sum(len(group.runs) for group in groups),
+        'wrong drivers': sum(len(group.cases) for group in groups if group.name == 'gallery'),
         'wrong bodies': sum(line.startswith('== ') for path in wrong for line in open(path)),
     }
 
