@@ -54,8 +54,19 @@ pub(crate) fn go_through<R: Threads + Wait + Sync, W: Write>(
     let path = format!(in alloc; "runs/{name}.txt")?;
     let lines = fs::read_to_string(system, path.as_str())?;
     fs::create_dir_all(system, name)?;
-    let mut group = Group::of(alloc, name);
-    for line in lines.as_str().lines() {
+    go_through_lines(rt, system, name, lines.as_str(), out)
+}
+
+/// Goes through the lines of a group, likewise. Its name and its lines live as long as each other.
+fn go_through_lines<'t, R: Threads + Wait + Sync, W: Write>(
+    rt: &R,
+    system: &HostRuntime,
+    name: &'t str,
+    lines: &'t str,
+    out: &mut W,
+) -> io::Result<()> {
+    let mut group: Group<'t> = Group::of(system.alloc(), name);
+    for line in lines.lines() {
         group.take(rt, system, line, out)?;
     }
     group.text.write(system)?;
