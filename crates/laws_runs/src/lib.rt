@@ -164,10 +164,10 @@ pub fn a_held_packet_is_completed_again()
 
 /// In any run of an accepted set each event that begins something brings about only so many steps
 /// that change anything, a number of the set. From the world of any run only so many change
-/// anything before another event comes: every routine ends. Where the locks of each driver stand in
-/// an order in which its routines take them, no threads wait for each other's locks in a ring,
-/// while any thread has frames one with frames goes on, and all threads are idle after so many
-/// rounds of steps, in each of which every thread has a turn.
+/// anything before another event comes. Where the locks of each driver stand in an order in which
+/// its routines take them, no threads wait for each other's locks in a ring, while any thread has
+/// frames one with frames goes on, and all threads are idle after so many rounds of steps, in each
+/// of which every thread has a turn: every routine ends.
 pub fn accepted_runs_come_to_rest()
     ensures { AcceptedRunsComeToRest }
 {}

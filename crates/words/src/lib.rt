@@ -2,8 +2,9 @@
 //! exit for each piece, and asks once, at the end.
 #![tactic(auto)]
 
-ghost use Rattle.std.specs.Prelude.{◌≡◌, ◌++◌, [], IfOk, IsOk, false, string_bytes};
+ghost use Rattle.std.specs.Prelude.{◌≡◌, ◌++◌, [], IfOk, IsOk, decimal, false, string_bytes};
 
+use itoa::Buffer;
 use std::alloc::{AllocError, Global};
 
 /// A text, and whether something of it is missing.
@@ -35,12 +36,13 @@ impl Words {
         }
     }
 
-    /// Adds a number.
+    /// Adds a number, in decimal digits.
     pub fn add_number(&mut self, number: u64)
-        ensures { self.new.lacks ≡ false → self.old.lacks ≡ false }
+        ensures { self.new.lacks ≡ false → (self.old.lacks ≡ false)
+            × (string_bytes self.new.text ≡ string_bytes self.old.text ++ decimal number) }
     {
-        let done = write!(self.text, "{number}");
-        self.note(done)
+        let mut buffer = Buffer::new();
+        self.add(buffer.format(number))
     }
 
     /// Notes what became of a piece that another function added to the text.
