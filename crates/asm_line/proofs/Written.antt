@@ -1,13 +1,14 @@
 -- Lines that are written one after another.
-use Rattle.std.proofs.Common.{◌≡◌, ℕ, ◌+◌, ◌≤◌, ◌<◌, List, [], ◌∷◌, ◌++◌, get_or, drop, length, Option, Some, None, Result, Ok, Err, refl, ap, sym, ◌∙◌, append_assoc, append-nil}
+use Rattle.std.proofs.Common.{◌≡◌, ℕ, ◌+◌, ◌≤◌, ◌<◌, List, [], ◌∷◌, ◌++◌, get_or, take, drop, length, arith, Option, Some, None, Result, Ok, Err, refl, ap, sym, ◌∙◌, append_assoc, append-nil}
 use Rattle.std.specs.Prelude.{OnOk}
 use Rattle.std.specs.Fmt.{decimal}
 use Rattle.std.proofs.lemmas.List.{drop_more, drop_all}
 use Rattle.model.specs.declared.instr.Instr.{Instr}
-use Rattle.model.specs.declared.instr.Instr.TheVariants.{Const}
+use Rattle.model.specs.declared.instr.Instr.TheVariants.{Const, Call, Ret}
+use Rattle.model.specs.declared.instr.Return.TheVariants.{WithStatus, Lower, Continue, Stop, Void}
 use Rattle.asm_line.specs.declared.entry.Entry.{Entry}
 use Rattle.asm_line.specs.declared.entry.Entry.TheVariants as line
-use Rattle.asm_line.specs.ListedWords.{instruction_text, instruction_words, joined, line_text, spaced}
+use Rattle.asm_line.specs.ListedWords.{instruction_text, instruction_words, joined, line_text, place_words, spaced, word_text}
 use Rattle.asm_line.specs.Listing.{listed, text_of}
 
 pub text_append : (ls ms : List Entry) → text_of (ls ++ ms) ≡ text_of ls ++ text_of ms
@@ -101,3 +102,67 @@ pub unlabelled_written : {A E : Type 0} (result : Result A E) (label : Option �
     → OnOk result (new ≡ old ++ line_text (line.Step label i))
 unlabelled_written result label i old before new is front h =
     on_ok result (λ written. written ∙ rw (is, front) refl) h
+
+-- an instruction by its word and what stands at each place behind it
+placed : (word : List ℕ) (words : List (List ℕ)) → length words ≤ 3
+    → joined (word ∷ words) ++ 10 ∷ []
+    ≡ word ++ (spaced (take 1 words) ++ (spaced (take 1 (drop 1 words))
+    ++ (spaced (take 1 (drop 2 words)) ++ 10 ∷ [])))
+placed word [] few = ap (λ (t : List ℕ). t ++ 10 ∷ []) (append-nil word)
+placed word (a ∷ []) few =
+    append_assoc word (32 ∷ a ++ []) (10 ∷ [])
+placed word (a ∷ b ∷ []) few =
+    append_assoc word (32 ∷ a ++ (32 ∷ b ++ [])) (10 ∷ [])
+    ∙ ap (λ (t : List ℕ). word ++ (32 ∷ t))
+    (append_assoc a (32 ∷ b ++ []) (10 ∷ [])
+    ∙ ap (λ (t : List ℕ). t ++ ((32 ∷ b ++ []) ++ 10 ∷ [])) (sym (append-nil a)))
+placed word (a ∷ b ∷ c ∷ []) few =
+    append_assoc word (32 ∷ a ++ (32 ∷ b ++ (32 ∷ c ++ []))) (10 ∷ [])
+    ∙ ap (λ (t : List ℕ). word ++ (32 ∷ t))
+    (append_assoc a (32 ∷ b ++ (32 ∷ c ++ [])) (10 ∷ [])
+    ∙ ap (λ (t : List ℕ). t ++ ((32 ∷ b ++ (32 ∷ c ++ [])) ++ 10 ∷ [])) (sym (append-nil a))
+    ∙ ap (λ (t : List ℕ). (a ++ []) ++ (32 ∷ t))
+    (append_assoc b (32 ∷ c ++ []) (10 ∷ [])
+    ∙ ap (λ (t : List ℕ). t ++ ((32 ∷ c ++ []) ++ 10 ∷ [])) (sym (append-nil b))))
+placed word (a ∷ b ∷ c ∷ d ∷ more) few = absurd (omega (arith, few))
+
+placed_words : (ws : List (List ℕ)) (word : List ℕ) (words : List (List ℕ)) → ws ≡ word ∷ words
+    → length words ≤ 3
+    → joined ws ++ 10 ∷ []
+    ≡ word ++ (spaced (take 1 (drop 1 ws)) ++ (spaced (take 1 (drop 2 ws))
+    ++ (spaced (take 1 (drop 3 ws)) ++ 10 ∷ [])))
+placed_words ws word words is few = rw is (placed word words few)
+
+begins_with_word : (i : Instr)
+    → instruction_words i ≡ word_text i ∷ drop 1 (instruction_words i)
+begins_with_word (Const r n) = refl
+begins_with_word _ = refl
+
+few_words : (i : Instr) → length (drop 1 (instruction_words i)) ≤ 3
+few_words (Const r n) = omega arith
+few_words (Call r None) = omega arith
+few_words (Call r (Some f)) = omega arith
+few_words (Ret (WithStatus status)) = omega arith
+few_words (Ret (Lower r)) = omega arith
+few_words (Ret Continue) = omega arith
+few_words (Ret Stop) = omega arith
+few_words (Ret Void) = omega arith
+few_words _ = omega arith
+
+-- who writes these one after another writes the instruction
+pub places_written : (i : Instr) (first second third : List (List ℕ))
+    (old a b c d new word : List ℕ)
+    → word ≡ word_text i → a ≡ old ++ word
+    → first ≡ place_words 1 i → b ≡ a ++ spaced first
+    → second ≡ place_words 2 i → c ≡ b ++ spaced second
+    → third ≡ place_words 3 i → d ≡ c ++ spaced third
+    → new ≡ d ++ 10 ∷ []
+    → new ≡ old ++ instruction_text i
+places_written i first second third old a b c d new word is ha one hb two hc three hd hn =
+    hn ∙ rw (hd, hc, hb, ha, is, one, two, three) (
+    append_assoc (((old ++ word_text i) ++ spaced (place_words 1 i)) ++ spaced (place_words 2 i)) (spaced (place_words 3 i)) (10 ∷ [])
+    ∙ append_assoc ((old ++ word_text i) ++ spaced (place_words 1 i)) (spaced (place_words 2 i)) (spaced (place_words 3 i) ++ 10 ∷ [])
+    ∙ append_assoc (old ++ word_text i) (spaced (place_words 1 i)) (spaced (place_words 2 i) ++ (spaced (place_words 3 i) ++ 10 ∷ []))
+    ∙ append_assoc old (word_text i) (spaced (place_words 1 i) ++ (spaced (place_words 2 i) ++ (spaced (place_words 3 i) ++ 10 ∷ [])))
+    ∙ ap (λ (t : List ℕ). old ++ t) (sym (placed_words (instruction_words i) (word_text i)
+    (drop 1 (instruction_words i)) (begins_with_word i) (few_words i))))

@@ -1,5 +1,5 @@
 -- The words of the lines of a listing.
-use Rattle.std.specs.Prelude.{ℕ, List, [], ◌∷◌, ◌++◌, Option, Some, None, codes}
+use Rattle.std.specs.Prelude.{ℕ, List, [], ◌∷◌, ◌++◌, Option, Some, None, codes, drop, take}
 use Rattle.std.specs.Fmt.{decimal}
 use Rattle.model.specs.declared.instr.Instr.{Instr}
 use Rattle.model.specs.declared.instr.Return.{Return}
@@ -11,6 +11,8 @@ pub use Rattle.text.specs.Major.{major_text}
 pub use Rattle.text.specs.Spaced.{spaced}
 use Rattle.asm_line.specs.declared.entry.Entry.{Entry}
 use Rattle.asm_line.specs.declared.entry.Entry.TheVariants as line
+use Rattle.asm_line.specs.declared.listed_instruction.Token.{Token}
+use Rattle.asm_line.specs.declared.listed_instruction.Token.TheVariants.{Nothing, Spelled, Lettered}
 
 -- a letter and a number: an operand, or a name
 abbrev pub numbered : ℕ → ℕ → List ℕ
@@ -84,6 +86,19 @@ form_words form values = form.word ∷ operands_words form.operands values
 
 abbrev pub instruction_words : Instr → List (List ℕ)
 instruction_words i = by_form form_words i
+
+-- the word that an instruction's line begins with
+abbrev pub word_text : Instr → List ℕ
+word_text i = by_form (λ form values. form.word) i
+
+-- what stands at a place behind that word, if anything does
+abbrev pub place_words : ℕ → Instr → List (List ℕ)
+place_words place i = take 1 (drop place (instruction_words i))
+
+abbrev pub token_words : Token → List (List ℕ)
+token_words Nothing = []
+token_words (Spelled word) = word.now ∷ []
+token_words (Lettered letters number) = (letters.now ++ decimal number) ∷ []
 
 -- a label before its instruction, if there is one
 abbrev pub label_words : Option ℕ → List (List ℕ)
