@@ -2,5 +2,6 @@
 //! place that it names: the rules with their texts, and a result for a refusal or a fault.
 #![tactic(auto)]
 
+mod building;
 pub mod log;
 mod uri;

@@ -1,7 +1,9 @@
-use Rattle.std.proofs.Common.{◌≡◌, map, take}
+use Rattle.std.proofs.Common.{◌≡◌, false, map, take}
 use Rattle.serde_json.specs.View.{view}
 use Rattle.report_sarif.specs.Log.{result_data}
 use Rattle.report_sarif.proofs.log.results_value.Given as goal
 
 abbrev pub invariant-loop-finding : goal.invariant-loop-finding
-invariant-loop-finding l = map view l.list.items ≡ map result_data (take l.finding-index l.findings)
+invariant-loop-finding l =
+    l.list.lacks ≡ false
+    → map view l.list.values.items ≡ map result_data (take l.finding-index l.findings)

@@ -1,7 +1,0 @@
-use Rattle.std.proofs.Common.{◌≡◌, map, take}
-use Rattle.serde_json.specs.View.{view}
-use Rattle.report_sarif.specs.Log.{replacement_data}
-use Rattle.report_sarif.proofs.log.fix_value.Given as goal
-
-abbrev pub invariant-loop-edit : goal.invariant-loop-edit
-invariant-loop-edit l = map view l.list.items ≡ map replacement_data (take l.edit-index l.edits)
