@@ -3,6 +3,7 @@
 
 use crate::registers::Registers;
 use driver_set::{DriverSet, Instr};
+use model::cell::Cell;
 use model::instr::Field;
 use model::limits::CELLS;
 use model::set::Driver;
@@ -171,7 +172,6 @@ fn go_through_code(
         let position = code.len() - 1 - back;
         if let Some(instr) = code.get(position) {
             let behind = behind(places.as_slice(), code, instr, position);
-            note_read(instr, behind, cells, fields);
             let needed = needed_before(instr, behind, cells, fields);
             keep(places, position, needed, fields);
         }
@@ -185,10 +185,23 @@ fn at(places: &[Registers], position: usize) -> Registers {
 
 /// The registers that matter behind an instruction, wherever the routine goes on.
 fn behind(places: &[Registers], code: &[Instr], instr: &Instr, position: usize) -> Registers {
+    let after = at(places, position.saturating_add(1));
     let next = match *instr {
         Instr::Jump(_) | Instr::Ret(_) => Registers::NONE,
-        Instr::End => at(places, position.saturating_add(1)).and(at_loops(places, code)),
-        _ => at(places, position.saturating_add(1)),
+        Instr::End => after.and(at_loops(places, code)),
+        Instr::Const(_, _) | Instr::Move(_, _) | Instr::Clear(_) => after,
+        Instr::Add(_, _) | Instr::Subtract(_, _) => after,
+        Instr::JumpIfZero(_, _) | Instr::JumpIfLess(_, _, _) | Instr::Loop(_) => after,
+        Instr::Load(_, _) | Instr::Store(_, _) => after,
+        Instr::LoadPaged(_, _) | Instr::StorePaged(_, _) => after,
+        Instr::Get(_, _, _) | Instr::Put(_, _) => after,
+        Instr::Mark(_) | Instr::Pass(_) | Instr::Call(_, _) | Instr::Complete(_, _) => after,
+        Instr::Acquire(_) | Instr::Release(_) => after,
+        Instr::AcquireCancel | Instr::ReleaseCancel => after,
+        Instr::Insert(_, _) | Instr::Remove(_, _, _) | Instr::Unlink(_, _) => after,
+        Instr::Arm(_, _) | Instr::Disarm(_, _) | Instr::IfCancel(_, _) => after,
+        Instr::Start(_) | Instr::Take(_, _) | Instr::Begin(_) | Instr::Next => after,
+        Instr::Dequeue(_) | Instr::IfPending(_, _) => after,
     };
     match instr.label() {
         Some(label) => next.and(at(places, label as usize)),
@@ -207,54 +220,51 @@ fn at_loops(places: &[Registers], code: &[Instr]) -> Registers {
     all
 }
 
-/// Notes the cell or the field that an instruction reads into a register that matters behind it.
-fn note_read(instr: &Instr, behind: Registers, cells: &mut Cells, fields: &mut Fields) {
-    match *instr {
-        Instr::Load(register, cell) => {
-            if behind.has(register) {
-                note(&mut cells.plain[cell.index()], &mut fields.grew);
-            }
-        }
-        Instr::LoadPaged(register, cell) => {
-            if behind.has(register) {
-                note(&mut cells.paged[cell.index()], &mut fields.grew);
-            }
-        }
-        Instr::Get(register, _, field) => {
-            if behind.has(register) {
-                note_field(field, fields);
-            }
-        }
-        _ => {}
-    }
-}
-
-/// Notes a field of packets. The major function decides which routine serves a packet, so it
-/// matters anyway.
-fn note_field(field: Field, fields: &mut Fields) {
+/// Notes a field of packets, if it is so. The major function decides which routine serves a packet,
+/// so it matters anyway.
+fn note_field(so: bool, field: Field, fields: &mut Fields) {
     match field {
         Field::Major => {}
-        Field::Argument => note(&mut fields.argument, &mut fields.grew),
-        Field::Info => note(&mut fields.information, &mut fields.grew),
+        Field::Argument => note_if(so, &mut fields.argument, &mut fields.grew),
+        Field::Info => note_if(so, &mut fields.information, &mut fields.grew),
     }
 }
 
-/// Notes that something matters, and whether that is new.
-fn note(matters: &mut bool, grew: &mut bool) {
-    if !*matters {
+/// Notes a cell, if it is so.
+fn note_cell(so: bool, cell: Cell, cells: &mut [bool; CELLS], fields: &mut Fields) {
+    note_if(so, &mut cells[cell.index()], &mut fields.grew);
+}
+
+/// Notes that something matters, if it is so, and whether that is new.
+fn note_if(so: bool, matters: &mut bool, grew: &mut bool) {
+    if so && !*matters {
         *matters = true;
         *grew = true;
     }
 }
 
-/// The registers that matter before an instruction, by those that matter behind it.
-fn needed_before(instr: &Instr, behind: Registers, cells: &Cells, fields: &Fields) -> Registers {
+/// The registers that matter before an instruction, by those that matter behind it. The cell or the
+/// field that it reads into one of these is noted.
+fn needed_before(
+    instr: &Instr,
+    behind: Registers,
+    cells: &mut Cells,
+    fields: &mut Fields,
+) -> Registers {
     match *instr {
-        Instr::Const(target, _)
-        | Instr::Clear(target)
-        | Instr::Load(target, _)
-        | Instr::LoadPaged(target, _)
-        | Instr::Get(target, _, _) => behind.without(target),
+        Instr::Const(target, _) | Instr::Clear(target) => behind.without(target),
+        Instr::Load(target, cell) => {
+            note_cell(behind.has(target), cell, &mut cells.plain, fields);
+            behind.without(target)
+        }
+        Instr::LoadPaged(target, cell) => {
+            note_cell(behind.has(target), cell, &mut cells.paged, fields);
+            behind.without(target)
+        }
+        Instr::Get(target, _, field) => {
+            note_field(behind.has(target), field, fields);
+            behind.without(target)
+        }
         Instr::Move(target, source) => behind.without(target).with_if(behind.has(target), source),
         Instr::Add(target, source) | Instr::Subtract(target, source) => {
             behind.with_if(behind.has(target), source)
@@ -264,7 +274,14 @@ fn needed_before(instr: &Instr, behind: Registers, cells: &Cells, fields: &Field
         Instr::Store(cell, source) => behind.with_if(cells.plain[cell.index()], source),
         Instr::StorePaged(cell, source) => behind.with_if(cells.paged[cell.index()], source),
         Instr::Put(_, source) => behind.with_if(fields.information, source),
-        _ => behind,
+        Instr::Jump(_) | Instr::Loop(_) | Instr::End | Instr::Ret(_) => behind,
+        Instr::Mark(_) | Instr::Pass(_) | Instr::Call(_, _) | Instr::Complete(_, _) => behind,
+        Instr::Acquire(_) | Instr::Release(_) => behind,
+        Instr::AcquireCancel | Instr::ReleaseCancel => behind,
+        Instr::Insert(_, _) | Instr::Remove(_, _, _) | Instr::Unlink(_, _) => behind,
+        Instr::Arm(_, _) | Instr::Disarm(_, _) | Instr::IfCancel(_, _) => behind,
+        Instr::Start(_) | Instr::Take(_, _) | Instr::Begin(_) | Instr::Next => behind,
+        Instr::Dequeue(_) | Instr::IfPending(_, _) => behind,
     }
 }
 
