@@ -1,10 +1,11 @@
 //! Statuses and returns that most likely stand at a place.
 
+use crate::acts::leaves;
+use crate::growing::Growing;
 use crate::scene::{Scene, registers};
 use absstate::{Abs, Kind};
 use driver_set::{Instr, Return, Sort};
 use model::status::Status;
-use std::alloc::AllocError;
 
 /// An instruction that may stand at a place, and what it costs more than others.
 #[derive(Clone, Copy)]
@@ -14,17 +15,15 @@ pub struct Guess {
 }
 
 /// Adds a guess.
-pub(crate) fn add_guess(list: &mut Vec<Guess>, instr: Instr, extra: u32) -> Result<(), AllocError> {
-    list.push(Guess { instr, extra })?;
-    Ok(())
+pub(crate) fn add_guess(list: &mut Growing<Guess>, instr: Instr, extra: u32) {
+    list.add(Guess { instr, extra });
 }
 
 /// Adds guesses that cost no more than others.
-pub(crate) fn add_guesses(list: &mut Vec<Guess>, instrs: &[Instr]) -> Result<(), AllocError> {
+pub(crate) fn add_guesses(list: &mut Growing<Guess>, instrs: &[Instr]) {
     for instr in instrs {
-        add_guess(list, *instr, 0)?;
+        add_guess(list, *instr, 0);
     }
-    Ok(())
 }
 
 /// Statuses that a return is guessed to have.
@@ -38,34 +37,39 @@ impl<'a> Scene<'a> {
         }
         let before = self.code.get(..at as usize).unwrap_or_default();
         for (place, instr) in before.iter().enumerate().rev() {
-            match *instr {
-                Instr::Unlink(..) | Instr::Dequeue(_) => return Status::Cancelled,
-                Instr::Ret(_) | Instr::Jump(_) if self.is_cancelled_at(place) => {
-                    return Status::Cancelled;
-                }
-                Instr::Ret(_) | Instr::Jump(_) => return self.status_behind(at),
-                _ => {}
+            if matches!(*instr, Instr::Unlink(..) | Instr::Dequeue(_)) {
+                return Status::Cancelled;
+            }
+            if leaves(instr) {
+                return self.status_led_to(place, at);
             }
         }
         self.status_behind(at)
     }
 
+    /// The status with which a packet is most likely completed before a position that only jumps
+    /// lead to, to behind another one.
+    fn status_led_to(&self, place: usize, at: u16) -> Status {
+        if self.is_cancelled_at(place) {
+            Status::Cancelled
+        } else {
+            self.status_behind(at)
+        }
+    }
+
     /// Whether a packet that is cancelled leads behind a position.
     fn is_cancelled_at(&self, place: usize) -> bool {
-        self.code.iter().any(|instr| match *instr {
-            Instr::IfCancel(_, label) => label as usize == place.saturating_add(1),
-            _ => false,
-        })
+        let behind = place.saturating_add(1);
+        self.code.iter().any(
+            |instr| matches!(*instr, Instr::IfCancel(_, label) if label as usize == behind),
+        )
     }
 
     /// The status that is returned behind a position.
     fn status_behind(&self, at: u16) -> Status {
         for instr in self.code.get(at as usize..).unwrap_or_default() {
-            match *instr {
-                Instr::Ret(Return::WithStatus(Status::Pending)) => return Status::Success,
-                Instr::Ret(Return::WithStatus(status)) => return status,
-                Instr::Ret(_) => return Status::Success,
-                _ => {}
+            if let Instr::Ret(form) = *instr {
+                return status_of(form);
             }
         }
         Status::Success
@@ -75,47 +79,36 @@ impl<'a> Scene<'a> {
     fn completed_before(&self, at: u16) -> Option<Status> {
         let before = self.code.get(..at as usize).unwrap_or_default();
         for instr in before.iter().rev() {
-            match *instr {
-                Instr::Complete(_, status) => return Some(status),
-                Instr::Ret(_) => return None,
-                _ => {}
+            if let Instr::Complete(_, status) = *instr {
+                return Some(status);
+            }
+            if matches!(*instr, Instr::Ret(_)) {
+                return None;
             }
         }
         None
     }
 
     /// Adds the returns that may stand at a position that is reached in a state.
-    pub(crate) fn add_returns(
-        &self,
-        at: u16,
-        state: &Abs,
-        extra: u32,
-        list: &mut Vec<Guess>,
-    ) -> Result<(), AllocError> {
+    pub(crate) fn add_returns(&self, at: u16, state: &Abs, extra: u32, list: &mut Growing<Guess>) {
         match self.subject.sort {
             Sort::Dispatch => self.add_statuses_returned(at, state, extra, list),
             Sort::Propagate => add_guess(list, Instr::Ret(Return::Continue), extra),
             Sort::Hold => {
-                add_guess(list, Instr::Ret(Return::Continue), extra)?;
-                add_guess(list, Instr::Ret(Return::Stop), extra)
+                add_guess(list, Instr::Ret(Return::Continue), extra);
+                add_guess(list, Instr::Ret(Return::Stop), extra);
             }
             Sort::StartIo | Sort::Dpc | Sort::Cancel => {
-                add_guess(list, Instr::Ret(Return::Void), extra)
+                add_guess(list, Instr::Ret(Return::Void), extra);
             }
         }
     }
 
     /// Adds the returns of a dispatch routine.
-    fn add_statuses_returned(
-        &self,
-        at: u16,
-        state: &Abs,
-        extra: u32,
-        list: &mut Vec<Guess>,
-    ) -> Result<(), AllocError> {
+    fn add_statuses_returned(&self, at: u16, state: &Abs, extra: u32, list: &mut Growing<Guess>) {
         let likely = self.completed_before(at).unwrap_or(Status::Success);
         if likely != Status::Pending {
-            add_guess(list, Instr::Ret(Return::WithStatus(likely)), extra)?;
+            add_guess(list, Instr::Ret(Return::WithStatus(likely)), extra);
         }
         for status in RETURNED {
             if status != likely {
@@ -123,25 +116,28 @@ impl<'a> Scene<'a> {
                     list,
                     Instr::Ret(Return::WithStatus(status)),
                     extra.saturating_add(40),
-                )?;
+                );
             }
         }
-        add_guess(list, Instr::Ret(Return::WithStatus(Status::Pending)), extra)?;
-        self.add_lower_returns(state, extra, list)
+        add_guess(list, Instr::Ret(Return::WithStatus(Status::Pending)), extra);
+        self.add_lower_returns(state, extra, list);
     }
 
     /// Adds the returns of what a lower driver returned.
-    fn add_lower_returns(
-        &self,
-        state: &Abs,
-        extra: u32,
-        list: &mut Vec<Guess>,
-    ) -> Result<(), AllocError> {
+    fn add_lower_returns(&self, state: &Abs, extra: u32, list: &mut Growing<Guess>) {
         for register in registers() {
             if state.kinds[register.index()] == Kind::Lower {
-                add_guess(list, Instr::Ret(Return::Lower(register)), extra)?;
+                add_guess(list, Instr::Ret(Return::Lower(register)), extra);
             }
         }
-        Ok(())
+    }
+}
+
+/// The status with which a packet is most likely completed before a return.
+fn status_of(form: Return) -> Status {
+    match form {
+        Return::WithStatus(Status::Pending) => Status::Success,
+        Return::WithStatus(status) => status,
+        Return::Lower(_) | Return::Continue | Return::Stop | Return::Void => Status::Success,
     }
 }

@@ -2,13 +2,19 @@
 //! each costs.
 #![tactic(auto)]
 
+pub mod acts;
 mod deletes;
+pub mod gathered;
+pub mod growing;
 mod guesses;
 mod inserts;
 mod moves;
 mod prior;
+mod queues;
 mod replaces;
 pub mod scene;
 
+pub use gathered::Gathered;
+pub use growing::Growing;
 pub use guesses::Guess;
 pub use scene::Scene;

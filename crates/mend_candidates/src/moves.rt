@@ -1,31 +1,31 @@
 //! Moves of one instruction.
 
+use crate::acts::{leaves, number_put};
+use crate::gathered::Gathered;
 use crate::scene::Scene;
 use absstate::Rule;
-use driver_set::{Instr, Register};
+use driver_set::Instr;
 use mend_changes::{Change, Landing};
-use mend_reading::candidate::{Candidates, Manner};
+use mend_reading::Manner;
 use mend_reading::operands::interfere;
-use std::alloc::AllocError;
 
 /// How many instructions one is moved over, at most.
 const FARTHEST: u16 = 14;
 
 impl<'a> Scene<'a> {
     /// Adds the moves that change something at or before the fault.
-    pub(crate) fn add_moves(&self, out: &mut Candidates) -> Result<(), AllocError> {
+    pub(crate) fn add_moves(&self, out: &mut Gathered) {
         let farthest = self.fault.at.saturating_add(FARTHEST).saturating_add(1);
         for from in 0..self.len().min(farthest) {
             let Some(instr) = self.instr(from) else {
                 continue;
             };
-            let ends = matches!(instr, Instr::Ret(_) | Instr::End | Instr::Jump(_));
+            let ends = leaves(&instr) || matches!(instr, Instr::End);
             let stays = ends || matches!(instr, Instr::Loop(_)) && !self.is_entered(from);
             if !stays && self.is_fresh(from) && from.saturating_add(1) < self.len() {
-                self.add_moves_of(from, &instr, out)?;
+                self.add_moves_of(from, &instr, out);
             }
         }
-        Ok(())
     }
 
     /// Whether the fault is a jump into the loop that starts behind it, at a position.
@@ -36,12 +36,7 @@ impl<'a> Scene<'a> {
     }
 
     /// Adds the moves of an instruction.
-    fn add_moves_of(
-        &self,
-        from: u16,
-        instr: &Instr,
-        out: &mut Candidates,
-    ) -> Result<(), AllocError> {
+    fn add_moves_of(&self, from: u16, instr: &Instr, out: &mut Gathered) {
         let first = from.saturating_sub(FARTHEST);
         let end = from
             .saturating_add(FARTHEST)
@@ -54,13 +49,12 @@ impl<'a> Scene<'a> {
             }
             let cost = self.move_cost(from, to, instr);
             let one = out.begin(Manner::Move, cost, Some(*instr), Some(*instr));
-            out.add(one, from, Change::Move(to, Landing::Kept))?;
+            out.add(one, from, Change::Move(to, Landing::Kept));
             if self.is_target(to) {
                 let one = out.begin(Manner::Move, cost, Some(*instr), Some(*instr));
-                out.add(one, from, Change::Move(to, Landing::Taken))?;
+                out.add(one, from, Change::Move(to, Landing::Taken));
             }
         }
-        Ok(())
     }
 
     /// What a move costs.
@@ -137,20 +131,17 @@ impl<'a> Scene<'a> {
 
     /// Whether an instruction is moved that sets the register which the faulty one wants set.
     fn gives(&self, from: u16, to: u16, instr: &Instr) -> bool {
-        let set: Option<Register> = match *instr {
-            Instr::Const(r, _) | Instr::Load(r, _) | Instr::LoadPaged(r, _) => Some(r),
-            Instr::Get(r, _, _) => Some(r),
-            _ => None,
-        };
         let up = from > self.fault.at && to <= self.fault.at;
-        self.fault.rule == Rule::WrongKind && up && set.is_some_and(|r| self.is_named(r))
+        let wanted = self.fault.rule == Rule::WrongKind && up;
+        wanted && number_put(instr).is_some_and(|r| self.is_named(r))
     }
 }
 
 /// What it costs at least to move an instruction: a loop moves where nothing nearer helps.
 fn least_cost(instr: &Instr) -> u32 {
-    match *instr {
-        Instr::Loop(_) => 340,
-        _ => 120,
+    if matches!(*instr, Instr::Loop(_)) {
+        340
+    } else {
+        120
     }
 }

@@ -1,5 +1,6 @@
 //! How likely an insertion is, by the rule that is broken.
 
+use crate::acts::{Act, act_of, leaves};
 use crate::scene::Scene;
 use absstate::Rule;
 use driver_set::{Instr, Register};
@@ -9,13 +10,40 @@ use mend_reading::operands::names;
 impl<'a> Scene<'a> {
     /// What an insertion of an instruction before a position costs.
     pub(crate) fn insert_cost(&self, instr: &Instr, at: u16) -> u32 {
-        let hit = self.is_likely(instr);
+        let levels = self.fault.rule == Rule::StatesDiffer && self.are_numbers;
+        if self.is_likely(instr) {
+            self.likely_cost(instr, at, levels)
+        } else if levels {
+            260
+        } else {
+            190
+        }
+    }
+
+    /// What one costs that most often mends the rule, and may make numbers alike.
+    fn likely_cost(&self, instr: &Instr, at: u16, levels: bool) -> u32 {
         match self.fault.rule {
-            Rule::StatesDiffer if self.are_numbers => if hit { 80 } else { 260 },
-            Rule::WrongKind if hit => 150,
-            Rule::Unreachable if hit => self.cost_of_way(instr, at),
-            _ if hit => 100,
-            _ => 190,
+            Rule::StatesDiffer if levels => 80,
+            Rule::WrongKind => 150,
+            Rule::Unreachable => self.cost_of_way(instr, at),
+            Rule::Malformed
+            | Rule::StatesDiffer
+            | Rule::DoubleCompletion
+            | Rule::MarkIrpPending
+            | Rule::CancelSpinLock
+            | Rule::SpinLock
+            | Rule::LockHeld
+            | Rule::Level
+            | Rule::Guard
+            | Rule::CancelState
+            | Rule::Dropped
+            | Rule::Token
+            | Rule::Sort
+            | Rule::Completion
+            | Rule::StackTooSmall
+            | Rule::NoLower
+            | Rule::TooLong
+            | Rule::Memory => 100,
         }
     }
 
@@ -23,9 +51,10 @@ impl<'a> Scene<'a> {
     fn cost_of_way(&self, instr: &Instr, at: u16) -> u32 {
         let armed = matches!(self.instr_before(at), Some(Instr::Arm(..)));
         let starts = matches!(self.instr(at), Some(Instr::Start(_)));
-        match *instr {
-            Instr::IfCancel(..) if armed || starts => 100,
-            _ => 170,
+        if matches!(*instr, Instr::IfCancel(..)) && (armed || starts) {
+            100
+        } else {
+            170
         }
     }
 
@@ -34,26 +63,11 @@ impl<'a> Scene<'a> {
         let returns = matches!(self.bad, Instr::Ret(_));
         match self.fault.rule {
             Rule::Malformed => matches!(*instr, Instr::Ret(_) | Instr::End),
-            Rule::Unreachable => matches!(
-                *instr,
-                Instr::IfCancel(..)
-                    | Instr::Disarm(..)
-                    | Instr::JumpIfZero(..)
-                    | Instr::JumpIfLess(..)
-                    | Instr::Remove(..)
-                    | Instr::Take(..)
-            ),
+            Rule::Unreachable => decides(instr),
             Rule::StatesDiffer => self.levels(instr),
-            Rule::WrongKind => matches!(
-                *instr,
-                Instr::Const(..) | Instr::Load(..) | Instr::Get(..) | Instr::Remove(..)
-            ),
-            Rule::DoubleCompletion => matches!(*instr, Instr::Ret(_) | Instr::Jump(_)),
-            Rule::MarkIrpPending => match *instr {
-                Instr::Mark(register) => returns || names(&self.bad, register),
-                Instr::Call(..) => returns,
-                _ => false,
-            },
+            Rule::WrongKind => gives_value(instr),
+            Rule::DoubleCompletion => leaves(instr),
+            Rule::MarkIrpPending => self.marks(instr, returns),
             Rule::CancelSpinLock => {
                 matches!(*instr, Instr::AcquireCancel | Instr::ReleaseCancel)
             }
@@ -62,8 +76,26 @@ impl<'a> Scene<'a> {
                 matches!(*instr, Instr::Release(_) | Instr::ReleaseCancel)
             }
             Rule::Guard => self.guards(instr),
-            _ => self.keeps(instr, returns),
+            Rule::CancelState => takes_back(instr),
+            Rule::Dropped => keeps(instr) || !returns && matches!(*instr, Instr::Pass(_)),
+            Rule::Token => goes_on(instr, returns),
+            Rule::Completion => matches!(
+                *instr,
+                Instr::Mark(_) | Instr::IfPending(..) | Instr::Insert(..)
+            ),
+            Rule::Sort | Rule::StackTooSmall | Rule::NoLower | Rule::TooLong | Rule::Memory => {
+                false
+            }
         }
+    }
+
+    /// Whether an instruction marks the packet of the one at the fault, or leaves the mark to the
+    /// lower driver.
+    fn marks(&self, instr: &Instr, returns: bool) -> bool {
+        if let Instr::Mark(register) = *instr {
+            return returns || names(&self.bad, register);
+        }
+        returns && matches!(*instr, Instr::Call(..))
     }
 
     /// Whether an instruction may make states alike that differ.
@@ -71,14 +103,11 @@ impl<'a> Scene<'a> {
         if self.are_numbers {
             return matches!(*instr, Instr::Clear(_) | Instr::Const(..));
         }
-        matches!(
+        let ends = matches!(
             *instr,
-            Instr::Release(_)
-                | Instr::ReleaseCancel
-                | Instr::Complete(..)
-                | Instr::Ret(_)
-                | Instr::Jump(_)
-        )
+            Instr::Release(_) | Instr::ReleaseCancel | Instr::Complete(..)
+        );
+        ends || leaves(instr)
     }
 
     /// Whether an instruction acquires or releases the lock that the one at the fault does.
@@ -89,49 +118,71 @@ impl<'a> Scene<'a> {
 
     /// Whether an instruction is asked for by the lists of packets.
     fn guards(&self, instr: &Instr) -> bool {
-        match self.bad {
-            Instr::Release(_) => {
-                matches!(
-                    *instr,
-                    Instr::Disarm(..) | Instr::Arm(..) | Instr::Unlink(..)
-                )
-            }
-            Instr::ReleaseCancel => matches!(*instr, Instr::Dequeue(_)),
-            Instr::Start(_) | Instr::Next | Instr::Dequeue(_) => {
-                matches!(*instr, Instr::AcquireCancel)
-            }
-            _ => matches!(*instr, Instr::Acquire(_)),
+        if matches!(self.bad, Instr::Release(_)) {
+            return matches!(
+                *instr,
+                Instr::Disarm(..) | Instr::Arm(..) | Instr::Unlink(..)
+            );
         }
-    }
-
-    /// Whether an instruction keeps a packet, a token or a mark from being lost.
-    fn keeps(&self, instr: &Instr, returns: bool) -> bool {
-        match self.fault.rule {
-            Rule::CancelState => {
-                matches!(
-                    *instr,
-                    Instr::Unlink(..) | Instr::Disarm(..) | Instr::Dequeue(_)
-                )
+        if matches!(self.bad, Instr::ReleaseCancel) {
+            return matches!(*instr, Instr::Dequeue(_));
+        }
+        match act_of(&self.bad) {
+            Act::Waiting => matches!(*instr, Instr::AcquireCancel),
+            Act::Number | Act::Leave | Act::Mark | Act::Lock | Act::Packet | Act::Down => {
+                matches!(*instr, Instr::Acquire(_))
             }
-            Rule::Dropped => match *instr {
-                Instr::Complete(..) | Instr::Begin(_) | Instr::Insert(..) | Instr::Start(_) => true,
-                Instr::Pass(_) => !returns,
-                _ => false,
-            },
-            Rule::Token if returns => matches!(*instr, Instr::Next | Instr::Begin(_)),
-            Rule::Token => matches!(*instr, Instr::Take(..)),
-            Rule::Completion => {
-                matches!(
-                    *instr,
-                    Instr::Mark(_) | Instr::IfPending(..) | Instr::Insert(..)
-                )
-            }
-            _ => false,
         }
     }
 
     /// Whether the instruction at the fault names a register.
     pub(crate) fn is_named(&self, register: Register) -> bool {
         names(&self.bad, register)
+    }
+}
+
+/// Whether an instruction keeps a packet from being lost in its routine.
+fn keeps(instr: &Instr) -> bool {
+    matches!(
+        *instr,
+        Instr::Complete(..) | Instr::Begin(_) | Instr::Insert(..) | Instr::Start(_)
+    )
+}
+
+/// Whether an instruction jumps on a number, or on what became of a packet.
+fn decides(instr: &Instr) -> bool {
+    matches!(
+        *instr,
+        Instr::IfCancel(..)
+            | Instr::Disarm(..)
+            | Instr::JumpIfZero(..)
+            | Instr::JumpIfLess(..)
+            | Instr::Remove(..)
+            | Instr::Take(..)
+    )
+}
+
+/// Whether an instruction puts a number or a packet into a register.
+fn gives_value(instr: &Instr) -> bool {
+    matches!(
+        *instr,
+        Instr::Const(..) | Instr::Load(..) | Instr::Get(..) | Instr::Remove(..)
+    )
+}
+
+/// Whether an instruction makes a packet of a list the routine's own.
+fn takes_back(instr: &Instr) -> bool {
+    matches!(
+        *instr,
+        Instr::Unlink(..) | Instr::Disarm(..) | Instr::Dequeue(_)
+    )
+}
+
+/// Whether an instruction lets the busy device go on before a return, or asks for the token.
+fn goes_on(instr: &Instr, returns: bool) -> bool {
+    if returns {
+        matches!(*instr, Instr::Next | Instr::Begin(_))
+    } else {
+        matches!(*instr, Instr::Take(..))
     }
 }

@@ -1,8 +1,9 @@
 //! What the candidates for a fault of a routine are made from.
 
+use crate::acts::leaves;
+use crate::gathered::Gathered;
 use absstate::{Abs, Kind, Rule};
 use driver_set::{Driver, Instr, Register, Return, SpinLock};
-use mend_reading::candidate::Candidates;
 use mend_reading::reading::{Fault, Reading, Subject};
 use model::limits::{REGISTERS, SPIN_LOCKS};
 use model::status::Status;
@@ -67,11 +68,11 @@ impl<'a> Scene<'a> {
     }
 
     /// Adds the edits of one instruction, in order.
-    pub fn add_singles(&self, alloc: Global, out: &mut Candidates) -> Result<(), AllocError> {
-        self.add_inserts(alloc, out)?;
-        self.add_deletes(out)?;
-        self.add_moves(out)?;
-        self.add_replaces(alloc, out)
+    pub fn add_singles(&self, alloc: Global, out: &mut Gathered) {
+        self.add_inserts(alloc, out);
+        self.add_deletes(out);
+        self.add_moves(out);
+        self.add_replaces(alloc, out);
     }
 
     /// Notes in what the states at the fault differ.
@@ -88,12 +89,7 @@ impl<'a> Scene<'a> {
                 self.differing.push(register)?;
             }
         }
-        self.are_numbers = !packets
-            && one.locks.as_slice() == other.locks.as_slice()
-            && one.cancel == other.cancel
-            && one.duty == other.duty
-            && one.token == other.token
-            && one.settled == other.settled;
+        self.are_numbers = !packets && are_alike_beside(&one, &other);
         Ok(())
     }
 
@@ -129,8 +125,15 @@ impl<'a> Scene<'a> {
 
     /// Whether nothing leads to a position: the jump there may be lost.
     pub fn is_dead(&self, at: u16) -> bool {
-        let left = matches!(self.instr_before(at), Some(Instr::Ret(_) | Instr::Jump(_)));
-        left && !self.is_target(at)
+        self.is_left_before(at) && !self.is_target(at)
+    }
+
+    /// Whether the instruction before a position doesn't lead there.
+    pub fn is_left_before(&self, at: u16) -> bool {
+        match self.instr_before(at) {
+            Some(instr) => leaves(&instr),
+            None => false,
+        }
     }
 
     /// Whether an instruction may be edited: none was put there or changed.
@@ -166,6 +169,15 @@ impl<'a> Scene<'a> {
             .map_or(0, |driver| driver.queues.as_slice().len());
         queues.min(255) as u8
     }
+}
+
+/// Whether two states differ in no more than registers.
+fn are_alike_beside(one: &Abs, other: &Abs) -> bool {
+    one.locks.as_slice() == other.locks.as_slice()
+        && one.cancel == other.cancel
+        && one.duty == other.duty
+        && one.token == other.token
+        && one.settled == other.settled
 }
 
 /// Whether a register of a kind holds a packet.

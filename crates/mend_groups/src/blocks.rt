@@ -2,11 +2,13 @@
 
 use absstate::{Abs, Kind, Rule};
 use driver_set::{Instr, Register, SpinLock, Turns};
+use mend_candidates::Gathered;
+use mend_candidates::acts::{leaves, number_put};
 use mend_candidates::scene::{Scene, registers};
 use mend_changes::{Change, Landing, with_label};
-use mend_reading::candidate::{Candidates, Manner};
+use mend_reading::Manner;
 use mend_reading::form::{are_pair, same_lock};
-use std::alloc::AllocError;
+use mend_reading::operands::is_register;
 
 /// Several edits that belong together, for a scene.
 #[derive(Clone, Copy)]
@@ -16,91 +18,111 @@ pub(crate) struct Blocks<'a> {
 
 impl<'a> Blocks<'a> {
     /// Adds the blocks that the rule asks for.
-    pub(crate) fn add_blocks(&self, out: &mut Candidates) -> Result<(), AllocError> {
+    pub(crate) fn add_blocks(&self, out: &mut Gathered) {
         if self.scene.are_numbers && self.scene.differing.len() > 1 {
-            self.add_clears(out)?;
+            self.add_clears(out);
         }
-        self.add_swaps(out)?;
+        self.add_swaps(out);
         match self.scene.fault.rule {
             Rule::Guard => {
-                self.add_kept_locks(out)?;
-                self.add_right_locks(out)
+                self.add_kept_locks(out);
+                self.add_right_locks(out);
             }
-            Rule::Malformed => match self.scene.bad.label() {
-                Some(label) if label > self.scene.fault.at => self.add_turn_end(label, out),
-                Some(label) if label < self.scene.fault.at => self.add_loop(label, out),
-                _ => self.add_halves(out),
-            },
-            _ => Ok(()),
+            Rule::Malformed => self.add_loops(out),
+            Rule::Unreachable
+            | Rule::StatesDiffer
+            | Rule::WrongKind
+            | Rule::DoubleCompletion
+            | Rule::MarkIrpPending
+            | Rule::CancelSpinLock
+            | Rule::SpinLock
+            | Rule::LockHeld
+            | Rule::Level
+            | Rule::CancelState
+            | Rule::Dropped
+            | Rule::Token
+            | Rule::Sort
+            | Rule::Completion
+            | Rule::StackTooSmall
+            | Rule::NoLower
+            | Rule::TooLong
+            | Rule::Memory => {}
+        }
+    }
+
+    /// Adds that a jump out of a loop or back is mended, or the other half of a loop.
+    fn add_loops(&self, out: &mut Gathered) {
+        match self.scene.bad.label() {
+            Some(label) if label > self.scene.fault.at => self.add_turn_end(label, out),
+            Some(label) if label < self.scene.fault.at => self.add_loop(label, out),
+            Some(_) | None => self.add_halves(out),
         }
     }
 
     /// Adds that two neighbours change places, and labels stay where they are.
-    fn add_swaps(&self, out: &mut Candidates) -> Result<(), AllocError> {
+    fn add_swaps(&self, out: &mut Gathered) {
         for at in 0..=self.scene.last() {
-            self.add_swap(at, out)?;
+            self.add_swap(at, out);
         }
-        match self.scene.bad.label() {
-            Some(label) if label > self.scene.fault.at => {
-                self.add_swap(label.saturating_sub(1), out)
+        if let Some(label) = self.scene.bad.label() {
+            if label > self.scene.fault.at {
+                self.add_swap(label.saturating_sub(1), out);
             }
-            _ => Ok(()),
         }
     }
 
     /// Adds that an instruction and the one behind it change places, where a label is between.
-    fn add_swap(&self, at: u16, out: &mut Candidates) -> Result<(), AllocError> {
+    fn add_swap(&self, at: u16, out: &mut Gathered) {
         let behind = at.saturating_add(1);
         let Some(first) = self.scene.code.get(at as usize) else {
-            return Ok(());
+            return;
         };
         let Some(second) = self.scene.code.get(behind as usize) else {
-            return Ok(());
+            return;
         };
         let fresh = self.scene.is_fresh(at) && self.scene.is_fresh(behind);
         if !fresh || !self.scene.is_target(behind) {
-            return Ok(());
+            return;
         }
         let cost = self.scene.near(at).saturating_add(125);
         let one = out.begin(Manner::Block, cost, None, None);
-        out.change(at, Change::Replace(*second))?;
-        out.change(behind, Change::Replace(*first))?;
-        out.end(one)
+        out.change(at, Change::Replace(*second));
+        out.change(behind, Change::Replace(*first));
+        out.end(one);
     }
 
     /// Adds the other half of a loop, where one of its ends is missing.
-    fn add_halves(&self, out: &mut Candidates) -> Result<(), AllocError> {
-        match self.scene.bad {
-            Instr::Loop(_) => {
-                for at in self.scene.fault.at.saturating_add(2)..self.scene.len() {
-                    self.add_half(at, &Instr::End, out)?;
-                }
-                Ok(())
+    fn add_halves(&self, out: &mut Gathered) {
+        if matches!(self.scene.bad, Instr::Loop(_)) {
+            for at in self.scene.fault.at.saturating_add(2)..self.scene.len() {
+                self.add_half(at, &Instr::End, out);
             }
-            Instr::End => {
-                let Some(turns) = self.usual_turns() else {
-                    return Ok(());
-                };
-                let start = Instr::Loop(turns);
-                for at in 0..self.scene.fault.at {
-                    self.add_half(at, &start, out)?;
-                }
-                Ok(())
-            }
-            _ => Ok(()),
+        }
+        if matches!(self.scene.bad, Instr::End) {
+            self.add_starts(out);
+        }
+    }
+
+    /// Adds the start of a loop, whose end is there.
+    fn add_starts(&self, out: &mut Gathered) {
+        let Some(turns) = self.usual_turns() else {
+            return;
+        };
+        let start = Instr::Loop(turns);
+        for at in 0..self.scene.fault.at {
+            self.add_half(at, &start, out);
         }
     }
 
     /// Adds one half of a loop before a position.
-    fn add_half(&self, at: u16, half: &Instr, out: &mut Candidates) -> Result<(), AllocError> {
+    fn add_half(&self, at: u16, half: &Instr, out: &mut Gathered) {
         let cost = self.scene.near(at).saturating_add(90);
         let one = out.begin(Manner::Block, cost, None, None);
-        out.add(one, at, Change::Insert(*half, Landing::Kept))?;
+        out.add(one, at, Change::Insert(*half, Landing::Kept));
         if self.scene.is_target(at) {
             let one = out.begin(Manner::Block, cost, None, None);
-            out.add(one, at, Change::Insert(*half, Landing::Taken))?;
+            out.add(one, at, Change::Insert(*half, Landing::Taken));
         }
-        Ok(())
     }
 
     /// The turns of another loop of the routine, or else 100.
@@ -114,51 +136,40 @@ impl<'a> Blocks<'a> {
     }
 
     /// Adds clears of all registers that differ.
-    fn add_clears(&self, out: &mut Candidates) -> Result<(), AllocError> {
+    fn add_clears(&self, out: &mut Gathered) {
         for at in 1..=self.scene.last() {
-            let falls = !matches!(
-                self.scene.instr_before(at),
-                Some(Instr::Ret(_) | Instr::Jump(_))
-            );
-            if falls {
-                self.add_clears_at(at, Landing::Kept, out)?;
+            if !self.scene.is_left_before(at) {
+                self.add_clears_at(at, Landing::Kept, out);
             }
             if self.scene.is_target(at) {
-                self.add_clears_at(at, Landing::Taken, out)?;
+                self.add_clears_at(at, Landing::Taken, out);
             }
         }
-        Ok(())
     }
 
-    fn add_clears_at(
-        &self,
-        at: u16,
-        landing: Landing,
-        out: &mut Candidates,
-    ) -> Result<(), AllocError> {
+    fn add_clears_at(&self, at: u16, landing: Landing, out: &mut Gathered) {
         let cost = self.scene.near(at).saturating_add(90);
         let one = out.begin(Manner::Block, cost, None, None);
         for register in self.scene.differing.iter().rev() {
-            out.change(at, Change::Insert(Instr::Clear(*register), landing))?;
+            out.change(at, Change::Insert(Instr::Clear(*register), landing));
         }
-        out.end(one)
+        out.end(one);
     }
 
     /// Adds that a lock is kept: a release and the acquisition behind it go.
-    fn add_kept_locks(&self, out: &mut Candidates) -> Result<(), AllocError> {
+    fn add_kept_locks(&self, out: &mut Gathered) {
         for at in 0..=self.scene.last() {
             let end = at.saturating_add(5).min(self.scene.len());
             for behind in at.saturating_add(1)..end {
                 if self.are_needless(at, behind) {
                     let cost = self.scene.near(at).saturating_add(110);
                     let one = out.begin(Manner::Block, cost, None, None);
-                    out.change(behind, Change::Delete)?;
-                    out.change(at, Change::Delete)?;
-                    out.end(one)?;
+                    out.change(behind, Change::Delete);
+                    out.change(at, Change::Delete);
+                    out.end(one);
                 }
             }
         }
-        Ok(())
     }
 
     /// Whether a lock is released at one position and acquired at another on the only way from
@@ -175,20 +186,18 @@ impl<'a> Blocks<'a> {
             .code
             .get(at as usize..behind as usize)
             .unwrap_or_default();
-        let leaves = passed
-            .iter()
-            .any(|instr| matches!(*instr, Instr::Ret(_) | Instr::Jump(_)));
+        let is_left = passed.iter().any(|instr| leaves(instr));
         let led = (at.saturating_add(1)..=behind).any(|place| self.scene.is_target(place));
-        !leaves && !led
+        !is_left && !led
     }
 
     /// Adds that the right lock is taken for another one, throughout.
-    fn add_right_locks(&self, out: &mut Candidates) -> Result<(), AllocError> {
+    fn add_right_locks(&self, out: &mut Gathered) {
         let (Some(right), Some(state)) = (
             self.scene.guard_wanted(),
             self.scene.state(self.scene.fault.at),
         ) else {
-            return Ok(());
+            return;
         };
         let before = self
             .scene
@@ -200,24 +209,17 @@ impl<'a> Blocks<'a> {
                 continue;
             };
             if wrong.index() != right.index() && state.locks[wrong.index()] {
-                self.add_right_lock(at, instr, right, out)?;
+                self.add_right_lock(at, instr, right, out);
             }
         }
-        Ok(())
     }
 
     /// Adds that a lock is taken for the one that is acquired at a position, and released for it.
-    fn add_right_lock(
-        &self,
-        at: usize,
-        wrong: &Instr,
-        right: SpinLock,
-        out: &mut Candidates,
-    ) -> Result<(), AllocError> {
+    fn add_right_lock(&self, at: usize, wrong: &Instr, right: SpinLock, out: &mut Gathered) {
         let place = u16::try_from(at).unwrap_or(u16::MAX);
         let cost = self.scene.near(place).saturating_add(110);
         let one = out.begin(Manner::Block, cost, None, None);
-        out.change(place, Change::Replace(Instr::Acquire(right)))?;
+        out.change(place, Change::Replace(Instr::Acquire(right)));
         for (behind, instr) in self
             .scene
             .code
@@ -232,133 +234,103 @@ impl<'a> Blocks<'a> {
                 break;
             }
             let behind = u16::try_from(behind).unwrap_or(u16::MAX);
-            out.change(behind, Change::Replace(Instr::Release(right)))?;
+            out.change(behind, Change::Replace(Instr::Release(right)));
         }
-        out.end(one)
+        out.end(one);
     }
 
     /// Adds that the jumps out of a loop lead to its end, where what a turn acquired is released.
-    fn add_turn_end(&self, label: u16, out: &mut Candidates) -> Result<(), AllocError> {
+    fn add_turn_end(&self, label: u16, out: &mut Gathered) {
         let loops = &self.scene.reading.loops;
         let Some(start) = loops.round(self.scene.fault.at as usize) else {
-            return Ok(());
+            return;
         };
         if loops.round(label as usize) == Some(start) {
-            return Ok(());
+            return;
         }
         let ends = (self.scene.fault.at..self.scene.len()).find(|at| {
             let ends = matches!(self.scene.instr(*at), Some(Instr::End));
             ends && loops.opened_at(*at as usize) == Some(start)
         });
-        match ends {
-            Some(end) => self.add_turn_end_at(start, end, out),
-            None => Ok(()),
+        if let Some(end) = ends {
+            self.add_turn_end_at(start, end, out);
         }
     }
 
-    fn add_turn_end_at(
-        &self,
-        start: u16,
-        end: u16,
-        out: &mut Candidates,
-    ) -> Result<(), AllocError> {
+    fn add_turn_end_at(&self, start: u16, end: u16, out: &mut Gathered) {
         let one = out.begin(Manner::Block, 130, None, None);
-        let kept = match (
-            self.scene.state(self.scene.fault.at),
-            self.scene.state(start),
-        ) {
-            (Some(here), Some(before)) => self.releases(&here, &before),
-            _ => 0,
-        };
-        let to = if kept == 0 {
-            end
-        } else {
+        let to = if self.add_releases(start, end, out) {
             end.saturating_add(1)
+        } else {
+            end
         };
-        self.add_releases(start, end, out)?;
         for at in start..end {
-            let leaves = self
+            let jump = self
                 .scene
                 .instr(at)
                 .filter(|instr| instr.label().is_some_and(|to| to > end));
             if let (Some(instr), true) = (
-                leaves,
+                jump,
                 self.scene.are_in_same_loops(at, self.scene.fault.at),
             ) {
-                out.change(at, Change::Replace(with_label(instr, to)))?;
+                out.change(at, Change::Replace(with_label(instr, to)));
             }
         }
-        out.end(one)
+        out.end(one);
     }
 
-    /// How many spin locks are held here that weren't before.
-    fn releases(&self, here: &Abs, before: &Abs) -> usize {
-        let kept = self
-            .scene
-            .locks
-            .iter()
-            .filter(|lock| is_acquired(here, before, lock));
-        kept.count()
-    }
-
-    /// Adds the releases of what a turn acquired before the end of its loop, and a jump past them.
-    fn add_releases(&self, start: u16, end: u16, out: &mut Candidates) -> Result<(), AllocError> {
+    /// Adds the releases of what a turn acquired before the end of its loop, and a jump past them;
+    /// and answers whether there are any.
+    fn add_releases(&self, start: u16, end: u16, out: &mut Gathered) -> bool {
         let (Some(here), Some(before)) = (
             self.scene.state(self.scene.fault.at),
             self.scene.state(start),
         ) else {
-            return Ok(());
+            return false;
         };
         let mut count = 0_u16;
         for lock in self.scene.locks.as_slice() {
             if is_acquired(&here, &before, lock) {
-                out.change(end, Change::Insert(Instr::Release(*lock), Landing::Kept))?;
+                out.change(end, Change::Insert(Instr::Release(*lock), Landing::Kept));
                 count = count.saturating_add(1);
             }
         }
         if count > 0 {
             let past = Instr::Jump(end.saturating_add(count).saturating_add(1));
-            out.change(end, Change::Insert(past, Landing::Kept))?;
+            out.change(end, Change::Insert(past, Landing::Kept));
         }
-        Ok(())
+        count > 0
     }
 
     /// Adds a loop of 100 turns round what a jump back leads to.
-    fn add_loop(&self, label: u16, out: &mut Candidates) -> Result<(), AllocError> {
+    fn add_loop(&self, label: u16, out: &mut Gathered) {
         let jumps = matches!(
             self.scene.bad,
             Instr::JumpIfZero(..) | Instr::JumpIfLess(..)
         );
         let Some(turns) = Turns::of(100) else {
-            return Ok(());
+            return;
         };
         if jumps && self.scene.are_in_same_loops(label, self.scene.fault.at) {
-            self.add_loop_round(label, turns, out)
-        } else {
-            Ok(())
+            self.add_loop_round(label, turns, out);
         }
     }
 
     /// Adds a loop of so many turns from what a jump back leads to up to the jump.
-    fn add_loop_round(
-        &self,
-        label: u16,
-        turns: Turns,
-        out: &mut Candidates,
-    ) -> Result<(), AllocError> {
+    fn add_loop_round(&self, label: u16, turns: Turns, out: &mut Gathered) {
         let behind = self.scene.fault.at.saturating_add(1);
         let one = out.begin(Manner::Block, 90, None, None);
-        out.change(behind, Change::Insert(Instr::End, Landing::Kept))?;
+        out.change(behind, Change::Insert(Instr::End, Landing::Kept));
         for register in registers().into_iter().rev() {
             if self.is_set_in(register, label) {
                 let clear = Instr::Clear(register);
-                out.change(behind, Change::Insert(clear, Landing::Kept))?;
+                out.change(behind, Change::Insert(clear, Landing::Kept));
             }
         }
         let jump = with_label(self.scene.bad, behind);
-        out.change(self.scene.fault.at, Change::Replace(jump))?;
-        out.change(label, Change::Insert(Instr::Loop(turns), Landing::Taken))?;
-        out.end(one)
+        out.change(self.scene.fault.at, Change::Replace(jump));
+        out.change(label, Change::Insert(Instr::Loop(turns), Landing::Taken));
+        out.end(one);
     }
 
     /// Whether a number is put into a register, blank before, between a position and the fault.
@@ -373,11 +345,9 @@ impl<'a> Blocks<'a> {
             .get(first as usize..self.scene.fault.at as usize)
             .unwrap_or_default();
         blank
-            && body.iter().any(|instr| match *instr {
-                Instr::Load(r, _) | Instr::LoadPaged(r, _) => r.index() == register.index(),
-                Instr::Const(r, _) | Instr::Get(r, _, _) => r.index() == register.index(),
-                _ => false,
-            })
+            && body
+                .iter()
+                .any(|instr| is_register(number_put(instr), register))
     }
 }
 

@@ -2,11 +2,10 @@
 
 use absstate::Rule;
 use driver_set::{Device, Driver, Instr, QueueName, Sort};
-use mend_candidates::scene::Scene;
+use mend_candidates::{Gathered, Scene};
 use mend_changes::Change;
-use mend_reading::candidate::{Candidates, Manner};
+use mend_reading::Manner;
 use model::limits::MAX_STACK;
-use std::alloc::AllocError;
 
 /// Edits of lines, for a scene.
 #[derive(Clone, Copy)]
@@ -16,32 +15,46 @@ pub(crate) struct Lines<'a> {
 
 impl<'a> Lines<'a> {
     /// Adds the edits of lines that the rule may ask for.
-    pub(crate) fn add_lines(&self, out: &mut Candidates) -> Result<(), AllocError> {
+    pub(crate) fn add_lines(&self, out: &mut Gathered) {
         let Some(driver) = self.scene.driver() else {
-            return Ok(());
+            return;
         };
         match self.scene.fault.rule {
             Rule::StackTooSmall | Rule::NoLower => {
-                self.add_stacks(out)?;
-                self.add_lowers(out)
+                self.add_stacks(out);
+                self.add_lowers(out);
             }
             Rule::Sort | Rule::CancelState => self.add_names(driver, out),
             Rule::Guard => {
-                self.add_names(driver, out)?;
-                self.add_guards(driver, out)
+                self.add_names(driver, out);
+                self.add_guards(driver, out);
             }
-            _ => Ok(()),
+            Rule::Malformed
+            | Rule::Unreachable
+            | Rule::StatesDiffer
+            | Rule::WrongKind
+            | Rule::DoubleCompletion
+            | Rule::MarkIrpPending
+            | Rule::CancelSpinLock
+            | Rule::SpinLock
+            | Rule::LockHeld
+            | Rule::Level
+            | Rule::Dropped
+            | Rule::Token
+            | Rule::Completion
+            | Rule::TooLong
+            | Rule::Memory => {}
         }
     }
 
     /// Adds one edit of a line.
-    fn add_line(&self, out: &mut Candidates, cost: u32, change: Change) -> Result<(), AllocError> {
+    fn add_line(&self, out: &mut Gathered, cost: u32, change: Change) {
         let one = out.begin(Manner::Line, cost, None, None);
-        out.add(one, self.scene.fault.at, change)
+        out.add(one, self.scene.fault.at, change);
     }
 
     /// Adds the stack sizes that are wanted, from the lowest device up, as one edit.
-    fn add_stacks(&self, out: &mut Candidates) -> Result<(), AllocError> {
+    fn add_stacks(&self, out: &mut Gathered) {
         let mut sizes = [0_u8; 256];
         let mut count = 0_u32;
         let one = out.begin(Manner::Line, 80, None, None);
@@ -54,15 +67,15 @@ impl<'a> Lines<'a> {
             let wanted = self.stack_wanted(device, sizes[lower as usize]);
             if device.stack < wanted && wanted as usize <= MAX_STACK {
                 sizes[number] = wanted;
-                out.change(self.scene.fault.at, Change::Stack(number as u8, wanted))?;
+                out.change(self.scene.fault.at, Change::Stack(number as u8, wanted));
                 count = count.saturating_add(10);
             }
         }
         if count == 0 {
-            return Ok(());
+            return;
         }
         let cost = one.cost.saturating_add(count);
-        out.end(one.at_cost(cost))
+        out.end(one.at_cost(cost));
     }
 
     /// The stack size that a device needs over one of a stack size: 0 where it sends nothing down.
@@ -80,24 +93,18 @@ impl<'a> Lines<'a> {
     }
 
     /// Adds lower devices for those of the driver that have none.
-    fn add_lowers(&self, out: &mut Candidates) -> Result<(), AllocError> {
+    fn add_lowers(&self, out: &mut Gathered) {
         let devices = self.scene.subject.set.devices();
         for (number, device) in devices.iter().enumerate() {
             if device.driver == self.scene.subject.driver && device.lower.is_none() {
                 let number = number.min(255) as u8;
-                self.add_lowers_of(number, device, out)?;
+                self.add_lowers_of(number, device, out);
             }
         }
-        Ok(())
     }
 
     /// Adds lower devices for one that has none.
-    fn add_lowers_of(
-        &self,
-        number: u8,
-        device: &Device,
-        out: &mut Candidates,
-    ) -> Result<(), AllocError> {
+    fn add_lowers_of(&self, number: u8, device: &Device, out: &mut Gathered) {
         let devices = self.scene.subject.set.devices();
         let calls = u8::from(matches!(self.scene.bad, Instr::Call(..)));
         for lower in 0..number {
@@ -110,66 +117,62 @@ impl<'a> Lines<'a> {
             let used = devices.iter().any(|other| other.lower == Some(lower));
             let far = u32::from(number.saturating_sub(lower)).saturating_mul(5);
             let cost = far.saturating_add(if used { 130 } else { 80 });
-            self.add_line(out, cost, Change::Lower(number, lower))?;
+            self.add_line(out, cost, Change::Lower(number, lower));
             let wanted = below.stack.saturating_add(calls);
             if device.stack < wanted && wanted as usize <= MAX_STACK {
                 let cost = cost.saturating_add(40);
                 let one = out.begin(Manner::Line, cost, None, None);
-                out.change(self.scene.fault.at, Change::Lower(number, lower))?;
-                out.change(self.scene.fault.at, Change::Stack(number, wanted))?;
-                out.end(one)?;
+                out.change(self.scene.fault.at, Change::Lower(number, lower));
+                out.change(self.scene.fault.at, Change::Stack(number, wanted));
+                out.end(one);
             }
         }
-        Ok(())
     }
 
     /// Adds names of routines that no line names.
-    fn add_names(&self, driver: &Driver, out: &mut Candidates) -> Result<(), AllocError> {
+    fn add_names(&self, driver: &Driver, out: &mut Gathered) {
         for (number, routine) in driver.routines.as_slice().iter().enumerate() {
             let number = number.min(255) as u8;
             match routine.sort {
                 Sort::Cancel if !is_named(driver, number) => {
-                    self.add_cancels(driver, number, out)?;
+                    self.add_cancels(driver, number, out);
                 }
                 Sort::StartIo if driver.startio.is_none() => {
-                    self.add_line(out, 80, Change::StartIo(number))?;
+                    self.add_line(out, 80, Change::StartIo(number));
                 }
-                _ => {}
+                Sort::Dispatch
+                | Sort::StartIo
+                | Sort::Dpc
+                | Sort::Propagate
+                | Sort::Hold
+                | Sort::Cancel => {}
             }
         }
-        Ok(())
     }
 
     /// Adds a cancel routine for the lists that have none.
-    fn add_cancels(
-        &self,
-        driver: &Driver,
-        number: u8,
-        out: &mut Candidates,
-    ) -> Result<(), AllocError> {
+    fn add_cancels(&self, driver: &Driver, number: u8, out: &mut Gathered) {
         for (q, queue) in driver.queues.as_slice().iter().enumerate() {
             if queue.cancel.is_none() {
                 let name = QueueName::Declared(q.min(255) as u8);
-                self.add_line(out, 100, Change::Cancel(name, number))?;
+                self.add_line(out, 100, Change::Cancel(name, number));
             }
         }
         if driver.startio.is_some() && driver.startio_cancel.is_none() {
-            self.add_line(out, 100, Change::Cancel(QueueName::DeviceQueue, number))?;
+            self.add_line(out, 100, Change::Cancel(QueueName::DeviceQueue, number));
         }
-        Ok(())
     }
 
     /// Adds other guards of the driver's queues.
-    fn add_guards(&self, driver: &Driver, out: &mut Candidates) -> Result<(), AllocError> {
+    fn add_guards(&self, driver: &Driver, out: &mut Gathered) {
         for (q, queue) in driver.queues.as_slice().iter().enumerate() {
             let q = q.min(255) as u8;
             for lock in self.scene.locks.as_slice() {
                 if lock.index() != queue.guard.index() {
-                    self.add_line(out, 200, Change::Guard(q, *lock))?;
+                    self.add_line(out, 200, Change::Guard(q, *lock));
                 }
             }
         }
-        Ok(())
     }
 }
 

@@ -3,11 +3,11 @@
 use absstate::{Abs, Kind, Rule, Settled, Stage};
 use driver_set::{Instr, QueueName, Register, Return, Sort, SpinLock};
 use mend_candidates::scene::{Scene, registers};
+use mend_candidates::{Gathered, Growing};
 use mend_changes::Landing;
-use mend_reading::candidate::Candidates;
 use mend_reading::form::same_lock;
 use model::status::Status;
-use std::alloc::{AllocError, Global};
+use std::alloc::Global;
 
 /// What a dispatch routine returns that keeps its packet.
 const PENDING: Instr = Instr::Ret(Return::WithStatus(Status::Pending));
@@ -20,22 +20,24 @@ pub(crate) struct Templates<'a> {
 
 impl<'a> Templates<'a> {
     /// Adds the templates before each position up to the fault.
-    pub(crate) fn add_templates(
-        &self,
-        alloc: Global,
-        out: &mut Candidates,
-    ) -> Result<(), AllocError> {
-        let mut lines = Vec::new(alloc);
+    pub(crate) fn add_templates(&self, alloc: Global, out: &mut Gathered) {
+        let mut lines = Growing::new(alloc);
         for at in 0..=self.scene.last() {
-            if let Some(state) = self.scene.state(at) {
-                self.add_templates_at(at, Landing::Kept, &state, &mut lines, out)?;
-                if self.scene.is_target(at) {
-                    self.add_templates_at(at, Landing::Taken, &state, &mut lines, out)?;
-                }
-            }
-            self.add_leaving(at, out)?;
+            self.add_templates_before(at, &mut lines, out);
+            self.add_leaving(at, out);
         }
-        Ok(())
+        out.note(lines.finish());
+    }
+
+    /// Adds the templates before a position, for each way on which it is reached.
+    fn add_templates_before(&self, at: u16, lines: &mut Growing<Instr>, out: &mut Gathered) {
+        let Some(state) = self.scene.state(at) else {
+            return;
+        };
+        self.add_templates_at(at, Landing::Kept, &state, lines, out);
+        if self.scene.is_target(at) {
+            self.add_templates_at(at, Landing::Taken, &state, lines, out);
+        }
     }
 
     /// Adds the templates before a position that is reached in a state.
@@ -44,13 +46,13 @@ impl<'a> Templates<'a> {
         at: u16,
         landing: Landing,
         state: &Abs,
-        lines: &mut Vec<Instr>,
-        out: &mut Candidates,
-    ) -> Result<(), AllocError> {
+        lines: &mut Growing<Instr>,
+        out: &mut Gathered,
+    ) {
         for register in registers() {
-            self.add_templates_for(at, landing, state, (register, lines), out)?;
+            self.add_templates_for(at, landing, state, (register, lines), out);
         }
-        self.add_next(at, landing, state, out)
+        self.add_next(at, landing, state, out);
     }
 
     /// Adds those for what a register holds.
@@ -59,9 +61,9 @@ impl<'a> Templates<'a> {
         at: u16,
         landing: Landing,
         state: &Abs,
-        held: (Register, &mut Vec<Instr>),
-        out: &mut Candidates,
-    ) -> Result<(), AllocError> {
+        held: (Register, &mut Growing<Instr>),
+        out: &mut Gathered,
+    ) {
         let (register, lines) = held;
         let kind = state.kinds[register.index()];
         match kind {
@@ -74,7 +76,7 @@ impl<'a> Templates<'a> {
             }
             Kind::New => self.add_kept(at, landing, state, (register, true, lines), out),
             Kind::Own => self.add_kept(at, landing, state, (register, false, lines), out),
-            _ => Ok(()),
+            Kind::Blank | Kind::Num | Kind::Lower | Kind::Queued(..) => {}
         }
     }
 
@@ -85,19 +87,20 @@ impl<'a> Templates<'a> {
         landing: Landing,
         state: &Abs,
         register: Register,
-        out: &mut Candidates,
-    ) -> Result<(), AllocError> {
+        out: &mut Gathered,
+    ) {
         if self.scene.fault.rule != Rule::Completion || state.settled != Settled::Open {
-            return Ok(());
+            return;
         }
         let (look, mark) = (Instr::IfPending(register, 2), Instr::Mark(register));
         let near = self.scene.near(at);
         if matches!(self.scene.instr(at), Some(Instr::Ret(_))) {
             let lines = [look, Instr::Ret(Return::Continue), mark];
-            return out.add_template(near.saturating_add(120), at, landing, lines.as_slice());
+            out.add_template(near.saturating_add(120), at, landing, lines.as_slice());
+        } else {
+            let lines = [look, Instr::Jump(3), mark];
+            out.add_template(near.saturating_add(140), at, landing, lines.as_slice());
         }
-        let lines = [look, Instr::Jump(3), mark];
-        out.add_template(near.saturating_add(140), at, landing, lines.as_slice())
     }
 
     /// Adds that a packet that is cancelled is taken off its queue.
@@ -107,21 +110,21 @@ impl<'a> Templates<'a> {
         landing: Landing,
         state: &Abs,
         packet: (Register, u8),
-        out: &mut Candidates,
-    ) -> Result<(), AllocError> {
+        out: &mut Gathered,
+    ) {
         let (register, q) = packet;
         let rules = [Rule::CancelState, Rule::Dropped];
-        match self.guard_of(q) {
-            Some(guard) if self.scene.breaks(rules.as_slice()) && !state.locks[guard.index()] => {
-                let lines = [
-                    Instr::Acquire(guard),
-                    Instr::Unlink(register, q),
-                    Instr::Release(guard),
-                ];
-                let cost = self.scene.near(at).saturating_add(120);
-                out.add_template(cost, at, landing, lines.as_slice())
-            }
-            _ => Ok(()),
+        let Some(guard) = self.guard_of(q) else {
+            return;
+        };
+        if self.scene.breaks(rules.as_slice()) && !state.locks[guard.index()] {
+            let lines = [
+                Instr::Acquire(guard),
+                Instr::Unlink(register, q),
+                Instr::Release(guard),
+            ];
+            let cost = self.scene.near(at).saturating_add(120);
+            out.add_template(cost, at, landing, lines.as_slice());
         }
     }
 
@@ -131,27 +134,27 @@ impl<'a> Templates<'a> {
         at: u16,
         landing: Landing,
         packet: (Register, u8),
-        out: &mut Candidates,
-    ) -> Result<(), AllocError> {
+        out: &mut Gathered,
+    ) {
         let (register, q) = packet;
         let dispatch = matches!(self.scene.subject.sort, Sort::Dispatch);
-        match self.guard_of(q) {
-            Some(guard) if dispatch && self.scene.fault.rule == Rule::Guard => {
-                let lines = armed(register, q, guard, 0);
-                let lines = lines.get(..9).unwrap_or_default();
-                let cost = if self.asks_cancel(register) { 180 } else { 90 };
-                out.add_template(cost, at, landing, lines)
-            }
-            _ => Ok(()),
+        let Some(guard) = self.guard_of(q) else {
+            return;
+        };
+        if dispatch && self.scene.fault.rule == Rule::Guard {
+            let lines = armed(register, q, guard, 0);
+            let lines = lines.get(..9).unwrap_or_default();
+            let cost = if self.asks_cancel(register) { 180 } else { 90 };
+            out.add_template(cost, at, landing, lines);
         }
     }
 
     /// Whether an instruction asks if the packet in a register is cancelled.
     fn asks_cancel(&self, register: Register) -> bool {
-        self.scene.code.iter().any(|instr| match *instr {
-            Instr::IfCancel(asked, _) => asked.index() == register.index(),
-            _ => false,
-        })
+        let number = register.index();
+        self.scene.code.iter().any(
+            |instr| matches!(*instr, Instr::IfCancel(asked, _) if asked.index() == number),
+        )
     }
 
     /// Adds that a packet is kept in a queue. The list takes the lines.
@@ -160,9 +163,9 @@ impl<'a> Templates<'a> {
         at: u16,
         landing: Landing,
         state: &Abs,
-        packet: (Register, bool, &mut Vec<Instr>),
-        out: &mut Candidates,
-    ) -> Result<(), AllocError> {
+        packet: (Register, bool, &mut Growing<Instr>),
+        out: &mut Gathered,
+    ) {
         let (register, new, lines) = packet;
         let rules = [
             Rule::Dropped,
@@ -172,7 +175,7 @@ impl<'a> Templates<'a> {
             Rule::DoubleCompletion,
         ];
         if !self.scene.breaks(rules.as_slice()) {
-            return Ok(());
+            return;
         }
         for q in 0..self.scene.queues() {
             let Some(guard) = self.guard_of(q) else {
@@ -181,45 +184,35 @@ impl<'a> Templates<'a> {
             let held = state.locks[guard.index()];
             lines.clear();
             if new {
-                lines.push(Instr::Mark(register))?;
+                lines.add(Instr::Mark(register));
             }
-            self.add_keeping(register, q, held, lines)?;
-            let cost = self.keeping_cost(at, guard, held, lines.len());
-            out.add_template(cost, at, landing, lines.as_slice())?;
+            self.add_keeping(register, q, (guard, held), lines);
+            let cost = self.keeping_cost(at, guard, held, lines.as_slice().len());
+            out.add_template(cost, at, landing, lines.as_slice());
         }
-        Ok(())
     }
 
-    /// Adds the insertion of a packet into a queue, and what follows it.
+    /// Adds the insertion of a packet into a queue, whose lock may be held, and what follows it.
     fn add_keeping(
         &self,
         register: Register,
         q: u8,
-        held: bool,
-        lines: &mut Vec<Instr>,
-    ) -> Result<(), AllocError> {
-        let Some(guard) = self.guard_of(q) else {
-            return Ok(());
-        };
+        lock: (SpinLock, bool),
+        lines: &mut Growing<Instr>,
+    ) {
+        let (guard, held) = lock;
         if !held {
-            lines.push(Instr::Acquire(guard))?;
+            lines.add(Instr::Acquire(guard));
         }
-        lines.push(Instr::Insert(register, q))?;
-        if self
-            .scene
-            .subject
-            .set
-            .cancel_routine(self.scene.subject.driver, q)
-            .is_some()
-        {
-            let first = u16::try_from(lines.len()).unwrap_or(0);
+        lines.add(Instr::Insert(register, q));
+        let subject = self.scene.subject;
+        if subject.set.cancel_routine(subject.driver, q).is_some() {
+            let first = u16::try_from(lines.as_slice().len()).unwrap_or(0);
             let all = armed(register, q, guard, first);
-            return lines.extend_from_slice(all.as_slice());
+            lines.add_all(all.as_slice());
+        } else if !held {
+            lines.add(Instr::Release(guard));
         }
-        if !held {
-            lines.push(Instr::Release(guard))?;
-        }
-        Ok(())
     }
 
     /// What the keeping of a packet costs.
@@ -240,13 +233,7 @@ impl<'a> Templates<'a> {
     }
 
     /// Adds that the next packet is started.
-    fn add_next(
-        &self,
-        at: u16,
-        landing: Landing,
-        state: &Abs,
-        out: &mut Candidates,
-    ) -> Result<(), AllocError> {
+    fn add_next(&self, at: u16, landing: Landing, state: &Abs, out: &mut Gathered) {
         let waits = self
             .scene
             .driver()
@@ -258,22 +245,22 @@ impl<'a> Templates<'a> {
             || state.cancel
             || !state.token
         {
-            return Ok(());
+            return;
         }
         let lines = [Instr::AcquireCancel, Instr::Next, Instr::ReleaseCancel];
         let cost = self.scene.near(at).saturating_add(110);
-        out.add_template(cost, at, landing, lines.as_slice())
+        out.add_template(cost, at, landing, lines.as_slice());
     }
 
     /// Adds that a packet is completed, and its status returned, before a label.
-    fn add_leaving(&self, at: u16, out: &mut Candidates) -> Result<(), AllocError> {
+    fn add_leaving(&self, at: u16, out: &mut Gathered) {
         let rules = [Rule::StatesDiffer, Rule::Dropped];
         let dispatch = matches!(self.scene.subject.sort, Sort::Dispatch);
         if !dispatch || !self.scene.breaks(rules.as_slice()) || !self.scene.is_target(at) {
-            return Ok(());
+            return;
         }
         let Some(state) = self.scene.reading.fall(at as usize) else {
-            return Ok(());
+            return;
         };
         for register in registers() {
             if state.kinds[register.index()] == Kind::New {
@@ -282,10 +269,9 @@ impl<'a> Templates<'a> {
                     Instr::Ret(Return::WithStatus(Status::Success)),
                 ];
                 let cost = self.scene.near(at).saturating_add(180);
-                out.add_template(cost, at, Landing::Kept, lines.as_slice())?;
+                out.add_template(cost, at, Landing::Kept, lines.as_slice());
             }
         }
-        Ok(())
     }
 
     /// The lock that guards a queue.

@@ -58,14 +58,16 @@ pub(crate) struct Ledger {
     sets: usize,
     /// What is looked for, with the tries and the work that are left.
     aim: Aim,
+    /// Whether memory ran out where something was kept or made: nothing more is tried then.
+    lacks: bool,
 }
 
 impl Ledger {
     /// Begins with no edit.
-    pub(crate) fn begin(alloc: Global, aim: Aim) -> Result<Ledger, AllocError> {
+    pub(crate) fn begin(alloc: Global, aim: Aim) -> Ledger {
         let mut ledger = Ledger::empty(alloc, aim);
-        ledger.open()?;
-        Ok(ledger)
+        ledger.open();
+        ledger
     }
 
     /// Nothing tried.
@@ -81,18 +83,54 @@ impl Ledger {
             made: Vec::new(alloc),
             sets: 0,
             aim,
+            lacks: false,
         }
     }
 
     /// Lets the node wait that has no edit.
-    fn open(&mut self) -> Result<(), AllocError> {
+    fn open(&mut self) {
         let made = Made {
             manner: Manner::Line,
             new: None,
             old: None,
         };
-        let number = self.add(None, made, 0, 0, &[])?;
-        self.wait(number, 0)
+        let number = self.add(None, made, 0, 0, &[]);
+        self.wait(number, 0);
+    }
+
+    /// Notes that memory ran out.
+    pub(crate) fn note_lack(&mut self) {
+        self.lacks = true;
+    }
+
+    /// Notes whether something was kept.
+    fn note_done(&mut self, is_done: bool) {
+        if !is_done {
+            self.lacks = true;
+        }
+    }
+
+    /// What was answered, or false where memory ran out, which is noted.
+    pub(crate) fn holds(&mut self, answer: Result<bool, AllocError>) -> bool {
+        match answer {
+            Ok(holds) => holds,
+            Err(AllocError) => {
+                self.lacks = true;
+                false
+            }
+        }
+    }
+
+    /// Whether nothing is missing of what was kept or made.
+    ///
+    /// # Errors
+    ///
+    /// When memory ran out.
+    pub(crate) fn finish(&self) -> Result<(), AllocError> {
+        if self.lacks {
+            return Err(AllocError);
+        }
+        Ok(())
     }
 
     /// Whether a try of code of so many instructions is left, which is used.
@@ -105,7 +143,7 @@ impl Ledger {
 
     /// Whether anything may still be tried.
     fn is_left(&self) -> bool {
-        self.aim.tries > 0 && self.aim.work > 0
+        !self.lacks && self.aim.tries > 0 && self.aim.work > 0
     }
 
     /// Whether so many tries of code of so many instructions are more than are left.
@@ -169,10 +207,10 @@ impl Ledger {
     }
 
     /// Keeps a set with edited lines.
-    pub(crate) fn keep(&mut self, set: DriverSet) -> Result<(), AllocError> {
-        self.made.push(set)?;
+    pub(crate) fn keep(&mut self, set: DriverSet) {
+        let done = self.made.push(set).is_ok();
+        self.note_done(done);
         self.sets = self.sets.saturating_add(1);
-        Ok(())
     }
 
     /// Adds a node, and answers its number.
@@ -183,12 +221,11 @@ impl Ledger {
         cost: u32,
         set: usize,
         changes: &[Placed],
-    ) -> Result<usize, AllocError> {
+    ) -> usize {
         let edits = self.edits_behind(parent);
         let number = self.nodes.len();
         let first = self.changes.len();
-        self.changes.extend_from_slice(changes)?;
-        self.nodes.push(Node {
+        let node = Node {
             parent,
             edits,
             cost,
@@ -196,8 +233,12 @@ impl Ledger {
             set,
             first,
             count: changes.len(),
-        })?;
-        Ok(number)
+        };
+        let are_kept = self.changes.extend_from_slice(changes).is_ok();
+        self.note_done(are_kept);
+        let is_kept = self.nodes.push(node).is_ok();
+        self.note_done(is_kept);
+        number
     }
 
     /// How many edits there are behind a node.
@@ -212,15 +253,21 @@ impl Ledger {
     }
 
     /// Lets a node wait.
-    pub(crate) fn wait(&mut self, number: usize, cost: u32) -> Result<(), AllocError> {
+    pub(crate) fn wait(&mut self, number: usize, cost: u32) {
         let key = u64::from(cost) << 32 | (number as u64 & 0xffff_ffff);
-        self.queue.push(!key)?;
-        Ok(())
+        let done = self.queue.push(!key).is_ok();
+        self.note_done(done);
     }
 
     /// Notes code, and answers whether it is new.
-    pub(crate) fn note(&mut self, key: u64) -> Result<bool, AllocError> {
-        Ok(self.seen.insert(key)?)
+    pub(crate) fn note(&mut self, key: u64) -> bool {
+        match self.seen.insert(key) {
+            Ok(is_new) => is_new,
+            Err(_) => {
+                self.lacks = true;
+                false
+            }
+        }
     }
 
     /// Whether code is known as a solution of a greater cost, which it is no more.
@@ -235,10 +282,11 @@ impl Ledger {
     }
 
     /// Adds a solution behind those that cost no more.
-    pub(crate) fn solve(&mut self, node: usize, cost: u32, key: u64) -> Result<(), AllocError> {
+    pub(crate) fn solve(&mut self, node: usize, cost: u32, key: u64) {
         let place = place_behind(self.solutions.as_slice(), cost);
-        self.solutions.insert(place, Solution { node, cost, key })?;
-        Ok(())
+        let solution = Solution { node, cost, key };
+        let done = self.solutions.insert(place, solution).is_ok();
+        self.note_done(done);
     }
 
     /// The solutions, the best first.

@@ -7,7 +7,7 @@ use crate::pairs::{Made, rebate};
 use crate::task::Task;
 use absstate::Rule;
 use driver_set::{DriverSet, Instr, Items};
-use mend_candidates::Scene;
+use mend_candidates::{Gathered, Scene};
 use mend_changes::{Edit, edited};
 use mend_groups::add_all;
 use mend_reading::form::form_of;
@@ -49,7 +49,7 @@ struct Bench {
     child: Draft,
     reading: Reading,
     next: Reading,
-    list: Candidates,
+    list: Gathered,
 }
 
 impl Bench {
@@ -60,13 +60,13 @@ impl Bench {
             child: Draft::new(alloc),
             reading: Reading::new(alloc),
             next: Reading::new(alloc),
-            list: Candidates::new(alloc),
+            list: Gathered::new(alloc),
         }
     }
 
     /// A candidate, with the code that was made of it last.
     fn tried(&self, candidate: Candidate) -> Tried<'_> {
-        let changes = self.list.changes_of(&candidate);
+        let changes = self.list.candidates.changes_of(&candidate);
         Tried {
             candidate,
             changes,
@@ -117,7 +117,7 @@ pub fn find_mends(
 
 /// The mends of a task, the best first.
 fn mends_of(task: &Task, set: &DriverSet, aim: Aim) -> Result<Vec<Found>, AllocError> {
-    let mut ledger = Ledger::begin(task.alloc, aim)?;
+    let mut ledger = Ledger::begin(task.alloc, aim);
     search(task, set, &mut ledger, aim.tries)?;
     found_edits(task, &ledger)
 }
@@ -148,7 +148,7 @@ fn look_at_all(
             look_at(task, sets, ledger, bench, number)?;
         }
     }
-    Ok(())
+    ledger.finish()
 }
 
 /// Tries the candidates of a node, if its code can be made, and takes the sets that they made.
@@ -265,14 +265,15 @@ fn try_all(
     ledger: &mut Ledger,
     bench: &mut Bench,
 ) -> Result<(), AllocError> {
-    let (count, length) = (bench.list.as_slice().len(), bench.draft.code.len());
+    let list = &bench.list.candidates;
+    let (count, length) = (list.as_slice().len(), bench.draft.code.len());
     if ledger.is_narrow() && here.node.edits == 0 {
         ledger.bind(probe(task, subject, here, bench)?);
     }
     let by_cost = ledger.lacks_tries(count, length);
-    let places = order_of(task.alloc, &bench.list, by_cost)?;
+    let places = order_of(task.alloc, &bench.list.candidates, by_cost)?;
     for place in places.iter() {
-        if !try_at(task, subject, here, ledger, bench, *place)? {
+        if !try_at(task, subject, here, ledger, bench, *place) {
             break;
         }
     }
@@ -288,12 +289,12 @@ fn try_at(
     ledger: &mut Ledger,
     bench: &mut Bench,
     place: usize,
-) -> Result<bool, AllocError> {
-    let Some(candidate) = bench.list.as_slice().get(place).copied() else {
-        return Ok(false);
+) -> bool {
+    let Some(candidate) = bench.list.candidates.as_slice().get(place).copied() else {
+        return false;
     };
     if !ledger.counts(least_cost(here, &candidate)) {
-        return Ok(true);
+        return true;
     }
     let read = match candidate.manner {
         Manner::Line => task.size,
@@ -301,9 +302,9 @@ fn try_at(
     };
     let is_left = ledger.uses_try(read);
     if is_left {
-        try_candidate(task, subject, here, ledger, bench, candidate)?;
+        try_candidate(task, subject, here, ledger, bench, candidate);
     }
-    Ok(is_left)
+    is_left
 }
 
 /// What a solution costs which is one of the cheapest candidates, if one of them is.
@@ -313,7 +314,7 @@ fn probe(
     here: &Here,
     bench: &mut Bench,
 ) -> Result<u32, AllocError> {
-    let places = order_of(task.alloc, &bench.list, true)?;
+    let places = order_of(task.alloc, &bench.list.candidates, true)?;
     for place in places.iter().take(PROBES) {
         if let Some(cost) = probe_at(task, subject, here, bench, *place)? {
             return Ok(cost);
@@ -330,7 +331,7 @@ fn probe_at(
     bench: &mut Bench,
     place: usize,
 ) -> Result<Option<u32>, AllocError> {
-    let Some(candidate) = bench.list.as_slice().get(place).copied() else {
+    let Some(candidate) = bench.list.candidates.as_slice().get(place).copied() else {
         return Ok(None);
     };
     if candidate.manner == Manner::Line || !make(subject, here, bench, &candidate)? {
@@ -387,28 +388,35 @@ fn try_candidate(
     ledger: &mut Ledger,
     bench: &mut Bench,
     candidate: Candidate,
-) -> Result<(), AllocError> {
+) {
     if candidate.manner == Manner::Line {
-        let changes = bench.list.changes_of(&candidate);
+        let changes = bench.list.candidates.changes_of(&candidate);
         let code = bench.draft.code.as_slice();
         let tried = Tried {
             candidate,
             changes,
             code,
         };
-        return try_line(task, subject, here, ledger, &tried);
+        try_line(task, subject, here, ledger, &tried)
+    } else if ledger.holds(make(subject, here, bench, &candidate)) {
+        let fault = bench.next.fault;
+        let tried = bench.tried(candidate);
+        keep_made(task, subject, here, ledger, &tried, fault)
     }
-    if !make(subject, here, bench, &candidate)? {
-        return Ok(());
-    }
-    let fault = bench.next.fault;
-    let tried = bench.tried(candidate);
+}
+
+/// Keeps a candidate whose code was made and read, if it leads on or mends the routine.
+fn keep_made(
+    task: &Task,
+    subject: &Subject,
+    here: &Here,
+    ledger: &mut Ledger,
+    tried: &Tried,
+    fault: Option<Fault>,
+) {
     match fault {
-        Some(fault) => keep_on(task, subject, here, ledger, &tried, fault),
-        None => {
-            let cost = cost_of(task, subject, here, &tried);
-            keep_solution(here, ledger, &tried, cost)
-        }
+        Some(fault) => keep_on(task, subject, here, ledger, tried, fault),
+        None => keep_solution(here, ledger, tried, cost_of(task, subject, here, tried)),
     }
 }
 
@@ -419,7 +427,7 @@ fn make(
     bench: &mut Bench,
     candidate: &Candidate,
 ) -> Result<bool, AllocError> {
-    let changes = bench.list.changes_of(candidate);
+    let changes = bench.list.candidates.changes_of(candidate);
     bench.child.take_code(bench.draft.code.as_slice())?;
     if !bench.child.apply(changes)? {
         return Ok(false);
@@ -440,33 +448,30 @@ fn keep_on(
     ledger: &mut Ledger,
     tried: &Tried,
     fault: Fault,
-) -> Result<(), AllocError> {
+) {
     let Some(more) = cost_on(here, tried, fault) else {
-        return Ok(());
+        return;
     };
     let cost = cost_of(task, subject, here, tried).saturating_add(more);
-    if ledger.counts(cost) && ledger.note(key_of(tried.code, here.node.set))? {
-        let made = made_by(&tried.candidate);
-        let number = ledger.add(Some(here.number), made, cost, here.node.set, tried.changes)?;
-        ledger.wait(number, cost)?;
+    if ledger.counts(cost) && ledger.note(key_of(tried.code, here.node.set)) {
+        let number = add_node(here, ledger, tried, cost, here.node.set);
+        ledger.wait(number, cost);
     }
-    Ok(())
+}
+
+/// Adds the node that a candidate leads to, of a set, and answers its number.
+fn add_node(here: &Here, ledger: &mut Ledger, tried: &Tried, cost: u32, set: usize) -> usize {
+    let made = made_by(&tried.candidate);
+    ledger.add(Some(here.number), made, cost, set, tried.changes)
 }
 
 /// Keeps a candidate behind which there is no fault, if its code is new or costs less.
-fn keep_solution(
-    here: &Here,
-    ledger: &mut Ledger,
-    tried: &Tried,
-    cost: u32,
-) -> Result<(), AllocError> {
+fn keep_solution(here: &Here, ledger: &mut Ledger, tried: &Tried, cost: u32) {
     let key = key_of(tried.code, here.node.set);
-    if ledger.note(key)? || ledger.drops_dearer(key, cost) {
-        let made = made_by(&tried.candidate);
-        let number = ledger.add(Some(here.number), made, cost, here.node.set, tried.changes)?;
-        ledger.solve(number, cost, key)?;
+    if ledger.note(key) || ledger.drops_dearer(key, cost) {
+        let number = add_node(here, ledger, tried, cost, here.node.set);
+        ledger.solve(number, cost, key);
     }
-    Ok(())
 }
 
 /// How many positions of a node's code are read alike behind a candidate: none where loops change.
@@ -569,16 +574,11 @@ fn key_of(code: &[Instr], set: usize) -> u64 {
 }
 
 /// Tries an edit of lines. It costs more where another routine has a fault then.
-fn try_line(
-    task: &Task,
-    subject: &Subject,
-    here: &Here,
-    ledger: &mut Ledger,
-    tried: &Tried,
-) -> Result<(), AllocError> {
-    match set_with(task, subject.set, tried.changes)? {
-        Some(set) => try_set(task, subject, here, ledger, tried, set),
-        None => Ok(()),
+fn try_line(task: &Task, subject: &Subject, here: &Here, ledger: &mut Ledger, tried: &Tried) {
+    match set_with(task, subject.set, tried.changes) {
+        Ok(Some(set)) => try_set(task, subject, here, ledger, tried, set),
+        Ok(None) => {}
+        Err(AllocError) => ledger.note_lack(),
     }
 }
 
@@ -590,19 +590,17 @@ fn try_set(
     ledger: &mut Ledger,
     tried: &Tried,
     set: DriverSet,
-) -> Result<(), AllocError> {
+) {
     let cost = cost_of(task, subject, here, tried);
-    match outcome_in(task, &set, tried.code)? {
-        Outcome::Absent => Ok(()),
-        Outcome::Fine => {
-            let spoils = spoils_others(task, subject.set, &set)?;
+    match outcome_in(task, &set, tried.code) {
+        Ok(Outcome::Absent) => {}
+        Ok(Outcome::Fine) => {
+            let spoils = ledger.holds(spoils_others(task, subject.set, &set));
             let more = if spoils { 120 } else { 0 };
             solve_line(here, ledger, tried, cost.saturating_add(more))
         }
-        Outcome::Faulty(fault) => match cost_on(here, tried, fault) {
-            Some(more) => keep_set(here, ledger, tried, cost.saturating_add(more), set),
-            None => Ok(()),
-        },
+        Ok(Outcome::Faulty(fault)) => keep_set(here, ledger, tried, cost, fault, set),
+        Err(AllocError) => ledger.note_lack(),
     }
 }
 
@@ -628,29 +626,28 @@ fn outcome_in(task: &Task, set: &DriverSet, code: &[Instr]) -> Result<Outcome, A
 }
 
 /// Keeps an edit of lines behind which there is no fault.
-fn solve_line(
-    here: &Here,
-    ledger: &mut Ledger,
-    tried: &Tried,
-    cost: u32,
-) -> Result<(), AllocError> {
-    let (made, set) = (made_by(&tried.candidate), ledger.next_set());
-    let next = ledger.add(Some(here.number), made, cost, set, tried.changes)?;
-    ledger.solve(next, cost, u64::MAX)
+fn solve_line(here: &Here, ledger: &mut Ledger, tried: &Tried, cost: u32) {
+    let set = ledger.next_set();
+    let next = add_node(here, ledger, tried, cost, set);
+    ledger.solve(next, cost, u64::MAX);
 }
 
-/// Keeps an edit of lines that leads on, with the set that it makes.
+/// Keeps an edit of lines, with the set that it makes, if it leads on to a fault.
 fn keep_set(
     here: &Here,
     ledger: &mut Ledger,
     tried: &Tried,
     cost: u32,
+    fault: Fault,
     set: DriverSet,
-) -> Result<(), AllocError> {
-    let (made, number) = (made_by(&tried.candidate), ledger.next_set());
-    ledger.keep(set)?;
-    let next = ledger.add(Some(here.number), made, cost, number, tried.changes)?;
-    ledger.wait(next, cost)
+) {
+    if let Some(more) = cost_on(here, tried, fault) {
+        let cost = cost.saturating_add(more);
+        let number = ledger.next_set();
+        ledger.keep(set);
+        let next = add_node(here, ledger, tried, cost, number);
+        ledger.wait(next, cost);
+    }
 }
 
 /// A set with these changes of lines.
