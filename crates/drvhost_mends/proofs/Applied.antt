@@ -1,115 +1,50 @@
 -- Offers that are applied, and how a job goes that writes what one makes.
-use Rattle.std.proofs.Common.{◌≡◌, ℕ, ◌++◌, ◌∙◌, ◌⊎◌, inl, inr, Bool, false, List, [], Option, Some, None, Result, Ok, Err, append_assoc, append-nil, refl, ap, sym, subst}
+use Rattle.std.proofs.Common.{◌≡◌, ℕ, ◌++◌, ◌∙◌, ◌⊎◌, inl, inr, Bool, List, [], Option, Some, None, Result, Ok, Err, append_assoc, append-nil, refl, ap, sym, subst}
 use Rattle.drvhost_devices.specs.Answer.{Answer, FileSays, IsOfFile, end_status, ended}
 use Rattle.drvhost_devices.specs.Device.{Bytes, Holds, Supply}
 use Rattle.drvhost_devices.specs.Ends.{IsOfSupply}
 use Rattle.drvhost_devices.specs.Fault.{Goes, ReadsSet, fault_status, status_of}
 use Rattle.drvhost_devices.specs.declared.fault.End.{End}
-use Rattle.drvhost_devices.specs.declared.fault.End.TheVariants.{Stopped}
 use Rattle.drvhost_devices.specs.declared.fault.Fault.{Fault}
 use Rattle.drvhost_devices.specs.declared.fault.Fault.TheVariants.{Read, Write, Memory, Text, Image, Schedule as OfSchedule, Script as OfScript}
 use Rattle.drvhost_devices.proofs.Doing.{goes_rightly, set_unread}
-use Rattle.drvhost_devices.specs.declared.wanted.Wanted.{Wanted}
 use Rattle.model.specs.declared.abs.Refusal.{Refusal}
 use Rattle.model.specs.Set.{Set}
 use Rattle.model.specs.Typable.{IsFirstFault}
 use Rattle.report.specs.Verdict.{refusal_line}
 use Rattle.drvhost_mends.specs.declared.apply.Asked.{Asked}
 use Rattle.drvhost_mends.specs.declared.judged_offers.Applied.{Applied}
-use Rattle.drvhost_mends.specs.declared.judging.Extent.{Extent}
-use Rattle.drvhost_mends.specs.Apply.{Applies, IsApplied, IsAppliedTo, IsApply, IsApplyOf, IsApplyWith, IsWanted, LeavesFor, Shows, Takes, TakesMade, applied_line, unapplied_line}
-use Rattle.drvhost_mends.specs.Mend.{AreOffers, Makes, end_of, is_whole, offer_text, told}
+use Rattle.drvhost_mends.specs.Apply.{IsAppliedTo, IsApply, IsApplyOf, IsApplyWith, LeavesFor, Shows, Takes, TakesMade, applied_of, end_with, last_line, written_of}
+use Rattle.drvhost_mends.specs.Mend.{AreOffers, told}
 
--- the one that is applied stands among more offers
-pub still_applied : (wanted : Option Wanted) (refusal : Refusal) (text offers last : List ℕ)
-    (applied : Option Applied) → Applies wanted refusal text offers applied
-    → Applies wanted refusal text (offers ++ last) applied
-still_applied wanted refusal text offers last None h = tt
-still_applied wanted refusal text offers last (Some a) h =
-    let one : List ℕ = offer_text a.extent a.number h.words h.diff in
-    record {
-      before = h.before;
-      words = h.words;
-      wanted_is = h.wanted_is;
-      diff = h.diff;
-      behind = h.behind ++ last;
-      makes = h.makes;
-      told = ap (λ t. t ++ last) h.told ∙ append_assoc h.before (one ++ h.behind) last
-          ∙ ap (λ t. h.before ++ t) (append_assoc one h.behind last);
-    }
-
--- the last offer is applied
-pub last_applied : (wanted : Option Wanted) (refusal : Refusal) (text offers words diff : List ℕ)
-    (extent : Extent) (number : ℕ) (made : List ℕ) → IsWanted wanted number words
-    → Makes extent refusal text diff made
-    → IsApplied wanted refusal text (offers ++ offer_text extent number words diff) extent number
-    made
-last_applied wanted refusal text offers words diff extent number made is makes =
-    record {
-      before = offers;
-      words = words;
-      wanted_is = is;
-      diff = diff;
-      behind = [];
-      makes = makes;
-      told = ap (λ t. offers ++ t) (sym (append-nil (offer_text extent number words diff)));
-    }
-
--- what is told of a refused set where an offer is applied
-pub applied_one : (asked : Asked) (image : Bool) (text : List ℕ) (set : Set) (refusal : Refusal)
-    (count : ℕ) (whole : Bool) (offers : List ℕ) (applied : Applied) (end : End)
+-- what is told of a refused set, of whose offers one is applied, or none
+pub applied_told : (asked : Asked) (image : Bool) (text : List ℕ) (set : Set) (refusal : Refusal)
+    (count : ℕ) (whole : Bool) (offers : List ℕ) (wanted applied : Option Applied) (end : End)
     (answer output : List ℕ) → IsFirstFault set refusal
-    → AreOffers refusal text count whole offers
-    → Applies (Some asked.wanted) refusal text offers (Some applied) → image ≡ false
-    → end ≡ end_of (is_whole applied.extent)
+    → AreOffers (Some asked.wanted) refusal text count whole offers wanted
+    → applied_of image wanted ≡ applied → end ≡ end_with applied
     → answer ≡ refusal_line refusal ++ told asked.tries count offers
-    → output ≡ answer ++ applied_line applied.number
-    → IsAppliedTo asked image text set (Some applied.made) (ended end output)
-applied_one asked image text set refusal count whole offers applied end answer output first are is
-    lines ends said all =
+    → output ≡ answer ++ last_line image applied
+    → IsAppliedTo asked image text set (written_of applied) (ended end output)
+applied_told asked image text set refusal count whole offers wanted applied end answer output first
+    are is ends said all =
     let line : List ℕ = refusal_line refusal in
     let offered : List ℕ = told asked.tries count offers in
-    let last : List ℕ = applied_line applied.number in
-    let same : output ≡ line ++ (offered ++ last) =
-    all ∙ ap (λ t. t ++ last) said ∙ append_assoc line offered last in
+    let A : Option Applied → List ℕ = λ a. line ++ (offered ++ last_line image a) in
+    let same : output ≡ A applied =
+    all ∙ ap (λ t. t ++ last_line image applied) said
+    ∙ append_assoc line offered (last_line image applied) in
     record {
       refusal = refusal;
       first = first;
       count = count;
       whole = whole;
       offers = offers;
+      wanted = wanted;
       are = are;
-      is = (
-        lines,
-        applied.extent,
-        applied.number,
-        is,
-        ap (λ e. ended e output) ends
-            ∙ ap (λ t. ended (end_of (is_whole applied.extent)) t) same,
-      );
-    }
-
--- and where none is
-pub applied_none : (asked : Asked) (image : Bool) (text : List ℕ) (set : Set) (refusal : Refusal)
-    (count : ℕ) (whole : Bool) (offers answer output : List ℕ) → IsFirstFault set refusal
-    → AreOffers refusal text count whole offers
-    → answer ≡ refusal_line refusal ++ told asked.tries count offers
-    → output ≡ answer ++ unapplied_line image
-    → IsAppliedTo asked image text set None (ended Stopped output)
-applied_none asked image text set refusal count whole offers answer output first are said all =
-    let line : List ℕ = refusal_line refusal in
-    let offered : List ℕ = told asked.tries count offers in
-    let last : List ℕ = unapplied_line image in
-    let same : output ≡ line ++ (offered ++ last) =
-    all ∙ ap (λ t. t ++ last) said ∙ append_assoc line offered last in
-    record {
-      refusal = refusal;
-      first = first;
-      count = count;
-      whole = whole;
-      offers = offers;
-      are = are;
-      is = ap (λ t. ended Stopped t) same;
+      writes = ap written_of (sym is);
+      is = ap (λ e. ended e output) ends ∙ ap (λ t. ended (end_with applied) t) same
+          ∙ ap (λ a. ended (end_with a) (A a)) (sym is);
     }
 
 -- what is right for the bytes that a source has is right for the source

@@ -1,11 +1,13 @@
 -- Answers on the bytes of a file as answers on its source, and offers one behind another.
 use Rattle.std.proofs.Common.{◌≡◌, ℕ, suc, ◌+◌, ◌++◌, ◌||◌, ◌⊎◌, inl, inr, Bool, List, [], true, Option, Some, None, Result, Ok, Err, IfOk, IfSome, OnOk, ◌∙◌, append_assoc, refl, ap, sym, subst}
+use Rattle.std.specs.Prelude.{if◌then◌else◌}
 use Rattle.drvhost_devices.specs.declared.fault.Fault.{Fault}
 use Rattle.drvhost_devices.specs.declared.fault.Fault.TheVariants.{Read, Memory}
 use Rattle.drvhost_devices.specs.Answer.{Answer, FileSays, IsOfFile}
 use Rattle.drvhost_devices.specs.Device.{Bytes, Holds, Supply}
 use Rattle.drvhost_devices.specs.Ends.{IsOfSupply}
 use Rattle.drvhost_devices.specs.Fault.{Goes, ReadsSet}
+use Rattle.drvhost_devices.specs.declared.wanted.Wanted.{Wanted}
 use Rattle.drvhost_devices.proofs.Writing.{keeps_same}
 use Rattle.model.specs.declared.abs.Refusal.{Refusal}
 use Rattle.model.specs.declared.abs.Rule.TheVariants as Rule
@@ -14,10 +16,11 @@ use Rattle.model.specs.Typable.{IsFirstFault, at_start}
 use Rattle.std.proofs.Math.Numerals.{suc-eq-add-one}
 use Rattle.std.specs.Prelude.{◌≢◌}
 use Rattle.text.specs.Cut.{lines_of}
+use Rattle.drvhost_mends.specs.declared.judged_offers.Applied.{Applied}
 use Rattle.drvhost_mends.specs.declared.judging.Extent.{Extent}
 use Rattle.drvhost_mends.specs.declared.judging.Extent.TheVariants.{Part}
 use Rattle.drvhost_mends.specs.declared.mend.Asked.{Asked}
-use Rattle.drvhost_mends.specs.Mend.{AreOffers, IsMend, IsLater, IsMendOf, IsOf, IsOffer, Makes, NamesOf, are_words, is_whole, offer_text}
+use Rattle.drvhost_mends.specs.Mend.{AreOffers, IsMend, IsLater, IsMendOf, IsOf, IsOffer, Makes, NamesOf, are_words, is_wanted, is_whole, offer_text}
 
 -- nothing goes out where a read fails or memory runs out
 pub unread : (R : Answer → Type 0) (b : Option (List ℕ)) (fault : Fault)
@@ -36,26 +39,44 @@ on_source asked held bytes holds answer (same, is, right) =
     (bytes, holds, subst P is right)
 
 -- one offer more
-pub one_more : (refusal : Refusal) (text : List ℕ) (count : ℕ) (whole : Bool) (written : List ℕ)
-    (extent : Extent) (last : List ℕ) → AreOffers refusal text count whole written
-    → IsOffer refusal text extent (count + 1) last
-    → AreOffers refusal text (count + 1) (whole || is_whole extent) (written ++ last)
-one_more refusal text count whole written extent last all offer =
+one_more : (wanted : Option Wanted) (refusal : Refusal) (text : List ℕ) (count : ℕ) (whole : Bool)
+    (written : List ℕ) (chosen : Option Applied) (words last : List ℕ) (offer : Applied)
+    → AreOffers wanted refusal text count whole written chosen
+    → IsOffer refusal text (count + 1) words last offer
+    → AreOffers wanted refusal text (count + 1) (whole || is_whole offer.extent) (written ++ last)
+    (if is_wanted wanted (count + 1) words then Some offer else chosen)
+one_more wanted refusal text count whole written chosen words last offer all is =
+    let picked : Option Applied =
+    if is_wanted wanted (count + 1) words then Some offer else chosen in
     let P : ℕ → Type 0 =
-    λ n. AreOffers refusal text n (whole || is_whole extent) (written ++ last) in
-    let next : P (suc count) = (whole, written, extent, last, all, offer, refl, refl) in
+    λ n.
+    AreOffers wanted refusal text n (whole || is_whole offer.extent) (written ++ last) picked in
+    let next : P (suc count) =
+    (whole, written, chosen, words, last, offer, all, is, refl, refl, refl) in
     subst P (suc-eq-add-one count) next
 
--- which is shown by its diff, behind words
-pub shown_more : (refusal : Refusal) (text : List ℕ) (count : ℕ) (whole : Bool)
-    (written : List ℕ) (extent : Extent) (words diff made : List ℕ)
-    → AreOffers refusal text count whole written → are_words (lines_of words) ≡ true
-    → Makes extent refusal text diff made
-    → AreOffers refusal text (count + 1) (whole || is_whole extent)
+-- which is shown by its diff, behind words, and is the one that is wanted, or not
+pub shown_more : (wanted : Option Wanted) (refusal : Refusal) (text : List ℕ) (count : ℕ)
+    (whole : Bool) (written : List ℕ) (chosen : Option Applied) (extent : Extent)
+    (words diff made : List ℕ) (is : Bool)
+    → AreOffers wanted refusal text count whole written chosen
+    → are_words (lines_of words) ≡ true → Makes extent refusal text diff made
+    → is_wanted wanted (count + 1) words ≡ is
+    → AreOffers wanted refusal text (count + 1) (whole || is_whole extent)
     (written ++ offer_text extent (count + 1) words diff)
-shown_more refusal text count whole written extent words diff made all worded makes =
-    one_more refusal text count whole written extent (offer_text extent (count + 1) words diff) all
-    (record { words = words; worded = worded; diff = diff; mends = (made, makes); is = refl })
+    (if is then Some (record { number = count + 1; extent = extent; made = made }) else chosen)
+shown_more wanted refusal text count whole written chosen extent words diff made is all worded makes
+    asked =
+    let offer : Applied = record { number = count + 1; extent = extent; made = made } in
+    let last : List ℕ = offer_text extent (count + 1) words diff in
+    let one : IsOffer refusal text (count + 1) words last offer =
+    record { numbered = refl; worded = worded; diff = diff; makes = makes; is = refl } in
+    let P : Bool → Type 0 =
+    λ b.
+    AreOffers wanted refusal text (count + 1) (whole || is_whole extent) (written ++ last)
+    (if b then Some offer else chosen) in
+    subst P asked
+    (one_more wanted refusal text count whole written chosen words last offer all one)
 
 -- what is so of the set that a text names is so of the text
 pub named_of : {E : Type 0} (refusal : Refusal) (made : List ℕ) (set : Set)
@@ -76,12 +97,13 @@ first_fault set refusal (inr first) other = first
 
 -- of a first fault in a later routine a part is mended
 pub part_mended : (set : Set) (left refusal : Refusal) (found : Option Extent)
-    → IsFirstFault set left → IfSome found (λ extent. (extent ≡ Part) × IsLater left refusal)
+    → IsFirstFault set left
+    → IfSome found (λ extent. (extent ≡ Part left) × IsLater left refusal)
     → IfSome found (λ extent. IsOf extent refusal set)
 part_mended set left refusal None first h = tt
 part_mended set left refusal (Some extent) first h =
     let P : Extent → Type 0 = λ e. IsOf e refusal set in
-    subst P (sym h.0) (left, first, h.1)
+    subst P (sym h.0) (first, h.1)
 
 -- the parts of an offer, behind what was written
 pub offer_added : {T E : Type 0} (result : Result T E)
@@ -92,3 +114,11 @@ offer_added (Ok x) old head words shown one two three a b c =
     c ∙ ap (λ t. t ++ shown) (b ∙ ap (λ t. t ++ words) a) ∙ append_assoc (old ++ head) words shown
     ∙ append_assoc old head (words ++ shown)
 offer_added (Err e) old head words shown one two three a b c = tt
+
+-- two parts, one behind the other
+pub added_twice : {T E : Type 0} (result : Result T E) (old first second one two : List ℕ)
+    → one ≡ old ++ first → OnOk result (two ≡ one ++ second)
+    → OnOk result (two ≡ old ++ (first ++ second))
+added_twice (Ok x) old first second one two a b =
+    b ∙ ap (λ t. t ++ second) a ∙ append_assoc old first second
+added_twice (Err e) old first second one two a b = tt

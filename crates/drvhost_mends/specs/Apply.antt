@@ -1,6 +1,5 @@
 -- What `mend` answers where it applies one of its offers, and what it writes then.
-use Rattle.std.specs.Prelude.{ℕ, ⊤, nat_eq, ◌≡◌, ◌++◌, ◌⊎◌, Bool, true, false, List, Option, None, Some, Ok, Err, Result, codes, decimal}
-use Rattle.std.specs.List.{starts_with}
+use Rattle.std.specs.Prelude.{ℕ, ◌≡◌, ◌++◌, ◌⊎◌, Bool, true, false, List, Option, None, Some, Ok, Err, Result, codes, decimal}
 use Rattle.std.specs.Io.KnownBytes.{Appends}
 use Rattle.drvhost_devices.specs.Answer.{Answer, FileSays, IsOfFile, ended, is_image}
 use Rattle.drvhost_devices.specs.declared.fault.End.{End}
@@ -8,61 +7,60 @@ use Rattle.drvhost_devices.specs.declared.fault.End.TheVariants.{Complete, Stopp
 use Rattle.drvhost_devices.specs.declared.fault.Fault.{Fault}
 use Rattle.drvhost_devices.specs.declared.fault.Fault.TheVariants.{Write}
 use Rattle.drvhost_devices.specs.Device.{Holds, Supply, TakesBeginning}
-use Rattle.drvhost_devices.specs.declared.wanted.Wanted.{Wanted}
-use Rattle.drvhost_devices.specs.declared.wanted.Wanted.TheVariants.{Sure, Number}
 use Rattle.model.specs.declared.abs.Refusal.{Refusal}
+use Rattle.model.specs.declared.abs.Rule.{Rule}
 use Rattle.model.specs.Set.{Set}
 use Rattle.model.specs.Typable.{IsFirstFault, IsTypable}
+use Rattle.model.specs.Words.{rule_text}
 use Rattle.report.specs.Verdict.{refusal_line}
 use Rattle.drvhost_mends.specs.declared.judging.Extent.{Extent}
+use Rattle.drvhost_mends.specs.declared.judging.Extent.TheVariants.{Whole, Part}
 use Rattle.drvhost_mends.specs.declared.judged_offers.Applied.{Applied}
 use Rattle.drvhost_mends.specs.declared.apply.Asked.{Asked}
-use Rattle.drvhost_mends.specs.Mend.{AreOffers, Makes, end_of, is_whole, nothing_told, offer_text, text_of, told}
+use Rattle.drvhost_mends.specs.Mend.{AreOffers, end_of, is_whole, nothing_told, text_of, told}
 
--- the offer of a number is wanted, which has these words: of the first they say that it is sure
-abbrev pub IsWanted : Option Wanted → ℕ → List ℕ → Type 0
-IsWanted None number words = ⊥
-IsWanted (Some Sure) number words =
-    (number ≡ 1) × (starts_with nat_eq words (codes "sure") ≡ true)
-IsWanted (Some (Number other)) number words = number ≡ other
+-- what is told behind the offers: which one is applied, and of a part why the set that it makes is
+-- still refused
+abbrev pub rule_left : Rule → List ℕ
+rule_left rule = codes " of a part: still refused by " ++ rule_text rule
 
--- one of the offers that were written is wanted, and its diff makes a text
-pub record IsApplied (wanted : Option Wanted) (refusal : Refusal) (text offers : List ℕ)
-    (extent : Extent) (number : ℕ) (made : List ℕ) : Type 0 where
-  pub before : List ℕ
-  pub words : List ℕ
-  pub wanted_is : IsWanted wanted number words
-  pub diff : List ℕ
-  pub behind : List ℕ
-  pub makes : Makes extent refusal text diff made
-  pub told : offers ≡ before ++ (offer_text extent number words diff ++ behind)
+abbrev pub place_left : Refusal → List ℕ
+place_left left =
+    codes " driver " ++ (decimal left.driver ++ (codes " routine " ++ (decimal left.routine
+    ++ (codes " at " ++ (decimal left.at ++ codes "\n")))))
 
-abbrev pub Applies : Option Wanted → Refusal → List ℕ → List ℕ → Option Applied → Type 0
-Applies wanted refusal text offers None = ⊤
-Applies wanted refusal text offers (Some applied) =
-    IsApplied wanted refusal text offers applied.extent applied.number applied.made
+abbrev pub left_text : Extent → List ℕ
+left_text Whole = codes "\n"
+left_text (Part left) = rule_left left.rule ++ place_left left
 
--- what is told behind the offers
-abbrev pub applied_line : ℕ → List ℕ
-applied_line number = codes "applied mend " ++ (decimal number ++ codes "\n")
+abbrev pub applied_line : ℕ → Extent → List ℕ
+applied_line number extent = codes "applied mend " ++ (decimal number ++ left_text extent)
 
+-- or that none is
 abbrev pub unapplied_line : Bool → List ℕ
 unapplied_line true = codes "none applied: an image has no lines, and `list` writes its text\n"
 unapplied_line false = codes "none applied: only a sure one is, or the one that --nth names\n"
 
--- an answer on a refused text, or on the listing of an image, with these offers: one is applied and
--- makes a text, or none is
-abbrev pub IsTold : Asked → Bool → Refusal → List ℕ → ℕ → List ℕ → Option (List ℕ) → Answer
-    → Type 0
-IsTold asked image refusal text count offers None answer =
-    answer ≡ ended Stopped
-    (refusal_line refusal ++ (told asked.tries count offers ++ unapplied_line image))
-IsTold asked image refusal text count offers (Some made) answer =
-    (image ≡ false) × (extent : Extent) × (number : ℕ)
-    × IsApplied (Some asked.wanted) refusal text offers extent number made
-    × (answer ≡ ended (end_of (is_whole extent))
-    (refusal_line refusal ++ (told asked.tries count offers ++ applied_line number)))
+abbrev pub last_line : Bool → Option Applied → List ℕ
+last_line image None = unapplied_line image
+last_line image (Some applied) = applied_line applied.number applied.extent
 
+-- the offer that is wanted is applied, but to no image
+abbrev pub applied_of : Bool → Option Applied → Option Applied
+applied_of true wanted = None
+applied_of false wanted = wanted
+
+-- what it makes is written, and the whole is mended, or not
+abbrev pub written_of : Option Applied → Option (List ℕ)
+written_of None = None
+written_of (Some applied) = Some applied.made
+
+abbrev pub end_with : Option Applied → End
+end_with None = Stopped
+end_with (Some applied) = end_of (is_whole applied.extent)
+
+-- an answer on a refused text, or on the listing of an image: its first fault, the offers, and
+-- which of them is applied. None is only where none is wanted, or of an image
 pub record IsAppliedTo (asked : Asked) (image : Bool) (text : List ℕ) (set : Set)
     (written : Option (List ℕ)) (answer : Answer) : Type 0 where
   pub refusal : Refusal
@@ -70,8 +68,12 @@ pub record IsAppliedTo (asked : Asked) (image : Bool) (text : List ℕ) (set : S
   pub count : ℕ
   pub whole : Bool
   pub offers : List ℕ
-  pub are : AreOffers refusal text count whole offers
-  pub is : IsTold asked image refusal text count offers written answer
+  pub wanted : Option Applied
+  pub are : AreOffers (Some asked.wanted) refusal text count whole offers wanted
+  pub writes : written ≡ written_of (applied_of image wanted)
+  pub is : answer ≡ ended (end_with (applied_of image wanted))
+      (refusal_line refusal
+      ++ (told asked.tries count offers ++ last_line image (applied_of image wanted)))
 
 -- what is right for a set that the bytes of a file name, where such a text is written, or none
 abbrev pub IsApply : Asked → List ℕ → Option (List ℕ) → Set → Answer → Type 0

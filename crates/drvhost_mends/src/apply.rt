@@ -1,6 +1,6 @@
 //! A mend of a driver set's text, applied.
 
-ghost use Rattle.std.specs.Prelude.{◌≡◌, ◌≤◌, ◌+◌, ◌++◌, ◌⊎◌, [], IfOk, OnOk};
+ghost use Rattle.std.specs.Prelude.{◌≡◌, ◌≤◌, ◌+◌, ◌++◌, ◌⊎◌, [], IfOk, OnOk, string_bytes};
 ghost use Rattle.model.specs.Typable.{IsFirstFault, at_start};
 ghost use Rattle.drvhost_devices.specs.Answer.{ended, is_image};
 ghost use Rattle.drvhost_devices.specs.Device.{CanCount, Says};
@@ -8,10 +8,11 @@ ghost use Rattle.drvhost_devices.specs.Ends.{Answers};
 ghost use Rattle.drvhost_devices.specs.Fault.{Goes, reads_failed, status_of, writes_failed};
 ghost use Rattle.drvhost_devices.specs.Ready.{CanAnswer};
 ghost use Rattle.drvhost_mends.specs.Apply.{IsApply, IsAppliedTo, IsApplyOf, LeavesFor, Shows};
-ghost use Rattle.drvhost_mends.specs.Apply.{Takes, TakesMade, applied_line, unapplied_line};
+ghost use Rattle.drvhost_mends.specs.Apply.{Takes, TakesMade, applied_line, applied_of, left_text};
+ghost use Rattle.drvhost_mends.specs.Apply.{place_left, rule_left, unapplied_line};
 
-use crate::judged_offers::{Offered, offer};
-use crate::judging::verdict;
+use crate::judged_offers::{Applied, Offered, offer};
+use crate::judging::{Extent, verdict};
 use crate::reply::{Reply, end_of, nothing, text_of, told};
 use drvhost_devices::device::{Sink, Source};
 use drvhost_devices::fault::{End, Fault, finish, no_memory};
@@ -168,9 +169,10 @@ fn applying_on_refused(
     let offered = offer(alloc, asked.tries, Some(asked.wanted), text, set, refusal)?;
     let mut answer = told(alloc, asked.tries, refusal, &offered)?;
     let Offered { applied, .. } = offered;
-    match applied {
-        Some(applied) if !begins_image(bytes) => {
-            add_applied(alloc, &mut answer, applied.number)?;
+    let image = begins_image(bytes);
+    match applied_of(image, applied) {
+        Some(applied) => {
+            add_applied(alloc, &mut answer, applied.number, applied.extent)?;
             Ok(Applying {
                 reply: Reply {
                     end: end_of(applied.extent.is_whole()),
@@ -179,8 +181,8 @@ fn applying_on_refused(
                 made: Some(applied.made),
             })
         }
-        _ => {
-            answer.extend_from_slice(unapplied_line(begins_image(bytes)))?;
+        None => {
+            answer.extend_from_slice(unapplied_line(image))?;
             Ok(Applying {
                 reply: Reply {
                     end: End::Stopped,
@@ -192,14 +194,62 @@ fn applying_on_refused(
     }
 }
 
-/// Adds which offer is applied.
-fn add_applied(alloc: Global, text: &mut Vec<u8>, number: u64) -> Result<(), AllocError>
-    ensures { OnOk result (text.new.items ≡ text.old.items ++ applied_line number) }
+/// The offer that is applied: the one that is wanted, but none to an image.
+fn applied_of(image: bool, wanted: Option<Applied>) -> Option<Applied>
+    ensures { result ≡ applied_of image wanted }
+{
+    if image { None } else { wanted }
+}
+
+/// Adds which offer is applied, and of a part why the set is still refused.
+fn add_applied(
+    alloc: Global,
+    text: &mut Vec<u8>,
+    number: u64,
+    extent: Extent,
+) -> Result<(), AllocError>
+    ensures { OnOk result (text.new.items ≡ text.old.items ++ applied_line number extent) }
 {
     let mut line = String::new(alloc);
-    write!(line, "applied mend {number}\n")?;
+    write!(line, "applied mend {number}")?;
+    add_left(&mut line, extent)?;
     text.extend_from_slice(line.as_bytes())?;
     Ok(())
+}
+
+/// Adds what is left where so much is mended.
+fn add_left(line: &mut String, extent: Extent) -> Result<(), AllocError>
+    ensures { OnOk result (string_bytes line.new ≡ string_bytes line.old ++ left_text extent) }
+{
+    match extent {
+        Extent::Whole => line.push_str("\n"),
+        Extent::Part(left) => add_fault_left(line, left),
+    }
+}
+
+/// Adds the first fault of a set of which a part was mended.
+fn add_fault_left(line: &mut String, left: Refusal) -> Result<(), AllocError>
+    ensures { OnOk result
+        (string_bytes line.new ≡ string_bytes line.old ++ (rule_left left.rule ++ place_left left)) }
+{
+    add_rule(line, left.rule)?;
+    add_place(line, left)
+}
+
+/// Adds the rule that is broken then.
+fn add_rule(line: &mut String, rule: Rule) -> Result<(), AllocError>
+    ensures { OnOk result (string_bytes line.new ≡ string_bytes line.old ++ rule_left rule) }
+{
+    line.push_str(" of a part: still refused by ")?;
+    line.push_str(rule.as_str())
+}
+
+/// Adds where it is.
+fn add_place(line: &mut String, left: Refusal) -> Result<(), AllocError>
+    ensures { OnOk result (string_bytes line.new ≡ string_bytes line.old ++ place_left left) }
+{
+    let (driver, routine, at) = (left.driver, left.routine, left.at);
+    write!(line, " driver {driver} routine {routine} at {at}\n")
 }
 
 /// That none is applied.

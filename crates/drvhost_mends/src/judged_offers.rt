@@ -1,10 +1,9 @@
 //! Offers, each of which was judged by its diff.
 
-ghost use Rattle.std.specs.Prelude.{◌≡◌, ◌++◌, ◌||◌, IfOk, OnOk, Some, true};
+ghost use Rattle.std.specs.Prelude.{◌≡◌, ◌++◌, ◌||◌, IfOk, OnOk};
 ghost use Rattle.text.specs.Cut.{lines_of};
-ghost use Rattle.drvhost_mends.specs.Mend.{AreOffers, are_words, diff_shown, extent_text, is_whole};
-ghost use Rattle.drvhost_mends.specs.Mend.{offer_head, offer_text};
-ghost use Rattle.drvhost_mends.specs.Apply.{Applies, IsWanted};
+ghost use Rattle.drvhost_mends.specs.Mend.{AreOffers, are_words, diff_shown, extent_text, is_wanted};
+ghost use Rattle.drvhost_mends.specs.Mend.{is_whole, offer_head, offer_text};
 
 use crate::choosing::choices;
 use crate::judging::{Extent, judge};
@@ -50,10 +49,8 @@ pub(crate) fn offer(
     set: &DriverSet,
     refusal: &Refusal,
 ) -> Result<Offered, AllocError>
-    ensures are { IfOk result (λ offered. AreOffers refusal.now text.now offered.count offered.whole
-        offered.text.items) }
-    ensures applied { IfOk result (λ offered. Applies wanted refusal.now text.now
-        offered.text.items offered.applied) }
+    ensures { IfOk result (λ offered. AreOffers wanted refusal.now text.now offered.count
+        offered.whole offered.text.items offered.applied) }
 {
     let found = find_offers(alloc, set, tries)?;
     let mut offered = Offered {
@@ -82,14 +79,10 @@ fn add_judged(
     proposal: &Proposal,
     wanted: Option<Wanted>,
 ) -> Result<(), AllocError>
-    requires are { AreOffers refusal.now text.now offered.old.count offered.old.whole
-        offered.old.text.items }
-    requires applied { Applies wanted refusal.now text.now offered.old.text.items
-        offered.old.applied }
-    ensures are { OnOk result (AreOffers refusal.now text.now offered.new.count offered.new.whole
-        offered.new.text.items) }
-    ensures applied { OnOk result (Applies wanted refusal.now text.now offered.new.text.items
-        offered.new.applied) }
+    requires { AreOffers wanted refusal.now text.now offered.old.count offered.old.whole
+        offered.old.text.items offered.old.applied }
+    ensures { OnOk result (AreOffers wanted refusal.now text.now offered.new.count
+        offered.new.whole offered.new.text.items offered.new.applied) }
 {
     if offered.count >= MOST {
         return Ok(());
@@ -118,7 +111,7 @@ fn add_judged(
 
 /// Whether the offer of a number is the one that is wanted, by its words.
 fn is_wanted(wanted: Option<Wanted>, number: u64, words: &[u8]) -> bool
-    ensures { result ≡ true → IsWanted wanted number words.now }
+    ensures { result ≡ is_wanted wanted number words.now }
 {
     match wanted {
         Some(Wanted::Sure) => number == 1 && words.starts_with(b"sure"),
@@ -195,6 +188,6 @@ fn extent_text(extent: Extent) -> &'static [u8]
 {
     match extent {
         Extent::Whole => b" of the whole: ",
-        Extent::Part => b" of a part: ",
+        Extent::Part(_) => b" of a part: ",
     }
 }

@@ -17,8 +17,8 @@ use verifier::verify;
 pub enum Extent {
     /// All of it: the set that it names then is accepted.
     Whole,
-    /// A part of it: the first fault of the set that it names then is in a later routine.
-    Part,
+    /// A part of it: the first fault of the set that it names then, which is in a later routine.
+    Part(Refusal),
 }
 
 impl Extent {
@@ -98,10 +98,11 @@ pub(crate) fn verdict(refusal: &Refusal) -> Result<(), AllocError>
 
 /// How much is mended where this is left.
 fn extent_left(left: &Refusal, refusal: &Refusal) -> Option<Extent>
-    ensures { IfSome result (λ extent. (extent ≡ Extent.Part) × IsLater left.now refusal.now) }
+    ensures { IfSome result
+        (λ extent. (extent ≡ Extent.Part left.now) × IsLater left.now refusal.now) }
 {
     if is_later(left, refusal) {
-        Some(Extent::Part)
+        Some(Extent::Part(*left))
     } else {
         None
     }

@@ -1,10 +1,7 @@
-use Rattle.std.proofs.Common.{rules, ◌≡◌, false, Some, subst}
-use Rattle.std.specs.Prelude.{Option}
+use Rattle.std.proofs.Common.{rules, ◌≡◌, None, Some, refl}
 use Rattle.drvhost_devices.specs.Answer.{is_image}
-use Rattle.drvhost_mends.specs.declared.judged_offers.Applied.{Applied}
-use Rattle.drvhost_mends.specs.Apply.{Applies}
-use Rattle.drvhost_mends.specs.Mend.{end_of, is_whole}
-use Rattle.drvhost_mends.proofs.Applied.{applied_none, applied_one}
+use Rattle.drvhost_mends.specs.Apply.{applied_of, end_with}
+use Rattle.drvhost_mends.proofs.Applied.{applied_told}
 use Rattle.drvhost_mends.proofs.Mends.{first_fault}
 use Rattle.drvhost_mends.proofs.apply.applying_on_refused.Goals as goal
 
@@ -12,26 +9,26 @@ pub returns-in-Some : goal.returns-in-Some
 returns-in-Some c =
     let set = c.args.set.now in
     let refusal = c.args.refusal.now in
-    let text = c.args.text.now in
+    let image = is_image c.args.bytes.now in
     let offered = c.in_ok-offered.offered in
     let applied = c.in-Some.applied in
-    let A : Option Applied → Type 0 =
-    Applies (Some c.args.asked.wanted) refusal text offered.text.items in
-    let lines : is_image c.args.bytes.now ≡ false = search rules in
-    let end : c.end_of.result ≡ end_of (is_whole applied.extent) = search rules in
-    applied_one c.args.asked (is_image c.args.bytes.now) text set refusal offered.count
-    offered.whole offered.text.items applied c.end_of.result c.in_ok-answer.answer.items
-    c.add_applied.new.text.items (first_fault set refusal c.requires c.in_ok-verdict.ensures)
-    c.in_ok-offered.ensures.are (subst A c.in-Some.is c.in_ok-offered.ensures.applied) lines end
+    let is : applied_of image offered.applied ≡ Some applied = search rules in
+    let end : c.end_of.result ≡ end_with (Some applied) = search rules in
+    applied_told c.args.asked image c.args.text.now set refusal offered.count offered.whole
+    offered.text.items offered.applied (Some applied) c.end_of.result
+    c.in_ok-answer.answer.items c.add_applied.new.text.items
+    (first_fault set refusal c.requires c.in_ok-verdict.ensures) c.in_ok-offered.ensures is end
     c.in_ok-answer.ensures (search rules)
 
 pub returns : goal.returns
 returns c =
     let set = c.args.set.now in
     let refusal = c.args.refusal.now in
+    let image = is_image c.args.bytes.now in
     let offered = c.in_ok-offered.offered in
-    applied_none c.args.asked (is_image c.args.bytes.now) c.args.text.now set refusal offered.count
-    offered.whole offered.text.items c.in_ok-answer.answer.items
+    let is : applied_of image offered.applied ≡ None = search rules in
+    applied_told c.args.asked image c.args.text.now set refusal offered.count offered.whole
+    offered.text.items offered.applied None _ c.in_ok-answer.answer.items
     c.extend_from_slice.new.self.items
-    (first_fault set refusal c.requires c.in_ok-verdict.ensures) c.in_ok-offered.ensures.are
+    (first_fault set refusal c.requires c.in_ok-verdict.ensures) c.in_ok-offered.ensures is refl
     c.in_ok-answer.ensures (search rules)

@@ -1,4 +1,3 @@
-use Rattle.drvhost_mends.specs.Apply.{Applies}
 use Rattle.drvhost_mends.specs.Mend.{AreOffers}
 use Rattle.drvhost_mends.proofs.judged_offers.offer.Given as goal
 
@@ -7,5 +6,5 @@ abbrev pub invariant-loop-choice : goal.invariant-loop-choice
 invariant-loop-choice l =
     (goal.iterator-loop-choice).can_next l.choice-iterator
     × (goal.iterator-loop-choice).is_finite l.choice-iterator
-    × AreOffers l.fn.refusal l.fn.text l.offered.count l.offered.whole l.offered.text.items
-    × Applies l.fn.wanted l.fn.refusal l.fn.text l.offered.text.items l.offered.applied
+    × AreOffers l.fn.wanted l.fn.refusal l.fn.text l.offered.count l.offered.whole
+    l.offered.text.items l.offered.applied
