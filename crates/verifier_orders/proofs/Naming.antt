@@ -69,7 +69,7 @@ named_some : (way : List NumberedEdge) → way ≢ [] → all_named way ≢ []
 named_some [] some = absurd (some refl)
 named_some (e ∷ way) some = λ is. cc
 
-named_each : (P : Edge → Type 0) (way : List NumberedEdge)
+pub named_each : (P : Edge → Type 0) (way : List NumberedEdge)
     → All (λ (e : NumberedEdge). P (named e)) way → All P (all_named way)
 named_each P [] each k d l = absurd (omega arith)
 named_each P (e ∷ way) each zero d l = each zero e (omega arith)
@@ -120,7 +120,7 @@ named_under set driver held taken h t u first second =
     (subst (λ (g : Guard). Same set driver held g u.number u.position) second (u, refl, refl))
 
 module _ (set : Set) (typable : IsTypable set) (sound : IsSound set) (driver : ℕ) where
-  named_edge : (e : NumberedEdge) → IsNumberedEdge set driver e → IsEdge set driver (named e)
+  pub named_edge : (e : NumberedEdge) → IsNumberedEdge set driver e → IsEdge set driver (named e)
   named_edge e is =
       let same : Same set driver (guard_of e.held) (guard_of e.taken) is.under.number
       is.under.position =

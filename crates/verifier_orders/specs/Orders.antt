@@ -14,6 +14,19 @@ pub record IsEdge (set : Set) (driver : ℕ) (e : Edge) : Type 0 where
   pub routine : under.number ≡ e.routine
   pub position : under.position ≡ e.at
 
+-- one of some edges is between these locks
+abbrev pub HasPair : List Edge → Guard → Guard → Type 0
+HasPair pairs held taken =
+    (k : ℕ) × (e : Edge) × (slice_get pairs k ≡ Some e) × (e.held ≡ held) × (e.taken ≡ taken)
+
+-- which lock the routines of a driver take under which: a place for each two locks of which one is
+-- taken while the other is held, and for no others
+pub record ArePairs (set : Set) (driver : ℕ) (pairs : List Edge) : Type 0 where
+  pub each : All (IsEdge set driver) pairs
+  pub all : (held taken : Guard) → TakesUnder set driver held taken → HasPair pairs held taken
+  pub once : (j k : ℕ) (e f : Edge) → slice_get pairs j ≡ Some e → slice_get pairs k ≡ Some f
+      → e.held ≡ f.held → e.taken ≡ f.taken → j ≡ k
+
 -- edges from a lock to another: each takes the lock under which the next one is taken
 abbrev pub LeadOn : Guard → List Edge → Guard → Type 0
 LeadOn lock [] to = lock ≡ to

@@ -2,7 +2,7 @@
 
 ghost use Rattle.std.specs.Prelude.{IfOk, length};
 ghost use Rattle.laws_runs.specs.Order.{HasLockOrders};
-ghost use Rattle.verifier_orders.specs.Orders.{AreAllOrdered, AreLockOrders, IsLockOrder};
+ghost use Rattle.verifier_orders.specs.Orders.{AreAllOrdered, AreLockOrders, ArePairs, IsLockOrder};
 
 use crate::cycle::shortest_cycle;
 use crate::edges::edges_of;
@@ -56,4 +56,20 @@ pub fn orders_of(alloc: Global, accepted: &Accepted) -> Result<Vec<LockOrder>, A
         orders.push(order_of(alloc, accepted, driver as u8)?)?;
     }
     Ok(orders)
+}
+
+/// Which lock the routines of a driver of an accepted set take while they hold which: a place for
+/// each two such locks, by routine and position. There is none where no routine holds two locks at
+/// once.
+///
+/// # Errors
+///
+/// When memory runs out.
+pub fn pairs_of(alloc: Global, accepted: &Accepted, driver: u8) -> Result<Vec<Edge>, AllocError>
+    ensures { IfOk result (λ pairs. ArePairs accepted.now driver pairs.items) }
+{
+    let _drivers = accepted.set().drivers();
+    let edges = edges_of(alloc, accepted, driver)?;
+    let pairs = edges_named(alloc, edges.as_slice())?;
+    Ok(pairs)
 }
