@@ -1,7 +1,7 @@
 -- Walks: moves one after another, from one place on. A move may be made behind others, or not; where
 -- it may be, it goes on or fails. Two walks may lead to places that are one: moves behind them go on
 -- alike.
-use Rattle.std.specs.Prelude.{ℕ, ◌≡◌, ◌<◌, ◌++◌, ◌⊎◌, Bool, true, false, List, [], ◌∷◌, Some, slice_get}
+use Rattle.std.specs.Prelude.{ℕ, ◌≡◌, ◌<◌, ◌++◌, ◌⊎◌, Bool, true, false, List, [], ◌∷◌, Some, length, slice_get}
 
 -- each move of a walk may be made behind those before it, and doesn't fail there
 pub data IsWalk (may fails : List ℕ → ℕ → Bool) : List ℕ → Type 0 where
@@ -39,6 +39,19 @@ pub record AreClosed (may fails : List ℕ → ℕ → Bool) (one : List ℕ →
   pub walks : AreWalks may fails paths
   pub followed : (k : ℕ) (path : List ℕ) (m : ℕ) → slice_get paths k ≡ Some path → m < moves
       → IsFollowed may fails one paths path m
+
+-- each walk that is kept is kept once
+abbrev pub AreOnce : List (List ℕ) → Type 0
+AreOnce paths =
+    (i k : ℕ) (path : List ℕ) → slice_get paths i ≡ Some path → slice_get paths k ≡ Some path
+    → i ≡ k
+
+-- there are more walks than so many, no two of which are the same
+pub record AreMore (may fails : List ℕ → ℕ → Bool) (most : ℕ) : Type 0 where
+  pub paths : List (List ℕ)
+  pub many : most < length paths
+  pub walks : AreWalks may fails paths
+  pub once : AreOnce paths
 
 -- a move behind a walk may be made, and fails
 pub record FailsBehind (may fails : List ℕ → ℕ → Bool) (path : List ℕ) (m : ℕ) : Type 0 where

@@ -24,7 +24,7 @@ pub enum Walked {
     All(Vec<Items<u8>>),
     /// A move fails.
     Fails(Failed),
-    /// There are more places than were wanted.
+    /// There are more walks than were wanted.
     More,
 }
 
@@ -35,7 +35,7 @@ pub(crate) enum Searched {
     All,
     /// A move fails.
     Fails(Failed),
-    /// There are more places than were wanted.
+    /// There are more walks than were wanted.
     More,
 }
 
@@ -213,7 +213,7 @@ fn search<W: Walker + Drop>(
     most: usize,
 ) -> Result<Searched, AllocError>
     requires { IsSearched (W.may home.now) (W.fails home.now) (W.one home.now) moves seen.old 0 }
-    ensures { IfOk result (IsEnded (W.may home.now) (W.fails home.now) (W.one home.now) moves
+    ensures { IfOk result (IsEnded (W.may home.now) (W.fails home.now) (W.one home.now) moves most
         seen.new) }
 {
     for number in 0..most {
@@ -235,8 +235,9 @@ fn search<W: Walker + Drop>(
 }
 
 /// All walks by so many moves from where one stands, of which one is kept for each place, up to so
-/// many places; or a move that fails. Where places that are one go on alike, no move behind any
-/// walk fails then, and each walk leads to the place of one that is kept.
+/// many; or a move that fails; or that there are more walks than so many, no two of them the same.
+/// Where all are kept, and places that are one go on alike, no move behind any walk fails, and each
+/// walk leads to the place of one that is kept.
 ///
 /// # Errors
 ///
@@ -248,7 +249,7 @@ pub fn walk<W: Walker + Drop>(
     most: usize,
 ) -> Result<Walked, AllocError>
     ensures { IfOk result
-        (IsWalked (W.may home.now) (W.fails home.now) (W.one home.now) moves) }
+        (IsWalked (W.may home.now) (W.fails home.now) (W.one home.now) moves most) }
 {
     let key = key_of(alloc, home)?;
     let mut seen = Seen::of(alloc, key)?;

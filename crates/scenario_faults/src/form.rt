@@ -5,7 +5,7 @@ use crate::operand::{DEVICE_STATES, Operand, PACKET_STATES};
 use interleave_texts::faulty::FaultyLine;
 use scenario_expected::expectation::MAX_LISTED;
 use text::class::is;
-use text_faults::forms::{self, form_among, is_one_of};
+use text_faults::forms::is_one_of;
 
 /// What has to stand behind the first words of a line.
 #[derive(Clone, Copy)]
@@ -68,61 +68,29 @@ pub(crate) fn form_of(line: &FaultyLine<'_>, place: usize) -> Option<Form> {
     if is(word, b"run") {
         return Some(run_form(line, behind));
     }
-    let form = worded(word, place)?;
-    Some(of(behind, form.operands, form.least()))
+    let operands = worded(word, place)?;
+    let open = is(word, b"step") || is(word, b"cancel");
+    Some(of(
+        behind,
+        operands,
+        operands.len().saturating_sub(open as usize),
+    ))
 }
 
-/// What stands behind a word at a place, if lines begin with it there.
-fn worded(word: &[u8], place: usize) -> Option<&'static forms::Form<Operand>> {
-    let step = form_among(WORDED.as_slice(), word);
-    if step.is_none() && place == 0 {
-        return form_among(BLOCKS.as_slice(), word);
-    }
-    step
+/// What stands behind a word at a place, if lines begin with it there; of a step and a cancel the
+/// last may be left out.
+fn worded(word: &[u8], place: usize) -> Option<&'static [Operand]> {
+    let operands: &'static [Operand] = match word {
+        b"step" => &[Operand::Thread, Operand::Steps],
+        b"interrupt" => &[Operand::Device],
+        b"dpc" | b"startio" => &[Operand::Thread, Operand::Device],
+        b"cancel" => &[Operand::Thread, Operand::Packet, Operand::Level],
+        b"repeat" if place == 0 => &[Operand::Times],
+        b"end" if place == 0 => &[],
+        _ => return None,
+    };
+    Some(operands)
 }
-
-/// What opens and ends a block.
-static BLOCKS: [forms::Form<Operand>; 2] = [
-    forms::Form {
-        word: "repeat",
-        operands: &[Operand::Times],
-        open: false,
-    },
-    forms::Form {
-        word: "end",
-        operands: &[],
-        open: false,
-    },
-];
-
-/// The steps that have one form.
-static WORDED: [forms::Form<Operand>; 5] = [
-    forms::Form {
-        word: "step",
-        operands: &[Operand::Thread, Operand::Steps],
-        open: true,
-    },
-    forms::Form {
-        word: "interrupt",
-        operands: &[Operand::Device],
-        open: false,
-    },
-    forms::Form {
-        word: "dpc",
-        operands: &[Operand::Thread, Operand::Device],
-        open: false,
-    },
-    forms::Form {
-        word: "startio",
-        operands: &[Operand::Thread, Operand::Device],
-        open: false,
-    },
-    forms::Form {
-        word: "cancel",
-        operands: &[Operand::Thread, Operand::Packet, Operand::Level],
-        open: true,
-    },
-];
 
 const ISSUE: [Operand; 7] = [
     Operand::Name,

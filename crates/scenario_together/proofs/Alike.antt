@@ -6,6 +6,7 @@ use Rattle.model.specs.declared.event.Event.{Event}
 use Rattle.model.specs.declared.event.Event.TheVariants.{Step}
 use Rattle.model.specs.declared.event.Reply.{Reply}
 use Rattle.model.specs.declared.event.Reply.TheVariants.{Refused}
+use Rattle.model.specs.Set.{Set}
 use Rattle.model.specs.Sound.{IsSound}
 use Rattle.model.specs.World.{World}
 use Rattle.scenario_run.proofs.Alike.{alike_in_turn, go_alike, reply_alike}
@@ -15,6 +16,16 @@ use Rattle.scenario_run.specs.Playing.{Playing, one, outcome_of, reply_in, run_o
 use Rattle.scenario_together.specs.Interleaving.{LeadAlike, LeadIf, behind, fails_with, goes_on, is_named, may_step, steps_of}
 use Rattle.hunt_walks.specs.Walks.{AreAlike}
 use Rattle.scenario_world.specs.Going.{goes_on as goes_on_in}
+
+-- what goes alike does so the other way round
+pub turned : (set : Set) (threads : ℕ) (a b : List Event) → GoAlike set threads a b
+    → GoAlike set threads b a
+turned set threads a b alike =
+    record {
+      long = sym alike.long;
+      stand = record { world = sym alike.stand.world; stopped = sym alike.stand.stopped };
+      tell = record { tops = λ n. sym (alike.tell.tops n); bugs = λ n. sym (alike.tell.bugs n) };
+    }
 
 -- with one step more
 steps_more : (path : List ℕ) (t : ℕ) → steps_of (path ++ t ∷ []) ≡ steps_of path ++ Step t ∷ []

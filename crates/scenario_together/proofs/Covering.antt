@@ -12,16 +12,16 @@ use Rattle.scenario_run.specs.Alike.{GoAlike}
 use Rattle.scenario_run.specs.declared.playing.Outcome.{Outcome}
 use Rattle.scenario_run.specs.Playing.{Playing}
 use Rattle.scenario_steps.specs.declared.scenario.Step.{Step}
-use Rattle.scenario_together.proofs.Alike.{fails_same, may_same}
+use Rattle.scenario_together.proofs.Alike.{fails_same, may_same, turned}
 use Rattle.scenario_together.proofs.Ways.{WentAlike, acted_alike}
-use Rattle.scenario_together.specs.Interleaving.{IsEnd, behind, fails_with, may_step, steps_of}
+use Rattle.scenario_together.specs.Interleaving.{IsEnd, LeadAlike, MeetFew, behind, fails_with, may_step, steps_of}
 use Rattle.scenario_together.specs.Joining.{ActedOn, Covers, HasLike, IsAmong, JoinedOn, Known, Moves}
 use Rattle.scenario_together.specs.Likeness.{IsLike, SameWay, same_way}
 use Rattle.scenario_steps.specs.Steps.{together_of}
-use Rattle.scenario_together.specs.Plays.{AllPass, Comes, FailsAt, FailsSo, Leads, LeadsBy, Passes, PassesBy}
+use Rattle.scenario_together.specs.Plays.{AllPass, Comes, FailsAt, FailsSo, Leads, LeadsBy, Passes, PassesBy, worlds_of}
 use Rattle.scenario_together.specs.Together.{GoWell}
 use Rattle.tell_uses.specs.Pending.{AcceptedRunsShowNoDisagreement}
-use Rattle.hunt_walks.specs.Walks.{IsWalk, goes, rests}
+use Rattle.hunt_walks.specs.Walks.{IsMet, IsWalk, goes, rests}
 
 -- with one step more at the end
 pass_more : (p : Playing) (before : List Step) (step : Step) → AllPass p before
@@ -58,12 +58,18 @@ comes_less p (s ∷ before) step r comes =
     record { play = last.play; comes = (comes.0, comes.1, last.comes); leads = last.leads }
 
 pub fails_there : (more : Bool) (p : Playing) (before after : List Step) (step : Step)
-    (q now : Playing) → Comes p before q → FailsSo more q step now
+    (q now : Playing) → AllPass p before → Comes p before q → FailsSo more q step now
     → FailsAt more p (before ++ step ∷ after) step now
-fails_there more p [] after step q now comes fails =
-    inl (refl, subst (λ (x : Playing). FailsSo more x step now) comes fails)
-fails_there more p (s ∷ before) after step q now comes fails =
-    inr (comes.0, comes.1, fails_there more comes.0 before after step q now comes.2 fails)
+fails_there more p before after step q now pass comes fails =
+    record {
+      before = before;
+      later = after;
+      parts = refl;
+      pass = pass;
+      play = q;
+      comes = comes;
+      fails = fails;
+    }
 
 -- before the first step
 single : (p q : Playing) (k : ℕ) → slice_get (p ∷ []) k ≡ Some q → q ≡ p
@@ -152,6 +158,40 @@ module _ (law : SameWorldsGoOnAlike) (named : List Bool) (p : Playing) (others :
       (λ path t. sym (mays path t)) (λ path t. sym (ills path t)) path walk)
       (mays path t ∙ may)
 
+  lead_too : (a b : List ℕ) → LeadAlike p a b → LeadAlike other a b
+  lead_too a b alike_there =
+      alike_in_turn p.set p.threads (behind other a).events (behind p a).events
+      (behind other b).events
+      (turned p.set p.threads (behind p a).events (behind other a).events (behind_alike a))
+      (alike_in_turn p.set p.threads (behind p a).events (behind p b).events
+      (behind other b).events alike_there (behind_alike b))
+
+  met_too : (paths : List (List ℕ)) (path : List ℕ) → IsMet (LeadAlike p) paths path
+      → IsMet (LeadAlike other) paths path
+  met_too paths path met =
+      record {
+        number = met.number;
+        other = met.other;
+        kept = met.kept;
+        same =
+            elim met.same [
+              | inl is ↦ inl is
+              | inr there ↦ inr (lead_too path met.other there)
+            ];
+      }
+
+  few_too : (worlds : ℕ) → MeetFew named worlds p → MeetFew named worlds other
+  few_too worlds meet =
+      record {
+        paths = meet.paths;
+        few = meet.few;
+        met = λ path walk.
+            met_too meet.paths path
+            (meet.met path
+            (walk_too (may_step named other) (fails_with other) (may_step named p) (fails_with p)
+            (λ path t. sym (mays path t)) (λ path t. sym (ills path t)) path walk));
+      }
+
   end_too : (path : List ℕ) → IsEnd named other path → IsEnd named p path
   end_too path end =
       record {
@@ -179,8 +219,11 @@ module _ (law : SameWorldsGoOnAlike) (agreed : AcceptedRunsShowNoDisagreement) (
       → SameWay r q → PassesBy r step o → PassesBy q step o
   pass_way None r q known on way pass =
       ap (λ (x : Outcome). passes step.may x) (sym (went_like r q known on way).outcome) ∙ pass
-  pass_way (Some named) _ _ known on (same_way p others alike) pass =
-      (pass.0, well_too law named p others known.sound alike pass.1)
+  pass_way (Some named) _ _ known on (same_way p others alike) pass = (
+    pass.0,
+    well_too law named p others known.sound alike pass.1,
+    few_too law named p others known.sound alike (worlds_of step.action) pass.2,
+  )
 
   pass_like : (r q : Playing) → Known merges step r → IsLike merges r q → Passes r step
       → Passes q step
@@ -315,13 +358,14 @@ module _ (merges : Bool) (step : Step) (plays next : List Playing)
 
 -- and what they came to together
 module _ (merges : Bool) (step : Step) (named : List Bool) (plays ends : List Playing)
-    (crew : together_of step.action ≡ Some named) (joins : JoinedOn merges named plays ends) where
+    (crew : together_of step.action ≡ Some named)
+    (joins : JoinedOn merges named (worlds_of step.action) plays ends) where
   pub moves_together : Moves merges step plays ends
   moves_together =
       record {
         pass = λ r among.
             subst (λ (o : Option (List Bool)). PassesBy r step o) (sym crew)
-            (joins.there r among, joins.well r among);
+            (joins.there r among, joins.well r among, joins.few r among);
         sound = λ q among.
             let from = joins.sound q among in (
               from.0,

@@ -10,14 +10,14 @@ use Rattle.scenario_together.proofs.Alike.{lead_alike}
 use Rattle.scenario_together.specs.declared.interleaving.Interleaving.{Interleaving}
 use Rattle.scenario_together.specs.Standing.{Stands}
 use Rattle.scenario_together.specs.Ends.{end_if, end_of, ends_of}
-use Rattle.scenario_together.specs.Interleaving.{IsEnd, LeadIf, behind, fails_with, goes_on, is_named, may_step}
+use Rattle.scenario_together.specs.Interleaving.{AreMany, IsEnd, LeadAlike, LeadIf, MeetFew, behind, fails_with, goes_on, is_named, may_step}
 use Rattle.scenario_together.specs.Plays.{AreThere}
 use Rattle.scenario_together.specs.Together.{AreEnds, AreKept, IsReached}
 use Rattle.hunt_walks.proofs.Resting.{none_may, rest_by}
 use Rattle.hunt_walks.specs.Ends.{IsAtEnd, is_rest}
 use Rattle.hunt_walks.specs.declared.search.Failed.{Failed}
 use Rattle.hunt_walks.specs.declared.search.Walked.{Walked}
-use Rattle.hunt_walks.specs.declared.search.Walked.TheVariants.{All, Fails}
+use Rattle.hunt_walks.specs.declared.search.Walked.TheVariants.{All, Fails, More}
 use Rattle.hunt_walks.specs.Searched.{IsWalked}
 use Rattle.hunt_walks.specs.Walks.{AreAlike, AreClosed, AreFew, FailsBehind, IsMet, IsWalk, MeetsAll}
 
@@ -105,6 +105,18 @@ among_later q [] plays among = among
 among_later q (x ∷ before) plays among =
     let later : IsAt q (before ++ plays) = among_later q before plays among in
     record { number = suc later.number; there = later.there }
+
+-- whether or not what goes on alike is taken for one
+met_alike : (merges : Bool) (p : Playing) (paths : List (List ℕ)) (path : List ℕ)
+    → IsMet (LeadIf merges p) paths path → IsMet (LeadAlike p) paths path
+met_alike true p paths path met = met
+met_alike false p paths path met =
+    record {
+      number = met.number;
+      other = met.other;
+      kept = met.kept;
+      same = elim met.same [ inl is ↦ inl is | inr never ↦ absurd never ];
+    }
 
 module _ (named : List Bool) (p : Playing) where
   -- the end of one that is kept is among them
@@ -207,6 +219,14 @@ module _ (named : List Bool) (p : Playing) where
           same = met.same;
         }
 
+    pub meet_few : (worlds : ℕ) → length paths ≤ worlds → MeetFew named worlds p
+    meet_few worlds short =
+        record {
+          paths = paths;
+          few = short;
+          met = λ path walk. met_alike merges p paths path (meets.met path walk);
+        }
+
     pub are_ends : AreEnds merges named p (ends_of named p paths)
     are_ends =
         record {
@@ -251,20 +271,27 @@ few_may named p long path t may =
     named_within named t (may_named (is_named named t) (goes_on (behind p path) t) may) in
     omega (arith, inside, long)
 
--- what a walk of all interleavings has kept, or where one fails
-pub kept_all : (merges : Bool) (named : List Bool) (p : Playing) (paths : Vec (List ℕ))
-    (slice : List (List ℕ)) (walked : Walked)
-    → IsWalked (may_step named p) (fails_with p) (LeadIf merges p) 64 walked
-    → walked ≡ All paths → slice ≡ paths.items → AreKept merges named p slice
-kept_all merges named p paths slice walked is all same =
-    subst (λ (ps : List (List ℕ)). AreKept merges named p ps) (sym same)
-    (subst (λ (w : Walked). IsWalked (may_step named p) (fails_with p) (LeadIf merges p) 64 w)
-    all is)
+-- what a walk of all interleavings has kept, or where one fails, or that there are more
+module _ (merges : Bool) (named : List Bool) (p : Playing) (worlds : ℕ) (walked : Walked)
+    (is : IsWalked (may_step named p) (fails_with p) (LeadIf merges p) 64 worlds walked) where
+  abbrev Comes : Walked → Type 0
+  Comes w = IsWalked (may_step named p) (fails_with p) (LeadIf merges p) 64 worlds w
 
-pub kept_fails : (merges : Bool) (named : List Bool) (p : Playing) (failed : Failed)
-    (walked : Walked) → IsWalked (may_step named p) (fails_with p) (LeadIf merges p) 64 walked
-    → walked ≡ Fails failed
-    → FailsBehind (may_step named p) (fails_with p) failed.path.items failed.number
-kept_fails merges named p failed walked is at =
-    subst (λ (w : Walked). IsWalked (may_step named p) (fails_with p) (LeadIf merges p) 64 w)
-    at is
+  pub kept_all : (paths : Vec (List ℕ)) (slice : List (List ℕ)) → walked ≡ All paths
+      → slice ≡ paths.items → AreKept merges named p slice
+  kept_all paths slice all same =
+      let kept : Comes (All paths) = subst (λ (w : Walked). Comes w) all is in
+      subst (λ (ps : List (List ℕ)). AreKept merges named p ps) (sym same) (kept.0, kept.1)
+
+  pub kept_few : (paths : Vec (List ℕ)) (slice : List (List ℕ)) → walked ≡ All paths
+      → slice ≡ paths.items → length slice ≤ worlds
+  kept_few paths slice all same =
+      let kept : Comes (All paths) = subst (λ (w : Walked). Comes w) all is in
+      subst (λ (ps : List (List ℕ)). length ps ≤ worlds) (sym same) kept.2
+
+  pub kept_fails : (failed : Failed) → walked ≡ Fails failed
+      → FailsBehind (may_step named p) (fails_with p) failed.path.items failed.number
+  kept_fails failed at = subst (λ (w : Walked). Comes w) at is
+
+  pub kept_more : walked ≡ More → AreMany named worlds p
+  kept_more more = subst (λ (w : Walked). Comes w) more is

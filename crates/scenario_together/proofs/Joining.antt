@@ -1,5 +1,5 @@
 -- Threads that run together from several plays.
-use Rattle.std.proofs.Common.{◌≡◌, ◌∙◌, ◌<◌, ◌≤◌, ◌+◌, ◌++◌, ◌⊎◌, ℕ, zero, suc, Bool, true, false, List, [], ◌∷◌, Option, None, Some, ap, get_or, inl, inr, is_some, length, refl, slice_get, subst, sym, take}
+use Rattle.std.proofs.Common.{◌≡◌, ◌∙◌, ◌<◌, ◌≤◌, ◌+◌, ◌++◌, ◌⊎◌, ℕ, zero, suc, Bool, true, false, List, [], ◌∷◌, Option, None, Some, Result, Ok, Err, IfOk, ap, get_or, inl, inr, length, refl, slice_get, subst, sym, take}
 use Rattle.std.proofs.lemmas.List.{take_all, take_more}
 use Rattle.std.proofs.lemmas.Option.{slice_get-get_or, slice_get_within}
 use Rattle.std.specs.Global.{Vec}
@@ -9,6 +9,7 @@ use Rattle.scenario_run.specs.Acting.{acted}
 use Rattle.scenario_run.specs.Alike.{GoAlike}
 use Rattle.scenario_run.specs.Playing.{Playing}
 use Rattle.scenario_steps.specs.declared.scenario.Step.{Step}
+use Rattle.scenario_together.proofs.Alike.{turned}
 use Rattle.scenario_together.proofs.Covering.{moves_alone, moves_together}
 use Rattle.std.specs.Prelude.{option_map}
 use Rattle.scenario_steps.specs.declared.scenario.Action.{Action}
@@ -16,22 +17,14 @@ use Rattle.scenario_together.specs.declared.play.Crew.{Crew}
 use Rattle.scenario_together.specs.declared.play.Joined.{Joined}
 use Rattle.scenario_together.specs.declared.play.Played.{Played}
 use Rattle.scenario_together.specs.declared.play.Joined.TheVariants as joined
-use Rattle.scenario_together.specs.Interleaving.{IsEnd, LeadIf, behind}
-use Rattle.scenario_together.specs.Joining.{ActedAll, ActedOn, FailsIn, FailsJoined, HasLike, IsAmong, JoinedAll, JoinedOn, JoinedOne, Moves, StopsAt, StopsIn}
+use Rattle.scenario_together.specs.declared.together.Together.{Together}
+use Rattle.scenario_together.specs.declared.together.Together.TheVariants as together
+use Rattle.scenario_together.specs.Interleaving.{AreMany, IsEnd, LeadIf, MeetFew, behind}
+use Rattle.scenario_together.specs.Joining.{ActedAll, ActedOn, FailsIn, FailsJoined, HasLike, IsAmong, JoinedAll, JoinedOn, JoinedOne, Leaves, Moves, StopsAt, StopsIn}
 use Rattle.scenario_together.specs.Likeness.{IsLike, same_way}
 use Rattle.scenario_steps.specs.Steps.{together_of}
-use Rattle.scenario_together.specs.Plays.{AreThere, FailsBy}
-use Rattle.scenario_together.specs.Together.{AreEnds, GoWell, IsReached}
-
--- what goes alike does so the other way round
-turned : (set : Set) (threads : ℕ) (a b : List Event) → GoAlike set threads a b
-    → GoAlike set threads b a
-turned set threads a b alike =
-    record {
-      long = sym alike.long;
-      stand = record { world = sym alike.stand.world; stopped = sym alike.stand.stopped };
-      tell = record { tops = λ n. sym (alike.tell.tops n); bugs = λ n. sym (alike.tell.bugs n) };
-    }
+use Rattle.scenario_together.specs.Plays.{AreThere, FailsBy, MeetsBy, worlds_of}
+use Rattle.scenario_together.specs.Together.{AreEnds, GoWell, IsReached, IsTogether}
 
 -- one more at the end of some
 either : (plays : List Playing) (p q : Playing) (k : ℕ)
@@ -79,11 +72,13 @@ no_play : (q : Playing) → IsAmong [] q → ⊥
 no_play q among =
     let no : None ≡ Some q = among.there in cc
 
-pub joined_none : (merges : Bool) (named : List Bool) → JoinedOn merges named [] []
-joined_none merges named =
+pub joined_none : (merges : Bool) (named : List Bool) (worlds : ℕ)
+    → JoinedOn merges named worlds [] []
+joined_none merges named worlds =
     record {
       there = λ p among. absurd (no_play p among);
       well = λ p among. absurd (no_play p among);
+      few = λ p among. absurd (no_play p among);
       sound = λ q among. absurd (no_play q among);
       all = λ p path among end. absurd (no_play p among);
     }
@@ -109,9 +104,9 @@ reached_like merges p plays path reached =
       same = like_by merges p path reached.other reached.same;
     }
 
-module _ (merges : Bool) (named : List Bool) (plays before ends : List Playing) (p : Playing)
-    (so_far : JoinedOn merges named plays before) (here : AreThere named p)
-    (more : AreEnds merges named p ends) where
+module _ (merges : Bool) (named : List Bool) (worlds : ℕ) (plays before ends : List Playing)
+    (p : Playing) (so_far : JoinedOn merges named worlds plays before) (here : AreThere named p)
+    (more : AreEnds merges named p ends) (meet : MeetFew named worlds p) where
   like_more : (q : Playing) → HasLike merges before q → HasLike merges (before ++ ends) q
   like_more q has =
       record {
@@ -128,7 +123,7 @@ module _ (merges : Bool) (named : List Bool) (plays before ends : List Playing) 
         same = has.same;
       }
 
-  pub joined_more : JoinedOn merges named (plays ++ p ∷ []) (before ++ ends)
+  pub joined_more : JoinedOn merges named worlds (plays ++ p ∷ []) (before ++ ends)
   joined_more =
       record {
         there = λ q among.
@@ -140,6 +135,11 @@ module _ (merges : Bool) (named : List Bool) (plays before ends : List Playing) 
             elim (among_either plays p q among) [
               | inl old ↦ so_far.well q old
               | inr new ↦ subst (λ (x : Playing). GoWell named x) (sym new) more.well
+            ];
+        few = λ q among.
+            elim (among_either plays p q among) [
+              | inl old ↦ so_far.few q old
+              | inr new ↦ subst (λ (x : Playing). MeetFew named worlds x) (sym new) meet
             ];
         sound = λ q among.
             elim (among_two before ends q among.number among.there) [
@@ -173,22 +173,24 @@ module _ (merges : Bool) (named : List Bool) (plays before ends : List Playing) 
       }
 
 -- so far, by a place
-pub joined_next : (merges : Bool) (named : List Bool) (plays before ends after : List Playing)
-    (i : ℕ) (p : Playing) → i < length plays → p ≡ get_or plays i p
-    → JoinedOn merges named (take i plays) before → AreThere named p × AreEnds merges named p ends
-    → after ≡ before ++ ends → JoinedOn merges named (take (i + 1) plays) after
-joined_next merges named plays before ends after i p inside is so_far here grown =
+pub joined_next : (merges : Bool) (named : List Bool) (worlds : ℕ)
+    (plays before ends after : List Playing) (i : ℕ) (p : Playing) → i < length plays
+    → p ≡ get_or plays i p → JoinedOn merges named worlds (take i plays) before
+    → AreThere named p × AreEnds merges named p ends × MeetFew named worlds p
+    → after ≡ before ++ ends → JoinedOn merges named worlds (take (i + 1) plays) after
+joined_next merges named worlds plays before ends after i p inside is so_far here grown =
     let further : take (i + 1) plays ≡ take i plays ++ p ∷ [] =
     take_more plays i p inside ∙ ap (λ (x : Playing). take i plays ++ x ∷ []) (sym is) in
-    subst (λ (qs : List Playing). JoinedOn merges named (take (i + 1) plays) qs) (sym grown)
-    (subst (λ (xs : List Playing). JoinedOn merges named xs (before ++ ends)) (sym further)
-    (joined_more merges named (take i plays) before ends p so_far here.0 here.1))
+    subst (λ (qs : List Playing). JoinedOn merges named worlds (take (i + 1) plays) qs) (sym grown)
+    (subst (λ (xs : List Playing). JoinedOn merges named worlds xs (before ++ ends)) (sym further)
+    (joined_more merges named worlds (take i plays) before ends p so_far here.0 here.1 here.2))
 
-pub joined_all : (merges : Bool) (named : List Bool) (plays ends : List Playing) (i : ℕ)
-    → length plays ≤ i → JoinedOn merges named (take i plays) ends
-    → JoinedOn merges named plays ends
-joined_all merges named plays ends i all so_far =
-    subst (λ (xs : List Playing). JoinedOn merges named xs ends) (take_all i plays all) so_far
+pub joined_all : (merges : Bool) (named : List Bool) (worlds : ℕ) (plays ends : List Playing)
+    (i : ℕ) → length plays ≤ i → JoinedOn merges named worlds (take i plays) ends
+    → JoinedOn merges named worlds plays ends
+joined_all merges named worlds plays ends i all so_far =
+    subst (λ (xs : List Playing). JoinedOn merges named worlds xs ends) (take_all i plays all)
+    so_far
 
 -- or not so far
 at_place : (plays : List Playing) (i : ℕ) (p : Playing) → i < length plays → p ≡ get_or plays i p
@@ -199,32 +201,60 @@ at_place plays i p inside is =
       there = slice_get-get_or plays i p inside ∙ ap (λ (x : Playing). Some x) (sym is);
     }
 
-pub failing_in : (merges : Bool) (named : List Bool) (step : Step) (plays : List Playing) (i : ℕ)
-    (p now : Playing) (one : Joined) → i < length plays → p ≡ get_or plays i p
-    → JoinedOne merges named p one → one ≡ joined.Fails now → FailsJoined named step plays now
-failing_in merges named step plays i p now one inside is so fails =
+pub failing_in : (merges : Bool) (named : List Bool) (worlds : ℕ) (step : Step)
+    (plays : List Playing) (i : ℕ) (p now : Playing) (one : Joined) → i < length plays
+    → p ≡ get_or plays i p → JoinedOne merges named worlds p one → one ≡ joined.Fails now
+    → FailsJoined named step plays now
+failing_in merges named worlds step plays i p now one inside is so fails =
     record {
       play = p;
       among = at_place plays i p inside is;
-      fails = subst (λ (j : Joined). JoinedOne merges named p j) fails so;
+      fails = subst (λ (j : Joined). JoinedOne merges named worlds p j) fails so;
     }
 
-pub ends_in : (merges : Bool) (named : List Bool) (p : Playing) (ends : Vec Playing) (one : Joined)
-    → JoinedOne merges named p one → one ≡ joined.Ends ends
-    → AreThere named p × AreEnds merges named p ends.items
-ends_in merges named p ends one so is =
-    subst (λ (j : Joined). JoinedOne merges named p j) is so
+pub ends_in : (merges : Bool) (named : List Bool) (worlds : ℕ) (p : Playing) (ends : Vec Playing)
+    (one : Joined) → JoinedOne merges named worlds p one → one ≡ joined.Ends ends
+    → AreThere named p × AreEnds merges named p ends.items × MeetFew named worlds p
+ends_in merges named worlds p ends one so is =
+    subst (λ (j : Joined). JoinedOne merges named worlds p j) is so
 
-pub more_in : (merges : Bool) (named : List Bool) (plays : List Playing) (i : ℕ) (p now : Playing)
-    (one : Joined) → i < length plays → p ≡ get_or plays i p → JoinedOne merges named p one
-    → one ≡ joined.More now → IsAmong plays now
-more_in merges named plays i p now one inside is so more =
-    let same : now ≡ p = subst (λ (j : Joined). JoinedOne merges named p j) more so in
-    subst (λ (x : Playing). IsAmong plays x) (sym same) (at_place plays i p inside is)
+pub more_in : (merges : Bool) (named : List Bool) (worlds : ℕ) (plays : List Playing) (i : ℕ)
+    (p now : Playing) (one : Joined) → i < length plays → p ≡ get_or plays i p
+    → JoinedOne merges named worlds p one → one ≡ joined.More now
+    → IsAmong plays now × AreMany named worlds now
+more_in merges named worlds plays i p now one inside is so more =
+    let many : AreMany named worlds p × (now ≡ p) =
+    subst (λ (j : Joined). JoinedOne merges named worlds p j) more so in (
+      subst (λ (x : Playing). IsAmong plays x) (sym many.1) (at_place plays i p inside is),
+      subst (λ (x : Playing). AreMany named worlds x) (sym many.1) many.0,
+    )
+
+-- what comes of one play
+pub joined_ends : (merges : Bool) (named : List Bool) (worlds : ℕ) (p home : Playing)
+    (ends : Vec Playing) (found : Together) → AreThere named p → home ≡ p
+    → IsTogether merges named worlds home found → found ≡ together.Ends ends
+    → JoinedOne merges named worlds p (joined.Ends ends)
+joined_ends merges named worlds p home ends found there same so is =
+    let here : IsTogether merges named worlds p found =
+    subst (λ (q : Playing). IsTogether merges named worlds q found) same so in
+    let both : IsTogether merges named worlds p (together.Ends ends) =
+    subst (λ (t : Together). IsTogether merges named worlds p t) is here in
+    (there, both.0, both.1)
+
+pub joined_beyond : (merges : Bool) (named : List Bool) (worlds : ℕ) (p home now : Playing)
+    (found : Together) → home ≡ p → now ≡ p → IsTogether merges named worlds home found
+    → found ≡ together.More → JoinedOne merges named worlds p (joined.More now)
+joined_beyond merges named worlds p home now found same again so is =
+    let here : IsTogether merges named worlds p found =
+    subst (λ (q : Playing). IsTogether merges named worlds q found) same so in (
+      subst (λ (t : Together). IsTogether merges named worlds p t) is here,
+      again,
+    )
 
 -- what a step leaves
 pub left_ends : (merges : Bool) (step : Step) (named : List Bool) (plays ends : List Playing)
-    → together_of step.action ≡ Some named → JoinedOn merges named plays ends
+    → together_of step.action ≡ Some named
+    → JoinedOn merges named (worlds_of step.action) plays ends
     → Moves merges step plays ends
 left_ends merges step named plays ends crew joins =
     moves_together merges step named plays ends crew joins
@@ -241,12 +271,15 @@ left_fails step named plays now crew fails =
     }
 
 pub left_more : (step : Step) (named : List Bool) (plays : List Playing) (now : Playing)
-    → together_of step.action ≡ Some named → IsAmong plays now → StopsIn true step plays now
-left_more step named plays now crew among =
+    → together_of step.action ≡ Some named
+    → IsAmong plays now × AreMany named (worlds_of step.action) now
+    → StopsIn true step plays now
+left_more step named plays now crew more =
     record {
       play = now;
-      among = among;
-      fails = (ap (λ (o : Option (List Bool)). is_some o) crew, refl);
+      among = more.0;
+      fails = subst (λ (o : Option (List Bool)). MeetsBy now step o now) (sym crew)
+          (more.1, refl);
     }
 
 pub left_alone : (merges : Bool) (step : Step) (plays next : List Playing)
@@ -276,11 +309,17 @@ pub over_by : (step : Step) (plays : List Playing) (played : Played) (now : Play
 over_by step plays played now more is stops =
     subst (λ (x : Played). StopsAt step plays x.now x.failed) (sym is) (refl, stops)
 
-pub joined_is : (merges : Bool) (named : List Bool) (step : Step) (plays : List Playing)
-    (all one : Joined) → JoinedAll merges named step plays all → all ≡ one
-    → JoinedAll merges named step plays one
-joined_is merges named step plays all one so is =
-    subst (λ (j : Joined). JoinedAll merges named step plays j) is so
+pub joined_is : (merges : Bool) (named : List Bool) (worlds : ℕ) (step : Step)
+    (plays : List Playing) (all one : Joined) → JoinedAll merges named worlds step plays all
+    → all ≡ one → JoinedAll merges named worlds step plays one
+joined_is merges named worlds step plays all one so is =
+    subst (λ (j : Joined). JoinedAll merges named worlds step plays j) is so
+
+pub joined_so : (merges : Bool) (named : List Bool) (worlds most : ℕ) (step : Step)
+    (plays : List Playing) (all : Joined) → worlds ≡ most
+    → JoinedAll merges named worlds step plays all → JoinedAll merges named most step plays all
+joined_so merges named worlds most step plays all is so =
+    subst (λ (n : ℕ). JoinedAll merges named n step plays all) is so
 
 pub acted_is : (step : Step) (before after : List Playing) (place : Option ℕ)
     → ActedAll step before after place → place ≡ None → ActedOn step before after
@@ -309,3 +348,11 @@ pub taken_at : (plays : List Playing) (place : ℕ) (taken : Playing) → place 
     → taken ≡ get_or plays place taken → slice_get plays place ≡ Some taken
 taken_at plays place taken inside is =
     slice_get-get_or plays place taken inside ∙ ap (λ (x : Playing). Some x) (sym is)
+
+-- whatever is taken for one
+pub each_merges : {E : Type 0} (merges : Bool) (step : Step) (plays next : List Playing)
+    (result : Result (Option Played) E)
+    → IfOk result (λ over. (all : Bool) → Leaves all step plays next over)
+    → IfOk result (Leaves merges step plays next)
+each_merges merges step plays next (Ok over) h = h merges
+each_merges merges step plays next (Err e) h = h

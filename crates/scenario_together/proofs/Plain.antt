@@ -1,5 +1,5 @@
 -- Where no threads run together, steps play one after another, each with what it does alone.
-use Rattle.std.proofs.Common.{◌≡◌, ◌∙◌, Bool, true, false, List, [], ◌∷◌, Option, None, Some, ap, inl, inr, is_some, refl, subst, sym, if◌then◌else◌}
+use Rattle.std.proofs.Common.{◌≡◌, ◌∙◌, ◌++◌, Bool, true, false, List, [], ◌∷◌, Option, None, Some, ap, inl, inr, is_some, refl, subst, sym, if◌then◌else◌}
 use Rattle.std.proofs.lemmas.Bool.{or_parts}
 use Rattle.std.specs.Prelude.{option_map}
 use Rattle.std.specs.List.{list_any}
@@ -9,7 +9,7 @@ use Rattle.scenario_steps.specs.Steps.{is_of, together_of}
 use Rattle.scenario_steps.specs.declared.scenario.Step.{Step}
 use Rattle.scenario_steps.specs.declared.steps.Kind.TheVariants.{Together as TogetherKind}
 use Rattle.scenario_together.specs.declared.play.Failure.{Failure}
-use Rattle.scenario_together.specs.Plays.{AllPass, ArePlain, Comes, ComesIf, FailsAt, FailsBy, FailsSo, Leads, LeadsBy, PassesBy, PlaysTo}
+use Rattle.scenario_together.specs.Plays.{AllPass, ArePlain, Comes, ComesIf, FailsAt, FailsBy, FailsSo, Leads, LeadsBy, MeetsBy, PassesBy, PlaysTo}
 
 -- how a step plays, and those behind it
 abbrev Behind : Step → List Step → Went → Bool → Played
@@ -46,9 +46,7 @@ module _ (p : Playing) (step : Step) (alone : together_of step.action ≡ None) 
   fails_here : (more : Bool) (steps : List Step) (now : Playing) → FailsSo more p step now
       → record { now = now; failed = Some step } ≡ played p (step ∷ steps)
   fails_here true steps now fails =
-      let no : false ≡ true =
-      ap (λ (o : Option (List Bool)). is_some o) (sym alone) ∙ fails.0 in
-      cc
+      absurd (subst (λ (o : Option (List Bool)). MeetsBy p step o now) alone fails)
   fails_here false steps now fails =
       let by : FailsBy p step None now =
       subst (λ (o : Option (List Bool)). FailsBy p step o now) alone fails in
@@ -68,19 +66,28 @@ all_plain p (step ∷ steps) now plain all comes =
     (comes_on p step plain.0 steps now on comes)
     ∙ ap (λ (b : Bool). Behind step steps w b) (sym on)
 
+fails_behind : (more : Bool) (p : Playing) (before later : List Step) (failed : Step)
+    (q now : Playing) → ArePlain (before ++ failed ∷ later) → Comes p before q
+    → FailsSo more q failed now
+    → record { now = now; failed = Some failed } ≡ played p (before ++ failed ∷ later)
+fails_behind more p [] later failed q now plain comes fails =
+    fails_here p failed plain.0 more later now
+    (subst (λ (x : Playing). FailsSo more x failed now) comes fails)
+fails_behind more p (step ∷ before) later failed q now plain comes fails =
+    let w : Went = acted p step.action in
+    fails_behind more w.now before later failed q now plain.1
+    (subst (λ (x : Playing). Comes x before q) (there p step plain.0 comes.0 comes.1) comes.2)
+    fails
+    ∙ ap (λ (b : Bool). Behind step (before ++ failed ∷ later) w b)
+    (sym (passed p step plain.0 comes.0 comes.1))
+
 fails_plain : (more : Bool) (p : Playing) (steps : List Step) (failed : Step) (now : Playing)
     → ArePlain steps → FailsAt more p steps failed now
     → record { now = now; failed = Some failed } ≡ played p steps
-fails_plain more p [] failed now plain fails = absurd fails
-fails_plain more p (step ∷ steps) failed now plain (inl fails) =
-    let left : Step → Played = λ s. record { now = now; failed = Some s } in
-    ap left (sym fails.0) ∙ fails_here p step plain.0 more steps now fails.1
-fails_plain more p (step ∷ steps) failed now plain (inr later) =
-    let w : Went = acted p step.action in
-    fails_plain more w.now steps failed now plain.1
-    (subst (λ (x : Playing). FailsAt more x steps failed now)
-    (there p step plain.0 later.0 later.1) later.2)
-    ∙ ap (λ (b : Bool). Behind step steps w b) (sym (passed p step plain.0 later.0 later.1))
+fails_plain more p steps failed now plain fails =
+    fails_behind more p fails.before fails.later failed fails.play now
+    (subst (λ (all : List Step). ArePlain all) fails.parts plain) fails.comes fails.fails
+    ∙ ap (λ (all : List Step). played p all) (sym fails.parts)
 
 pub plays_plain : (p : Playing) (steps : List Step) (now : Playing) (failed : Option Failure)
     → PlaysTo p steps now failed → ArePlain steps
@@ -125,7 +132,20 @@ module _ (p : Playing) (step : Step) (alone : together_of step.action ≡ None) 
         (subst (λ (x : Playing). Comes x steps q) (there p step alone comes.0 comes.1) comes.2)),
   )
   on_behind steps now (Some failed) on fails =
-      inr ((acted p step.action).now, leads_on p step alone on, fails)
+      record {
+        before = step ∷ fails.before;
+        later = fails.later;
+        parts = ap (λ (all : List Step). step ∷ all) fails.parts;
+        pass = (
+          passes_here on,
+          λ q leads.
+              subst (λ (x : Playing). AllPass x fails.before) (sym (there p step alone q leads))
+              fails.pass,
+        );
+        play = fails.play;
+        comes = ((acted p step.action).now, leads_on p step alone on, fails.comes);
+        fails = fails.fails;
+      }
 
   by_outcome : (steps : List Step) (b : Bool)
       → passes step.may (acted p step.action).outcome ≡ b
@@ -136,7 +156,16 @@ module _ (p : Playing) (step : Step) (alone : together_of step.action ≡ None) 
   by_outcome steps true on later =
       on_behind steps (played (acted p step.action).now steps).now
       (played (acted p step.action).now steps).failed on later
-  by_outcome steps false off later = inl (refl, fails_so off)
+  by_outcome steps false off later =
+      record {
+        before = [];
+        later = steps;
+        parts = refl;
+        pass = tt;
+        play = p;
+        comes = refl;
+        fails = fails_so off;
+      }
 
 played_plays : (p : Playing) (steps : List Step) → ArePlain steps
     → PlaysTo p steps (played p steps).now (failure_of (played p steps).failed)

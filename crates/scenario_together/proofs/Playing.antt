@@ -1,5 +1,5 @@
 -- The steps of a scenario, from every end of interleavings.
-use Rattle.std.proofs.Common.{◌≡◌, ◌∙◌, ◌<◌, ◌+◌, ◌++◌, ◌||◌, ℕ, zero, suc, Bool, true, false, List, [], ◌∷◌, Option, None, Some, IfOk, Result, Ok, Err, ap, drop, get_or, inl, inr, length, refl, slice_get, subst, sym, take}
+use Rattle.std.proofs.Common.{◌≡◌, ◌∙◌, ◌<◌, ◌+◌, ◌++◌, ◌||◌, ℕ, zero, suc, Bool, true, false, List, [], ◌∷◌, Option, None, Some, IfOk, Result, Ok, Err, ap, drop, get_or, inl, inr, is_some, length, refl, slice_get, subst, sym, take}
 use Rattle.std.proofs.Math.Dec.{eqb-suc-zero}
 use Rattle.std.specs.Bool.{◌==◌}
 use Rattle.std.proofs.lemmas.List.{drop_more, take-append-drop, take_more}
@@ -15,7 +15,7 @@ use Rattle.scenario_steps.specs.declared.scenario.Step.{Step}
 use Rattle.scenario_together.proofs.Covering.{covers_on, fails_there}
 use Rattle.scenario_together.proofs.Sets.{acted_over}
 use Rattle.scenario_together.specs.declared.play.Failure.{Failure}
-use Rattle.scenario_together.specs.Joining.{Covers, HasLike, IsAmong, Known, MayMerge, Moves, StopsAt, StopsIn}
+use Rattle.scenario_together.specs.Joining.{Covers, HasLike, IsAmong, Known, Leaves, LeavesAll, MayMerge, Moves, StopsAt, StopsIn}
 use Rattle.scenario_together.proofs.Plain.{plays_plain}
 use Rattle.scenario_together.specs.declared.play.Played.{Played}
 use Rattle.scenario_steps.specs.Steps.{together_of}
@@ -72,7 +72,7 @@ module _ (law : SameWorldsGoOnAlike) (agreed : AcceptedRunsShowNoDisagreement) (
       → FailsAt more p steps step now
   stops_in more plays now covers stops =
       subst (λ (xs : List Step). FailsAt more p xs step now) (parted steps i d inside)
-      (fails_there more p (take i steps) (drop (i + 1) steps) step stops.play now
+      (fails_there more p (take i steps) (drop (i + 1) steps) step stops.play now covers.pass
       (covers.sound stops.play stops.among) stops.fails)
 
   pub stops_there : (plays : List Playing) (now : Playing) (failed : Option Failure)
@@ -82,6 +82,20 @@ module _ (law : SameWorldsGoOnAlike) (agreed : AcceptedRunsShowNoDisagreement) (
   stops_there plays now (Some failure) covers stops =
       subst (λ (x : Step). FailsAt failure.more p steps x now) (sym stops.0)
       (stops_in failure.more plays now covers stops.1)
+
+  -- whether it stops there
+  pub stops_or : (plays next : List Playing) (over : Option Played)
+      → Covers merges p (take i steps) plays → Leaves merges step plays next over
+      → is_some over ≡ true → LeavesAll merges steps p next over
+  stops_or plays next None covers leaves some = cc
+  stops_or plays next (Some played) covers leaves some =
+      stops_there plays played.now played.failed covers leaves
+
+  pub goes_on_there : (plays next : List Playing) (over : Option Played)
+      → Covers merges p (take i steps) plays → Leaves merges step plays next over
+      → is_some over ≡ false → Covers merges p (take (i + 1) steps) next
+  goes_on_there plays next None covers leaves none = covers_next plays next covers leaves
+  goes_on_there plays next (Some played) covers leaves none = cc
 
 -- none is left
 pub none_left : {A : Type 0} (xs : List A) → (length xs == 0) ≡ true → xs ≡ []
@@ -148,3 +162,16 @@ pub plain_ok : {E : Type 0} (p : Playing) (steps : List Step) (result : Result P
     → IfOk result (Plays p steps) → IfOk result (PlaysPlainly p steps)
 plain_ok p steps (Ok play) h = λ plain. plays_plain p steps play.now play.failed h plain
 plain_ok p steps (Err e) h = h
+
+-- what is left of several steps
+pub played_on : (merges : Bool) (steps : List Step) (p : Playing) (plays : List Playing)
+    (over : Option Played) (played : Played) → LeavesAll merges steps p plays over
+    → over ≡ Some played → Plays p steps played
+played_on merges steps p plays over played leaves is =
+    subst (λ (o : Option Played). LeavesAll merges steps p plays o) is leaves
+
+pub covered : (merges : Bool) (steps : List Step) (p : Playing) (plays : List Playing)
+    (over : Option Played) → LeavesAll merges steps p plays over → over ≡ None
+    → Covers merges p steps plays
+covered merges steps p plays over leaves is =
+    subst (λ (o : Option Played). LeavesAll merges steps p plays o) is leaves

@@ -1,12 +1,12 @@
 -- Interleavings of threads: each step is one of a named thread that isn't idle and waits for no
 -- lock.
-use Rattle.std.specs.Prelude.{ℕ, ◌≡◌, ◌++◌, ◌&&◌, not, Bool, true, false, List, map, slice_index_or}
+use Rattle.std.specs.Prelude.{ℕ, ◌≡◌, ◌≤◌, ◌++◌, ◌&&◌, not, Bool, true, false, List, length, map, slice_index_or}
 use Rattle.model.specs.declared.event.Event.{Event}
 use Rattle.model.specs.declared.event.Event.TheVariants as event
 use Rattle.scenario_run.specs.Acting.{passes}
 use Rattle.scenario_run.specs.Alike.{GoAlike}
 use Rattle.scenario_run.specs.Playing.{Playing, one, run_of, world_of}
-use Rattle.hunt_walks.specs.Walks.{IsWalk}
+use Rattle.hunt_walks.specs.Walks.{AreMore, IsMet, IsWalk}
 use Rattle.scenario_world.specs.Going.{goes_on as goes_on_in}
 
 -- a thread goes on: the run hasn't stopped, and the thread has frames and waits for no lock
@@ -44,6 +44,16 @@ LeadIf true p path other = LeadAlike p path other
 -- an interleaving, by the threads whose steps they are; no step of it fails
 abbrev pub IsInterleaving : List Bool → Playing → List ℕ → Type 0
 IsInterleaving named p path = IsWalk (may_step named p) (fails_with p) path
+
+-- there are more interleavings than so many, no two of which are the same
+abbrev pub AreMany : List Bool → ℕ → Playing → Type 0
+AreMany named worlds p = AreMore (may_step named p) (fails_with p) worlds
+
+-- or they lead to so many worlds at most: to those of some, which are no more
+pub record MeetFew (named : List Bool) (worlds : ℕ) (p : Playing) : Type 0 where
+  pub paths : List (List ℕ)
+  pub few : length paths ≤ worlds
+  pub met : (path : List ℕ) → IsInterleaving named p path → IsMet (LeadAlike p) paths path
 
 -- it has come to its end: no named thread may make a step
 pub record IsEnd (named : List Bool) (p : Playing) (path : List ℕ) : Type 0 where

@@ -6,15 +6,14 @@ use Rattle.scenario_run.specs.Acting.{acted, passes}
 use Rattle.scenario_steps.specs.Judging.{expects_audit}
 use Rattle.scenario_run.specs.Playing.{Playing}
 use Rattle.scenario_steps.specs.declared.scenario.Step.{Step}
-use Rattle.scenario_together.specs.Interleaving.{IsEnd, behind}
+use Rattle.scenario_together.specs.Interleaving.{AreMany, IsEnd, MeetFew, behind}
 use Rattle.scenario_together.specs.Likeness.{IsLike}
-use Rattle.scenario_together.specs.Plays.{AllPass, AreThere, Comes, FailsBy, FailsSo, IsMissing, Leads, Passes}
+use Rattle.scenario_together.specs.Plays.{AllPass, AreThere, Comes, FailsBy, FailsSo, IsMissing, Leads, Passes, Plays}
 use Rattle.scenario_together.specs.Together.{AreEnds, GoWell, IsFailing}
 use Rattle.scenario_together.specs.declared.play.Failure.{Failure}
 use Rattle.scenario_together.specs.declared.play.Joined.{Joined}
 use Rattle.scenario_together.specs.declared.play.Joined.TheVariants as joined
-use Rattle.scenario_together.specs.declared.play.Left.{Left}
-use Rattle.scenario_together.specs.declared.play.Left.TheVariants.{On, Over}
+use Rattle.scenario_together.specs.declared.play.Played.{Played}
 
 -- one of some plays
 pub record IsAmong (plays : List Playing) (q : Playing) : Type 0 where
@@ -62,10 +61,12 @@ abbrev pub ActedAll : Step → List Playing → List Playing → Option ℕ → 
 ActedAll step before after None = ActedOn step before after
 ActedAll step before after (Some place) = FailsIn step before after place
 
--- the named threads of each were run together: these are the ends
-pub record JoinedOn (merges : Bool) (named : List Bool) (plays ends : List Playing) : Type 0 where
+-- the named threads of each were run together, with so many worlds at most: these are the ends
+pub record JoinedOn (merges : Bool) (named : List Bool) (worlds : ℕ) (plays ends : List Playing)
+    : Type 0 where
   pub there : (p : Playing) → IsAmong plays p → AreThere named p
   pub well : (p : Playing) → IsAmong plays p → GoWell named p
+  pub few : (p : Playing) → IsAmong plays p → MeetFew named worlds p
   pub sound : (q : Playing) → IsAmong ends q
       → (p : Playing) × IsAmong plays p × (path : List ℕ) × IsEnd named p path × (q ≡ behind p path)
   pub all : (p : Playing) (path : List ℕ) → IsAmong plays p → IsEnd named p path
@@ -83,17 +84,19 @@ pub record FailsJoined (named : List Bool) (step : Step) (plays : List Playing) 
   pub among : IsAmong plays play
   pub fails : FailsBy play step (Some named) now
 
-abbrev pub JoinedOne : Bool → List Bool → Playing → Joined → Type 0
-JoinedOne merges named p (joined.Ends ends) =
-    AreThere named p × AreEnds merges named p ends.items
-JoinedOne merges named p (joined.Fails now) =
+abbrev pub JoinedOne : Bool → List Bool → ℕ → Playing → Joined → Type 0
+JoinedOne merges named worlds p (joined.Ends ends) =
+    AreThere named p × AreEnds merges named p ends.items × MeetFew named worlds p
+JoinedOne merges named worlds p (joined.Fails now) =
     IsFailing named p now ⊎ (IsMissing named p × (now ≡ p))
-JoinedOne merges named p (joined.More now) = now ≡ p
+JoinedOne merges named worlds p (joined.More now) = AreMany named worlds p × (now ≡ p)
 
-abbrev pub JoinedAll : Bool → List Bool → Step → List Playing → Joined → Type 0
-JoinedAll merges named step plays (joined.Ends ends) = JoinedOn merges named plays ends.items
-JoinedAll merges named step plays (joined.Fails now) = FailsJoined named step plays now
-JoinedAll merges named step plays (joined.More now) = IsAmong plays now
+abbrev pub JoinedAll : Bool → List Bool → ℕ → Step → List Playing → Joined → Type 0
+JoinedAll merges named worlds step plays (joined.Ends ends) =
+    JoinedOn merges named worlds plays ends.items
+JoinedAll merges named worlds step plays (joined.Fails now) = FailsJoined named step plays now
+JoinedAll merges named worlds step plays (joined.More now) =
+    IsAmong plays now × AreMany named worlds now
 
 -- a step of each of some plays leads to these
 pub record Moves (merges : Bool) (step : Step) (plays next : List Playing) : Type 0 where
@@ -119,15 +122,20 @@ pub record StopsIn (more : Bool) (step : Step) (plays : List Playing) (now : Pla
   pub among : IsAmong plays play
   pub fails : FailsSo more play step now
 
--- so a step leaves plays: they go on, or it fails in one of them
+-- so a step leaves plays: they go on, or it fails in one of them and the scenario is over
 abbrev pub StopsAt : Step → List Playing → Playing → Option Failure → Type 0
 StopsAt step plays now None = ⊥
 StopsAt step plays now (Some failure) =
     (failure.step ≡ step) × StopsIn failure.more step plays now
 
-abbrev pub Leaves : Bool → Step → List Playing → Left → Type 0
-Leaves merges step plays (On next) = Moves merges step plays next.items
-Leaves merges step plays (Over played) = StopsAt step plays played.now played.failed
+abbrev pub Leaves : Bool → Step → List Playing → List Playing → Option Played → Type 0
+Leaves merges step plays next None = Moves merges step plays next
+Leaves merges step plays next (Some played) = StopsAt step plays played.now played.failed
+
+-- and so do several, from one play on
+abbrev pub LeavesAll : Bool → List Step → Playing → List Playing → Option Played → Type 0
+LeavesAll merges steps p plays None = Covers merges p steps plays
+LeavesAll merges steps p plays (Some played) = Plays p steps played
 
 -- the first of some plays, if there is one
 abbrev pub IsFirstOr : List Playing → Playing → Type 0

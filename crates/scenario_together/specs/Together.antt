@@ -1,10 +1,10 @@
 -- Threads that run in every interleaving from one place of a scenario.
-use Rattle.std.specs.Prelude.{ℕ, ◌≡◌, ◌⊎◌, ⊤, Bool, true, false, List, Some, slice_get}
+use Rattle.std.specs.Prelude.{ℕ, ◌≡◌, ◌⊎◌, Bool, true, false, List, Some, slice_get}
 use Rattle.model.specs.declared.event.Event.TheVariants as event
 use Rattle.scenario_run.specs.Playing.{Playing, happened}
 use Rattle.scenario_together.specs.declared.together.Together.{Together}
 use Rattle.scenario_together.specs.declared.together.Together.TheVariants.{Ends, Fails, More}
-use Rattle.scenario_together.specs.Interleaving.{IsEnd, IsInterleaving, LeadIf, behind, fails_with, may_step}
+use Rattle.scenario_together.specs.Interleaving.{AreMany, IsEnd, IsInterleaving, LeadIf, MeetFew, behind, fails_with, may_step}
 use Rattle.hunt_walks.specs.Walks.{AreAlike, AreClosed, AreFew, FailsBehind, MeetsAll}
 
 -- no step of any interleaving fails
@@ -42,8 +42,9 @@ pub record IsFailing (named : List Bool) (p q : Playing) : Type 0 where
   pub fails : FailsBehind (may_step named p) (fails_with p) path thread
   pub there : q ≡ happened (behind p path) (event.Step thread)
 
--- what threads come to together
-abbrev pub IsTogether : Bool → List Bool → Playing → Together → Type 0
-IsTogether merges named p (Ends plays) = AreEnds merges named p plays.items
-IsTogether merges named p (Fails q) = IsFailing named p q
-IsTogether merges named p More = ⊤
+-- what threads come to together, where so many worlds may be met
+abbrev pub IsTogether : Bool → List Bool → ℕ → Playing → Together → Type 0
+IsTogether merges named worlds p (Ends plays) =
+    AreEnds merges named p plays.items × MeetFew named worlds p
+IsTogether merges named worlds p (Fails q) = IsFailing named p q
+IsTogether merges named worlds p More = AreMany named worlds p

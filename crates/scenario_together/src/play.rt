@@ -1,13 +1,13 @@
 //! The steps of a scenario, one after another, from every end of interleavings.
 
-ghost use Rattle.std.specs.Prelude.{◌≡◌, Bool, IfOk, IsTrue, List, Some, false, option_map};
+ghost use Rattle.std.specs.Prelude.{◌≡◌, ◌∷◌, [], Bool, IfOk, IfSome, IsTrue, List, None, Some};
+ghost use Rattle.std.specs.Prelude.{false, option_map};
 ghost use Rattle.model.specs.Typable.{IsTypable};
-ghost use Rattle.scenario_run.specs.Playing.{Playing};
 ghost use Rattle.scenario_steps.specs.declared.scenario.Step.{Step};
 ghost use Rattle.scenario_together.specs.Joining.{ActedAll, IsFirstOr, JoinedAll, JoinedOne};
-ghost use Rattle.scenario_together.specs.Joining.{Leaves, MayMerge, ThereIf};
+ghost use Rattle.scenario_together.specs.Joining.{Leaves, LeavesAll, MayMerge, ThereIf};
 ghost use Rattle.scenario_steps.specs.Steps.{together_of};
-ghost use Rattle.scenario_together.specs.Plays.{ArePlain, Plays, PlaysPlainly};
+ghost use Rattle.scenario_together.specs.Plays.{ArePlain, Plays, PlaysPlainly, worlds_of};
 
 use crate::interleaving::is_named;
 use crate::together::{MOVES, Together, run_together};
@@ -26,11 +26,11 @@ use verifier::verify;
 #[derive(Clone, Copy)]
 pub struct Failure {
     pub step: Step,
-    /// Whether it fails since more worlds were met there than may be.
+    /// Whether it fails since there are more interleavings there than worlds may be.
     pub more: bool,
 }
 
-/// How a scenario has played: to an end, or to the first step that fails in one interleaving.
+/// How a scenario has played: to an end, or to the first step that fails in some interleaving.
 #[derive(Drop)]
 pub struct Played {
     pub now: Playing,
@@ -44,7 +44,7 @@ pub(crate) enum Joined {
     Ends(Vec<Playing>),
     /// A step of an interleaving fails, or a thread isn't there.
     Fails(Playing),
-    /// From this one more worlds were met than may be.
+    /// From this one there are more interleavings than worlds may be.
     More(Playing),
 }
 
@@ -57,7 +57,8 @@ struct Crew {
 
 /// Those of a step, if it runs any.
 fn crew_of(action: &Action) -> Option<Crew>
-    ensures { together_of action.now ≡ option_map (λ crew. crew.threads) result }
+    ensures threads { together_of action.now ≡ option_map (λ crew. crew.threads) result }
+    ensures worlds { IfSome result (λ crew. crew.worlds ≡ worlds_of action.now) }
 {
     match *action {
         Action::Together { threads, worlds } => Some(Crew { threads, worlds }),
@@ -122,7 +123,7 @@ fn join_all(
     merges: bool,
 ) -> Result<Joined, AllocError>
     ensures { IfOk result (λ joined. (step : Step)
-        → JoinedAll merges crew.threads step plays.now joined) }
+        → JoinedAll merges crew.threads crew.worlds step plays.now joined) }
 {
     let mut all = Vec::new(alloc);
     for playing in plays {
@@ -137,13 +138,14 @@ fn join_all(
 }
 
 /// Threads run together from one play.
+#[tactic(auto, using(crate::proofs::Joining::joined_ends, crate::proofs::Joining::joined_beyond))]
 fn join_one(
     alloc: Global,
     playing: &Playing,
     crew: Crew,
     merges: bool,
 ) -> Result<Joined, AllocError>
-    ensures { IfOk result (JoinedOne merges crew.threads playing.now) }
+    ensures { IfOk result (JoinedOne merges crew.threads crew.worlds playing.now) }
 {
     let home = again(alloc, playing)?;
     if !are_there(&crew.threads, playing) {
@@ -157,42 +159,53 @@ fn join_one(
     }
 }
 
-/// What is left of plays behind a step: they go on, or the scenario has come to its end.
-#[derive(Drop)]
-pub(crate) enum Left {
-    On(Vec<Playing>),
-    Over(Played),
-}
-
-/// A step of each play.
+/// A step of each play: they go on, or it fails in one of them, and the scenario is over.
 fn step_all(
     alloc: Global,
-    mut plays: Vec<Playing>,
+    plays: &mut Vec<Playing>,
     step: &Step,
     merges: bool,
-) -> Result<Left, AllocError>
-    ensures { IfOk result (Leaves merges step.now plays.items) }
+) -> Result<Option<Played>, AllocError>
+    ensures { IfOk result (Leaves merges step.now plays.old.items plays.new.items) }
 {
-    if let Some(crew) = crew_of(&step.action) {
-        let joined = join_all(alloc, plays.as_slice(), crew, merges)?;
-        return Ok(left_by(joined, step));
-    }
-    match act_all(alloc, &mut plays, step)? {
-        Some(place) => Ok(Left::Over(ended(plays.swap_remove(place), step, false))),
-        None => Ok(Left::On(plays)),
+    match crew_of(&step.action) {
+        Some(crew) => {
+            let joined = join_all(alloc, plays.as_slice(), crew, merges)?;
+            Ok(leave(plays, joined, step))
+        }
+        None => act_alone(alloc, plays, step),
     }
 }
 
-/// What threads that run together leave.
-fn left_by(joined: Joined, step: &Step) -> Left
-    ensures { (merges : Bool) (named : List Bool) (plays : List Playing)
-        → together_of step.now.action ≡ Some named
-        → JoinedAll merges named step.now plays joined → Leaves merges step.now plays result }
+/// A step of each play by itself.
+fn act_alone(
+    alloc: Global,
+    plays: &mut Vec<Playing>,
+    step: &Step,
+) -> Result<Option<Played>, AllocError>
+    requires { together_of step.now.action ≡ None }
+    ensures { IfOk result (λ over. (merges : Bool)
+        → Leaves merges step.now plays.old.items plays.new.items over) }
+{
+    match act_all(alloc, plays, step)? {
+        Some(place) => Ok(Some(ended(plays.swap_remove(place), step, false))),
+        None => Ok(None),
+    }
+}
+
+/// What threads that run together leave of plays.
+fn leave(plays: &mut Vec<Playing>, joined: Joined, step: &Step) -> Option<Played>
+    ensures { (merges : Bool) (named : List Bool) → together_of step.now.action ≡ Some named
+        → JoinedAll merges named (worlds_of step.now.action) step.now plays.old.items joined
+        → Leaves merges step.now plays.old.items plays.new.items result }
 {
     match joined {
-        Joined::Ends(plays) => Left::On(plays),
-        Joined::Fails(now) => Left::Over(ended(now, step, false)),
-        Joined::More(now) => Left::Over(ended(now, step, true)),
+        Joined::Ends(ends) => {
+            *plays = ends;
+            None
+        }
+        Joined::Fails(now) => Some(ended(now, step, false)),
+        Joined::More(now) => Some(ended(now, step, true)),
     }
 }
 
@@ -215,25 +228,61 @@ fn first_or(mut plays: Vec<Playing>, other: Playing) -> Playing
     plays.swap_remove(0)
 }
 
+/// A play alone, once more.
+fn alone(alloc: Global, home: &Playing) -> Result<Vec<Playing>, AllocError>
+    ensures { IfOk result (λ plays. plays.items ≡ home.now ∷ []) }
+{
+    let mut plays = Vec::new(alloc);
+    plays.push(again(alloc, home)?)?;
+    Ok(plays)
+}
+
 /// Plays the steps from the first one on.
 fn play_on(alloc: Global, home: Playing, steps: &Steps, merges: bool) -> Result<Played, AllocError>
     requires { MayMerge merges steps.now home }
     ensures { IfOk result (Plays home steps.now) }
 {
+    let mut plays = alone(alloc, &home)?;
+    let over = step_each(alloc, &home, &mut plays, steps, merges)?;
+    Ok(played_by(over, plays, home))
+}
+
+/// Each step of plays of which so far there is but one, up to the first that fails in one of them.
+fn step_each(
+    alloc: Global,
+    home: &Playing,
+    plays: &mut Vec<Playing>,
+    steps: &Steps,
+    merges: bool,
+) -> Result<Option<Played>, AllocError>
+    requires alone { plays.old.items ≡ home.now ∷ [] }
+    requires merges { MayMerge merges steps.now home.now }
+    ensures { IfOk result (LeavesAll merges steps.now home.now plays.new.items) }
+{
     same_worlds_go_on_alike();
     accepted_runs_show_no_disagreement();
     let _devices = home.machine().set().devices();
-    let spare = again(alloc, &home)?;
-    let mut plays = Vec::new(alloc);
-    plays.push(home)?;
     for place in 0..steps.len() {
-        match step_all(alloc, plays, &steps.at(place), merges)? {
-            Left::On(next) => plays = next,
-            Left::Over(played) => return Ok(played),
+        let over = step_all(alloc, plays, &steps.at(place), merges)?;
+        if over.is_some() {
+            return Ok(over);
         }
     }
-    let now = first_or(plays, spare);
-    Ok(Played { now, failed: None })
+    Ok(None)
+}
+
+/// How a scenario has played that began with one play: it is over, or these plays are left.
+fn played_by(over: Option<Played>, plays: Vec<Playing>, home: Playing) -> Played
+    ensures { (merges : Bool) (steps : List Step)
+        → LeavesAll merges steps home plays.items over → Plays home steps result }
+{
+    match over {
+        Some(played) => played,
+        None => {
+            let now = first_or(plays, home);
+            Played { now, failed: None }
+        }
+    }
 }
 
 /// Plays the steps of a scenario, each in what every interleaving before it has led to, up to the

@@ -1,11 +1,11 @@
 //! Threads that run in every interleaving, up to where each is idle or waits.
 
-ghost use Rattle.std.specs.Prelude.{◌≡◌, ◌++◌, IfOk, OnOk};
+ghost use Rattle.std.specs.Prelude.{◌≡◌, ◌≤◌, ◌++◌, IfOk, OnOk, length};
 ghost use Rattle.model.specs.Sound.{IsSound};
 ghost use Rattle.scenario_run.specs.Playing.{happened};
 ghost use Rattle.scenario_together.specs.Ends.{end_of, ends_of};
 ghost use Rattle.scenario_together.specs.Interleaving.{behind, fails_with, may_step};
-ghost use Rattle.scenario_together.specs.Together.{AreEnds, AreKept, IsFailing, IsTogether};
+ghost use Rattle.scenario_together.specs.Together.{AreKept, IsFailing, IsTogether};
 ghost use Rattle.hunt_walks.specs.Walks.{FailsBehind};
 
 use crate::interleaving::Interleaving;
@@ -28,7 +28,7 @@ pub enum Together {
     Ends(Vec<Playing>),
     /// A step of an interleaving fails: behind it.
     Fails(Playing),
-    /// There are more worlds than were wanted.
+    /// There are more interleavings than worlds were wanted.
     More,
 }
 
@@ -82,8 +82,8 @@ fn failing(alloc: Global, home: &Interleaving, failed: &Failed) -> Result<Playin
 }
 
 /// Runs these of the threads of a scenario in every interleaving, up to where each is idle or
-/// waits. So many worlds are met at most. Interleavings that go on alike are taken for one where
-/// that is asked for.
+/// waits. Interleavings that go on alike are taken for one where that is asked for. So many are
+/// left at most: where more are, there are more interleavings.
 ///
 /// # Errors
 ///
@@ -95,7 +95,7 @@ pub fn run_together(
     worlds: usize,
     merges: bool,
 ) -> Result<Together, AllocError>
-    ensures { IfOk result (IsTogether merges named playing) }
+    ensures { IfOk result (IsTogether merges named worlds playing) }
 {
     let home = Interleaving {
         playing,
@@ -107,14 +107,11 @@ pub fn run_together(
 
 /// The same from where one stands.
 fn run_from(alloc: Global, home: &Interleaving, worlds: usize) -> Result<Together, AllocError>
-    ensures { IfOk result (IsTogether home.now.merges home.now.named home.now.playing) }
+    ensures { IfOk result (IsTogether home.now.merges home.now.named worlds home.now.playing) }
 {
     let walked = walk(alloc, home, MOVES, worlds)?;
     match walked {
-        Walked::All(paths) => {
-            let plays = all_ends(alloc, home, paths.as_slice())?;
-            Ok(Together::Ends(plays))
-        }
+        Walked::All(paths) => all_ends(alloc, home, worlds, paths.as_slice()),
         Walked::Fails(failed) => {
             let there = failing(alloc, home, &failed)?;
             Ok(Together::Fails(there))
@@ -123,18 +120,19 @@ fn run_from(alloc: Global, home: &Interleaving, worlds: usize) -> Result<Togethe
     }
 }
 
-/// The ends of those that are kept, where these meet all.
+/// The ends of those that are kept, where these meet all and are no more than the worlds.
 fn all_ends(
     alloc: Global,
     home: &Interleaving,
+    worlds: usize,
     paths: &[Items<u8>],
-) -> Result<Vec<Playing>, AllocError>
-    requires { AreKept home.now.merges home.now.named home.now.playing paths.now }
-    ensures { IfOk result (λ plays.
-        AreEnds home.now.merges home.now.named home.now.playing plays.items) }
+) -> Result<Together, AllocError>
+    requires kept { AreKept home.now.merges home.now.named home.now.playing paths.now }
+    requires few { length paths.now ≤ worlds }
+    ensures { IfOk result (IsTogether home.now.merges home.now.named worlds home.now.playing) }
 {
     same_worlds_go_on_alike();
     let _devices = home.playing.machine().set().devices();
     let plays = ends_of(alloc, home, paths)?;
-    Ok(plays)
+    Ok(Together::Ends(plays))
 }

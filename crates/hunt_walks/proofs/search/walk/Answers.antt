@@ -11,4 +11,4 @@ pub returns-in-All : goal.returns-in-All
 returns-in-All g c =
     let home = c.args.home.now in
     all_walked (g.W.Walker.may home) (g.W.Walker.fails home) (g.W.Walker.one home) c.args.moves
-    _ _ _ c.in_ok-ended.ensures c.in-All.is c.into_paths.ensures
+    c.args.most _ _ _ c.in_ok-ended.ensures c.in-All.is c.into_paths.ensures

@@ -5,4 +5,4 @@ use Rattle.scenario_together.proofs.play.join_all.Given as goal
 -- so many are joined
 abbrev pub invariant-loop-playing : goal.invariant-loop-playing
 invariant-loop-playing l =
-    JoinedOn l.merges l.crew.threads (take l.playing-index l.plays) l.all.items
+    JoinedOn l.merges l.crew.threads l.crew.worlds (take l.playing-index l.plays) l.all.items
