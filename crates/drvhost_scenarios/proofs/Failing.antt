@@ -1,5 +1,5 @@
 -- A scenario whose last step fails.
-use Rattle.std.proofs.Common.{◌≡◌, ◌∙◌, ℕ, Bool, true, false, List, [], ◌∷◌, ◌++◌, Option, None, Some, Result, Ok, Err, IfOk, IsTrue, ap, if◌then◌else◌, refl, sym}
+use Rattle.std.proofs.Common.{◌≡◌, ◌∙◌, ℕ, Bool, true, false, List, [], ◌∷◌, ◌++◌, Option, None, Some, Result, Ok, Err, IfOk, IsTrue, ap, if◌then◌else◌, refl, subst, sym}
 use Rattle.std.specs.Prelude.{IfSome, is_some}
 use Rattle.std.specs.Global.{Vec}
 use Rattle.interleave.specs.declared.schedule.Schedule.{Schedule}
@@ -9,9 +9,9 @@ use Rattle.model.specs.Set.{Set}
 use Rattle.scenario_run.specs.Acting.{Played, acted, passes, played}
 use Rattle.scenario_run.specs.Playing.{Playing, begun}
 use Rattle.scenario_steps.specs.declared.scenario.Step.{Step}
-use Rattle.scenario_text.specs.Listing.{Listed}
+use Rattle.scenario_text.specs.Listing.{Listed, scenario_in}
 use Rattle.scenario_names.specs.Names.{Named}
-use Rattle.drvhost_scenarios.specs.Finding.{FailsAtLast, FailsFor, FailsFound, IsAmiss}
+use Rattle.drvhost_scenarios.specs.Finding.{ComesAmiss, FailsAtLast, FailsFor, FailsFound, IsAmiss}
 use Rattle.drvhost_scenarios.specs.Scenarios.{play_of}
 
 some_none : {A : Type 0} {B : Type 0} (a : A) → Some a ≡ None → B
@@ -44,37 +44,60 @@ amiss_fails : (p : Playing) (step : Step) → IsAmiss p step
 amiss_fails p step h = rw (h.expects, h.must, h.fails) refl
 
 fails_last : (set : Set) (threads : ℕ) (events : List Event) (scenario : Listed)
-    (before : List Step) (last : Step) (start p : Playing) → scenario.threads ≡ threads
-    → scenario.steps ≡ before ++ last ∷ [] → start ≡ begun set threads
-    → record { now = p; failed = None } ≡ played start before → p.events ≡ events
-    → IsAmiss p last → FailsAtLast set threads events scenario
-fails_last set threads events scenario before last start p many steps begins plays happens amiss =
-    let whole : play_of set scenario ≡ record { now = p; failed = Some last } =
+    (before : List Step) (last : Step) → scenario.threads ≡ threads
+    → scenario.steps ≡ before ++ last ∷ [] → ComesAmiss (begun set threads) before events last
+    → FailsAtLast set threads events scenario
+fails_last set threads events scenario before last many steps comes =
+    let start : Playing = begun set threads in
+    let whole : play_of set scenario ≡ record { now = comes.now; failed = Some last } =
     ap (λ (k : ℕ). played (begun set k) scenario.steps) many
-    ∙ ap (λ (all : List Step). played (begun set threads) all) steps
-    ∙ ap (λ (q : Playing). played q (before ++ last ∷ [])) (sym begins)
-    ∙ played_behind start p before (last ∷ []) (sym plays)
-    ∙ amiss_fails p last amiss in
+    ∙ ap (λ (all : List Step). played start all) steps
+    ∙ played_behind start comes.now before (last ∷ []) comes.plays
+    ∙ amiss_fails comes.now last comes.amiss in
     record {
       before = before;
       last = last;
       threads_are = many;
       steps = steps;
-      expects = amiss.expects;
+      expects = comes.amiss.expects;
       fails = ap (λ (r : Played). r.failed) whole;
-      happens = ap (λ (r : Played). r.now.events) whole ∙ happens;
+      happens = ap (λ (r : Played). r.now.events) whole ∙ comes.happens;
     }
 
 -- and where it is looked for
 pub fails_if : {E : Type 0} (set : Set) (threads : ℕ) (events : List Event) (scenario : Listed)
-    (before : List Step) (last : Step) (start p : Playing) (result : Result Bool E)
-    → scenario.threads ≡ threads → scenario.steps ≡ before ++ last ∷ [] → start ≡ begun set threads
-    → record { now = p; failed = None } ≡ played start before → p.events ≡ events
-    → IfOk result (λ amiss. IsTrue amiss → IsAmiss p last)
+    (before : List Step) (last : Step) (result : Result Bool E) → scenario.threads ≡ threads
+    → scenario.steps ≡ before ++ last ∷ []
+    → IfOk result (λ amiss. IsTrue amiss → ComesAmiss (begun set threads) before events last)
     → IfOk result (λ fails. IsTrue fails → FailsAtLast set threads events scenario)
-fails_if set threads events scenario before last start p (Ok amiss) many steps begins plays happens h = λ yes.
-    fails_last set threads events scenario before last start p many steps begins plays happens (h yes)
-fails_if set threads events scenario before last start p (Err e) many steps begins plays happens h = h
+fails_if set threads events scenario before last (Ok amiss) many steps h = λ yes.
+    fails_last set threads events scenario before last many steps (h yes)
+fails_if set threads events scenario before last (Err e) many steps h = h
+
+pub comes_if : {E : Type 0} (start now : Playing) (steps : List Step) (events : List Event)
+    (last : Step) (result : Result Bool E)
+    → record { now = now; failed = None } ≡ played start steps → now.events ≡ events
+    → IfOk result (λ amiss. IsTrue amiss → IsAmiss now last)
+    → IfOk result (λ comes. IsTrue comes → ComesAmiss start steps events last)
+comes_if start now steps events last (Ok amiss) plays happens h = λ yes.
+    record { now = now; plays = sym plays; happens = happens; amiss = h yes }
+comes_if start now steps events last (Err e) plays happens h = h
+
+pub begins_if : {E : Type 0} (begin start : Playing) (steps : List Step) (events : List Event)
+    (last : Step) (result : Result Bool E) → start ≡ begin
+    → IfOk result (λ comes. IsTrue comes → ComesAmiss start steps events last)
+    → IfOk result (λ comes. IsTrue comes → ComesAmiss begin steps events last)
+begins_if begin start steps events last result is h =
+    subst (λ (p : Playing). IfOk result (λ comes. IsTrue comes → ComesAmiss p steps events last)) is h
+
+-- where a text lists the scenario
+pub reads_so : {E : Type 0} (names : Named) (set : Set) (threads : ℕ) (events : List Event)
+    (text : List ℕ) (scenario : Listed) (result : Result Bool E)
+    → scenario_in names text ≡ Ok scenario
+    → IfOk result (λ fails. IsTrue fails → FailsAtLast set threads events scenario)
+    → IfOk result (λ fails. IsTrue fails → FailsFor names set threads events text)
+reads_so names set threads events text scenario (Ok fails) is h = λ yes. (scenario, is, h yes)
+reads_so names set threads events text scenario (Err e) is h = h
 
 -- where another text lists the run
 pub found_so : {E : Type 0} (names : Named) (set : Set) (found : List ℕ) (schedule : Schedule)

@@ -6,8 +6,10 @@ use Rattle.std.specs.Io.KnownBytes.{Appends}
 use Rattle.interleave.specs.declared.schedule.ScheduleFault.{ScheduleFault}
 use Rattle.interleave.specs.declared.schedule.ScheduleKind.{ScheduleKind}
 use Rattle.interleave.specs.declared.schedule.ScheduleKind.TheVariants as kinds
+use Rattle.interleave_texts.specs.Listed.{IsUnlisted}
 use Rattle.model.specs.declared.abs.Refusal.{Refusal}
 use Rattle.model.specs.declared.abs.Rule.{Rule}
+use Rattle.model.specs.declared.event.Event.{Event}
 use Rattle.model.specs.Set.{Set}
 use Rattle.model.specs.Typable.{IsFirstFault, IsTypable, at_start}
 use Rattle.report.specs.Fault.{image_fault_line, schedule_fault_line, text_fault_line}
@@ -29,7 +31,7 @@ use Rattle.drvhost_devices.specs.Fault.{Goes, ReadsSet, schedule_fault, schedule
 use Rattle.drvhost_devices.proofs.Writing.{keeps_same}
 use Rattle.drvhost_scenarios.specs.declared.telling.Asked.{Asked}
 use Rattle.drvhost_scenarios.specs.declared.telling.Told.{Told}
-use Rattle.drvhost_scenarios.specs.Scenarios.{IsOfScenario, IsPlayedOf, PlaysJudged, PlaysSo, names_in, right_of, right_of_play}
+use Rattle.drvhost_scenarios.specs.Scenarios.{IsOfScenario, IsPlayedOf, IsScheduleTold, PlaysJudged, PlaysSo, names_in, right_of, right_of_play, unlisted_line}
 use Rattle.drvhost_scenarios.specs.Telling.{Tells}
 
 -- the text is written, or a beginning of it, or there is none
@@ -225,3 +227,17 @@ play_told asked set scenario start now failure failed (Ok told) begins plays is 
       step = is;
     } in
     (play, so, h)
+
+-- that the text of what has happened is another schedule
+pub told_unlisted : {E : Type 0} (p : Playing) (failed : Option Step) (threads : ℕ)
+    (events : List Event) (result : Result Told E) → threads ≡ p.threads → events ≡ p.events
+    → IsUnlisted (record { threads = threads; events = events })
+    → IfOk result (λ told. ended told.end told.text.items ≡ ended Stopped unlisted_line)
+    → IfOk result (λ told. IsScheduleTold p failed (ended told.end told.text.items))
+told_unlisted p failed threads events (Ok told) same_threads same_events none h = inr (
+  subst (λ (n : ℕ). IsUnlisted (record { threads = n; events = p.events })) same_threads
+      (subst (λ (es : List Event). IsUnlisted (record { threads = threads; events = es }))
+      same_events none),
+  h,
+)
+told_unlisted p failed threads events (Err e) same_threads same_events none h = h

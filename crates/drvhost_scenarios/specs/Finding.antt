@@ -1,10 +1,11 @@
 -- The scenario of a run that was found: it makes the run's events happen, and fails at its last
 -- step, which expects that nothing is amiss.
-use Rattle.std.specs.Prelude.{ℕ, ◌≡◌, ◌++◌, List, [], ◌∷◌, false, Some, Ok}
+use Rattle.std.specs.Prelude.{ℕ, ◌≡◌, ◌++◌, List, [], ◌∷◌, false, None, Some, Ok}
 use Rattle.interleave.specs.declared.schedule.Schedule.{Schedule}
 use Rattle.interleave.specs.Listing.{Lists}
 use Rattle.model.specs.declared.event.Event.{Event}
 use Rattle.model.specs.Set.{Set}
+use Rattle.scenario_run.specs.Acting.{played}
 use Rattle.scenario_run.specs.Holding.{holds}
 use Rattle.scenario_run.specs.Playing.{Playing}
 use Rattle.scenario_steps.specs.declared.scenario.Action.TheVariants.{Expect}
@@ -19,6 +20,15 @@ pub record IsAmiss (p : Playing) (step : Step) : Type 0 where
   pub expects : step.action ≡ Expect Clean
   pub must : step.may ≡ false
   pub fails : holds p Clean ≡ false
+
+-- steps make these events happen, none of them failing, and behind them a step expects that nothing
+-- is amiss where something is
+pub record ComesAmiss (p : Playing) (steps : List Step) (events : List Event) (last : Step) : Type 0
+  where
+    pub now : Playing
+    pub plays : played p steps ≡ record { now = now; failed = None }
+    pub happens : now.events ≡ events
+    pub amiss : IsAmiss now last
 
 -- a scenario on so many threads makes these events happen, and fails at its last step, which
 -- expects that nothing is amiss

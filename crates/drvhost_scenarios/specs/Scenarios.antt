@@ -7,8 +7,10 @@ use Rattle.drvhost_devices.specs.declared.fault.End.{End}
 use Rattle.drvhost_devices.specs.declared.fault.End.TheVariants.{Complete, Stopped}
 use Rattle.drvhost_devices.specs.declared.verification.Verification.{Verification}
 use Rattle.drvhost_devices.specs.Device.{Holds, Supply}
+use Rattle.interleave.specs.declared.schedule.Schedule.{Schedule as OfSchedule}
 use Rattle.interleave.specs.declared.schedule.ScheduleFault.{ScheduleFault}
 use Rattle.interleave.specs.Listing.{Lists}
+use Rattle.interleave_texts.specs.Listed.{IsUnlisted}
 use Rattle.model.specs.declared.abs.Refusal.{Refusal}
 use Rattle.model.specs.Set.{Set}
 use Rattle.model.specs.Typable.{IsFirstFault, IsTypable}
@@ -55,12 +57,14 @@ pub record PlaysSo (set : Set) (scenario : Listed) (play : Played) : Type 0 wher
 abbrev pub ok_line : List ℕ → List ℕ
 ok_line name = codes "ok " ++ (name ++ codes "\n")
 
--- the step in the line of a number fails, with some words
+-- the step in the line of a number fails, with words on what is there instead
 abbrev pub failure : List ℕ → ℕ → List ℕ → List ℕ
 failure name line words =
-    codes "failed " ++ (name ++ (codes " line " ++ (decimal line ++ words)))
+    codes "failed "
+    ++ (name ++ (codes " line " ++ (decimal line ++ (codes ":" ++ (words ++ codes "\n")))))
 
--- all holds, or the first step that fails is told
+-- all holds, or the line of the first step that fails is told; which words stand behind its number
+-- isn't said
 abbrev pub IsOutcome : List ℕ → Option Step → Answer → Type 0
 IsOutcome name None answer = answer ≡ ended Complete (ok_line name)
 IsOutcome name (Some step) answer =
@@ -75,16 +79,19 @@ abbrev pub end_of : Option Step → End
 end_of None = Complete
 end_of (Some step) = Stopped
 
--- a text that lists what has happened, up to the first step that fails; or that what was written
--- lists something else, read back
+-- what has happened, up to the first step that fails, as a schedule
+abbrev pub schedule_of : Playing → OfSchedule
+schedule_of p = record { threads = p.threads; events = p.events }
+
+-- a text that lists it; or, where the text of that schedule, read back, is another one, a line that
+-- says so. Each event has a line in a schedule, so no play is known of which that is told
 abbrev pub unlisted_line : List ℕ
 unlisted_line = codes "; the schedule, read back, is another one\n"
 
 abbrev pub IsScheduleTold : Playing → Option Step → Answer → Type 0
 IsScheduleTold p failed answer =
-    ((text : List ℕ) × Lists text (record { threads = p.threads; events = p.events })
-    × (answer ≡ ended (end_of failed) text))
-    ⊎ (answer ≡ ended Stopped unlisted_line)
+    ((text : List ℕ) × Lists text (schedule_of p) × (answer ≡ ended (end_of failed) text))
+    ⊎ (IsUnlisted (schedule_of p) × (answer ≡ ended Stopped unlisted_line))
 
 -- what is right for what is asked of a scenario that has played so
 abbrev pub right_of_play : Asked → Played → Answer → Type 0

@@ -1,5 +1,6 @@
 //! What is said of a step that fails: what its line says, and what is there instead.
 
+use crate::writing::{add_numbered, add_token};
 use asm_line::status_text;
 use checked::Checked;
 use interleave::schedule::MAX_EVENTS;
@@ -19,15 +20,14 @@ use std::alloc::{AllocError, Global};
 use tell_audit::amiss::Amiss;
 use tell_audit::ring::waits_for;
 use tell_audit::sites::{Site, sites_of};
-use tell_names::{Book, add_lock, add_number};
+use tell_names::{Book, add_lock};
 use tell_uses::standing::frames_on;
-use text::add_bytes;
 use text::cut::Lines;
 use text::token::Tokens;
 use words::Words;
 
-/// What is said of a step of a scenario that fails, behind the number of its line: with the names
-/// of a text that names its set.
+/// What is said of a step of a scenario that fails, behind the number of its line and a colon: with
+/// the names of a text that names its set.
 ///
 /// # Errors
 ///
@@ -41,30 +41,45 @@ pub(crate) fn failure_words(
 ) -> Result<String, AllocError> {
     let book = Book::of(alloc, source)?;
     let mut words = Words::new(alloc);
-    let mut tokens = Tokens::of(line_of(text, step.line));
-    words.add(":");
-    match step.action {
+    let tokens = Tokens::of(line_of(text, step.line));
+    add_failure(alloc, &mut words, &book, tokens, playing, &step.action);
+    words.finish()
+}
+
+/// Adds what the tokens of a line say, and what is there instead.
+fn add_failure(
+    alloc: Global,
+    words: &mut Words,
+    book: &Book<'_>,
+    tokens: Tokens<'_>,
+    playing: &Playing,
+    action: &Action,
+) {
+    match action {
         Action::Expect(expectation) => {
-            let _expect = tokens.next();
-            add_subject(&mut words, &expectation, &mut tokens);
-            words.add(" expected");
-            add_tokens(&mut words, tokens);
+            add_expectation(words, expectation, tokens);
             words.add(", ");
-            add_found(alloc, &mut words, &book, playing, &expectation);
+            add_found(alloc, words, book, playing, expectation);
         }
         Action::Together { threads, worlds } => {
-            add_tokens(&mut words, tokens);
+            add_tokens(words, tokens);
             words.add(": ");
-            add_joined(&mut words, &book, playing, &threads, worlds);
+            add_joined(words, book, playing, threads, *worlds);
         }
         _ => {
-            add_tokens(&mut words, tokens);
+            add_tokens(words, tokens);
             words.add(": ");
-            add_reply(&mut words, &book, playing);
+            add_reply(words, book, playing);
         }
     }
-    words.add("\n");
-    words.finish()
+}
+
+/// Adds what the tokens of a line expect, and of what.
+fn add_expectation(words: &mut Words, expectation: &Expectation, mut tokens: Tokens<'_>) {
+    let _expect = tokens.next();
+    add_subject(words, expectation, &mut tokens);
+    words.add(" expected");
+    add_tokens(words, tokens)
 }
 
 /// Adds why threads that ran together failed: one isn't there, a step of an interleaving stopped
@@ -80,7 +95,7 @@ fn add_joined(
     for thread in there..threads.len() {
         if threads[thread] {
             words.add("no thread ");
-            return add_number(words, thread as u64);
+            return words.add_number(thread as u64);
         }
     }
     if playing.machine().stopped() {
@@ -89,9 +104,7 @@ fn add_joined(
     if playing.count() >= MAX_EVENTS {
         return words.add("more events than a schedule has");
     }
-    words.add("there are more than ");
-    add_number(words, worlds);
-    words.add(" worlds")
+    add_numbered(words, "there are more than ", worlds, " worlds")
 }
 
 /// The line of a number.
@@ -109,12 +122,6 @@ fn add_tokens(words: &mut Words, mut tokens: Tokens<'_>) {
         words.add(" ");
         add_token(words, token);
     }
-}
-
-/// Adds a token.
-fn add_token(words: &mut Words, token: &[u8]) {
-    let done = add_bytes(&mut words.text, token);
-    words.note(done);
 }
 
 /// Adds of what something is expected.
@@ -306,13 +313,6 @@ fn add_found_amiss(words: &mut Words, book: &Book<'_>, found: &Amiss) {
             ": a status was returned that disagrees with the mark",
         ),
     }
-}
-
-/// Adds a number between words.
-fn add_numbered(words: &mut Words, before: &str, number: u64, behind: &str) {
-    words.add(before);
-    add_number(words, number);
-    words.add(behind)
 }
 
 /// Adds how a packet stands.

@@ -14,6 +14,7 @@ use scenario_steps::scenario::Step;
 use std::alloc::{AllocError, Global};
 
 /// The schedule of what has happened, up to the first step that fails.
+#[tactic(auto, using(crate::proofs::Told::told_unlisted))]
 pub(crate) fn tell_schedule(
     alloc: Global,
     playing: &Playing,

@@ -47,7 +47,7 @@ fn tell_ok(alloc: Global, name: &str) -> Result<Told, AllocError>
     })
 }
 
-/// The number of the line of a step that fails in the scenario of a name, and these words.
+/// The number of the line of a step that fails in the scenario of a name, and these words on it.
 fn tell_failure(alloc: Global, name: &str, line: u64, words: &[u8]) -> Result<Told, AllocError>
     ensures { IfOk result (λ told. (told.end ≡ End.Stopped)
         × (told.text.items ≡ failure name.now line words.now)) }
@@ -55,7 +55,9 @@ fn tell_failure(alloc: Global, name: &str, line: u64, words: &[u8]) -> Result<To
     let mut text = Vec::new(alloc);
     add(&mut text, b"failed ")?;
     add(&mut text, name.as_bytes())?;
-    add_numbered(&mut text, b" line ", line, words)?;
+    add_numbered(&mut text, b" line ", line, b":")?;
+    add(&mut text, words)?;
+    add(&mut text, b"\n")?;
     Ok(Told {
         text,
         end: End::Stopped,
