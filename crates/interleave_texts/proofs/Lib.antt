@@ -1,3 +1,4 @@
 pub mod Cancels
+pub mod Comparing
 pub mod Meanings
 pub mod Usual

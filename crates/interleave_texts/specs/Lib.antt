@@ -1,3 +1,4 @@
+pub mod Listed
 pub mod Meaning
 pub mod Script
 pub mod Usual

@@ -1,6 +1,7 @@
 //! The words of events.
 
-ghost use Rattle.std.specs.Prelude.{◌≡◌, ◌++◌, OnOk};
+ghost use Rattle.std.specs.Prelude.{◌≡◌, ◌++◌, OnOk, option_map};
+ghost use Rattle.interleave_texts.specs.Listed.{goes_on};
 ghost use Rattle.interleave_texts.specs.Words.{event_words, major_word, one_number, step_words};
 ghost use Rattle.interleave_texts.specs.Words.{two_numbers};
 
@@ -85,7 +86,9 @@ fn major_word(major: Major) -> &'static [u8]
 }
 
 /// Whether an event and the next one are steps of one thread, which may stand on one line.
-pub fn goes_on(event: &Event, next: Option<&Event>) -> bool {
+pub fn goes_on(event: &Event, next: Option<&Event>) -> bool
+    ensures { result ≡ goes_on event.now (option_map (λ next. next.now) next.entry) }
+{
     let (Event::Step { thread }, Some(next)) = (*event, next) else {
         return false;
     };

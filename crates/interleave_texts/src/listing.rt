@@ -1,7 +1,10 @@
 //! Schedules as texts, read back before they are told.
 
-ghost use Rattle.std.specs.Prelude.{◌≡◌, IfOk, IfSome, IsTrue};
+ghost use Rattle.std.specs.Prelude.{◌≡◌, ◌↔◌, ◌≤◌, ◌<◌, ◌+◌, ◌^◌, ◌++◌, ◌∷◌, IfNone, IfOk, IfSome};
+ghost use Rattle.std.specs.Prelude.{IsTrue, OnOk, false, slice_get, true};
 ghost use Rattle.interleave.specs.Listing.{Lists};
+ghost use Rattle.interleave_texts.specs.Listed.{IsUnlisted, event_line, event_lines, goes_on};
+ghost use Rattle.interleave_texts.specs.Listed.{is_call, schedule_text};
 
 use crate::appending::{add, add_numbered};
 use crate::event_words::{add_event, goes_on};
@@ -19,37 +22,78 @@ use std::alloc::{AllocError, Global};
 ///
 /// When memory runs out.
 pub fn listing(alloc: Global, threads: u8, events: &[Event]) -> Result<Option<Vec<u8>>, AllocError>
-    ensures { IfOk result (λ text. IfSome text (λ text. Lists text.items
+    ensures listed { IfOk result (λ text. IfSome text (λ text. Lists text.items
         (record { threads = threads; events = events.now }))) }
+    ensures unlisted { IfOk result (λ text. IfNone text
+        (IsUnlisted (record { threads = threads; events = events.now }))) }
 {
-    let mut text = Vec::new(alloc);
-    add_numbered(&mut text, b"threads ", u64::from(threads), b"\n")?;
-    add_lines(&mut text, events)?;
+    let text = written(alloc, threads, events)?;
     if lists(alloc, text.as_slice(), threads, events)? {
         return Ok(Some(text));
     }
     Ok(None)
 }
 
+/// The text of so many threads and these events.
+fn written(alloc: Global, threads: u8, events: &[Event]) -> Result<Vec<u8>, AllocError>
+    ensures { IfOk result (λ text. text.items
+        ≡ schedule_text (record { threads = threads; events = events.now })) }
+{
+    let mut text = Vec::new(alloc);
+    add_numbered(&mut text, b"threads ", u64::from(threads), b"\n")?;
+    add_lines(&mut text, events)?;
+    Ok(text)
+}
+
 /// Adds the lines of events. Steps of a thread that come one after another stand on one line.
-fn add_lines(text: &mut Vec<u8>, events: &[Event]) -> Result<(), AllocError> {
+fn add_lines(text: &mut Vec<u8>, events: &[Event]) -> Result<(), AllocError>
+    ensures { OnOk result (text.new.items ≡ text.old.items ++ event_lines 0 events.now) }
+{
     let mut times: u64 = 0;
     for place in 0..events.len() {
-        if let Some(event) = events.get(place) {
-            times = times.saturating_add(1);
-            if !goes_on(event, events.get(place.saturating_add(1))) {
-                add_event(text, event, times)?;
-                add(text, b"\n")?;
-                times = 0;
-            }
-        }
+        times = add_one(text, &events[place], times, &events[place + 1..])?;
     }
     Ok(())
 }
 
+/// Adds the line of an event that is on it already so many times, unless what comes later goes on
+/// with it. Answers how many times what comes later is on its line then.
+fn add_one(
+    text: &mut Vec<u8>,
+    event: &Event,
+    times: u64,
+    later: &[Event],
+) -> Result<u64, AllocError>
+    requires { times + 1 < 2 ^ 64 }
+    ensures lines { IfOk result (λ next. text.new.items ++ event_lines next later.now
+        ≡ text.old.items ++ event_lines times (event.now ∷ later.now)) }
+    ensures few { IfOk result (λ next. next ≤ times + 1) }
+{
+    if goes_on_in(event, later) {
+        return Ok(times + 1);
+    }
+    add_line(text, event, times + 1)?;
+    Ok(0)
+}
+
+/// Whether an event and the first of those that come later are steps of one thread.
+fn goes_on_in(event: &Event, later: &[Event]) -> bool
+    ensures { result ≡ goes_on event.now (slice_get later.now 0) }
+{
+    goes_on(event, later.first())
+}
+
+/// Adds the line of an event that happens so many times in a row.
+fn add_line(text: &mut Vec<u8>, event: &Event, times: u64) -> Result<(), AllocError>
+    ensures { OnOk result (text.new.items ≡ text.old.items ++ event_line event.now times) }
+{
+    add_event(text, event, times)?;
+    add(text, b"\n")
+}
+
 /// Whether a text, read back, lists so many threads and these events.
 fn lists(alloc: Global, text: &[u8], threads: u8, events: &[Event]) -> Result<bool, AllocError>
-    ensures { IfOk result (λ yes. IsTrue yes → Lists text.now
+    ensures { IfOk result (λ yes. IsTrue yes ↔ Lists text.now
         (record { threads = threads; events = events.now })) }
 {
     match parse_schedule(alloc, text) {
@@ -64,7 +108,7 @@ fn lists(alloc: Global, text: &[u8], threads: u8, events: &[Event]) -> Result<bo
 
 /// Whether these are the same events.
 fn are_same(some: &[Event], others: &[Event]) -> bool
-    ensures { IsTrue result → some.now ≡ others.now }
+    ensures { IsTrue result ↔ (some.now ≡ others.now) }
 {
     let mut left = some;
     let mut right = others;
@@ -83,7 +127,7 @@ fn are_same(some: &[Event], others: &[Event]) -> bool
 
 /// Whether two events are the same.
 fn is_same(one: &Event, other: &Event) -> bool
-    ensures { IsTrue result → one.now ≡ other.now }
+    ensures { IsTrue result ↔ (one.now ≡ other.now) }
 {
     match *one {
         Event::Issue { .. } | Event::Cancel { .. } => is_same_call(one, other),
@@ -93,7 +137,8 @@ fn is_same(one: &Event, other: &Event) -> bool
 
 /// Whether both are the same of what a caller asks for.
 fn is_same_call(one: &Event, other: &Event) -> bool
-    ensures { IsTrue result → one.now ≡ other.now }
+    requires { is_call one.now ≡ true }
+    ensures { IsTrue result ↔ (one.now ≡ other.now) }
 {
     match (*one, *other) {
         (
@@ -128,7 +173,8 @@ fn is_same_call(one: &Event, other: &Event) -> bool
 
 /// Whether both are the same of what comes to a device, or lets a thread go on.
 fn is_same_turn(one: &Event, other: &Event) -> bool
-    ensures { IsTrue result → one.now ≡ other.now }
+    requires { is_call one.now ≡ false }
+    ensures { IsTrue result ↔ (one.now ≡ other.now) }
 {
     match (*one, *other) {
         (Event::Interrupt { device }, Event::Interrupt { device: d }) => device == d,
@@ -153,7 +199,7 @@ fn is_same_turn(one: &Event, other: &Event) -> bool
 
 /// Whether two major functions are the same.
 fn is_same_major(one: Major, other: Major) -> bool
-    ensures { IsTrue result → one ≡ other }
+    ensures { IsTrue result ↔ (one ≡ other) }
 {
     match (one, other) {
         (Major::Read, Major::Read) => true,
