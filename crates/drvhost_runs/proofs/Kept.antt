@@ -3,7 +3,6 @@ use Rattle.std.proofs.Common.{◌≡◌, ◌∙◌, ℕ, List, [], ◌++◌, Boo
 use Rattle.std.proofs.lemmas.List.{append-nil}
 use Rattle.std.specs.Io.KnownBytes.{Appends}
 use Rattle.model.specs.declared.history.Command.{Command}
-use Rattle.model.specs.declared.history.Entry.{Entry}
 use Rattle.model.specs.Set.{Set}
 use Rattle.workers_script.specs.declared.hosted.Hosted.{Hosted}
 use Rattle.workers_script.specs.Told.{Hosts}
@@ -157,10 +156,10 @@ module _ (set : Set) (workers : ℕ) (commands : List Command) (hosted : Hosted)
   kept_right answer e =
       let same = ringed_there set workers commands hosted ringed words h rings in
       record {
-        history = h.history;
-        served = h.served;
+        hosted = hosted;
+        hosts = h;
         listed = listed;
-        text_is = subst (λ (xs : List Entry). IsHistory workers xs listed text) h.stored history;
+        text_is = history;
         words = words;
         tells = subst (λ xs. TellsOfRing xs words) same tells;
         is = e ∙ ap (listed_as listed)

@@ -65,7 +65,7 @@ module _ (hosted : Hosted) (ringed words : List ℕ) where
   -- all lines are added
   pub served_told : (b m n : Option (List ℕ)) (k l left told : List ℕ) (end : End)
       → Adds b m [] k (command_lines 0 hosted.told.items) → Adds m n k l []
-      → end ≡ served_end ringed
+      → end ≡ served_end hosted.told.items hosted.entries ringed
       → left ≡ l ++ agrees_line hosted.entries → told ≡ words
       → GoesTold (IsServedAs hosted ringed words) told b n [] left (Ok end)
   served_told b m n k l left told end a d ends adds same =
@@ -77,7 +77,8 @@ module _ (hosted : Hosted) (ringed words : List ℕ) where
       let Q : List ℕ → Type 0 = λ x. Adds b n [] x (text ++ line) in (
         text ++ line,
         ap (λ x. ended_with x (text ++ line) told) ends
-            ∙ ap (λ x. ended_with (served_end ringed) (text ++ line) x) same,
+            ∙ ap (λ x. ended_with (served_end hosted.told.items hosted.entries ringed)
+            (text ++ line) x) same,
         subst Q (sym adds) (adds_line b n [] l text line gathered),
       )
 
@@ -91,21 +92,43 @@ rings_after set workers history (Some machine) h =
     ap (λ (w : World). ringed_threads machine.set w) h.run.world
     ∙ ap (λ (s : Set). ringed_threads s (run s workers (events_of history)).world) h.same_set
 
--- what is answered of what was hosted is what its history tells
+-- what is told of what was hosted is what the history of its core tells
+module _ (set : Set) (workers : ℕ) (commands : List Command) (hosted : Hosted)
+    (h : Hosts set workers commands hosted) where
+  pub rings_there : rings_in hosted.standing ≡ ringed_after set workers hosted.core.history
+  rings_there =
+      rings_after set workers h.history hosted.standing h.standing
+      ∙ ap (λ (xs : List Entry). ringed_after set workers xs) (sym h.stored)
+
+  pub answered_there : (F : List (Option Reply) → ℕ → List ℕ → Answer)
+      → F hosted.told.items hosted.entries (rings_in hosted.standing)
+      ≡ F (all_told hosted.core.history (length commands)) (length hosted.core.history)
+      (ringed_after set workers hosted.core.history)
+  answered_there F =
+      let history = hosted.core.history in
+      let told : List (Option Reply) = all_told history (length commands) in
+      let rings = rings_in hosted.standing in
+      let told_is : hosted.told.items ≡ told =
+      h.told ∙ ap (λ (xs : List Entry). all_told xs (length commands)) (sym h.stored) in
+      let long : hosted.entries ≡ length history =
+      h.entries ∙ ap (λ (xs : List Entry). length xs) (sym h.stored) in
+      ap (λ x. F x hosted.entries rings) told_is ∙ ap (λ x. F told x rings) long
+      ∙ ap (λ x. F told (length history) x) rings_there
+
+-- and so is what is answered
 module _ (set : Set) (workers : ℕ) (commands : List Command) (hosted : Hosted)
     (ringed words : List ℕ) (h : Hosts set workers commands hosted)
     (rings : ringed ≡ rings_in hosted.standing) where
-  pub ringed_there : ringed ≡ ringed_after set workers h.history
-  ringed_there = rings ∙ rings_after set workers h.history hosted.standing h.standing
+  pub ringed_there : ringed ≡ ringed_after set workers hosted.core.history
+  ringed_there = rings ∙ rings_there set workers commands hosted h
 
   pub served_there : served_as hosted.told.items hosted.entries ringed words
-      ≡ served_as (all_told h.history (length commands)) (length h.history)
-      (ringed_after set workers h.history) words
+      ≡ served_as (all_told hosted.core.history (length commands)) (length hosted.core.history)
+      (ringed_after set workers hosted.core.history) words
   served_there =
-      let told : List (Option Reply) = all_told h.history (length commands) in
-      ap (λ x. served_as x hosted.entries ringed words) h.told
-      ∙ ap (λ x. served_as told x ringed words) h.entries
-      ∙ ap (λ x. served_as told (length h.history) x words) ringed_there
+      ap (λ x. served_as hosted.told.items hosted.entries x words) rings
+      ∙ answered_there set workers commands hosted h
+      (λ told entries x. served_as told entries x words)
 
 -- what was hosted is right for the commands of a script
 pub served_right : (set : Set) (workers : ℕ) (commands : List Command) (hosted : Hosted)
@@ -114,12 +137,11 @@ pub served_right : (set : Set) (workers : ℕ) (commands : List Command) (hosted
     → (answer : Answer) → IsServedAs hosted ringed words answer
     → IsServed workers set (Ok commands) answer
 served_right set workers commands hosted ringed words h rings tells answer e =
-    let same = ringed_there set workers commands hosted ringed words h rings in (
-      h.history,
-      h.served,
-      (
-        words,
-        subst (λ xs. TellsOfRing xs words) same tells,
-        e ∙ served_there set workers commands hosted ringed words h rings,
-      ),
-    )
+    let same = ringed_there set workers commands hosted ringed words h rings in
+    record {
+      hosted = hosted;
+      hosts = h;
+      words = words;
+      tells = subst (λ xs. TellsOfRing xs words) same tells;
+      is = e ∙ served_there set workers commands hosted ringed words h rings;
+    }

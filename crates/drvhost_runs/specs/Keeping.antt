@@ -2,14 +2,15 @@
 use Rattle.std.specs.Prelude.{ℕ, ◌≡◌, ◌⊎◌, Bool, true, false, List, codes, length, None, Option, Some, Ok}
 use Rattle.std.specs.Io.KnownBytes.{Appends}
 use Rattle.interleave.specs.Listing.{Lists}
+use Rattle.interleave_texts.specs.Listed.{IsUnlisted}
 use Rattle.interleave_texts.specs.Script.{script_in}
 use Rattle.model.specs.declared.history.Command.{Command}
 use Rattle.model.specs.declared.history.Entry.{Entry}
 use Rattle.model.specs.History.{events_of}
 use Rattle.model.specs.Set.{Set}
 use Rattle.model.specs.Typable.{IsTypable}
-use Rattle.workers_script.specs.Served.{HasServed}
-use Rattle.workers_script.specs.Told.{all_told}
+use Rattle.workers_script.specs.declared.hosted.Hosted.{Hosted}
+use Rattle.workers_script.specs.Told.{Hosts, all_told}
 use Rattle.drvhost_devices.specs.declared.fault.End.{End}
 use Rattle.drvhost_devices.specs.declared.fault.End.TheVariants.{Stopped}
 use Rattle.drvhost_devices.specs.Answer.{Answer, end_status}
@@ -21,12 +22,14 @@ use Rattle.drvhost_runs.specs.Served.{IsUnhosted, TellsOfRing, ringed_after, ser
 abbrev pub unlisted_line : List ℕ
 unlisted_line = codes "; the history, read back, is another one\n"
 
--- a history of so many threads as a text: a schedule of them and of the history's events, or else
--- that line
+-- a history of so many threads as a text: a schedule of them and of the history's events; or that
+-- line, where the text of that schedule, read back, is another one
 abbrev pub IsHistory : ℕ → List Entry → Bool → List ℕ → Type 0
 IsHistory threads history true text =
     Lists text (record { threads = threads; events = events_of history })
-IsHistory threads history false text = text ≡ unlisted_line
+IsHistory threads history false text =
+    (text ≡ unlisted_line)
+    × IsUnlisted (record { threads = threads; events = events_of history })
 
 -- how a job ends that writes such a text: not well with that line
 abbrev pub listed_end : Bool → End → End
@@ -42,15 +45,15 @@ listed_as false answer = record answer { status = end_status Stopped }
 -- the text of their history: what `host` answers of this one
 pub record IsServedWith (workers : ℕ) (set : Set) (commands : List Command) (text : List ℕ)
     (answer : Answer) : Type 0 where
-  pub history : List Entry
-  pub served : HasServed set workers commands history
+  pub hosted : Hosted
+  pub hosts : Hosts set workers commands hosted
   pub listed : Bool
-  pub text_is : IsHistory workers history listed text
+  pub text_is : IsHistory workers hosted.core.history listed text
   pub words : List ℕ
-  pub tells : TellsOfRing (ringed_after set workers history) words
+  pub tells : TellsOfRing (ringed_after set workers hosted.core.history) words
   pub is : answer
-      ≡ listed_as listed (served_as (all_told history (length commands)) (length history)
-      (ringed_after set workers history) words)
+      ≡ listed_as listed (served_as (all_told hosted.core.history (length commands))
+      (length hosted.core.history) (ringed_after set workers hosted.core.history) words)
 
 -- of the commands of the script that a source has
 pub record IsServedFor (workers : ℕ) (script : Supply) (set : Set) (text : List ℕ) (answer : Answer)

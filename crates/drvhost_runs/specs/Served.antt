@@ -1,11 +1,13 @@
 -- What `host` answers for the bytes of its files.
-use Rattle.std.specs.Prelude.{ℕ, ◌≡◌, ◌+◌, ◌++◌, List, [], ◌∷◌, length, nat_eq, None, Option, Some, Result, Ok, Err, if◌then◌else◌}
-use Rattle.workers_script.specs.Served.{HasServed}
-use Rattle.workers_script.specs.Told.{all_told}
+use Rattle.std.specs.Prelude.{ℕ, ◌≡◌, ◌↔◌, ◌+◌, ◌++◌, ◌&&◌, ◌||◌, Bool, List, [], ◌∷◌, is_some, length, nat_eq, None, Option, Some, Result, Ok, Err, if◌then◌else◌}
+use Rattle.std.specs.List.{list_all}
+use Rattle.workers_script.specs.declared.hosted.Hosted.{Hosted}
+use Rattle.workers_script.specs.Told.{Hosts, all_told}
 use Rattle.interleave.specs.declared.schedule.ScheduleFault.{ScheduleFault}
 use Rattle.model.specs.declared.event.Reply.{Reply}
 use Rattle.model.specs.declared.history.Command.{Command}
 use Rattle.model.specs.declared.history.Entry.{Entry}
+use Rattle.model.specs.declared.limits.TheConstants.{MAX_HISTORY}
 use Rattle.model.specs.History.{world_after_all}
 use Rattle.model.specs.Machine.{Machine}
 use Rattle.model.specs.Set.{Set}
@@ -30,19 +32,25 @@ abbrev pub command_lines : ℕ → List (Option Reply) → List ℕ
 command_lines number [] = []
 command_lines number (told ∷ rest) = command_line number told ++ command_lines (number + 1) rest
 
--- how a job ends that has served commands: not well where these threads wait in a ring
-abbrev pub served_end : List ℕ → End
-served_end ringed = if nat_eq (length ringed) 0 then Complete else Stopped
+-- each command was performed, or the history has as many entries as it may have
+abbrev pub are_served : List (Option Reply) → ℕ → Bool
+are_served told entries = list_all is_some told || nat_eq entries MAX_HISTORY
 
--- nothing is told of a ring that isn't there
+-- how a job ends that has served commands: not well where these threads wait in a ring, or where a
+-- command was left though the history had room
+abbrev pub served_end : List (Option Reply) → ℕ → List ℕ → End
+served_end told entries ringed =
+    if nat_eq (length ringed) 0 && are_served told entries then Complete else Stopped
+
+-- a ring is told exactly where there is one
 abbrev pub TellsOfRing : List ℕ → List ℕ → Type 0
-TellsOfRing ringed words = ringed ≡ [] → words ≡ []
+TellsOfRing ringed words = (ringed ≡ []) ↔ (words ≡ [])
 
 -- what is answered of the commands of a script and their history, which agrees: what is told of each
 -- command, of how many entries the history is, and of the threads that wait in a ring
 abbrev pub served_as : List (Option Reply) → ℕ → List ℕ → List ℕ → Answer
 served_as told entries ringed words = record {
-  status = end_status (served_end ringed);
+  status = end_status (served_end told entries ringed);
   output = command_lines 0 told ++ agrees_line entries;
   told = words;
 }
@@ -56,15 +64,22 @@ rings_in (Some machine) = ringed_threads machine.set machine.world
 abbrev pub ringed_after : Set → ℕ → List Entry → List ℕ
 ringed_after set threads history = ringed_threads set (world_after_all set threads history)
 
--- what `host` answers for a set that is accepted, with so many workers, and its script: that of some
--- history in which they served the commands, each reply of which is the run's; or the fault of the
--- script
+-- what is answered of the commands of a script that so many workers served on an accepted set: what
+-- the history of their core tells
+pub record IsServedSo (workers : ℕ) (set : Set) (commands : List Command) (answer : Answer)
+    : Type 0 where
+  pub hosted : Hosted
+  pub hosts : Hosts set workers commands hosted
+  pub words : List ℕ
+  pub tells : TellsOfRing (ringed_after set workers hosted.core.history) words
+  pub is : answer
+      ≡ served_as (all_told hosted.core.history (length commands))
+      (length hosted.core.history) (ringed_after set workers hosted.core.history) words
+
+-- what `host` answers for a set that is accepted, with so many workers, and its script: that, or the
+-- fault of the script
 abbrev pub IsServed : ℕ → Set → Result (List Command) ScheduleFault → Answer → Type 0
-IsServed workers set (Ok commands) answer =
-    (history : List Entry) × HasServed set workers commands history
-    × ((words : List ℕ) × TellsOfRing (ringed_after set workers history) words
-    × (answer ≡ served_as (all_told history (length commands)) (length history)
-    (ringed_after set workers history) words))
+IsServed workers set (Ok commands) answer = IsServedSo workers set commands answer
 IsServed workers set (Err fault) answer = answer ≡ faulty (script_fault_line fault)
 
 -- what so many workers answer that serve the commands of the script that a source has

@@ -1,7 +1,8 @@
 //! What comes of a script of commands that workers serve over one locked core.
 
 ghost use Rattle.std.specs.Prelude.{◌≡◌, ◌≢◌, ◌≤◌, ◌+◌, ◌++◌, ◌⊎◌, [], ℕ, IfErr, IfOk, IfSome, Ok};
-ghost use Rattle.std.specs.Prelude.{OnErr, OnOk};
+ghost use Rattle.std.specs.Prelude.{OnErr, OnOk, is_some};
+ghost use Rattle.std.specs.List.{list_all};
 ghost use Rattle.workers_script.specs.Told.{Hosts};
 ghost use Rattle.model.specs.declared.limits.TheConstants.{MAX_THREADS};
 ghost use Rattle.report.specs.Host.{agrees_line};
@@ -16,8 +17,8 @@ ghost use Rattle.drvhost_runs.specs.Hosted.{HasServed, IsHosted, IsNoted};
 ghost use Rattle.drvhost_runs.specs.Hosting.{AreWorkers, GoesTold, IsBlank, told_behind};
 ghost use Rattle.drvhost_runs.specs.Readiness.{AreWarningsOf, IsReady, IsServing, IsUnserved};
 ghost use Rattle.drvhost_runs.specs.Readiness.{SaysWarned};
-ghost use Rattle.drvhost_runs.specs.Served.{IsHostOf, IsUnhosted, command_line, command_lines};
-ghost use Rattle.drvhost_runs.specs.Served.{served_as, served_end};
+ghost use Rattle.drvhost_runs.specs.Served.{IsHostOf, IsUnhosted, are_served, command_line};
+ghost use Rattle.drvhost_runs.specs.Served.{command_lines, served_as, served_end};
 
 use crate::page::Page;
 use crate::ready::{Ready, get_ready, warn};
@@ -27,6 +28,7 @@ use drvhost_devices::transfer::{make_room, write_lines};
 use drvhost_devices::unopened::say_behind;
 use drvhost_devices::verification::Verification;
 use model::event::Reply;
+use model::limits::MAX_HISTORY;
 use model::memory::OutOfMemory;
 use report::event_number::EventNumber;
 use report::lines::Lines;
@@ -54,10 +56,10 @@ pub struct Hosting<'a, R, G> {
 /// worker asks the gate. Before the workers start, a line for each driver that takes its locks in a
 /// cycle stands on the error writer. Where threads wait for each other in a ring, their workers
 /// end; a line for each of these threads then stands there too. The answer is the exit status: 0
-/// where all went well, 1 where threads wait in a ring or where the set is refused, 2 where an
-/// input is faulty or a read or a write failed, 3 where memory ran out. Faults are told on the
-/// error writer: those of the set before a refusal, and a refusal before those of the script, which
-/// is read for an accepted set alone.
+/// where all went well, 1 where threads wait in a ring, where a command was left though the history
+/// had room, or where the set is refused, 2 where an input is faulty or a read or a write failed, 3
+/// where memory ran out. Faults are told on the error writer: those of the set before a refusal,
+/// and a refusal before those of the script, which is read for an accepted set alone.
 pub fn host<S: Source, P: Source, G: Gate + Sync, O: Sink, E: Sink, R: Threads + Wait + Sync>(
     alloc: Global,
     set: &mut S,
@@ -231,7 +233,7 @@ pub(crate) fn tell_hosted<O: Sink>(
 {
     tell_commands(hosted.told.as_slice(), &mut page.lines, out)?;
     make_room(&mut page.lines, out)?;
-    let end = tell_history(hosted.entries, page);
+    let end = tell_history(hosted, page);
     write_lines(&mut page.lines, out)?;
     Ok(end)
 }
@@ -271,18 +273,41 @@ fn tell_command(number: &mut EventNumber, told: &Option<Reply>, lines: &mut Line
     }
 }
 
-/// Adds the line of a history of so many entries, each reply of which is the run's, and answers how
-/// the job ends.
-fn tell_history(entries: usize, page: &mut Page) -> End
+/// Adds the line of the history of commands that were served, each reply of which is the run's, and
+/// answers how the job ends.
+fn tell_history(hosted: &Hosted, page: &mut Page) -> End
     requires { HasRoom page.old.lines }
-    ensures end { result ≡ served_end page.old.ringed.items }
-    ensures line { page.new.lines ≡ page.old.lines ++ agrees_line entries }
+    ensures end { result ≡ served_end hosted.now.told.items hosted.now.entries
+        page.old.ringed.items }
+    ensures line { page.new.lines ≡ page.old.lines ++ agrees_line hosted.now.entries }
     ensures words { page.new.words.items ≡ page.old.words.items }
 {
-    page.lines.agrees(entries);
-    if page.ringed.is_empty() {
+    page.lines.agrees(hosted.entries);
+    end_of(hosted, page.ringed.as_slice())
+}
+
+/// How a job ends that has served commands, after which these threads wait in a ring: not well
+/// where there are any, or where a command was left though the history had room.
+pub fn end_of(hosted: &Hosted, ringed: &[u8]) -> End
+    ensures { result ≡ served_end hosted.now.told.items hosted.now.entries ringed.now }
+{
+    if ringed.is_empty() && are_served(hosted.told.as_slice(), hosted.entries) {
         End::Complete
     } else {
         End::Stopped
     }
+}
+
+/// Whether each command was performed, or the history has as many entries as it may have.
+fn are_served(commands: &[Option<Reply>], entries: usize) -> bool
+    ensures { result ≡ are_served commands.now entries }
+{
+    all_performed(commands) || entries == MAX_HISTORY
+}
+
+/// Whether each command was performed.
+fn all_performed(commands: &[Option<Reply>]) -> bool
+    ensures { result ≡ list_all is_some commands.now }
+{
+    commands.iter().all(|told| told.is_some())
 }

@@ -1,6 +1,6 @@
 //! What gathers while a script is served.
 
-ghost use Rattle.std.specs.Prelude.{◌≡◌, ◌+◌, IfErr, IfOk, OnOk};
+ghost use Rattle.std.specs.Prelude.{◌≡◌, ◌≢◌, ◌+◌, [], IfErr, IfOk, OnOk};
 ghost use Rattle.drvhost_devices.specs.Device.{CanCount};
 ghost use Rattle.drvhost_devices.specs.Fault.{ReadsSet, reads_failed};
 ghost use Rattle.drvhost_runs.specs.Hosting.{IsBlank};
@@ -119,5 +119,15 @@ fn words_on(alloc: Global, bytes: &[u8], machine: &Checked, ringed: &[u8]) -> Re
     }
     let text = source_of(alloc, bytes, machine.set())?;
     let words = ring_words(alloc, text.as_slice(), machine, ringed)?;
-    Ok(words.into_bytes())
+    Ok(some_line(words.into_bytes())?)
+}
+
+/// Words that are a line at least, an empty one where there are none.
+fn some_line(mut words: Vec<u8>) -> Result<Vec<u8>, AllocError>
+    ensures { IfOk result (λ line. line.items ≢ []) }
+{
+    if words.is_empty() {
+        words.push(b'\n')?;
+    }
+    Ok(words)
 }

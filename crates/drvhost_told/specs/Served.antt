@@ -5,13 +5,12 @@ use Rattle.interleave.specs.declared.schedule.ScheduleFault.{ScheduleFault}
 use Rattle.interleave_texts.specs.Script.{script_in}
 use Rattle.model.specs.declared.event.Reply.{Reply}
 use Rattle.model.specs.declared.history.Command.{Command}
-use Rattle.model.specs.declared.history.Entry.{Entry}
 use Rattle.model.specs.Set.{Set}
 use Rattle.report_json.specs.declared.fault.InputFault.TheVariants as input
 use Rattle.report_json.specs.Line.{json_line}
 use Rattle.report_json.specs.Served.{command_json, history_json}
-use Rattle.workers_script.specs.Served.{HasServed}
-use Rattle.workers_script.specs.Told.{all_told}
+use Rattle.workers_script.specs.declared.hosted.Hosted.{Hosted}
+use Rattle.workers_script.specs.Told.{Hosts, all_told}
 use Rattle.drvhost_devices.specs.Answer.{Answer}
 use Rattle.drvhost_devices.specs.Device.{Holds, Supply}
 use Rattle.drvhost_devices.specs.declared.verification.Verification.TheVariants.{Required}
@@ -28,16 +27,18 @@ command_objects n (its ∷ rest) = json_line (command_json n its) ++ command_obj
 -- what is answered of commands that were served: a line for each, and one for their history
 abbrev pub served_objects : List (Option Reply) → ℕ → List ℕ → Answer
 served_objects all entries ringed =
-    told (outcome_of (served_end ringed))
+    told (outcome_of (served_end all entries ringed))
     (command_objects 0 all ++ json_line (history_json entries ringed))
 
--- what `host` answers for a set that is accepted, with so many workers, and these commands: that of
--- some history in which they served them, each reply of which is the run's
-abbrev pub IsServedInJson : ℕ → List Command → Set → Answer → Type 0
-IsServedInJson workers commands set answer =
-    (history : List Entry) × HasServed set workers commands history
-    × (answer ≡ served_objects (all_told history (length commands)) (length history)
-    (ringed_after set workers history))
+-- what `host` answers for a set that is accepted, with so many workers, and these commands: what the
+-- history of their core tells
+pub record IsServedInJson (workers : ℕ) (commands : List Command) (set : Set) (answer : Answer)
+    : Type 0 where
+  pub hosted : Hosted
+  pub hosts : Hosts set workers commands hosted
+  pub is : answer
+      ≡ served_objects (all_told hosted.core.history (length commands))
+      (length hosted.core.history) (ringed_after set workers hosted.core.history)
 
 -- for what its script, which is the file of a name, says: that, or the fault of the script
 abbrev pub IsServedJson : ℕ → List ℕ → Result (List Command) ScheduleFault → Set → Answer → Type 0

@@ -19,14 +19,14 @@ ghost use Rattle.report_json.specs.Served.{history_json};
 
 use checked::Checked;
 use drvhost_devices::device::{Sink, Source};
-use drvhost_devices::fault::{Fault, no_memory};
+use drvhost_devices::fault::{End, Fault, no_memory};
 use drvhost_devices::transfer::{read_whole, write_bytes};
 use drvhost_devices::verification::Verification;
 use drvhost_formats::check::refuse;
 use drvhost_formats::job::{close, tell_fault};
 use drvhost_formats::outcome::Outcome;
 use drvhost_formats::reading::said_in;
-use drvhost_runs::host::Hosting;
+use drvhost_runs::host::{Hosting, end_of};
 use image::DriverSet;
 use interleave::schedule::{ScheduleFault, ScheduleKind};
 use interleave_texts::script_parse::parse_script;
@@ -232,8 +232,9 @@ fn read_script<P: Source>(
 
 /// Adds the lines of commands that were served, and of their history.
 fn tell_hosted(alloc: Global, hosted: &Hosted, lines: &mut JsonLines) -> Result<Outcome, AllocError>
-    ensures outcome { IfOk result (λ outcome.
-        outcome ≡ outcome_of (served_end (rings_in hosted.now.standing))) }
+    ensures outcome { IfOk result (λ outcome. outcome
+        ≡ outcome_of (served_end hosted.now.told.items hosted.now.entries
+        (rings_in hosted.now.standing))) }
     ensures lines { OnOk result (lines.new ≡ lines.old ++ (command_objects 0 hosted.now.told.items
         ++ json_line (history_json hosted.now.entries (rings_in hosted.now.standing)))) }
 {
@@ -243,10 +244,16 @@ fn tell_hosted(alloc: Global, hosted: &Hosted, lines: &mut JsonLines) -> Result<
         entries: hosted.entries as u64,
         ringed: ringed.as_slice(),
     })?;
-    if ringed.is_empty() {
-        Ok(Outcome::Complete)
-    } else {
-        Ok(Outcome::Stopped)
+    Ok(outcome_of(end_of(hosted, ringed.as_slice())))
+}
+
+/// How a job has told its answer that ended so.
+fn outcome_of(end: End) -> Outcome
+    ensures { result ≡ outcome_of end }
+{
+    match end {
+        End::Complete => Outcome::Complete,
+        End::Stopped => Outcome::Stopped,
     }
 }
 
